@@ -1,0 +1,67 @@
+-- Pattern lines: pieces as they stand in the source, and the elements that they give.
+use Rattle.std.specs.Prelude.{ℕ, zero, suc, ◌+◌, ◌-◌, min, Bool, true, false, not, ◌&&◌, ◌||◌, ◌==◌, if◌then◌else◌, List, [], ◌∷◌, ◌++◌, length, take, drop, replicate, Option, Some, None, option_map}
+use Rattle.std.specs.List.{list_all}
+use Rattle.std.specs.Str.{trim_end}
+use Rattle.fluent_grammar.specs.Words.{Text, space, line_feed}
+use Rattle.fluent_grammar.specs.Tree.{Elements, no_elements, text, placeable, Expression}
+
+-- A piece of a pattern. A text at the start of a line has its leading spaces apart.
+pub data Piece : Type 0 where
+  at_line_start : ℕ → Text → Piece
+  in_line : Text → Piece
+  placed : Bool → Expression → Piece
+
+-- only spaces, the line feed aside
+abbrev pub is_blank_text : Text → Bool
+is_blank_text s = list_all (λ c. c == space || c == line_feed) s
+
+abbrev pub is_blank : Piece → Bool
+is_blank (at_line_start n s) = is_blank_text s
+is_blank (in_line s) = is_blank_text s
+is_blank (placed column_zero e) = false
+
+-- the smaller of two indents, where they are there
+abbrev pub lesser : Option ℕ → Option ℕ → Option ℕ
+lesser None b = b
+lesser (Some a) None = Some a
+lesser (Some a) (Some b) = Some (min a b)
+
+-- what a piece says of the common indent
+abbrev pub indent_of : Piece → Option ℕ
+indent_of (at_line_start n s) = if is_blank_text s then None else Some n
+indent_of (in_line s) = None
+indent_of (placed column_zero e) = if column_zero then Some 0 else None
+
+-- the least number of leading spaces
+abbrev pub common_indent : List Piece → Option ℕ
+common_indent [] = None
+common_indent (p ∷ ps) = lesser (indent_of p) (common_indent ps)
+
+-- the leading spaces that a line keeps
+abbrev pub kept_spaces : Option ℕ → ℕ → Text
+kept_spaces None n = []
+kept_spaces (Some common) n = replicate (n - common) space
+
+-- the text of a piece without the common indent
+abbrev pub dedented : Option ℕ → ℕ → Text → Text
+dedented common n s = kept_spaces common n ++ s
+
+-- the pieces up to the last that isn't blank
+abbrev pub without_blank_end : List Piece → List Piece
+without_blank_end [] = []
+without_blank_end (p ∷ ps) = if is_blank p && length (without_blank_end ps) == 0 then [] else p ∷ without_blank_end ps
+
+-- the last text is trimmed at its end
+abbrev pub trimmed_if_last : List Piece → Text → Text
+trimmed_if_last [] s = trim_end s
+trimmed_if_last (p ∷ ps) s = s
+
+abbrev pub elements_from : Option ℕ → List Piece → Elements
+elements_from common [] = no_elements
+elements_from common (at_line_start n s ∷ ps) = text (trimmed_if_last ps (dedented common n s)) (elements_from common ps)
+elements_from common (in_line s ∷ ps) = text (trimmed_if_last ps s) (elements_from common ps)
+elements_from common (placed z e ∷ ps) = placeable e (elements_from common ps)
+
+-- the elements of a pattern
+abbrev pub elements_of : List Piece → Elements
+elements_of ps = elements_from (common_indent ps) (without_blank_end ps)
