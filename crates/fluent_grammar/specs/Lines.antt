@@ -2,7 +2,7 @@
 use Rattle.std.specs.Prelude.{ℕ, zero, suc, ◌+◌, ◌-◌, min, Bool, true, false, not, ◌&&◌, ◌||◌, ◌==◌, if◌then◌else◌, List, [], ◌∷◌, ◌++◌, length, take, drop, replicate, Option, Some, None, option_map}
 use Rattle.std.specs.List.{list_all}
 use Rattle.std.specs.Str.{trim_end}
-use Rattle.fluent_grammar.specs.Words.{Text, space, line_feed}
+use Rattle.fluent_grammar.specs.Words.{Text, space, line_feed, carriage_return, dot, asterisk, open_bracket, open_brace, close_brace, begins, spaces, skip_spaces}
 use Rattle.fluent_grammar.specs.Tree.{Elements, no_elements, text, placeable, Expression}
 
 -- A piece of a pattern. A text at the start of a line has its leading spaces apart.
@@ -10,6 +10,23 @@ pub data Piece : Type 0 where
   at_line_start : ℕ → Text → Piece
   in_line : Text → Piece
   placed : Bool → Expression → Piece
+
+-- whether a text piece ends its line
+abbrev pub ends_line : Text → Bool
+ends_line [] = false
+ends_line (c ∷ []) = c == line_feed
+ends_line (c ∷ d ∷ ds) = ends_line (d ∷ ds)
+
+-- at a line start a pattern ends before these bytes: at column 0, and behind spaces
+abbrev pub goes_on_at_column_zero : ℕ → Bool
+goes_on_at_column_zero c = c == open_brace || (c == carriage_return || c == line_feed)
+
+abbrev pub ends_behind_spaces : ℕ → Bool
+ends_behind_spaces c = c == close_brace || (c == dot || (c == open_bracket || c == asterisk))
+
+-- whether a pattern ends at this line start
+abbrev pub pattern_ends : Text → Bool
+pattern_ends s = if spaces s == 0 then not (begins goes_on_at_column_zero s) else begins ends_behind_spaces (skip_spaces s)
 
 -- only spaces, the line feed aside
 abbrev pub is_blank_text : Text → Bool

@@ -4,32 +4,32 @@
 use Rattle.std.specs.Prelude.{ℕ, zero, suc, ◌+◌, ◌-◌, Bool, true, false, not, ◌&&◌, ◌||◌, ◌==◌, nat_lt, nat_le, if◌then◌else◌, List, [], ◌∷◌, ◌++◌, length, take, drop, Option, Some, None, is_some}
 use Rattle.std.specs.List.{prefix_len, list_all, list_any, starts_with}
 use Rattle.std.specs.Str.{continuation_len}
-use Rattle.fluent_grammar.specs.Words.{Text, line_feed, carriage_return, space, quote, number_sign, dollar, open_paren, close_paren, asterisk, comma, hyphen, dot, colon, equals, greater, open_bracket, backslash, close_bracket, open_brace, close_brace, is_letter, is_digit, is_hex_digit, is_name_byte, is_callee_byte, begins, begins_with, spaces, skip_spaces, begins_crlf, after_line_end, skip_blank, skip_blank_block, name_len}
+use Rattle.fluent_grammar.specs.Words.{Text, line_feed, carriage_return, space, quote, number_sign, dollar, open_paren, close_paren, asterisk, comma, hyphen, dot, colon, equals, greater, open_bracket, backslash, close_bracket, open_brace, close_brace, is_letter, is_digit, is_hex_digit, is_name_byte, is_callee_byte, begins, begins_with, spaces, skip_spaces, begins_crlf, after_line_end, skip_blank, skip_blank_block, name_len, small_u, capital_u, begins_arrow, skip_separator, rest_of_line, comment_level}
 use Rattle.fluent_grammar.specs.Refusal.{Kind, Refusal, Reading, got, refused, refuse, mapped, ◌>>=◌}
 use Rattle.fluent_grammar.specs.Refusal as r
 use Rattle.fluent_grammar.specs.Tree as t
-use Rattle.fluent_grammar.specs.Lines.{Piece, at_line_start, in_line, placed, elements_of}
+use Rattle.fluent_grammar.specs.Lines.{Piece, at_line_start, in_line, placed, elements_of, ends_line, pattern_ends}
 
 -- Identifier
 unfoldable pub identifier_at : Text → Reading Text
 identifier_at s = if begins is_letter s then got (take (name_len s) s) (drop (name_len s) s) else refuse r.expected_letter s
 
--- at least one digit: what follows them
-unfoldable pub after_digits : Text → Reading Text
-after_digits s = if begins is_digit s then got (take (prefix_len is_digit s) s) (drop (prefix_len is_digit s) s) else refuse r.expected_digit s
+-- at least one digit, and more as long as there are any
+unfoldable pub digits_at : Text → Reading Text
+digits_at s = if begins is_digit s then got (take (prefix_len is_digit s) s) (drop (prefix_len is_digit s) s) else refuse r.expected_digit s
 
 -- the bytes of a text before its rest
 abbrev pub front : Text → Text → Text
 front s rest = take (length s - length rest) s
 
-unfoldable pub after_fraction : Text → Text → Reading Text
-after_fraction s rest =
-    if begins_with dot rest then after_digits (drop 1 rest) >>= (λ d. got (front s d.1) d.1)
+unfoldable pub fraction_at : Text → Text → Reading Text
+fraction_at s rest =
+    if begins_with dot rest then digits_at (drop 1 rest) >>= (λ d. got (front s d.1) d.1)
     else got (front s rest) rest
 
 -- NumberLiteral
 unfoldable pub number_at : Text → Reading Text
-number_at s = after_digits (if begins_with hyphen s then drop 1 s else s) >>= (λ d. after_fraction s d.1)
+number_at s = digits_at (if begins_with hyphen s then drop 1 s else s) >>= (λ d. fraction_at s d.1)
 
 -- the character at the front
 abbrev pub first_char : Text → Text
@@ -66,8 +66,8 @@ string_content (c ∷ d ∷ ds) =
     else if c == line_feed then refuse r.unterminated_string_literal (c ∷ d ∷ ds)
     else if c == backslash then (
       if d == backslash || d == quote then before (c ∷ d ∷ []) (string_content ds)
-      else if d == 117 then (if hex_digits 4 ds then before (c ∷ d ∷ []) (string_content ds) else missing_hex ds)
-      else if d == 85 then (if hex_digits 6 ds then before (c ∷ d ∷ []) (string_content ds) else missing_hex ds)
+      else if d == small_u then (if hex_digits 4 ds then before (c ∷ d ∷ []) (string_content ds) else missing_hex ds)
+      else if d == capital_u then (if hex_digits 6 ds then before (c ∷ d ∷ []) (string_content ds) else missing_hex ds)
       else refuse (r.unknown_escape_sequence (first_char (d ∷ ds))) (c ∷ d ∷ ds))
     else before (c ∷ []) (string_content (d ∷ ds))
 
@@ -80,22 +80,6 @@ text_run (c ∷ cs) =
     else if c == line_feed then got (c ∷ []) cs
     else if c == carriage_return && begins_with line_feed cs then got [] (c ∷ cs)
     else before (c ∷ []) (text_run cs)
-
-abbrev pub ends_line : Text → Bool
-ends_line [] = false
-ends_line (c ∷ []) = c == line_feed
-ends_line (c ∷ d ∷ ds) = ends_line (d ∷ ds)
-
--- at a line start a pattern ends before these bytes: at column 0, and behind spaces
-abbrev pub goes_on_at_column_zero : ℕ → Bool
-goes_on_at_column_zero c = c == open_brace || (c == carriage_return || c == line_feed)
-
-abbrev pub ends_behind_spaces : ℕ → Bool
-ends_behind_spaces c = c == close_brace || (c == dot || (c == open_bracket || c == asterisk))
-
--- whether a pattern ends at this line start
-abbrev pub pattern_ends : Text → Bool
-pattern_ends s = if spaces s == 0 then not (begins goes_on_at_column_zero s) else begins ends_behind_spaces (skip_spaces s)
 
 abbrev pub is_term_attribute : t.Inline → Bool
 is_term_attribute (t.string_literal s) = false
@@ -121,10 +105,6 @@ selector_fault (t.nested e) = Some r.expected_simple_expression_as_selector
 -- `.attr` directly at the front, or nothing
 unfoldable pub accessor_at : Text → Reading (Option Text)
 accessor_at s = if begins_with dot s then mapped Some (identifier_at (drop 1 s)) else got None s
-
--- `->`
-abbrev pub begins_arrow : Text → Bool
-begins_arrow s = begins_with hyphen s && begins_with greater (drop 1 s)
 
 -- a number literal or an identifier
 unfoldable pub key_at : Text → Reading t.VariantKey
@@ -159,10 +139,6 @@ name_of_argument (t.nested e) = None
 
 abbrev pub is_among : Text → List Text → Bool
 is_among name names = list_any (λ n. length n == length name && starts_with (λ a b. a == b) n name) names
-
--- blank, an optional comma and blank
-abbrev pub skip_separator : Text → Text
-skip_separator s = let u = skip_blank s in skip_blank (if begins_with comma u then drop 1 u else u)
 
 -- Readers of what stands inside a construct, or behind its first part. Each is only asked about a shorter text.
 pub record Readers : Type 0 where
@@ -398,18 +374,6 @@ term_entry_at s = head_at (drop 1 s) >>= (λ h.
   let u = skip_blank_block h.1 in
   let attributes = attributes_at (length u) u in
   term_of h.0.0 (value_of h.0.1) attributes.0 attributes.1)
-
--- the rest of a line without its line end, and what follows the line end
-abbrev pub rest_of_line : Text → Text × Text
-rest_of_line [] = ([], [])
-rest_of_line (c ∷ cs) =
-    if c == line_feed then ([], cs)
-    else if c == carriage_return && begins_with line_feed cs then ([], drop 1 cs)
-    else (let more = rest_of_line cs in (c ∷ more.0, more.1))
-
--- how many signs stand at the front, up to three
-abbrev pub comment_level : Text → ℕ
-comment_level s = let n = prefix_len (λ c. c == number_sign) s in if nat_le n 3 then n else 3
 
 -- the line behind a comment's sign, if it is one; a sign at the end of the text adds none
 unfoldable pub comment_line_at : Text → Reading (List Text)

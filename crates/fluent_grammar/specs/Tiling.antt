@@ -1,10 +1,10 @@
 -- A source as blank blocks, entries and junk.
 use Rattle.std.specs.Prelude.{ℕ, zero, suc, ◌+◌, ◌-◌, Bool, true, false, not, ◌&&◌, ◌||◌, ◌==◌, if◌then◌else◌, List, [], ◌∷◌, ◌++◌, length, take, drop, slice_index, Option, Some, None}
-use Rattle.fluent_grammar.specs.Words.{Text, line_feed, number_sign, begins_with, begins_entry, skip_blank_block}
+use Rattle.fluent_grammar.specs.Words.{Text, line_feed, number_sign, begins_with, begins_entry, skip_blank_block, rest_of_line}
 use Rattle.fluent_grammar.specs.Refusal.{Kind, Refusal, Reading, got, refused}
 use Rattle.fluent_grammar.specs.Refusal as r
 use Rattle.fluent_grammar.specs.Tree as t
-use Rattle.fluent_grammar.specs.Reading.{entry_at, rest_of_line}
+use Rattle.fluent_grammar.specs.Reading.{entry_at}
 
 -- the first place that is at column 0 and begins an entry; whether the text stands at column 0
 abbrev pub resume : Bool → Text → Text
@@ -94,27 +94,26 @@ errors_of (junk s error ∷ ps) = error ∷ errors_of ps
 abbrev pub errors : Text → List ParserError
 errors source = errors_of (pieces source)
 
--- An entry behind a comment that may be set on it. A message or a term takes it where no blank line lies between.
-abbrev pub with_comment : Option (List Text) → Bool → t.Entry → List t.Entry
-with_comment None apart e = e ∷ []
-with_comment (Some lines) apart (t.message m) = if apart then t.comment lines ∷ t.message m ∷ [] else t.message (record m { comment = Some lines }) ∷ []
-with_comment (Some lines) apart (t.term m) = if apart then t.comment lines ∷ t.term m ∷ [] else t.term (record m { comment = Some lines }) ∷ []
-with_comment (Some lines) apart (t.comment c) = t.comment lines ∷ t.comment c ∷ []
-with_comment (Some lines) apart (t.group_comment c) = t.comment lines ∷ t.group_comment c ∷ []
-with_comment (Some lines) apart (t.resource_comment c) = t.comment lines ∷ t.resource_comment c ∷ []
-with_comment (Some lines) apart (t.junk s) = t.comment lines ∷ t.junk s ∷ []
+-- the comment that a message or a term takes: the one that waits, where no blank line lies between
+abbrev pub attached : Option (List Text) → Bool → Option (List Text)
+attached held apart = if apart then None else held
 
+-- a comment that waits, as an entry of its own
 abbrev pub waiting : Option (List Text) → List t.Entry
 waiting None = []
 waiting (Some lines) = t.comment lines ∷ []
 
--- the entries of some pieces, behind a comment that waits
+-- what stays before a message or a term: the comment that it doesn't take
+abbrev pub left_alone : Option (List Text) → Bool → List t.Entry
+left_alone held apart = if apart then waiting held else []
+
+-- The entries of some pieces, behind a comment that waits. A comment waits for the piece right behind it.
 abbrev pub entries_of : Option (List Text) → List Piece → List t.Entry
 entries_of held [] = waiting held
 entries_of held (junk s error ∷ ps) = waiting held ++ t.junk s ∷ entries_of None ps
 entries_of held (entry apart (t.comment lines) ∷ ps) = waiting held ++ entries_of (Some lines) ps
-entries_of held (entry apart (t.message m) ∷ ps) = with_comment held apart (t.message m) ++ entries_of None ps
-entries_of held (entry apart (t.term m) ∷ ps) = with_comment held apart (t.term m) ++ entries_of None ps
+entries_of held (entry apart (t.message m) ∷ ps) = left_alone held apart ++ t.message (record m { comment = attached held apart }) ∷ entries_of None ps
+entries_of held (entry apart (t.term m) ∷ ps) = left_alone held apart ++ t.term (record m { comment = attached held apart }) ∷ entries_of None ps
 entries_of held (entry apart (t.group_comment c) ∷ ps) = waiting held ++ t.group_comment c ∷ entries_of None ps
 entries_of held (entry apart (t.resource_comment c) ∷ ps) = waiting held ++ t.resource_comment c ∷ entries_of None ps
 entries_of held (entry apart (t.junk s) ∷ ps) = waiting held ++ t.junk s ∷ entries_of None ps
@@ -149,3 +148,10 @@ runtime_pieces_from (suc n) at s =
 
 abbrev pub runtime_pieces : Text → List Piece
 runtime_pieces source = runtime_pieces_from (suc (length source)) 0 source
+
+-- the tree and the errors of a source for runtime use
+abbrev pub runtime_tree : Text → List t.Entry
+runtime_tree source = entries_of None (runtime_pieces source)
+
+abbrev pub runtime_errors : Text → List ParserError
+runtime_errors source = errors_of (runtime_pieces source)
