@@ -2,7 +2,8 @@
 use Rattle.std.specs.Str.{trim_end, chars}
 use Rattle.std.specs.Char.{encode_utf8}
 use Rattle.std.specs.Prelude.{⊤}
-use Rattle.fluent_grammar.specs.Reading.{accessor_at, digits_at, fraction_at, after_text_at, argument_at, arguments_at, attribute_at, attributes_at, called_at, closing_at, comment_at, comment_line_at, comment_lines, entry_at, first_pieces_at, function_of, head_at, hex_digits, identifier_at, inline_at, key_at, line_at, literal_at, message_at, missing_hex, named_at, named_value_at, number_at, pattern_at, pieces_at, placeable_at, placeable_piece_at, positional_at, select_at, select_or_inline_at, string_content, term_arguments_at, term_at, term_entry_at, text_piece_at, text_run, variant_at, variant_or_end_at, variant_value_at, variants_after, variants_at, variants_behind}
+use Rattle.fluent_grammar.specs.Reading.{accessor_at, digits_at, fraction_at, after_text_at, argument_at, arguments_at, attribute_at, attributes_at, called_at, closing_at, comment_at, comment_line_at, comment_lines, entry_at, first_pieces_at, function_of, head_at, identifier_at, inline_at, key_at, line_at, literal_at, message_at, missing_hex, named_at, named_value_at, number_at, pattern_at, pieces_at, placeable_at, placeable_piece_at, positional_at, select_at, select_or_inline_at, string_content, term_arguments_at, term_at, term_entry_at, text_piece_at, text_run, variant_at, variant_or_end_at, variant_value_at, variants_after, variants_at, variants_behind}
+use Rattle.fluent_grammar.specs.Words.{hex_digits}
 use Rattle.fluent_grammar.specs.Tiling.{pieces_from, runtime_pieces_from}
 
 unfoldable pub computing : ⊤

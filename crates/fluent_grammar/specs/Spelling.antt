@@ -2,11 +2,11 @@
 -- Words are given by what their readers give. Nothing here bounds a depth or knows an order of tries.
 use Rattle.std.specs.Prelude.{◌≡◌, ◌⊎◌, ℕ, Bool, true, false, ◌==◌, List, [], ◌∷◌, ◌++◌, length, drop, Option, Some, None}
 use Rattle.std.specs.List.{list_all}
-use Rattle.fluent_grammar.specs.Words.{Text, line_feed, quote, dollar, open_paren, close_paren, asterisk, hyphen, colon, greater, open_bracket, close_bracket, open_brace, close_brace, is_letter, is_digit, is_callee_byte, begins, begins_with, spaces, skip_spaces, begins_crlf, after_line_end, skip_blank, skip_blank_block, begins_arrow, skip_separator}
+use Rattle.fluent_grammar.specs.Words.{Text, line_feed, quote, dollar, open_paren, close_paren, asterisk, hyphen, colon, greater, open_bracket, close_bracket, open_brace, close_brace, is_letter, is_digit, is_callee_byte, begins, begins_with, spaces, skip_spaces, begins_crlf, after_line_end, skip_blank, skip_blank_block, begins_arrow, skip_separator, is_among}
 use Rattle.fluent_grammar.specs.Refusal.{Reading, got}
 use Rattle.fluent_grammar.specs.Lines.{Piece, at_line_start, in_line, placed, elements_of, ends_line, pattern_ends}
 use Rattle.fluent_grammar.specs.Tree as t
-use Rattle.fluent_grammar.specs.Reading.{identifier_at, number_at, string_content, text_run, accessor_at, key_at, literal_at, is_term_attribute, selector_fault, is_among}
+use Rattle.fluent_grammar.specs.Reading.{identifier_at, number_at, string_content, text_run, accessor_at, key_at, literal_at, is_term_attribute, selector_fault}
 
 -- a digit, or a minus that begins no term
 abbrev pub BeginsNumber : Text → Type 0
