@@ -16,6 +16,8 @@ use Rattle.fluent_syntax.specs.declared.ast.InlineExpression.{InlineExpression, 
 use Rattle.fluent_syntax.specs.declared.ast.PatternElement.{PatternElement, fold-PatternElement}
 use Rattle.fluent_syntax.specs.declared.ast.Pattern.{Pattern, fold-Pattern}
 use Rattle.fluent_syntax.specs.declared.ast.Variant.{Variant as VariantOf, fold-Variant}
+use Rattle.fluent_syntax.specs.declared.ast.CallArguments.{CallArguments, fold-CallArguments}
+use Rattle.fluent_syntax.specs.declared.ast.NamedArgument.{NamedArgument, fold-NamedArgument}
 use Rattle.fluent_syntax.specs.declared.ast.Expression.TheOpen as o
 use Rattle.fluent_syntax.specs.declared.ast.Expression.TheOpen.{Expression-F, InlineExpression-F, PatternElement-F, CallArguments-F, NamedArgument-F, Pattern-F, Variant-F}
 
@@ -105,6 +107,12 @@ module _ (S : Type 0) (text_of : S → List ℕ) where
 
   abbrev pub variant_view : VariantOf S → Variant
   variant_view = fold-Variant _ _ _ _ _ _ _ _ expression_step inline_step element_step arguments_step named_step pattern_step variant_step
+
+  abbrev pub arguments_view : CallArguments S → t.Arguments
+  arguments_view = fold-CallArguments _ _ _ _ _ _ _ _ expression_step inline_step element_step arguments_step named_step pattern_step variant_step
+
+  abbrev pub named_view : NamedArgument S → Named
+  named_view = fold-NamedArgument _ _ _ _ _ _ _ _ expression_step inline_step element_step arguments_step named_step pattern_step variant_step
 
   abbrev pub attribute_view : Attribute S → t.Attribute
   attribute_view a = record { id = name_of a.id; value = pattern_view a.value }

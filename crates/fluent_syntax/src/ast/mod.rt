@@ -120,9 +120,13 @@ pub struct NamedArgument<S> {
 #[derive(Debug, PartialEq, Eq, Drop)]
 pub enum InlineExpression<S> {
     /// The raw text between the quotes, escapes as they stand.
-    StringLiteral { value: S },
+    StringLiteral {
+        value: S,
+    },
     /// The digits, with a minus and a point where they stand.
-    NumberLiteral { value: S },
+    NumberLiteral {
+        value: S,
+    },
     FunctionReference {
         id: Identifier<S>,
         arguments: CallArguments<S>,
@@ -138,9 +142,13 @@ pub enum InlineExpression<S> {
         arguments: Option<CallArguments<S>>,
     },
     /// The name without the dollar sign.
-    VariableReference { id: Identifier<S> },
+    VariableReference {
+        id: Identifier<S>,
+    },
     /// A placeable inside a placeable.
-    Placeable { expression: Box<Expression<S>> },
+    Placeable {
+        expression: Box<Expression<S>>,
+    },
 }
 
 /// The expression of a placeable. Productions `SelectExpression` and `InlineExpression`.

@@ -3,10 +3,10 @@
 pub mod errors;
 mod slice;
 
+use crate::ast::Resource;
 pub use errors::{ErrorKind, ParserError};
 pub use slice::Slice;
-
-use crate::ast::Resource;
+pub(crate) use slice::{Slices, Texts};
 
 /// Why a source isn't read whole.
 #[derive(Debug, PartialEq, Eq, Drop)]

@@ -5,6 +5,7 @@ ghost use Rattle.std.specs.Str.{IsCharBoundary, trim_end};
 ghost use Rattle.std.specs.Cmp.Lexicographic.{pointwise};
 
 use std::alloc::{AllocError, Global};
+use std::marker::PhantomData;
 use std::ops::Range;
 
 /// A text of a source that lives for `'s`. Contracts see it as its bytes. Lengths and offsets are bytes.
@@ -91,5 +92,53 @@ impl<'s> Slice<'s> for String {
 
     fn try_clone(&self, alloc: Global) -> Result<String, AllocError> {
         String::from_str(alloc, self.as_str())
+    }
+}
+
+/// The calls of [`Slice`] through a value, under a bound that names no lifetime: functions that call each other take
+/// a `&T` under `T: Texts<S>` in place of the bound `S: Slice<'s>`.
+pub(crate) trait Texts<S> {
+    /// The bytes of a text, in UTF-8.
+    ghost text: { S → List ℕ };
+
+    /// The same as [`Slice::slice`].
+    fn slice(&self, whole: &S, alloc: Global, range: Range<usize>) -> Result<S, AllocError>
+        requires ordered { range.start ≤ range.end }
+        requires start_boundary { IsCharBoundary (text whole.now) range.start }
+        requires end_boundary { IsCharBoundary (text whole.now) range.end }
+        ensures { IfOk result (λ part. text part ≡ slice_range (text whole.now) range.start range.end) };
+
+    /// The same as [`Slice::trim`].
+    fn trim(&self, cut: &mut S)
+        ensures { text cut.new ≡ trim_end (text cut.old) };
+
+    /// The same as [`Slice::try_clone`].
+    fn try_clone(&self, original: &S, alloc: Global) -> Result<S, AllocError>
+        ensures { IfOk result (λ copy. text copy ≡ text original.now) };
+}
+
+/// The text types of `Slice<'s>`, as a value.
+#[derive(Drop)]
+pub(crate) struct Slices<'s>(PhantomData<&'s ()>);
+
+impl Slices<'_> {
+    pub(crate) fn new() -> Self {
+        Slices(PhantomData)
+    }
+}
+
+impl<'s, S: Slice<'s>> Texts<S> for Slices<'s> {
+    ghost text = { S.text };
+
+    fn slice(&self, whole: &S, alloc: Global, range: Range<usize>) -> Result<S, AllocError> {
+        whole.slice(alloc, range)
+    }
+
+    fn trim(&self, cut: &mut S) {
+        cut.trim();
+    }
+
+    fn try_clone(&self, original: &S, alloc: Global) -> Result<S, AllocError> {
+        original.try_clone(alloc)
     }
 }
