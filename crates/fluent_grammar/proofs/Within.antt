@@ -10,7 +10,7 @@ use Rattle.fluent_grammar.specs.Tree as t
 use Rattle.fluent_grammar.specs.Lines.{Piece, at_line_start, in_line, ends_line, pattern_ends}
 use Rattle.fluent_grammar.specs.Ends.{EndsIn, Within, Took, Told}
 use Rattle.fluent_grammar.specs.Reading as g
-use Rattle.fluent_grammar.specs.Reading.{Readers, readers, no_readers, step, identifier_at, digits_at, fraction_at, number_at, front, hex_digits, missing_hex, before, string_content, text_run, is_term_attribute, selector_fault, accessor_at, key_at, literal_at, name_of_argument, is_among}
+use Rattle.fluent_grammar.specs.Reading.{Readers, readers, no_readers, step, identifier_at, digits_at, fraction_at, number_at, front, missing_hex, before, string_content, text_run, is_term_attribute, selector_fault, accessor_at, key_at, literal_at, name_of_argument}
 
 -- the ends of a text
 pub end-same : (s : Text) → EndsIn s s

@@ -1,8 +1,10 @@
 pub mod Tree
 pub mod Words
+pub mod Lexical
 pub mod Lines
+pub mod Spelling
 pub mod Refusal
 pub mod Reading
-pub mod Spelling
 pub mod Tiling
 pub mod Ends
+pub mod Escapes

@@ -82,3 +82,9 @@ elements_from common (placed z e ∷ ps) = placeable e (elements_from common ps)
 -- the elements of a pattern
 abbrev pub elements_of : List Piece → Elements
 elements_of ps = elements_from (common_indent ps) (without_blank_end ps)
+
+-- the value that some elements are: a pattern without elements is none
+abbrev pub value_of : Elements → Option Elements
+value_of no_elements = None
+value_of (text x es) = Some (text x es)
+value_of (placeable x es) = Some (placeable x es)

@@ -4,11 +4,11 @@
 use Rattle.std.specs.Prelude.{ℕ, zero, suc, ◌+◌, ◌-◌, Bool, true, false, not, ◌&&◌, ◌||◌, ◌==◌, nat_lt, nat_le, if◌then◌else◌, List, [], ◌∷◌, ◌++◌, length, take, drop, Option, Some, None, is_some}
 use Rattle.std.specs.List.{prefix_len, list_all, list_any, starts_with}
 use Rattle.std.specs.Str.{continuation_len}
-use Rattle.fluent_grammar.specs.Words.{Text, line_feed, carriage_return, space, quote, number_sign, dollar, open_paren, close_paren, asterisk, comma, hyphen, dot, colon, equals, greater, open_bracket, backslash, close_bracket, open_brace, close_brace, is_letter, is_digit, is_hex_digit, is_name_byte, is_callee_byte, begins, begins_with, spaces, skip_spaces, begins_crlf, after_line_end, skip_blank, skip_blank_block, name_len, small_u, capital_u, begins_arrow, skip_separator, rest_of_line, comment_level}
+use Rattle.fluent_grammar.specs.Words.{Text, line_feed, carriage_return, space, quote, number_sign, dollar, open_paren, close_paren, asterisk, comma, hyphen, dot, colon, equals, greater, open_bracket, backslash, close_bracket, open_brace, close_brace, is_letter, is_digit, is_hex_digit, is_name_byte, is_callee_byte, begins, begins_with, spaces, skip_spaces, begins_crlf, after_line_end, skip_blank, skip_blank_block, name_len, small_u, capital_u, begins_arrow, skip_separator, rest_of_line, comment_level, hex_digits, is_among}
 use Rattle.fluent_grammar.specs.Refusal.{Kind, Refusal, Reading, got, refused, refuse, mapped, ◌>>=◌}
 use Rattle.fluent_grammar.specs.Refusal as r
 use Rattle.fluent_grammar.specs.Tree as t
-use Rattle.fluent_grammar.specs.Lines.{Piece, at_line_start, in_line, placed, elements_of, ends_line, pattern_ends}
+use Rattle.fluent_grammar.specs.Lines.{Piece, at_line_start, in_line, placed, elements_of, ends_line, pattern_ends, value_of}
 
 -- Identifier
 unfoldable pub identifier_at : Text → Reading Text
@@ -35,10 +35,6 @@ number_at s = digits_at (if begins_with hyphen s then drop 1 s else s) >>= (λ d
 abbrev pub first_char : Text → Text
 first_char [] = []
 first_char (b ∷ bs) = b ∷ take (continuation_len b) bs
-
--- so many hex digits
-unfoldable pub hex_digits : ℕ → Text → Bool
-hex_digits n s = nat_le n (prefix_len is_hex_digit s)
 
 -- the refusal where hex digits are missing
 unfoldable pub missing_hex : {A : Type 0} → Text → Reading A
@@ -136,9 +132,6 @@ name_of_argument (t.message_reference s (Some a)) = None
 name_of_argument (t.term_reference s a c) = None
 name_of_argument (t.variable_reference s) = None
 name_of_argument (t.nested e) = None
-
-abbrev pub is_among : Text → List Text → Bool
-is_among name names = list_any (λ n. length n == length name && starts_with (λ a b. a == b) n name) names
 
 -- Readers of what stands inside a construct, or behind its first part. Each is only asked about a shorter text.
 pub record Readers : Type 0 where
@@ -338,12 +331,6 @@ more_attributes left s (got a rest) = let others = left rest in (a ∷ others.0,
 unfoldable pub attributes_at : ℕ → Text → List t.Attribute × Text
 attributes_at zero s = ([], s)
 attributes_at (suc n) s = if begins_with dot (skip_spaces s) then more_attributes (attributes_at n) s (attribute_at s) else ([], s)
-
--- what a message or a term holds
-abbrev pub value_of : t.Elements → Option t.Elements
-value_of t.no_elements = None
-value_of (t.text x es) = Some (t.text x es)
-value_of (t.placeable x es) = Some (t.placeable x es)
 
 -- an identifier, blank inline, an equals sign and what may be a pattern
 unfoldable pub head_at : Text → Reading (Text × t.Elements)
