@@ -38,7 +38,7 @@ end-if false p q = q
 pub end-le : {a b : Text} → EndsIn a b → length a ≤ length b
 end-le {a} h = rw h.whole (omega (arith, length-append h.front a))
 
-skip_blank-end : (s : Text) → EndsIn (skip_blank s) s
+pub skip_blank-end : (s : Text) → EndsIn (skip_blank s) s
 skip_blank-end [] = end-same []
 skip_blank-end (c ∷ cs) = end-if _ (end-cons c (skip_blank-end cs)) (end-if _ (end-cons c (skip_blank-end cs)) (end-same _))
 
@@ -51,7 +51,7 @@ end-spaces {s} h = end-drop (spaces s) h
 pub end-separator : {s whole : Text} → EndsIn s whole → EndsIn (skip_separator s) whole
 end-separator h = end-blank (end-if _ (end-drop 1 (end-blank h)) (end-blank h))
 
-blank_lines-end : (line s whole : Text) → EndsIn line whole → EndsIn s whole → EndsIn (blank_lines line s) whole
+pub blank_lines-end : (line s whole : Text) → EndsIn line whole → EndsIn s whole → EndsIn (blank_lines line s) whole
 blank_lines-end line [] whole h k = h
 blank_lines-end line (c ∷ cs) whole h k =
     let cs-end : EndsIn cs whole = end-trans (end-cons c (end-same cs)) k in
@@ -61,15 +61,15 @@ pub end-blank_block : {s whole : Text} → EndsIn s whole → EndsIn (skip_blank
 end-blank_block h = blank_lines-end _ _ _ h h
 
 -- the text behind a line end, where there is one
-abbrev MaybeEnd : Option Text → Text → Type 0
+abbrev pub MaybeEnd : Option Text → Text → Type 0
 MaybeEnd None s = Unit {0}
 MaybeEnd (Some rest) s = EndsIn rest s
 
-maybe-if : (b : Bool) (x y : Option Text) (s : Text) → MaybeEnd x s → MaybeEnd y s → MaybeEnd (cond b x y) s
+pub maybe-if : (b : Bool) (x y : Option Text) (s : Text) → MaybeEnd x s → MaybeEnd y s → MaybeEnd (cond b x y) s
 maybe-if true x y s p q = p
 maybe-if false x y s p q = q
 
-line_end-end : (s : Text) → MaybeEnd (after_line_end s) s
+pub line_end-end : (s : Text) → MaybeEnd (after_line_end s) s
 line_end-end s = maybe-if (begins_with line_feed s) (Some (drop 1 s)) _ s (end-drop 1 (end-same s)) (maybe-if (begins_crlf s) (Some (drop 2 s)) None s (end-drop 2 (end-same s)) tt)
 
 -- within, and what the refusal tells is so
@@ -80,76 +80,76 @@ FairParts (refused fault) s = EndsIn fault.at s × Told fault.kind fault.at
 pub record Fair {A : Type 0} (x : Reading A) (s : Text) : Type 0 where
   pub parts : FairParts x s
 
-fair-got : {A : Type 0} (a : A) {rest s : Text} → EndsIn rest s → Fair (got a rest) s
+pub fair-got : {A : Type 0} (a : A) {rest s : Text} → EndsIn rest s → Fair (got a rest) s
 fair-got a h = record { parts = h }
 
-fair-refuse : {A : Type 0} (kind : Kind) {at s : Text} → EndsIn at s → Told kind at → Fair {A = A} (refuse kind at) s
+pub fair-refuse : {A : Type 0} (kind : Kind) {at s : Text} → EndsIn at s → Told kind at → Fair {A = A} (refuse kind at) s
 fair-refuse kind h told = record { parts = (h, told) }
 
-fair-if : {A : Type 0} (b : Bool) {x y : Reading A} {s : Text} → (b ≡ true → Fair x s) → (b ≡ false → Fair y s) → Fair (cond b x y) s
+pub fair-if : {A : Type 0} (b : Bool) {x y : Reading A} {s : Text} → (b ≡ true → Fair x s) → (b ≡ false → Fair y s) → Fair (cond b x y) s
 fair-if true p q = p refl
 fair-if false p q = q refl
 
-fair-bind : {A B : Type 0} (x : Reading A) (f : A × Text → Reading B) (s : Text) → Fair x s → ((a : A) (rest : Text) → EndsIn rest s → Fair (f (a, rest)) s) → Fair (x >>= f) s
+pub fair-bind : {A B : Type 0} (x : Reading A) (f : A × Text → Reading B) (s : Text) → Fair x s → ((a : A) (rest : Text) → EndsIn rest s → Fair (f (a, rest)) s) → Fair (x >>= f) s
 fair-bind (got a rest) f s p q = q a rest p.parts
 fair-bind (refused fault) f s p q = record { parts = p.parts }
 
-fair-mapped : {A B : Type 0} (f : A → B) (x : Reading A) (s : Text) → Fair x s → Fair (mapped f x) s
+pub fair-mapped : {A B : Type 0} (f : A → B) (x : Reading A) (s : Text) → Fair x s → Fair (mapped f x) s
 fair-mapped f (got a rest) s p = record { parts = p.parts }
 fair-mapped f (refused fault) s p = record { parts = p.parts }
 
-ruleset ends = (end-same, end-drop, end-none, end-if, end-blank, end-spaces, end-separator, end-blank_block)
-ruleset fairs = (fair-got, fair-refuse, fair-if, fair-bind, fair-mapped, ends)
+pub ruleset ends = (end-same, end-drop, end-none, end-if, end-blank, end-spaces, end-separator, end-blank_block)
+pub ruleset fairs = (fair-got, fair-refuse, fair-if, fair-bind, fair-mapped, ends)
 
-identifier-fair : {s whole : Text} → EndsIn s whole → Fair (identifier_at s) whole
+pub identifier-fair : {s whole : Text} → EndsIn s whole → Fair (identifier_at s) whole
 unfolding identifier_at
 identifier-fair h = search fairs depth 9
 
-digits-fair : {s whole : Text} → EndsIn s whole → Fair (digits_at s) whole
+pub digits-fair : {s whole : Text} → EndsIn s whole → Fair (digits_at s) whole
 unfolding digits_at
 digits-fair h = search fairs depth 9
 
-fraction-fair : (s : Text) {u whole : Text} → EndsIn u whole → Fair (fraction_at s u) whole
+pub fraction-fair : (s : Text) {u whole : Text} → EndsIn u whole → Fair (fraction_at s u) whole
 unfolding fraction_at
 fraction-fair s h = search (fairs, digits-fair) depth 9
 
-number-fair : {s whole : Text} → EndsIn s whole → Fair (number_at s) whole
+pub number-fair : {s whole : Text} → EndsIn s whole → Fair (number_at s) whole
 unfolding number_at
 number-fair h = search (fairs, digits-fair, fraction-fair) depth 9
 
-missing_hex-fair : {A : Type 0} {s whole : Text} → EndsIn s whole → Fair (missing_hex {A = A} s) whole
+pub missing_hex-fair : {A : Type 0} {s whole : Text} → EndsIn s whole → Fair (missing_hex {A = A} s) whole
 unfolding missing_hex
 missing_hex-fair h = search fairs depth 9
 
-accessor-fair : {s whole : Text} → EndsIn s whole → Fair (accessor_at s) whole
+pub accessor-fair : {s whole : Text} → EndsIn s whole → Fair (accessor_at s) whole
 unfolding accessor_at
 accessor-fair h = search (fairs, identifier-fair) depth 9
 
-key-fair : {s whole : Text} → EndsIn s whole → Fair (key_at s) whole
+pub key-fair : {s whole : Text} → EndsIn s whole → Fair (key_at s) whole
 unfolding key_at
 key-fair h = search (fairs, identifier-fair, number-fair) depth 9
 
-string-fair : (s : Text) {whole : Text} → EndsIn s whole → Fair (string_content s) whole
+pub string-fair : (s : Text) {whole : Text} → EndsIn s whole → Fair (string_content s) whole
 unfolding string_content
 string-fair [] h = search fairs depth 9
 string-fair (c ∷ []) h = search fairs depth 9
 string-fair (c ∷ d ∷ ds) h = search (fairs, missing_hex-fair, string-fair ds (end-tail (end-tail h)), string-fair (d ∷ ds) (end-tail h), end-tail h, end-tail (end-tail h)) depth 12
 
-text_run-fair : (s : Text) {whole : Text} → EndsIn s whole → Fair (text_run s) whole
+pub text_run-fair : (s : Text) {whole : Text} → EndsIn s whole → Fair (text_run s) whole
 unfolding text_run
 text_run-fair [] h = search fairs depth 9
 text_run-fair (c ∷ cs) h = search (fairs, text_run-fair cs (end-tail h), end-tail h) depth 12
 
-literal-fair : {s whole : Text} → EndsIn s whole → Fair (literal_at s) whole
+pub literal-fair : {s whole : Text} → EndsIn s whole → Fair (literal_at s) whole
 unfolding literal_at
 literal-fair h = search (fairs, string-fair, number-fair) depth 9
 
 -- what a refusal of a selector tells
-ToldIfAny : Option Kind → Text → Type 0
+unfoldable pub ToldIfAny : Option Kind → Text → Type 0
 ToldIfAny None at = Unit {0}
 ToldIfAny (Some kind) at = Told kind at
 
-selector-told : (e : t.Inline) (at : Text) → ToldIfAny (selector_fault e) at
+pub selector-told : (e : t.Inline) (at : Text) → ToldIfAny (selector_fault e) at
 unfolding ToldIfAny
 selector-told (t.string_literal s) at = tt
 selector-told (t.number_literal s) at = tt
@@ -169,123 +169,123 @@ pub record FairReaders (inside : Readers) : Type 0 where
   pub pieces : {s whole : Text} → EndsIn s whole → Fair (inside.pieces s) whole
 
 module _ (inside : Readers) (fair : FairReaders inside) where
-  variants_after-fair : (e : t.Inline) {s whole : Text} (o : Option Text) → EndsIn s whole → MaybeEnd o s → Fair (g.variants_after inside e s o) whole
+  pub variants_after-fair : (e : t.Inline) {s whole : Text} (o : Option Text) → EndsIn s whole → MaybeEnd o s → Fair (g.variants_after inside e s o) whole
   unfolding g.variants_after
   variants_after-fair e None h k = search fairs depth 9
   variants_after-fair e (Some rest) h k = fair-mapped _ _ _ (fair.variants false (end-blank (end-trans k h)))
 
-  select-fair : (e : t.Inline) (o : Option Kind) {s whole : Text} → ToldIfAny o s → EndsIn s whole → Fair (g.select_at inside e o s) whole
+  pub select-fair : (e : t.Inline) (o : Option Kind) {s whole : Text} → ToldIfAny o s → EndsIn s whole → Fair (g.select_at inside e o s) whole
   unfolding g.select_at ToldIfAny
   select-fair e None {s} told h = variants_after-fair e _ (end-spaces (end-drop 2 h)) (line_end-end (skip_spaces (drop 2 s)))
   select-fair e (Some kind) told h = fair-refuse kind h told
 
-  select_or_inline-fair : (e : t.Inline) {s whole : Text} → EndsIn s whole → Fair (g.select_or_inline_at inside e s) whole
+  pub select_or_inline-fair : (e : t.Inline) {s whole : Text} → EndsIn s whole → Fair (g.select_or_inline_at inside e s) whole
   unfolding g.select_or_inline_at
   select_or_inline-fair e {s} h = search (fairs, select-fair e (selector_fault e) (selector-told e s) h) depth 9
 
-  closing-fair : (e : t.Expression) {s whole : Text} → EndsIn s whole → Fair (g.closing_at inside e s) whole
+  pub closing-fair : (e : t.Expression) {s whole : Text} → EndsIn s whole → Fair (g.closing_at inside e s) whole
   unfolding g.closing_at
   closing-fair e h = search fairs depth 9
 
-  placeable-fair : {s whole : Text} → EndsIn s whole → Fair (g.placeable_at inside s) whole
+  pub placeable-fair : {s whole : Text} → EndsIn s whole → Fair (g.placeable_at inside s) whole
   unfolding g.placeable_at
   placeable-fair h = search (fairs, fair.inline, select_or_inline-fair, closing-fair) depth 12
 
-  term_arguments-fair : (id : Text) (attr : Option Text) {s whole : Text} → EndsIn s whole → Fair (g.term_arguments_at inside id attr s) whole
+  pub term_arguments-fair : (id : Text) (attr : Option Text) {s whole : Text} → EndsIn s whole → Fair (g.term_arguments_at inside id attr s) whole
   unfolding g.term_arguments_at
   term_arguments-fair id attr h = search (fairs, fair.arguments) depth 9
 
-  term-fair : {s whole : Text} → EndsIn s whole → Fair (g.term_at inside s) whole
+  pub term-fair : {s whole : Text} → EndsIn s whole → Fair (g.term_at inside s) whole
   unfolding g.term_at
   term-fair h = search (fairs, identifier-fair, accessor-fair, term_arguments-fair) depth 12
 
-  function-fair : (id : Text) (args : t.Arguments) {s whole : Text} → EndsIn s whole → Fair (g.function_of inside id args s) whole
+  pub function-fair : (id : Text) (args : t.Arguments) {s whole : Text} → EndsIn s whole → Fair (g.function_of inside id args s) whole
   unfolding g.function_of
   function-fair id args h = search fairs depth 9
 
-  called-fair : (id : Text) {s whole : Text} → EndsIn s whole → Fair (g.called_at inside id s) whole
+  pub called-fair : (id : Text) {s whole : Text} → EndsIn s whole → Fair (g.called_at inside id s) whole
   unfolding g.called_at
   called-fair id h = search (fairs, fair.arguments, function-fair, accessor-fair) depth 12
 
-  named-fair : {s whole : Text} → EndsIn s whole → Fair (g.named_at inside s) whole
+  pub named-fair : {s whole : Text} → EndsIn s whole → Fair (g.named_at inside s) whole
   unfolding g.named_at
   named-fair h = search (fairs, identifier-fair, called-fair) depth 9
 
-  inline-fair : {s whole : Text} → EndsIn s whole → Fair (g.inline_at inside s) whole
+  pub inline-fair : {s whole : Text} → EndsIn s whole → Fair (g.inline_at inside s) whole
   unfolding g.inline_at
   inline-fair h = search (fairs, string-fair, number-fair, term-fair, identifier-fair, named-fair, placeable-fair) depth 12
 
-  positional-fair : (names : List Text) (e : t.Inline) {s whole : Text} → EndsIn s whole → Fair (g.positional_at inside names e s) whole
+  pub positional-fair : (names : List Text) (e : t.Inline) {s whole : Text} → EndsIn s whole → Fair (g.positional_at inside names e s) whole
   unfolding g.positional_at
   positional-fair [] e h = search (fairs, fair.arguments) depth 9
   positional-fair (name ∷ names) e h = search fairs depth 9
 
-  named_value-fair : (names : List Text) (name : Text) {s whole : Text} → EndsIn s whole → Fair (g.named_value_at inside names name s) whole
+  pub named_value-fair : (names : List Text) (name : Text) {s whole : Text} → EndsIn s whole → Fair (g.named_value_at inside names name s) whole
   unfolding g.named_value_at
   named_value-fair names name h = search (fairs, literal-fair, fair.arguments) depth 12
 
-  argument-fair : (names : List Text) (e : t.Inline) (o : Option Text) {s whole : Text} → EndsIn s whole → Fair (g.argument_at inside names e o s) whole
+  pub argument-fair : (names : List Text) (e : t.Inline) (o : Option Text) {s whole : Text} → EndsIn s whole → Fair (g.argument_at inside names e o s) whole
   unfolding g.argument_at
   argument-fair names e (Some name) h = search (fairs, named_value-fair, positional-fair) depth 9
   argument-fair names e None h = positional-fair names e h
 
-  arguments-fair : (names : List Text) {s whole : Text} → EndsIn s whole → Fair (g.arguments_at inside names s) whole
+  pub arguments-fair : (names : List Text) {s whole : Text} → EndsIn s whole → Fair (g.arguments_at inside names s) whole
   unfolding g.arguments_at
   arguments-fair names h = search (fairs, inline-fair, argument-fair) depth 12
 
-  after_text-fair : (b : Bool) {s whole : Text} → EndsIn s whole → Fair (g.after_text_at inside b s) whole
+  pub after_text-fair : (b : Bool) {s whole : Text} → EndsIn s whole → Fair (g.after_text_at inside b s) whole
   unfolding g.after_text_at
   after_text-fair true h = fair.line h
   after_text-fair false h = fair.pieces h
 
-  placeable_piece-fair : (z : Bool) {s whole : Text} → EndsIn s whole → Fair (g.placeable_piece_at inside z s) whole
+  pub placeable_piece-fair : (z : Bool) {s whole : Text} → EndsIn s whole → Fair (g.placeable_piece_at inside z s) whole
   unfolding g.placeable_piece_at
   placeable_piece-fair z h = search (fairs, placeable-fair, fair.pieces) depth 12
 
-  text_piece-fair : (piece : Text → Piece) {s whole : Text} → EndsIn s whole → Fair (g.text_piece_at inside piece s) whole
+  pub text_piece-fair : (piece : Text → Piece) {s whole : Text} → EndsIn s whole → Fair (g.text_piece_at inside piece s) whole
   unfolding g.text_piece_at
   text_piece-fair piece h = search (fairs, text_run-fair, after_text-fair) depth 12
 
-  pieces-fair : {s whole : Text} → EndsIn s whole → Fair (g.pieces_at inside s) whole
+  pub pieces-fair : {s whole : Text} → EndsIn s whole → Fair (g.pieces_at inside s) whole
   unfolding g.pieces_at
   pieces-fair h = search (fairs, placeable_piece-fair, text_piece-fair, fair.line) depth 12
 
-  line-fair : {s whole : Text} → EndsIn s whole → Fair (g.line_at inside s) whole
+  pub line-fair : {s whole : Text} → EndsIn s whole → Fair (g.line_at inside s) whole
   unfolding g.line_at
   line-fair h = search (fairs, placeable_piece-fair, text_piece-fair, pieces-fair) depth 12
 
-  first_pieces-fair : {s whole : Text} (o : Option Text) → EndsIn s whole → MaybeEnd o s → Fair (g.first_pieces_at inside s o) whole
+  pub first_pieces-fair : {s whole : Text} (o : Option Text) → EndsIn s whole → MaybeEnd o s → Fair (g.first_pieces_at inside s o) whole
   unfolding g.first_pieces_at
   first_pieces-fair None h k = pieces-fair h
   first_pieces-fair (Some rest) h k = line-fair (end-blank_block (end-trans k h))
 
-  pattern-fair : {s whole : Text} → EndsIn s whole → Fair (g.pattern_at inside s) whole
+  pub pattern-fair : {s whole : Text} → EndsIn s whole → Fair (g.pattern_at inside s) whole
   unfolding g.pattern_at
   pattern-fair {s} h = fair-mapped _ _ _ (first_pieces-fair _ (end-spaces h) (line_end-end (skip_spaces s)))
 
-  variants_behind-fair : (default : Bool) (key : t.VariantKey) (marked : Bool) (value : t.Elements) {s whole : Text} → EndsIn s whole → Fair (g.variants_behind inside default key marked value s) whole
+  pub variants_behind-fair : (default : Bool) (key : t.VariantKey) (marked : Bool) (value : t.Elements) {s whole : Text} → EndsIn s whole → Fair (g.variants_behind inside default key marked value s) whole
   unfolding g.variants_behind
   variants_behind-fair default key marked t.no_elements h = search fairs depth 9
   variants_behind-fair default key marked (t.text x es) h = search (fairs, fair.variants) depth 9
   variants_behind-fair default key marked (t.placeable x es) h = search (fairs, fair.variants) depth 9
 
-  variant_value-fair : (default : Bool) (key : t.VariantKey) (marked : Bool) {s whole : Text} → EndsIn s whole → Fair (g.variant_value_at inside default key marked s) whole
+  pub variant_value-fair : (default : Bool) (key : t.VariantKey) (marked : Bool) {s whole : Text} → EndsIn s whole → Fair (g.variant_value_at inside default key marked s) whole
   unfolding g.variant_value_at
   variant_value-fair default key marked h = search (fairs, pattern-fair, variants_behind-fair) depth 12
 
-  variant-fair : (default marked : Bool) {s whole : Text} → EndsIn s whole → Fair (g.variant_at inside default marked s) whole
+  pub variant-fair : (default marked : Bool) {s whole : Text} → EndsIn s whole → Fair (g.variant_at inside default marked s) whole
   unfolding g.variant_at
   variant-fair default marked h = search (fairs, key-fair, variant_value-fair) depth 12
 
-  variant_or_end-fair : (default marked : Bool) {s whole : Text} → EndsIn s whole → Fair (g.variant_or_end_at inside default marked s) whole
+  pub variant_or_end-fair : (default marked : Bool) {s whole : Text} → EndsIn s whole → Fair (g.variant_or_end_at inside default marked s) whole
   unfolding g.variant_or_end_at
   variant_or_end-fair default marked h = search (fairs, variant-fair) depth 9
 
-  variants-fair : (marked : Bool) {s whole : Text} → EndsIn s whole → Fair (g.variants_at inside marked s) whole
+  pub variants-fair : (marked : Bool) {s whole : Text} → EndsIn s whole → Fair (g.variants_at inside marked s) whole
   unfolding g.variants_at
   variants-fair marked h = search (fairs, variant_or_end-fair) depth 9
 
-step-fair : (inside : Readers) → FairReaders inside → FairReaders (step inside)
+pub step-fair : (inside : Readers) → FairReaders inside → FairReaders (step inside)
 step-fair inside fair = record {
   inline = λ h. inline-fair inside fair h;
   arguments = λ names h. arguments-fair inside fair names h;
@@ -304,52 +304,52 @@ readers-fair zero = record {
 }
 readers-fair (suc n) = step-fair (readers n) (readers-fair n)
 
-attribute_of-fair : (id : Text) (value : t.Elements) {s whole : Text} → EndsIn s whole → Fair (g.attribute_of id value s) whole
+pub attribute_of-fair : (id : Text) (value : t.Elements) {s whole : Text} → EndsIn s whole → Fair (g.attribute_of id value s) whole
 attribute_of-fair id t.no_elements h = search fairs depth 9
 attribute_of-fair id (t.text x es) h = search fairs depth 9
 attribute_of-fair id (t.placeable x es) h = search fairs depth 9
 
-read_pattern-fair : (n : ℕ) {s whole : Text} → EndsIn s whole → Fair (g.pattern_at (readers n) s) whole
+pub read_pattern-fair : (n : ℕ) {s whole : Text} → EndsIn s whole → Fair (g.pattern_at (readers n) s) whole
 read_pattern-fair n h = pattern-fair (readers n) (readers-fair n) h
 
-attribute-fair : {s whole : Text} → EndsIn s whole → Fair (g.attribute_at s) whole
+pub attribute-fair : {s whole : Text} → EndsIn s whole → Fair (g.attribute_at s) whole
 unfolding g.attribute_at
 attribute-fair h = search (fairs, identifier-fair, read_pattern-fair, attribute_of-fair) depth 12
 
-more_attributes-end : (left : Text → List t.Attribute × Text) (s whole : Text) (x : Reading t.Attribute) → ((u : Text) → EndsIn u whole → EndsIn (left u).1 whole) →
+pub more_attributes-end : (left : Text → List t.Attribute × Text) (s whole : Text) (x : Reading t.Attribute) → ((u : Text) → EndsIn u whole → EndsIn (left u).1 whole) →
     EndsIn s whole → Fair x whole → EndsIn (g.more_attributes left s x).1 whole
 more_attributes-end left s whole (refused fault) ih h f = h
 more_attributes-end left s whole (got a rest) ih h f = ih rest f.parts
 
-attributes-end : (n : ℕ) {s whole : Text} → EndsIn s whole → EndsIn (g.attributes_at n s).1 whole
+pub attributes-end : (n : ℕ) {s whole : Text} → EndsIn s whole → EndsIn (g.attributes_at n s).1 whole
 unfolding g.attributes_at
 attributes-end zero h = h
 attributes-end (suc n) {s} {whole} h = elim (begins_with dot (skip_spaces s)) as (λ b. EndsIn (cond b (g.more_attributes (g.attributes_at n) s (g.attribute_at s)) ([], s)).1 whole) [
   | true ↦ more_attributes-end _ _ _ _ (λ u k. attributes-end n k) h (attribute-fair h)
   | false ↦ h ]
 
-head-fair : {s whole : Text} → EndsIn s whole → Fair (g.head_at s) whole
+pub head-fair : {s whole : Text} → EndsIn s whole → Fair (g.head_at s) whole
 unfolding g.head_at
 head-fair h = search (fairs, identifier-fair, read_pattern-fair) depth 12
 
-message_of-fair : (id : Text) (value : Option t.Elements) (attributes : List t.Attribute) {s whole : Text} → EndsIn s whole → Fair (g.message_of id value attributes s) whole
+pub message_of-fair : (id : Text) (value : Option t.Elements) (attributes : List t.Attribute) {s whole : Text} → EndsIn s whole → Fair (g.message_of id value attributes s) whole
 message_of-fair id None [] h = search fairs depth 9
 message_of-fair id None (a ∷ more) h = search fairs depth 9
 message_of-fair id (Some v) attributes h = search fairs depth 9
 
-term_of-fair : (id : Text) (value : Option t.Elements) (attributes : List t.Attribute) {s whole : Text} → EndsIn s whole → Fair (g.term_of id value attributes s) whole
+pub term_of-fair : (id : Text) (value : Option t.Elements) (attributes : List t.Attribute) {s whole : Text} → EndsIn s whole → Fair (g.term_of id value attributes s) whole
 term_of-fair id None attributes h = search fairs depth 9
 term_of-fair id (Some v) attributes h = search fairs depth 9
 
-message-fair : {s whole : Text} → EndsIn s whole → Fair (g.message_at s) whole
+pub message-fair : {s whole : Text} → EndsIn s whole → Fair (g.message_at s) whole
 unfolding g.message_at
 message-fair h = search (fairs, head-fair, message_of-fair, attributes-end) depth 12
 
-term_entry-fair : {s whole : Text} → EndsIn s whole → Fair (g.term_entry_at s) whole
+pub term_entry-fair : {s whole : Text} → EndsIn s whole → Fair (g.term_entry_at s) whole
 unfolding g.term_entry_at
 term_entry-fair h = search (fairs, head-fair, term_of-fair, attributes-end) depth 12
 
-end-if_pair : {A : Type 0} (b : Bool) (x y : A × Text) {whole : Text} → EndsIn x.1 whole → EndsIn y.1 whole → EndsIn (cond b x y).1 whole
+pub end-if_pair : {A : Type 0} (b : Bool) (x y : A × Text) {whole : Text} → EndsIn x.1 whole → EndsIn y.1 whole → EndsIn (cond b x y).1 whole
 end-if_pair true x y p q = p
 end-if_pair false x y p q = q
 
@@ -359,23 +359,23 @@ rest_of_line-end (c ∷ cs) h =
     end-if_pair (c == line_feed) ([], cs) _ (end-tail h)
     (end-if_pair (c == carriage_return && begins_with line_feed cs) ([], drop 1 cs) (c ∷ (rest_of_line cs).0, (rest_of_line cs).1) (end-drop 1 (end-tail h)) (rest_of_line-end cs (end-tail h)))
 
-comment_line-fair : {s whole : Text} → EndsIn s whole → Fair (g.comment_line_at s) whole
+pub comment_line-fair : {s whole : Text} → EndsIn s whole → Fair (g.comment_line_at s) whole
 unfolding g.comment_line_at
 comment_line-fair h = search (fairs, rest_of_line-end) depth 9
 
-more_lines-end : (left : Text → List Text × Text) (s whole : Text) (x : Reading (List Text)) → ((u : Text) → EndsIn u whole → EndsIn (left u).1 whole) →
+pub more_lines-end : (left : Text → List Text × Text) (s whole : Text) (x : Reading (List Text)) → ((u : Text) → EndsIn u whole → EndsIn (left u).1 whole) →
     EndsIn s whole → Fair x whole → EndsIn (g.more_lines left s x).1 whole
 more_lines-end left s whole (refused fault) ih h f = h
 more_lines-end left s whole (got a rest) ih h f = ih rest f.parts
 
-comment_lines-end : (n level : ℕ) {s whole : Text} → EndsIn s whole → EndsIn (g.comment_lines n level s).1 whole
+pub comment_lines-end : (n level : ℕ) {s whole : Text} → EndsIn s whole → EndsIn (g.comment_lines n level s).1 whole
 unfolding g.comment_lines
 comment_lines-end zero level h = h
 comment_lines-end (suc n) level {s} {whole} h = elim (comment_level s == level) as (λ b. EndsIn (cond b (g.more_lines (g.comment_lines n level) s (g.comment_line_at (drop level s))) ([], s)).1 whole) [
   | true ↦ more_lines-end _ _ _ _ (λ u k. comment_lines-end n level k) h (comment_line-fair (end-drop level h))
   | false ↦ h ]
 
-comment-fair : {s whole : Text} → EndsIn s whole → Fair (g.comment_at s) whole
+pub comment-fair : {s whole : Text} → EndsIn s whole → Fair (g.comment_at s) whole
 unfolding g.comment_at
 comment-fair h = search (fairs, comment_line-fair, comment_lines-end) depth 12
 
