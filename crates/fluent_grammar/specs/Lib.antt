@@ -7,4 +7,5 @@ pub mod Refusal
 pub mod Reading
 pub mod Tiling
 pub mod Ends
+pub mod Levels
 pub mod Escapes
