@@ -6,4 +6,6 @@ pub mod Spelling
 pub mod Refusal
 pub mod Reading
 pub mod Tiling
+pub mod Ends
+pub mod Levels
 pub mod Escapes
