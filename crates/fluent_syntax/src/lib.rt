@@ -7,3 +7,6 @@
 
 pub mod ast;
 pub mod parser;
+
+#[cfg(test)]
+mod tests;
