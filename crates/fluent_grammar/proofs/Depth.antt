@@ -8,9 +8,10 @@ use Rattle.fluent_grammar.specs.Tree as t
 use Rattle.fluent_grammar.specs.Lines.{Piece}
 use Rattle.fluent_grammar.specs.Ends.{EndsIn}
 use Rattle.fluent_grammar.specs.Reading as g
-use Rattle.fluent_grammar.specs.Reading.{Readers, readers, step, selector_fault}
+use Rattle.fluent_grammar.specs.Reading.{Readers, readers, no_readers, step, selector_fault}
 use Rattle.fluent_grammar.specs.Levels.{levels}
-use Rattle.fluent_grammar.proofs.Within.{Fair, FairReaders, readers-fair, MaybeEnd, ends, end-same, end-trans, end-drop, end-blank, end-spaces, end-separator, end-blank_block, end-le, line_end-end, identifier-fair, accessor-fair, literal-fair, key-fair, pattern-fair, select_or_inline-fair}
+use Rattle.fluent_grammar.specs.TilingLaws.{ReadAlike, LevelsAreEnough, BottomIsNeverAsked, PatternsNeedNoMoreLevels, AttributesNeedNoMoreSteps}
+use Rattle.fluent_grammar.proofs.Within.{Fair, FairReaders, readers-fair, MaybeEnd, ends, end-same, end-trans, end-drop, end-blank, end-drop_one, end-spaces, end-separator, end-blank_block, end-le, line_end-end, identifier-fair, accessor-fair, literal-fair, key-fair, pattern-fair, select_or_inline-fair}
 use Rattle.fluent_grammar.proofs.Taken.{Leaves, leaves-fair, identifier-leaves, inline-leaves, placeable-leaves, text_run-leaves}
 
 -- two readings are the same
@@ -144,6 +145,15 @@ module _ (a b : Readers) (w : Text) (agree : Agree w a b) (fair : FairReaders a)
   first_pieces-alike {s} None h k = pieces-alike s (end-drop 1 h)
   first_pieces-alike (Some rest) h k = line-alike _ (end-drop 1 (end-blank_block (end-trans k h)))
 
+  first_pieces-inside : (s whole : Text) (o : Option Text) → EndsIn s whole → MaybeEnd o s → EndsIn (drop 1 whole) w → Alike (g.first_pieces_at a s o) (g.first_pieces_at b s o)
+  unfolding g.first_pieces_at
+  first_pieces-inside s whole None h k l = pieces-alike s (end-trans (end-drop_one h) l)
+  first_pieces-inside s whole (Some rest) h k l = line-alike _ (end-trans (end-drop_one (end-blank_block (end-trans k h))) l)
+
+  pattern-inside : (s : Text) → EndsIn (drop 1 s) w → Alike (g.pattern_at a s) (g.pattern_at b s)
+  unfolding g.pattern_at
+  pattern-inside s h = alike-mapped _ (first_pieces-inside (skip_spaces s) s _ (end-spaces (end-same s)) (line_end-end (skip_spaces s)) h)
+
   pattern-alike : {s : Text} → EndsIn s w → Alike (g.pattern_at a s) (g.pattern_at b s)
   unfolding g.pattern_at
   pattern-alike {s} h = alike-mapped _ (first_pieces-alike _ (end-spaces h) (line_end-end (skip_spaces s)))
@@ -192,6 +202,11 @@ module _ (a b : Readers) (fair : FairReaders a) (k : ℕ) (shorter : (s : Text) 
   line-step [] h = alike-refl _
   line-step (c ∷ cs) h = line-alike a b cs (shorter cs (omega arith)) fair (c ∷ cs) (end-same cs)
 
+  pattern-step : (s : Text) → length s ≤ k → Alike (g.pattern_at a s) (g.pattern_at b s)
+  unfolding g.pattern_at g.first_pieces_at g.pieces_at
+  pattern-step [] h = alike-refl _
+  pattern-step (c ∷ cs) h = pattern-inside a b cs (shorter cs (omega arith)) fair (c ∷ cs) (end-same cs)
+
   pieces-step : (s : Text) → length s ≤ k → Alike (g.pieces_at a s) (g.pieces_at b s)
   unfolding g.pieces_at
   pieces-step [] h = alike-refl _
@@ -215,3 +230,32 @@ agree (suc k) zero n bottom w h p q = absurd (omega arith)
 agree (suc k) (suc m) zero bottom w h p q = absurd (omega arith)
 agree (suc k) (suc m) (suc n) bottom w h p q =
     agree-step (readers m) (levels bottom n) (readers-fair m) k (λ s l. agree k m n bottom s l (omega arith) (omega arith)) w (omega arith)
+
+pub bottom_is_never_asked : BottomIsNeverAsked
+bottom_is_never_asked bottom m n s p q =
+    let h = agree (suc (length s)) m n bottom s (omega arith) p q in
+    record {
+      inline = (h.inline (end-same s)).same;
+      arguments = λ names. (h.arguments names (end-same s)).same;
+      variants = λ marked. (h.variants marked (end-same s)).same;
+      line = (h.line (end-same s)).same;
+      pieces = (h.pieces (end-same s)).same;
+    }
+
+pub levels_are_enough : LevelsAreEnough
+levels_are_enough m n s p q =
+    let h = bottom_is_never_asked no_readers m n s p q in
+    let k = bottom_is_never_asked no_readers n n s q q in
+    record {
+      inline = h.inline ∙ sym k.inline;
+      arguments = λ names. h.arguments names ∙ sym (k.arguments names);
+      variants = λ marked. h.variants marked ∙ sym (k.variants marked);
+      line = h.line ∙ sym k.line;
+      pieces = h.pieces ∙ sym k.pieces;
+    }
+
+pattern-levels : (bottom : Readers) (m n : ℕ) (s : Text) → length s ≤ m → length s ≤ n → g.pattern_at (readers m) s ≡ g.pattern_at (levels bottom n) s
+pattern-levels bottom m n s p q = (pattern-step (readers m) (levels bottom n) (readers-fair m) (length s) (λ u l. agree (length s) m n bottom u l p q) s (omega arith)).same
+
+pub patterns_need_no_more_levels : PatternsNeedNoMoreLevels
+patterns_need_no_more_levels m n s p q = pattern-levels no_readers m n s p q ∙ sym (pattern-levels no_readers n n s q q)

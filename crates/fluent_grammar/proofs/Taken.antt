@@ -1,9 +1,9 @@
 -- Readers that take at least one byte where they give a node: what is left behind the node is an end of the text behind
 -- its first byte.
 use Rattle.std.proofs.Common.{◌≡◌, ℕ, zero, suc, ◌+◌, ◌-◌, ◌<◌, ◌≤◌, Bool, true, false, cond, not, ◌&&◌, ◌||◌, List, [], ◌∷◌, ◌++◌, length, take, drop, Option, Some, None, refl, sym, ap, arith}
-use Rattle.std.specs.Prelude.{◌==◌}
+use Rattle.std.specs.Prelude.{◌==◌, nat_le}
 use Rattle.std.specs.List.{prefix_len}
-use Rattle.fluent_grammar.specs.Words.{Text, line_feed, carriage_return, quote, dollar, hyphen, dot, equals, open_paren, open_brace, close_brace, number_sign, begins, begins_with, begins_crlf, is_letter, is_digit, is_name_byte, name_len, skip_blank, skip_spaces}
+use Rattle.fluent_grammar.specs.Words.{Text, line_feed, carriage_return, quote, dollar, hyphen, dot, equals, open_paren, open_brace, close_brace, number_sign, begins, begins_with, begins_crlf, is_letter, is_digit, is_name_byte, name_len, skip_blank, skip_spaces, comment_level}
 use Rattle.fluent_grammar.specs.Refusal.{Kind, Reading, got, refused, refuse, mapped, ◌>>=◌}
 use Rattle.fluent_grammar.specs.Refusal as r
 use Rattle.fluent_grammar.specs.Tree as t
@@ -11,7 +11,7 @@ use Rattle.fluent_grammar.specs.Lines.{Piece}
 use Rattle.fluent_grammar.specs.Ends.{EndsIn, Took}
 use Rattle.fluent_grammar.specs.Reading as g
 use Rattle.fluent_grammar.specs.Reading.{Readers, identifier_at, digits_at, number_at, text_run}
-use Rattle.fluent_grammar.proofs.Within.{Fair, FairReaders, ends, end-same, end-trans, end-drop, end-cons, end-tail, end-le, fairs, identifier-fair, digits-fair, fraction-fair, number-fair, string-fair, literal-fair, accessor-fair, called-fair, inline-fair, placeable-fair, term-fair, select_or_inline-fair, closing-fair, text_run-fair}
+use Rattle.fluent_grammar.proofs.Within.{Fair, FairReaders, ends, end-same, end-trans, end-drop, end-cons, end-tail, end-le, fairs, identifier-fair, digits-fair, fraction-fair, number-fair, string-fair, literal-fair, accessor-fair, called-fair, inline-fair, placeable-fair, term-fair, select_or_inline-fair, closing-fair, argument-fair, read_pattern-fair, attribute_of-fair, message_of-fair, attributes-end, term_of-fair, head-fair, comment_line-fair, comment_lines-end, text_run-fair}
 
 abbrev LeavesParts : {A : Type 0} → Reading A → Text → Type 0
 LeavesParts (got a rest) w = EndsIn rest w
@@ -92,3 +92,39 @@ module _ (inside : Readers) (fair : FairReaders inside) where
   pub inline-leaves : (s : Text) {w : Text} → EndsIn (drop 1 s) w → Leaves (g.inline_at inside s) w
   unfolding g.inline_at
   inline-leaves s h = search (leaves, leaves-fair, string-fair, number-leaves, identifier-fair, term-fair inside fair, named-leaves, placeable-leaves) depth 12
+
+  pub argument_list-leaves : (names : List Text) (s : Text) {w : Text} → EndsIn (drop 1 s) w → Leaves (g.arguments_at inside names s) w
+  unfolding g.arguments_at
+  argument_list-leaves names s h = search (leaves, leaves-fair, inline-leaves, argument-fair inside fair) depth 12
+
+pub attribute-leaves : (s : Text) {w : Text} → EndsIn (drop 1 (skip_spaces s)) w → Leaves (g.attribute_at s) w
+unfolding g.attribute_at
+attribute-leaves s h = search (leaves, leaves-fair, identifier-fair, read_pattern-fair, attribute_of-fair) depth 12
+
+pub head-leaves : (s : Text) {w : Text} → EndsIn (drop 1 s) w → Leaves (g.head_at s) w
+unfolding g.head_at
+head-leaves s h = search (leaves, leaves-fair, identifier-leaves, read_pattern-fair) depth 12
+
+pub message-leaves : (s : Text) {w : Text} → EndsIn (drop 1 s) w → Leaves (g.message_at s) w
+unfolding g.message_at
+message-leaves s h = search (leaves, leaves-fair, head-leaves, message_of-fair, attributes-end) depth 12
+
+term_entry-leaves : (s : Text) {w : Text} → EndsIn (drop 1 s) w → Leaves (g.term_entry_at s) w
+unfolding g.term_entry_at
+term_entry-leaves s h = search (leaves, leaves-fair, head-fair, term_of-fair, attributes-end) depth 12
+
+-- a sign at the front counts
+level-one : (n : ℕ) (c : ℕ) (cs : Text) {w : Text} → EndsIn cs w → EndsIn (drop (cond (nat_le (suc n) 3) (suc n) 3) (c ∷ cs)) w
+level-one n c cs {w} h = elim (nat_le (suc n) 3) as (λ b. EndsIn (drop (cond b (suc n) 3) (c ∷ cs)) w) [ true ↦ end-drop n h | false ↦ end-drop 2 h ]
+
+pub level-end : (s : Text) {w : Text} → begins_with number_sign s ≡ true → EndsIn (drop 1 s) w → EndsIn (drop (comment_level s) s) w
+level-end [] e h = absurd cc
+level-end (c ∷ cs) e h = rw (e, one-plus) (level-one (prefix_len (λ d. d == number_sign) cs) c cs h)
+
+pub comment-leaves : (s : Text) {w : Text} → begins_with number_sign s ≡ true → EndsIn (drop 1 s) w → Leaves (g.comment_at s) w
+unfolding g.comment_at
+comment-leaves s e h = search (leaves, leaves-fair, level-end, comment_line-fair, comment_lines-end) depth 12
+
+pub entry-leaves : (s : Text) {w : Text} → EndsIn (drop 1 s) w → Leaves (g.entry_at s) w
+unfolding g.entry_at
+entry-leaves s h = search (leaves, leaves-fair, comment-leaves, term_entry-leaves, message-leaves) depth 12

@@ -22,6 +22,13 @@ end-trans {a} h k = record { front = k.front ++ h.front; whole = k.whole ∙ ap 
 pub end-drop : {s whole : Text} (n : ℕ) → EndsIn s whole → EndsIn (drop n s) whole
 end-drop {s} n h = end-trans (record { front = take n s; whole = sym (take-append-drop n s) }) h
 
+pub end-drop_one : {a b : Text} → EndsIn a b → EndsIn (drop 1 a) (drop 1 b)
+end-drop_one {a} {b} h = drop_one a b h.front h.whole
+  where
+    drop_one : (a b front : Text) → b ≡ front ++ a → EndsIn (drop 1 a) (drop 1 b)
+    drop_one a b [] e = rw e (end-same _)
+    drop_one a b (c ∷ cs) e = rw e (end-trans (end-drop 1 (end-same a)) (record { front = cs; whole = refl }))
+
 pub end-none : (s : Text) → EndsIn [] s
 end-none s = record { front = s; whole = sym (append-nil s) }
 

@@ -8,4 +8,5 @@ pub mod Reading
 pub mod Tiling
 pub mod Ends
 pub mod Levels
+pub mod TilingLaws
 pub mod Escapes

@@ -1,0 +1,51 @@
+//! Laws about reading and tiling.
+
+ghost use Rattle.fluent_grammar.specs.TilingLaws.{AttributesStayWithin, BottomIsNeverAsked, EntriesStayWithin, EntriesTakeSome, LevelsAreEnough, PatternsNeedNoMoreLevels, ReadersStayWithin, ReadersTakeSome};
+
+/// What a reader leaves, and the place of its refusal, is an end of the text that it was given.
+pub fn readers_stay_within()
+    ensures { ReadersStayWithin }
+{
+}
+
+/// What an entry leaves, and the place of its refusal, is an end of the text that begins with it.
+pub fn entries_stay_within()
+    ensures { EntriesStayWithin }
+{
+}
+
+/// What attributes leave is an end of the text that begins with them.
+pub fn attributes_stay_within()
+    ensures { AttributesStayWithin }
+{
+}
+
+/// An expression, and what is left of call arguments, have at least one byte.
+pub fn readers_take_some()
+    ensures { ReadersTakeSome }
+{
+}
+
+/// An entry has at least one byte.
+pub fn entries_take_some()
+    ensures { EntriesTakeSome }
+{
+}
+
+/// A text is read in full by readers of more levels than it has bytes: further levels change nothing.
+pub fn levels_are_enough()
+    ensures { LevelsAreEnough }
+{
+}
+
+/// What stands below those levels is never asked, so reading answers for every text, with a node or a refusal of the grammar's.
+pub fn bottom_is_never_asked()
+    ensures { BottomIsNeverAsked }
+{
+}
+
+/// As many levels as a text has bytes are enough for a pattern, which asks for shorter texts alone.
+pub fn patterns_need_no_more_levels()
+    ensures { PatternsNeedNoMoreLevels }
+{
+}
