@@ -1,1 +1,3 @@
 mod Trimmed
+mod Copied
+pub mod Views

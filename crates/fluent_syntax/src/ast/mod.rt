@@ -3,6 +3,8 @@
 //! A reader makes it of slices of a source (`S` is `&str`) or of texts of its own (`S` is `String`). The names in
 //! backquotes after "production" are those of Fluent Syntax 1.0.
 
+mod copies;
+
 /// A whole source: its entries in the order of their places. Production `Resource`.
 #[derive(Debug, PartialEq, Eq, Drop)]
 pub struct Resource<S> {
