@@ -1,3 +1,6 @@
 mod Trimmed
 mod Copied
 pub mod Views
+pub mod Counted
+pub mod Scanned
+pub mod Strings

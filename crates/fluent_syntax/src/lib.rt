@@ -8,5 +8,3 @@
 pub mod ast;
 pub mod parser;
 
-#[cfg(test)]
-mod tests;
