@@ -2,7 +2,7 @@ use Rattle.std.proofs.Common.{◌≡◌, ◌||◌, arith, rules, get_or, refl, s
 use Rattle.std.specs.Prelude.{◌==◌, true}
 use Rattle.std.proofs.lemmas.Bool.Decides.{nat_tests}
 use Rattle.std.proofs.lemmas.Bool.{false≢true}
-use Rattle.fluent_syntax.proofs.Scanned.{take_rest}
+use Rattle.fluent_syntax.proofs.Scanned.{take_rest, test_eq}
 use Rattle.fluent_syntax.proofs.Strings.{escape_at_end, escape_plain, escape_unknown, escape_small, escape_capital}
 use Rattle.fluent_syntax.proofs.parser.words.escape_step.Goals as goal
 use Rattle.fluent_syntax.proofs.parser.words.escape_step.Goals.{then-text-eq92, else-text-eq92}
@@ -29,6 +29,6 @@ returns-then-text-eq85 c =
 pub returns-else-text-eq85 : goal.returns-else-text-eq85
 returns-else-text-eq85 c =
     elim c.if-text-eq92.branch [
-      | then-text-eq92 w ↦ absurd (false≢true (sym c.if-text-eq34.false ∙ w.value-is))
+      | then-text-eq92 w ↦ absurd (false≢true (sym c.if-text-eq34.false ∙ w.value-is ∙ test_eq _ 92 w.if-text-eq92.true))
       | else-text-eq92 w ↦ escape_unknown c.args.text.now c.requires.backslash c.if-text-lt2.false w.if-text-eq92.false (grind (arith, nat_tests)) c.if-text-eq117.false c.if-text-eq85.false
     ]
