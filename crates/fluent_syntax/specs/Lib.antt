@@ -7,3 +7,4 @@ pub use Rattle.fluent_grammar.specs.Reading
 pub use Rattle.fluent_grammar.specs.Spelling
 pub use Rattle.fluent_grammar.specs.Tiling
 pub mod View
+pub mod ErrorView
