@@ -9,6 +9,8 @@ ghost use Rattle.fluent_syntax.specs.View.{arguments_view};
 
 mod clones;
 mod copies;
+#[cfg(test)]
+mod tests;
 
 use std::alloc::Global;
 
