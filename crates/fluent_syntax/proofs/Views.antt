@@ -15,7 +15,6 @@ use Rattle.fluent_syntax.specs.declared.ast.Expression.TheOpen as o
 use Rattle.fluent_syntax.specs.View.{expression_step, inline_step, element_step, arguments_step, named_step, pattern_step, variant_step, pattern_view, element_view, expression_view, inline_view, variant_view, arguments_view, named_view, key_of, name_of, elements_of, variants_of, maybe_arguments}
 
 module _ (S : Type 0) (text_of : S → List ℕ) where
-
   pub inline_view-StringLiteral : (s : S) → inline_view S text_of (StringLiteral s) ≡ t.string_literal (text_of s)
   inline_view-StringLiteral s =
       ap (inline_view S text_of) (sym (rolls-StringLiteral s))

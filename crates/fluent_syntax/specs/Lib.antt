@@ -8,3 +8,5 @@ pub use Rattle.fluent_grammar.specs.Spelling
 pub use Rattle.fluent_grammar.specs.Tiling
 pub mod View
 pub mod Counted
+pub mod ErrorView
+pub mod Reads

@@ -7,4 +7,4 @@
 
 pub mod ast;
 pub mod parser;
-
+pub mod unicode;

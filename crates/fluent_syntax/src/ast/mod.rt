@@ -3,7 +3,16 @@
 //! A reader makes it of slices of a source (`S` is `&str`) or of texts of its own (`S` is `String`). The names in
 //! backquotes after "production" are those of Fluent Syntax 1.0.
 
+ghost use Rattle.std.specs.Prelude.{◌≡◌, ℕ, List};
+ghost use Rattle.fluent_grammar.specs.Tree.{arguments, no_inlines, no_nameds};
+ghost use Rattle.fluent_syntax.specs.View.{arguments_view};
+
+mod clones;
 mod copies;
+#[cfg(test)]
+mod tests;
+
+use std::alloc::Global;
 
 /// A whole source: its entries in the order of their places. Production `Resource`.
 #[derive(Debug, PartialEq, Eq, Drop)]
@@ -107,6 +116,18 @@ pub struct Comment<S> {
 pub struct CallArguments<S> {
     pub positional: Vec<InlineExpression<S>>,
     pub named: Vec<NamedArgument<S>>,
+}
+
+impl<S> CallArguments<S> {
+    /// No arguments. It takes no memory and succeeds.
+    pub fn new(alloc: Global) -> Self
+        ensures { (text_of : S → List ℕ) → arguments_view S text_of result ≡ arguments no_inlines no_nameds }
+    {
+        CallArguments {
+            positional: Vec::new(alloc),
+            named: Vec::new(alloc),
+        }
+    }
 }
 
 /// An argument with a name. Production `NamedArgument`.

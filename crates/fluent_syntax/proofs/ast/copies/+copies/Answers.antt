@@ -36,7 +36,7 @@ clone_pattern-returns g t c =
     ∙ sym (pattern_view-out S text_of c.args.pattern.now)
 
 pub clone_inline-returns-in_ok-arguments-in-FunctionReference :
-        goal.clone_inline-returns-in_ok-arguments-in-FunctionReference
+    goal.clone_inline-returns-in_ok-arguments-in-FunctionReference
 clone_inline-returns-in_ok-arguments-in-FunctionReference g t c =
     let S = g.row.S.Denot in
     let text_of = g.T.Texts.text in
