@@ -4,7 +4,7 @@ use Rattle.fluent_grammar.specs.Words.{Text}
 use Rattle.fluent_grammar.specs.Refusal.{Reading}
 use Rattle.fluent_grammar.specs.Tree as t
 use Rattle.fluent_grammar.specs.Lines.{Piece}
-use Rattle.fluent_grammar.specs.Reading.{Readers, readers, identifier_at, number_at, literal_at, key_at, placeable_at, pattern_at, attribute_at, attributes_at, head_at, comment_at, message_at, term_entry_at, entry_at}
+use Rattle.fluent_grammar.specs.Reading.{Readers, readers, identifier_at, number_at, literal_at, key_at, placeable_at, pattern_at, attribute_at, attributes_at, head_at, comment_lines, comment_at, message_at, term_entry_at, entry_at}
 use Rattle.fluent_grammar.specs.Ends.{EndsIn, Within, Took}
 use Rattle.fluent_grammar.specs.Levels.{levels}
 
@@ -61,3 +61,7 @@ PatternsNeedNoMoreLevels = (m n : ℕ) (text : Text) → length text ≤ m → l
 -- as many steps as a text has bytes are enough for its attributes
 abbrev pub AttributesNeedNoMoreSteps : Type 0
 AttributesNeedNoMoreSteps = (m n : ℕ) (text : Text) → length text ≤ m → length text ≤ n → attributes_at m text ≡ attributes_at n text
+
+-- and for the lines of a comment
+abbrev pub CommentsNeedNoMoreSteps : Type 0
+CommentsNeedNoMoreSteps = (m n level : ℕ) (text : Text) → length text ≤ m → length text ≤ n → comment_lines m level text ≡ comment_lines n level text

@@ -1,6 +1,6 @@
 //! Laws about reading and tiling.
 
-ghost use Rattle.fluent_grammar.specs.TilingLaws.{AttributesStayWithin, BottomIsNeverAsked, EntriesStayWithin, EntriesTakeSome, LevelsAreEnough, PatternsNeedNoMoreLevels, ReadersStayWithin, ReadersTakeSome};
+ghost use Rattle.fluent_grammar.specs.TilingLaws.{AttributesNeedNoMoreSteps, AttributesStayWithin, BottomIsNeverAsked, CommentsNeedNoMoreSteps, EntriesStayWithin, EntriesTakeSome, LevelsAreEnough, PatternsNeedNoMoreLevels, ReadersStayWithin, ReadersTakeSome};
 
 /// What a reader leaves, and the place of its refusal, is an end of the text that it was given.
 pub fn readers_stay_within()
@@ -47,5 +47,17 @@ pub fn bottom_is_never_asked()
 /// As many levels as a text has bytes are enough for a pattern, which asks for shorter texts alone.
 pub fn patterns_need_no_more_levels()
     ensures { PatternsNeedNoMoreLevels }
+{
+}
+
+/// As many steps as a text has bytes are enough for its attributes.
+pub fn attributes_need_no_more_steps()
+    ensures { AttributesNeedNoMoreSteps }
+{
+}
+
+/// As many steps as a text has bytes are enough for the lines of a comment.
+pub fn comments_need_no_more_steps()
+    ensures { CommentsNeedNoMoreSteps }
 {
 }
