@@ -58,7 +58,7 @@ comment_lines-none zero level = refl
 comment_lines-none (suc n) zero = rw (comment_lines-none n zero)
 comment_lines-none (suc n) (suc level) = rw (comment_lines-none n (suc level)) (cond-same _ _)
 
-rest_of_line-tail : (s : Text) {w : Text} → EndsIn (drop 1 s) w → EndsIn (rest_of_line s).1 w
+pub rest_of_line-tail : (s : Text) {w : Text} → EndsIn (drop 1 s) w → EndsIn (rest_of_line s).1 w
 rest_of_line-tail [] h = h
 rest_of_line-tail (c ∷ cs) h =
     end-if_pair (c == line_feed) ([], cs) _ h
