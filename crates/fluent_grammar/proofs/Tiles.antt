@@ -107,7 +107,7 @@ line-unique mode n (c ∷ cs) f rest ps h p l e unique =
     rw (p, l, front-is (c ∷ cs) rest f e, ← unique n k) refl
 
 mutual
-  tiles-unique : (mode : Mode) {ps : List Part} {s : Text} → Tiles mode ps s → (n : ℕ) → length s < n → ps ≡ parts mode n s
+  pub tiles-unique : (mode : Mode) {ps : List Part} {s : Text} → Tiles mode ps s → (n : ℕ) → length s < n → ps ≡ parts mode n s
   tiles-unique mode (begins_blank {text} {blanks} {rest} {parts} e b d) n h = blank-unique mode n text blanks rest parts h e b (λ k l. items-unique mode d k l)
 
   items-unique : (mode : Mode) {ps : List Part} {s : Text} → TilesItems mode ps s → (n : ℕ) → length s ≤ n → ps ≡ items mode (parts mode n) s
