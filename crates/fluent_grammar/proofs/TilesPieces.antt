@@ -11,7 +11,8 @@ use Rattle.fluent_grammar.specs.Tiling as p
 use Rattle.fluent_grammar.specs.Tiling.{behind_junk, is_field_kind, error_of, pieces_from, runtime_pieces_from, and_pieces, tree, errors, runtime_tree, runtime_errors, entries_of, errors_of}
 use Rattle.fluent_grammar.specs.Tiles.{Mode, full, runtime, passes_over, Part, blank_block, entry, junk, passed_over, Tiles, begins_blank, TilesItems, source_ends, an_entry, some_junk, a_line, text_of, error_of_junk, lies_apart, pieces_of, tree_of, errors_in}
 use Rattle.fluent_grammar.proofs.Within.{end-same, end-le, end-cons, end-blank_block}
-use Rattle.fluent_grammar.proofs.Tiles.{parts, items, item, line, front-append, front-whole, tiles-unique}
+use Rattle.fluent_grammar.proofs.Tiles.{parts, items, item, line, front-append, front-whole, parts-tiled, tiles-unique}
+use Rattle.fluent_grammar.specs.TilingLaws.{EachTextHasATiling, NoTextHasTwoTilings, PartsAreTheText, TilingGivesTreeAndErrors}
 
 mutual
   pub tiles-text : (mode : Mode) {ps : List Part} {s : Text} → Tiles mode ps s → text_of ps ≡ s
@@ -88,3 +89,16 @@ tiling-pieces s ps d = rw (tiles-unique full d (suc (length s)) (omega arith)) (
 
 pub runtime_tiling-pieces : (s : Text) (ps : List Part) → Tiles runtime ps s → pieces_of runtime 0 false ps ≡ p.runtime_pieces s
 runtime_tiling-pieces s ps d = rw (tiles-unique runtime d (suc (length s)) (omega arith)) (runtime-pieces (suc (length s)) 0 s)
+
+pub each_text_has_a_tiling : EachTextHasATiling
+each_text_has_a_tiling mode s = (parts mode (suc (length s)) s, parts-tiled mode (suc (length s)) s (omega arith))
+
+pub no_text_has_two_tilings : NoTextHasTwoTilings
+no_text_has_two_tilings mode s ps qs d e = tiles-unique mode d (suc (length s)) (omega arith) ∙ sym (tiles-unique mode e (suc (length s)) (omega arith))
+
+pub parts_are_the_text : PartsAreTheText
+parts_are_the_text mode s ps d = tiles-text mode d
+
+pub tiling_gives_tree_and_errors : TilingGivesTreeAndErrors
+tiling_gives_tree_and_errors full s ps d = (ap (entries_of None) (tiling-pieces s ps d), ap errors_of (tiling-pieces s ps d))
+tiling_gives_tree_and_errors runtime s ps d = (ap (entries_of None) (runtime_tiling-pieces s ps d), ap errors_of (runtime_tiling-pieces s ps d))

@@ -1,6 +1,6 @@
 //! Laws about reading and tiling.
 
-ghost use Rattle.fluent_grammar.specs.TilingLaws.{AttributesNeedNoMoreSteps, AttributesStayWithin, BottomIsNeverAsked, CommentsNeedNoMoreSteps, EntriesStayWithin, EntriesTakeSome, LevelsAreEnough, PatternsNeedNoMoreLevels, ReadersStayWithin, ReadersTakeSome};
+ghost use Rattle.fluent_grammar.specs.TilingLaws.{AttributesNeedNoMoreSteps, AttributesStayWithin, BottomIsNeverAsked, CommentsNeedNoMoreSteps, EachTextHasATiling, EntriesStayWithin, EntriesTakeSome, LevelsAreEnough, NoTextHasTwoTilings, PartsAreTheText, PatternsNeedNoMoreLevels, ReadersStayWithin, ReadersTakeSome, TilingGivesTreeAndErrors};
 
 /// What a reader leaves, and the place of its refusal, is an end of the text that it was given.
 pub fn readers_stay_within()
@@ -59,5 +59,29 @@ pub fn attributes_need_no_more_steps()
 /// As many steps as a text has bytes are enough for the lines of a comment.
 pub fn comments_need_no_more_steps()
     ensures { CommentsNeedNoMoreSteps }
+{
+}
+
+/// Each text has a tiling, in full and for runtime use.
+pub fn each_text_has_a_tiling()
+    ensures { EachTextHasATiling }
+{
+}
+
+/// No text has two tilings.
+pub fn no_text_has_two_tilings()
+    ensures { NoTextHasTwoTilings }
+{
+}
+
+/// The parts of a tiling, put together, are the text: no byte is lost.
+pub fn parts_are_the_text()
+    ensures { PartsAreTheText }
+{
+}
+
+/// The tree of a source and its errors are those of its tiling.
+pub fn tiling_gives_tree_and_errors()
+    ensures { TilingGivesTreeAndErrors }
 {
 }
