@@ -48,7 +48,7 @@ pub ruleset leaves = (leaves-got, leaves-refuse, leaves-if, leaves-bind, leaves-
 one-plus : (n : ℕ) → 1 + n ≡ suc n
 one-plus n = omega arith
 
-name-end : (s : Text) {w : Text} → begins is_letter s ≡ true → EndsIn (drop 1 s) w → EndsIn (drop (name_len s) s) w
+pub name-end : (s : Text) {w : Text} → begins is_letter s ≡ true → EndsIn (drop 1 s) w → EndsIn (drop (name_len s) s) w
 name-end [] e h = absurd cc
 name-end (c ∷ cs) e h = rw (e, one-plus) (end-drop (prefix_len is_name_byte cs) h)
 

@@ -8,5 +8,6 @@ pub mod Reading
 pub mod Tiling
 pub mod Ends
 pub mod Levels
+pub mod Tiles
 pub mod TilingLaws
 pub mod Escapes

@@ -1,11 +1,13 @@
 -- The laws of reading and tiling, as statements.
-use Rattle.std.specs.Prelude.{◌≡◌, ℕ, ◌+◌, ◌<◌, ◌≤◌, Bool, List, length, Some}
+use Rattle.std.specs.Prelude.{◌≡◌, ℕ, ◌+◌, ◌-◌, ◌<◌, ◌≤◌, Bool, List, [], ◌∷◌, length, take, drop, map, Some, All}
 use Rattle.fluent_grammar.specs.Words.{Text}
 use Rattle.fluent_grammar.specs.Refusal.{Reading}
 use Rattle.fluent_grammar.specs.Tree as t
 use Rattle.fluent_grammar.specs.Lines.{Piece}
-use Rattle.fluent_grammar.specs.Reading.{Readers, readers, identifier_at, number_at, literal_at, key_at, placeable_at, pattern_at, attribute_at, attributes_at, head_at, comment_at, message_at, term_entry_at, entry_at}
-use Rattle.fluent_grammar.specs.Ends.{EndsIn, Within, Took}
+use Rattle.fluent_grammar.specs.Reading.{Readers, readers, identifier_at, number_at, literal_at, key_at, placeable_at, pattern_at, attribute_at, attributes_at, head_at, comment_lines, comment_at, message_at, term_entry_at, entry_at}
+use Rattle.fluent_grammar.specs.Tiling.{ParserError, tree, errors, runtime_tree, runtime_errors, listed, list}
+use Rattle.fluent_grammar.specs.Tiles.{Mode, full, runtime, Part, Tiles, text_of, tree_of, errors_in}
+use Rattle.fluent_grammar.specs.Ends.{EndsIn, Within, Took, Told}
 use Rattle.fluent_grammar.specs.Levels.{levels}
 
 -- What each reader leaves, and the place of its refusal, is an end of the text that it was given.
@@ -61,3 +63,73 @@ PatternsNeedNoMoreLevels = (m n : ℕ) (text : Text) → length text ≤ m → l
 -- as many steps as a text has bytes are enough for its attributes
 abbrev pub AttributesNeedNoMoreSteps : Type 0
 AttributesNeedNoMoreSteps = (m n : ℕ) (text : Text) → length text ≤ m → length text ≤ n → attributes_at m text ≡ attributes_at n text
+
+-- and for the lines of a comment
+abbrev pub CommentsNeedNoMoreSteps : Type 0
+CommentsNeedNoMoreSteps = (m n level : ℕ) (text : Text) → length text ≤ m → length text ≤ n → comment_lines m level text ≡ comment_lines n level text
+
+-- Each text has a tiling, in full and for runtime use, and no other.
+abbrev pub EachTextHasATiling : Type 0
+EachTextHasATiling = (mode : Mode) (text : Text) → (parts : List Part) × Tiles mode parts text
+
+abbrev pub NoTextHasTwoTilings : Type 0
+NoTextHasTwoTilings = (mode : Mode) (text : Text) (parts others : List Part) → Tiles mode parts text → Tiles mode others text → parts ≡ others
+
+-- The parts of a tiling, put together, are the text.
+abbrev pub PartsAreTheText : Type 0
+PartsAreTheText = (mode : Mode) (text : Text) (parts : List Part) → Tiles mode parts text → text_of parts ≡ text
+
+-- the tree and the errors of a source, in full and for runtime use
+abbrev pub tree_for : Mode → Text → List t.Entry
+tree_for full source = tree source
+tree_for runtime source = runtime_tree source
+
+abbrev pub errors_for : Mode → Text → List ParserError
+errors_for full source = errors source
+errors_for runtime source = runtime_errors source
+
+-- The tree and the errors are those of the tiling.
+abbrev pub TilingGivesTreeAndErrors : Type 0
+TilingGivesTreeAndErrors = (mode : Mode) (source : Text) (parts : List Part) → Tiles mode parts source →
+    (tree_of mode parts ≡ tree_for mode source) × (errors_in mode parts ≡ errors_for mode source)
+
+-- the contents of the junk among entries
+abbrev pub junk_of : List t.Entry → List Text
+junk_of [] = []
+junk_of (t.junk content ∷ entries) = content ∷ junk_of entries
+junk_of (_ ∷ entries) = junk_of entries
+
+-- what stands in a source where an error's slice is
+abbrev pub sliced : Text → ParserError → Text
+sliced source error = take (error.slice_end - error.slice_start) (drop error.slice_start source)
+
+-- There are as many errors as junk entries, in the same order, and the content of each junk is its error's slice of the source.
+abbrev pub JunkIsSliced : Type 0
+JunkIsSliced = (mode : Mode) (source : Text) → junk_of (tree_for mode source) ≡ map (sliced source) (errors_for mode source)
+
+-- Slices within these bounds, none of which is empty: each begins where the one before it ends, or later.
+abbrev pub Ascend : ℕ → List ParserError → ℕ → Type 0
+Ascend from [] end = from ≤ end
+Ascend from (error ∷ errors) end = (from ≤ error.slice_start) × (error.slice_start < error.slice_end) × Ascend error.slice_end errors end
+
+abbrev pub SlicesAscend : Type 0
+SlicesAscend = (mode : Mode) (source : Text) → Ascend 0 (errors_for mode source) (length source)
+
+-- an error's place begins in its slice or at the slice's end
+abbrev pub StartsInSlice : ParserError → Type 0
+StartsInSlice error = (error.slice_start ≤ error.pos_start) × (error.pos_start ≤ error.slice_end)
+
+abbrev pub PlacesStartInSlices : Type 0
+PlacesStartInSlices = (mode : Mode) (source : Text) → All StartsInSlice (errors_for mode source)
+
+-- What an error tells of the byte at its place is so.
+abbrev pub ErrorsAreTold : Type 0
+ErrorsAreTold = (mode : Mode) (source : Text) → All (λ error. Told error.kind (drop error.pos_start source)) (errors_for mode source)
+
+-- The messages and terms for runtime use are those of the full reading, comments set aside.
+abbrev pub RuntimeHasTheSameList : Type 0
+RuntimeHasTheSameList = (source : Text) → listed (runtime_tree source) ≡ list source
+
+-- Where the full reading has no junk, and so no error, that for runtime use has none.
+abbrev pub RuntimeAddsNoJunk : Type 0
+RuntimeAddsNoJunk = (source : Text) → errors source ≡ [] → runtime_errors source ≡ []

@@ -1,6 +1,6 @@
 //! Laws about reading and tiling.
 
-ghost use Rattle.fluent_grammar.specs.TilingLaws.{AttributesStayWithin, BottomIsNeverAsked, EntriesStayWithin, EntriesTakeSome, LevelsAreEnough, PatternsNeedNoMoreLevels, ReadersStayWithin, ReadersTakeSome};
+ghost use Rattle.fluent_grammar.specs.TilingLaws.{AttributesNeedNoMoreSteps, AttributesStayWithin, BottomIsNeverAsked, CommentsNeedNoMoreSteps, EachTextHasATiling, EntriesStayWithin, EntriesTakeSome, ErrorsAreTold, JunkIsSliced, LevelsAreEnough, NoTextHasTwoTilings, PartsAreTheText, PatternsNeedNoMoreLevels, PlacesStartInSlices, ReadersStayWithin, ReadersTakeSome, SlicesAscend, TilingGivesTreeAndErrors};
 
 /// What a reader leaves, and the place of its refusal, is an end of the text that it was given.
 pub fn readers_stay_within()
@@ -47,5 +47,66 @@ pub fn bottom_is_never_asked()
 /// As many levels as a text has bytes are enough for a pattern, which asks for shorter texts alone.
 pub fn patterns_need_no_more_levels()
     ensures { PatternsNeedNoMoreLevels }
+{
+}
+
+/// As many steps as a text has bytes are enough for its attributes.
+pub fn attributes_need_no_more_steps()
+    ensures { AttributesNeedNoMoreSteps }
+{
+}
+
+/// As many steps as a text has bytes are enough for the lines of a comment.
+pub fn comments_need_no_more_steps()
+    ensures { CommentsNeedNoMoreSteps }
+{
+}
+
+/// Each text has a tiling, in full and for runtime use.
+pub fn each_text_has_a_tiling()
+    ensures { EachTextHasATiling }
+{
+}
+
+/// No text has two tilings.
+pub fn no_text_has_two_tilings()
+    ensures { NoTextHasTwoTilings }
+{
+}
+
+/// The parts of a tiling, put together, are the text: no byte is lost.
+pub fn parts_are_the_text()
+    ensures { PartsAreTheText }
+{
+}
+
+/// The tree of a source and its errors are those of its tiling.
+pub fn tiling_gives_tree_and_errors()
+    ensures { TilingGivesTreeAndErrors }
+{
+}
+
+/// There are as many errors as junk entries, in the same order, and the content of each junk is the source at its error's slice.
+pub fn junk_is_sliced()
+    ensures { JunkIsSliced }
+{
+}
+
+/// The slices of the errors lie in the source; none is empty, and each begins where the one before it ends, or later.
+pub fn slices_ascend()
+    ensures { SlicesAscend }
+{
+}
+
+/// The place of each error begins in its slice, or at the slice's end.
+pub fn places_start_in_slices()
+    ensures { PlacesStartInSlices }
+{
+}
+
+/// Where a token is said to be expected, it doesn't stand there; an unbalanced closing brace stands at its place, and so does
+/// the line feed of a string that isn't terminated.
+pub fn errors_are_told()
+    ensures { ErrorsAreTold }
 {
 }
