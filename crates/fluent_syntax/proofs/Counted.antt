@@ -1,11 +1,11 @@
 -- Where the words of the grammar end, the text may be cut.
-use Rattle.std.proofs.Common.{◌≡◌, ℕ, zero, suc, ◌+◌, ◌-◌, ◌<◌, ◌≤◌, Bool, true, false, cond, ◌&&◌, ◌||◌, List, [], ◌∷◌, length, take, drop, get_or, refl, sym, ap, ◌∙◌, arith, rules, add-one, sub-one, Option, Some, None}
+use Rattle.std.proofs.Common.{◌≡◌, ℕ, zero, suc, ◌+◌, ◌-◌, ◌<◌, ◌≤◌, Bool, true, false, cond, ◌&&◌, ◌||◌, List, [], ◌∷◌, length, take, drop, get_or, refl, sym, ap, ◌∙◌, arith, rules, add-one, sub-one, subst, Option, Some, None}
 use Rattle.std.specs.Prelude.{◌==◌, is_some, nat_le}
 use Rattle.std.specs.List.{prefix_len}
 use Rattle.std.specs.Str.{IsUtf8, IsCharBoundary}
 use Rattle.std.proofs.lemmas.Bool.Decides.{nat_tests}
 use Rattle.std.proofs.lemmas.Grind.{common_steps}
-use Rattle.std.proofs.lemmas.Str.{IsCharBoundary-start, IsCharBoundary-after_ascii, IsCharBoundary-before_ascii, IsCharBoundary-end}
+use Rattle.std.proofs.lemmas.Str.{IsCharBoundary-from_drop, IsCharBoundary-start, IsCharBoundary-after_ascii, IsCharBoundary-before_ascii, IsCharBoundary-end}
 use Rattle.std.proofs.lemmas.List.Sums.{prefix_len-le-length, prefix_len_passes}
 use Rattle.fluent_grammar.specs.Words as w
 use Rattle.fluent_syntax.specs.Counted.{Cuts}
@@ -64,7 +64,16 @@ cut_hex = cut_prefix _ hex_ascii
 pub cut_signs : (text : List ℕ) (n : ℕ) → n ≡ prefix_len (λ c. c == w.number_sign) text → Cuts text n
 cut_signs = cut_prefix _ sign_ascii
 
+-- one byte that the text begins with
+pub cut_begun : (text : List ℕ) (b : ℕ) → b < 128 → w.begins_with b text ≡ true → Cuts text 1
+cut_begun [] b h e = absurd cc
+cut_begun (c ∷ cs) b h e = cut_by_ascii (c ∷ cs) 1 (omega arith) (λ _. grind (arith, nat_tests))
+
 pub prefix_within : (p : ℕ → Bool) (text : List ℕ) → prefix_len p text ≤ length text
 prefix_within = prefix_len-le-length
 
-pub ruleset cuts = (prefix_within, cut_none, cut_end, cut_spaces, cut_digits, cut_names, cut_hex, cut_signs, cut_by_ascii, cut_before_ascii)
+pub ruleset cuts = (prefix_within, cut_none, cut_end, cut_spaces, cut_digits, cut_names, cut_hex, cut_signs, cut_by_ascii, cut_before_ascii, cut_begun)
+
+-- the place before an end of the text
+pub place_of_tail : (text rest : List ℕ) → rest ≡ drop (length text - length rest) text → IsUtf8 rest → IsCharBoundary text (length text - length rest)
+place_of_tail text rest e u = IsCharBoundary-from_drop text (length text - length rest) (omega arith) (subst IsUtf8 e u)

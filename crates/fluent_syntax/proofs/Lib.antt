@@ -4,3 +4,5 @@ pub mod Views
 pub mod Counted
 pub mod Scanned
 pub mod Strings
+pub mod Chars
+pub mod Failing

@@ -1,21 +1,13 @@
 //! Reading a source into its tree.
 
-mod comment;
-mod entry;
 pub mod errors;
-mod expression;
 mod fault;
 mod helper;
-mod pattern;
-mod resource;
-mod runtime;
 mod slice;
 mod words;
 
 use crate::ast::Resource;
 pub use errors::{ErrorKind, ParserError};
-pub use resource::parse;
-pub use runtime::parse_runtime;
 pub use slice::Slice;
 pub(crate) use slice::{Slices, Texts};
 /// Why a source isn't read whole.
