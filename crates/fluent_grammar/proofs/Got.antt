@@ -1,6 +1,6 @@
 -- Readings that got something: how they came about.
-use Rattle.std.proofs.Common.{◌≡◌, ℕ, Bool, true, false, cond, List, [], ◌∷◌, drop, refl, sym, ap, arith, inl, inr}
-use Rattle.std.specs.Prelude.{◌⊎◌, ◌==◌, ◌||◌}
+use Rattle.std.proofs.Common.{◌≡◌, ℕ, Bool, true, false, cond, List, [], ◌∷◌, drop, length, refl, sym, ap, arith, inl, inr}
+use Rattle.std.specs.Prelude.{◌⊎◌, ◌==◌, ◌||◌, ◌≢◌}
 use Rattle.fluent_grammar.specs.Words.{Text, begins, begins_with}
 use Rattle.fluent_grammar.specs.Refusal.{Reading, got, refused, mapped, ◌>>=◌}
 
@@ -34,3 +34,11 @@ same c d e = grind arith
 pub either : (a b : Bool) → (a || b) ≡ true → (a ≡ true) ⊎ (b ≡ true)
 either true b e = inl refl
 either false b e = inr e
+
+pub no_text : (s : Text) → (length s == 0) ≡ true → s ≡ []
+no_text [] h = refl
+no_text (c ∷ cs) h = absurd (grind arith)
+
+pub not_end : (s : Text) → (length s == 0) ≡ false → s ≢ []
+not_end [] h e = absurd cc
+not_end (c ∷ cs) h e = absurd cc
