@@ -76,11 +76,11 @@ unfolding fraction_at
 unsigned_complete s (whole d no_dot) = rw (digits_complete d) (rw no_dot refl)
 unsigned_complete s (decimal d f) = rw (digits_complete d) (rw (digits_complete f) refl)
 
-digit-no_hyphen : (s : Text) → begins is_digit s ≡ true → begins_with hyphen s ≡ false
+pub digit-no_hyphen : (s : Text) → begins is_digit s ≡ true → begins_with hyphen s ≡ false
 digit-no_hyphen [] h = refl
 digit-no_hyphen (c ∷ cs) h = grind (arith, nat_tests)
 
-unsigned-digit : {x s rest : Text} → SpellsUnsigned x s rest → begins is_digit s ≡ true
+pub unsigned-digit : {x s rest : Text} → SpellsUnsigned x s rest → begins is_digit s ≡ true
 unsigned-digit (whole d no_dot) = d.digit_first
 unsigned-digit (decimal d f) = d.digit_first
 
