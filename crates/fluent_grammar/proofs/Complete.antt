@@ -287,3 +287,170 @@ module _ (inside : Readers) where
       line_at inside s ≡ got ps rest
   unfolding line_at
   line-of_crlf s ps rest k c h = rw (crlf-begun (skip_spaces s) c, k, crlf-no_brace (skip_spaces s) c, c) h
+
+-- ---- every construct is read by every level that is high enough
+
+abbrev InlineRead : t.Inline → Text → Text → Type 0
+InlineRead e s rest = (m : ℕ) → length s ≤ m → inline_at (readers m) s ≡ got e rest
+
+abbrev MaybeRead : t.MaybeArguments → Text → Text → Type 0
+MaybeRead c s rest = (id : Text) (attr : Option Text) (m : ℕ) → length s ≤ m → term_arguments_at (readers m) id attr s ≡ got (t.term_reference id attr c) rest
+
+abbrev ArgumentsRead : List Text → t.Arguments → Text → Text → Type 0
+ArgumentsRead names a s rest = (m : ℕ) → length s ≤ m → arguments_at (readers m) names s ≡ got a rest
+
+abbrev PlaceableRead : t.Expression → Text → Text → Type 0
+PlaceableRead e s rest = (m : ℕ) → length s ≤ m → placeable_at (readers m) s ≡ got e rest
+
+-- an inline expression is read by the readers inside, and a select or nothing behind it
+abbrev ExpressionRead : t.Expression → Text → Text → Type 0
+ExpressionRead e s rest = (m : ℕ) → length s < m →
+    (i : t.Inline) × (u : Text) × ((readers m).inline s ≡ got i u) × (select_or_inline_at (readers m) i (skip_blank u) ≡ got e rest)
+
+abbrev VariantsRead : Bool → t.Variants → Text → Text → Type 0
+VariantsRead marked vs s rest = (m : ℕ) → length s ≤ m → variants_at (readers m) marked s ≡ got vs rest
+
+abbrev VariantRead : t.VariantKey → t.Elements → Text → Text → Type 0
+VariantRead key value s rest = (m : ℕ) → length s ≤ m → (x : Text) × (s ≡ open_bracket ∷ x) × ((default marked : Bool) →
+    variant_at (readers m) default marked (open_bracket ∷ x) ≡ mapped (t.variant key value default) ((readers m).variants marked (skip_blank rest)))
+
+abbrev PatternRead : t.Elements → Text → Text → Type 0
+PatternRead value s rest = (m : ℕ) → length s ≤ m → pattern_at (readers m) s ≡ got value rest
+
+abbrev PiecesRead : List Piece → Text → Text → Type 0
+PiecesRead ps s rest = (m : ℕ) → length s ≤ m → pieces_at (readers m) s ≡ got ps rest
+
+abbrev LineRead : List Piece → Text → Text → Type 0
+LineRead ps s rest = (m : ℕ) → length s ≤ m → line_at (readers m) s ≡ got ps rest
+
+abbrev BehindTextRead : Bool → List Piece → Text → Text → Type 0
+BehindTextRead ends ps s rest = (m : ℕ) → length s < m → after_text_at (readers m) ends s ≡ got ps rest
+
+up-inline : (e : t.Inline) (s rest : Text) → InlineRead e s rest → (m : ℕ) → length s < m → (readers m).inline s ≡ got e rest
+up-inline e s rest f zero lt = absurd (omega arith)
+up-inline e s rest f (suc m) lt = f m (omega arith)
+
+up-arguments : (names : List Text) (a : t.Arguments) (s rest : Text) → ArgumentsRead names a s rest → (m : ℕ) → length s < m → (readers m).arguments names s ≡ got a rest
+up-arguments names a s rest f zero lt = absurd (omega arith)
+up-arguments names a s rest f (suc m) lt = f m (omega arith)
+
+up-variants : (marked : Bool) (vs : t.Variants) (s rest : Text) → VariantsRead marked vs s rest → (m : ℕ) → length s < m → (readers m).variants marked s ≡ got vs rest
+up-variants marked vs s rest f zero lt = absurd (omega arith)
+up-variants marked vs s rest f (suc m) lt = f m (omega arith)
+
+up-line : (ps : List Piece) (s rest : Text) → LineRead ps s rest → (m : ℕ) → length s < m → (readers m).line s ≡ got ps rest
+up-line ps s rest f zero lt = absurd (omega arith)
+up-line ps s rest f (suc m) lt = f m (omega arith)
+
+up-pieces : (ps : List Piece) (s rest : Text) → PiecesRead ps s rest → (m : ℕ) → length s < m → (readers m).pieces s ≡ got ps rest
+up-pieces ps s rest f zero lt = absurd (omega arith)
+up-pieces ps s rest f (suc m) lt = f m (omega arith)
+
+after_line-read : (inside : Readers) (s : Text) (ps : List Piece) (rest : Text) → inside.line s ≡ got ps rest → after_text_at inside true s ≡ got ps rest
+unfolding after_text_at
+after_line-read inside s ps rest h = h
+
+after_pieces-read : (inside : Readers) (s : Text) (ps : List Piece) (rest : Text) → inside.pieces s ≡ got ps rest → after_text_at inside false s ≡ got ps rest
+unfolding after_text_at
+after_pieces-read inside s ps rest h = h
+
+placeable-begins : {e : t.Expression} {s rest : Text} → SpellsPlaceable e s rest → begins_with open_brace s ≡ true
+placeable-begins (in_braces b d c) = rw b refl
+
+mutual
+  pub inline_complete : {e : t.Inline} {s rest : Text} → SpellsInline e s rest → InlineRead e s rest
+  inline_complete (a_string {raw} {s} {u} {rest} b d) m le = rw b (string-read (readers m) u raw rest (string_complete d))
+  inline_complete (a_number d) m le = number-read (readers m) d
+  inline_complete (a_variable {name} {s} {u} {rest} b d) m le = rw b (variable-read (readers m) u name rest (name_complete d))
+  inline_complete (a_term {name} {s} {u} {v} {w} {rest} {attribute} {arguments = args} b n a c) m le =
+      let k : length (skip_blank w) ≤ m = omega (arith, ap length b, name-shorter n, accessor-no_longer a, skip_blank-le w) in
+      rw b (term-read (readers m) u name v attribute w args rest n a (maybe_complete c name attribute m k))
+  inline_complete (a_message {name} {s} {u} {rest} {attribute} n o a) m le = letter-read (readers m) s name u n ∙ message-read (readers m) name u attribute rest o a
+  inline_complete (a_function {name} {s} {u} {v} {rest} {arguments = args} n c p a) m le =
+      let k : length (skip_blank v) < m = omega (arith, name-shorter n, skip_blank-le u, ap length p, skip_blank-le v) in
+      letter-read (readers m) s name u n ∙ function-read (readers m) name u v args rest c p (up-arguments [] args (skip_blank v) rest (arguments_complete a) m k)
+  inline_complete (a_placeable {s} {rest} {e} d) m le =
+      let b : s ≡ open_brace ∷ drop 1 s = begins_is open_brace s (placeable-begins d) in
+      let h : placeable_at (readers m) s ≡ got e rest = placeable_complete d m le in
+      rw b (nested-read (readers m) (drop 1 s) e rest (rw b at h))
+
+  pub maybe_complete : {c : t.MaybeArguments} {s rest : Text} → SpellsMaybeArguments c s rest → MaybeRead c s rest
+  maybe_complete (no_call {s} h) id attr m le = no_call-read (readers m) id attr s h
+  maybe_complete (a_call {s} {u} {rest} {arguments = args} p a) id attr m le =
+      let k : length (skip_blank u) < m = omega (arith, ap length p, skip_blank-le u) in
+      rw p (call-read (readers m) id attr u args rest (up-arguments [] args (skip_blank u) rest (arguments_complete a) m k))
+
+  pub arguments_complete : {names : List Text} {a : t.Arguments} {s rest : Text} → SpellsArguments names a s rest → ArgumentsRead names a s rest
+  arguments_complete (no_more {names} {s} {rest} p) m le = rw p (no_more-read (readers m) names rest)
+  arguments_complete (positional {s} {u} {rest} {e} {ps} {ns} d p more) m le =
+      let k : length (skip_separator u) < m = omega (arith, inline-shorter d, skip_separator-le u) in
+      argument-read (readers m) [] s e u (inline_complete d m le) ∙ positional-chosen (readers m) e u p
+      ∙ positional-read (readers m) e u (t.arguments ps ns) rest (up-arguments [] (t.arguments ps ns) (skip_separator u) rest (arguments_complete more) m k)
+  arguments_complete (named {names} {name} {s} {u} {v} {w} {rest} {e} {ps} {ns} n c f l more) m le =
+      let k : length (skip_separator w) < m = omega (arith, name-shorter n, skip_blank-le u, ap length c, skip_blank-le v, literal-shorter l, skip_separator-le w) in
+      argument-read (readers m) names s (t.message_reference name None) (colon ∷ v) (name-read (readers m) s name u v n c) ∙ named-chosen (readers m) names name v
+      ∙ named-read (readers m) names name v e w (t.arguments ps ns) rest f l (up-arguments (name ∷ names) (t.arguments ps ns) (skip_separator w) rest (arguments_complete more) m k)
+
+  pub placeable_complete : {e : t.Expression} {s rest : Text} → SpellsPlaceable e s rest → PlaceableRead e s rest
+  placeable_complete (in_braces {s} {u} {v} {rest} {e} b d c) m le =
+      let k : length (skip_blank u) < m = omega (arith, ap length b, skip_blank-le u) in
+      let x = expression_complete d m k in
+      rw b (placeable-read (readers m) u x.0 x.1 e v rest x.2 x.3 c)
+
+  pub expression_complete : {e : t.Expression} {s rest : Text} → SpellsExpression e s rest → ExpressionRead e s rest
+  expression_complete (an_inline {s} {u} {e} d a h) m lt = (e, u, up-inline e s u (inline_complete d) m lt, alone-read (readers m) e (skip_blank u) a h)
+  expression_complete (a_select {s} {u} {v} {w} {rest} {e} {vs} d a h n vd) m lt =
+      let k : length (skip_blank w) < m = omega (arith, inline-shorter d, skip_blank-le u, ap length a, skip_spaces-le v, line_end-lt (skip_spaces v) w n, skip_blank-le w) in
+      (e, u, up-inline e s u (inline_complete d) m lt,
+        rw a (select-read (readers m) e v w vs rest h n (up-variants false vs (skip_blank w) rest (variants_complete vd) m k)))
+
+  pub variants_complete : {marked : Bool} {vs : t.Variants} {s rest : Text} → SpellsVariants marked vs s rest → VariantsRead marked vs s rest
+  variants_complete (all_read {s} a b) m le = all-read (readers m) s a b
+  variants_complete (lone_mark {s} {u} a b) m le = rw a (lone_mark-read (readers m) u b)
+  variants_complete (a_variant {marked} {s} {u} {rest} {key} {value} {vs} d more) m le =
+      let k : length (skip_blank u) < m = omega (arith, variant-shorter d, skip_blank-le u) in
+      let x = variant_complete d m le in
+      let others : (readers m).variants marked (skip_blank u) ≡ got vs rest = up-variants marked vs (skip_blank u) rest (variants_complete more) m k in
+      rw x.1 (variant-read (readers m) marked x.0 ∙ x.2 false marked ∙ ap (mapped (t.variant key value false)) others)
+  variants_complete (the_default {s} {u} {v} {rest} {key} {value} {vs} a d more) m le =
+      let k : length (skip_blank v) < m = omega (arith, ap length a, variant-shorter d, skip_blank-le v) in
+      let x = variant_complete d m (omega (arith, ap length a)) in
+      let others : (readers m).variants true (skip_blank v) ≡ got vs rest = up-variants true vs (skip_blank v) rest (variants_complete more) m k in
+      rw (a, x.1) (default-read (readers m) x.0 ∙ x.2 true true ∙ ap (mapped (t.variant key value true)) others)
+
+  pub variant_complete : {key : t.VariantKey} {value : t.Elements} {s rest : Text} → SpellsVariant key value s rest → VariantRead key value s rest
+  variant_complete (keyed {s} {u} {v} {w} {rest} {key} {value} b kd c p h) m le =
+      let k : length w ≤ m = omega (arith, ap length b, skip_blank-le u, key-shorter kd, skip_blank-le v, ap length c) in
+      (u, b, (λ default marked. keyed-read (readers m) u key v w value rest default marked kd c (pattern_complete p m k) h))
+
+  pub pattern_complete : {value : t.Elements} {s rest : Text} → SpellsPattern value s rest → PatternRead value s rest
+  pattern_complete (on_the_line {s} {rest} {ps} {value} n d e) m le =
+      rw e (on_line-read (readers m) s ps rest n (pieces_complete d m (omega (arith, skip_spaces-le s))))
+  pattern_complete (on_the_next {s} {u} {rest} {ps} {value} n d e) m le =
+      rw e (on_next-read (readers m) s u ps rest n (line_complete d m (omega (arith, skip_spaces-le s, line_end-lt (skip_spaces s) u n, skip_blank_block-le u))))
+
+  pub pieces_complete : {ps : List Piece} {s rest : Text} → SpellsPieces ps s rest → PiecesRead ps s rest
+  pieces_complete nothing_left m le = nothing-read (readers m)
+  pieces_complete (crlf_piece {s} {rest} {ps} c d) m le =
+      crlf-read (readers m) s ps rest c (up-line ps (drop 2 s) rest (line_complete d) m (omega (arith, crlf-two s c)))
+  pieces_complete (text_piece {piece} {s} {u} {rest} {ps} b x d) m le =
+      pieces-of_text (readers m) s (in_line piece ∷ ps) rest b (text-read (readers m) in_line s piece u ps rest x (behind_text_complete d m (omega (arith, text-shorter x b))))
+  pieces_complete (placeable_piece {s} {u} {rest} {e} {ps} p d) m le =
+      pieces-of_placeable (readers m) s (placed false e ∷ ps) rest (placeable-begins p)
+        (placed-read (readers m) false s e u ps rest (placeable_complete p m le) (up-pieces ps u rest (pieces_complete d) m (omega (arith, placeable-shorter p))))
+
+  pub line_complete : {ps : List Piece} {s rest : Text} → SpellsLine ps s rest → LineRead ps s rest
+  line_complete (only_spaces_left {s} h) m le = spaces_left-read (readers m) s h
+  line_complete (pattern_over {s} h k) m le = over-read (readers m) s h k
+  line_complete (line_of_text {piece} {s} {u} {rest} {ps} k b x d) m le =
+      line-of_text (readers m) s (at_line_start (spaces s) piece ∷ ps) rest k b
+        (text-read (readers m) (at_line_start (spaces s)) (skip_spaces s) piece u ps rest x (behind_text_complete d m (omega (arith, text-shorter x b, skip_spaces-le s))))
+  line_complete (line_of_placeable {s} {u} {rest} {e} {ps} k p d) m le =
+      line-of_placeable (readers m) s (placed (spaces s == 0) e ∷ ps) rest k (placeable-begins p)
+        (placed-read (readers m) (spaces s == 0) (skip_spaces s) e u ps rest (placeable_complete p m (omega (arith, skip_spaces-le s)))
+          (up-pieces ps u rest (pieces_complete d) m (omega (arith, placeable-shorter p, skip_spaces-le s))))
+  line_complete (line_of_crlf {s} {rest} {ps} k c d) m le = line-of_crlf (readers m) s ps rest k c (pieces_complete d m (omega (arith, skip_spaces-le s)))
+
+  pub behind_text_complete : {ends : Bool} {ps : List Piece} {s rest : Text} → SpellsBehindText ends ps s rest → BehindTextRead ends ps s rest
+  behind_text_complete (next_line {s} {rest} {ps} d) m lt = after_line-read (readers m) s ps rest (up-line ps s rest (line_complete d) m lt)
+  behind_text_complete (same_line {s} {rest} {ps} d) m lt = after_pieces-read (readers m) s ps rest (up-pieces ps s rest (pieces_complete d) m lt)
