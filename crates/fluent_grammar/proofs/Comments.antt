@@ -146,3 +146,40 @@ lines_complete (one_more {level} {s} {u} {rest} {line} {others} d more) zero k e
 lines_complete (one_more {level} {s} {u} {rest} {line} {others} d more) (suc n) k e le =
     let here : SpellsCommentLine (suc k) line s u = rw e at d in
     one_complete n level s u line others rest d (lines_complete more n k e (omega (arith, line-shorter here)))
+
+-- ---- whole comments
+
+capped : (n : ℕ) (b : Bool) → nat_le (suc n) 3 ≡ b → (k : ℕ) × (cond b (suc n) 3 ≡ suc k) × (suc k ≤ 3)
+capped n true h = (n, refl, grind (arith, nat_tests))
+capped n false h = (2, refl, omega arith)
+
+pub level-up_to_three : (s : Text) → begins_with number_sign s ≡ true → (k : ℕ) × (comment_level s ≡ suc k) × (suc k ≤ 3)
+level-up_to_three [] h = absurd cc
+level-up_to_three (c ∷ cs) h = rw (h, one-add) (capped (prefix_len (λ d. d == number_sign) cs) _ refl)
+
+level-sign : (s : Text) (k : ℕ) → comment_level s ≡ suc k → begins_with number_sign s ≡ true
+level-sign [] k h = let e : 0 ≡ suc k = h in absurd cc
+level-sign (c ∷ cs) k h = sign-chosen (c == number_sign) refl
+  where
+    sign-chosen : (b : Bool) → (c == number_sign) ≡ b → (c == number_sign) ≡ true
+    sign-chosen true e = e
+    sign-chosen false e = let z : 0 ≡ suc k = rw e at h in absurd cc
+
+pub comment_sound : (s : Text) (k : ℕ) (e : t.Entry) (rest : Text) → comment_level s ≡ suc k → comment_at s ≡ got e rest →
+    (lines : List Text) × SpellsComment (suc k) lines s rest × (comment_of (suc k) lines ≡ e)
+unfolding comment_at
+comment_sound s k e rest level h =
+    let first = bind_got _ _ _ _ (rw level at h) in
+    let g = got_node first.3 in
+    let line : SpellsCommentLine (suc k) first.0 s first.1 = record { sign = level; content = text_sound _ _ _ first.2 } in
+    let others = lines_sound (length s) k first.1 (omega (arith, line-shorter line)) in
+    let more : SpellsCommentLines (suc k) (comment_lines (length s) (suc k) first.1).0 first.1 rest = rw g.1 at others in
+    (first.0 ++ (comment_lines (length s) (suc k) first.1).0, a_comment line more, g.0)
+
+pub comment_complete : {level : ℕ} {lines : List Text} {s rest : Text} → SpellsComment level lines s rest → (k : ℕ) → level ≡ suc k →
+    (begins_with number_sign s ≡ true) × (comment_at s ≡ got (comment_of level lines) rest)
+unfolding comment_at
+comment_complete (a_comment {level} {s} {u} {rest} {line} {others} d more) k e =
+    let here : SpellsCommentLine (suc k) line s u = rw e at d in
+    let sign : comment_level s ≡ level = d.sign in
+    (level-sign s k here.sign, rw (sign, text_complete d.content, lines_complete more (length s) k e (omega (arith, line-shorter here))) refl)
