@@ -7,3 +7,4 @@ pub mod Refusal
 pub mod Reading
 pub mod Tiling
 pub mod Escapes
+pub mod SpellingLaws

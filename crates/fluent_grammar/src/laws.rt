@@ -1,4 +1,3 @@
 //! Laws of the grammar: each function only carries a law, as its contract.
 
-/// Nothing yet.
-pub fn nothing() {}
+pub mod spelling;
