@@ -290,59 +290,59 @@ module _ (inside : Readers) where
 
 -- ---- every construct is read by every level that is high enough
 
-abbrev InlineRead : t.Inline → Text → Text → Type 0
+abbrev pub InlineRead : t.Inline → Text → Text → Type 0
 InlineRead e s rest = (m : ℕ) → length s ≤ m → inline_at (readers m) s ≡ got e rest
 
-abbrev MaybeRead : t.MaybeArguments → Text → Text → Type 0
+abbrev pub MaybeRead : t.MaybeArguments → Text → Text → Type 0
 MaybeRead c s rest = (id : Text) (attr : Option Text) (m : ℕ) → length s ≤ m → term_arguments_at (readers m) id attr s ≡ got (t.term_reference id attr c) rest
 
-abbrev ArgumentsRead : List Text → t.Arguments → Text → Text → Type 0
+abbrev pub ArgumentsRead : List Text → t.Arguments → Text → Text → Type 0
 ArgumentsRead names a s rest = (m : ℕ) → length s ≤ m → arguments_at (readers m) names s ≡ got a rest
 
-abbrev PlaceableRead : t.Expression → Text → Text → Type 0
+abbrev pub PlaceableRead : t.Expression → Text → Text → Type 0
 PlaceableRead e s rest = (m : ℕ) → length s ≤ m → placeable_at (readers m) s ≡ got e rest
 
 -- an inline expression is read by the readers inside, and a select or nothing behind it
-abbrev ExpressionRead : t.Expression → Text → Text → Type 0
+abbrev pub ExpressionRead : t.Expression → Text → Text → Type 0
 ExpressionRead e s rest = (m : ℕ) → length s < m →
     (i : t.Inline) × (u : Text) × ((readers m).inline s ≡ got i u) × (select_or_inline_at (readers m) i (skip_blank u) ≡ got e rest)
 
-abbrev VariantsRead : Bool → t.Variants → Text → Text → Type 0
+abbrev pub VariantsRead : Bool → t.Variants → Text → Text → Type 0
 VariantsRead marked vs s rest = (m : ℕ) → length s ≤ m → variants_at (readers m) marked s ≡ got vs rest
 
-abbrev VariantRead : t.VariantKey → t.Elements → Text → Text → Type 0
+abbrev pub VariantRead : t.VariantKey → t.Elements → Text → Text → Type 0
 VariantRead key value s rest = (m : ℕ) → length s ≤ m → (x : Text) × (s ≡ open_bracket ∷ x) × ((default marked : Bool) →
     variant_at (readers m) default marked (open_bracket ∷ x) ≡ mapped (t.variant key value default) ((readers m).variants marked (skip_blank rest)))
 
-abbrev PatternRead : t.Elements → Text → Text → Type 0
+abbrev pub PatternRead : t.Elements → Text → Text → Type 0
 PatternRead value s rest = (m : ℕ) → length s ≤ m → pattern_at (readers m) s ≡ got value rest
 
-abbrev PiecesRead : List Piece → Text → Text → Type 0
+abbrev pub PiecesRead : List Piece → Text → Text → Type 0
 PiecesRead ps s rest = (m : ℕ) → length s ≤ m → pieces_at (readers m) s ≡ got ps rest
 
-abbrev LineRead : List Piece → Text → Text → Type 0
+abbrev pub LineRead : List Piece → Text → Text → Type 0
 LineRead ps s rest = (m : ℕ) → length s ≤ m → line_at (readers m) s ≡ got ps rest
 
-abbrev BehindTextRead : Bool → List Piece → Text → Text → Type 0
+abbrev pub BehindTextRead : Bool → List Piece → Text → Text → Type 0
 BehindTextRead ends ps s rest = (m : ℕ) → length s < m → after_text_at (readers m) ends s ≡ got ps rest
 
-up-inline : (e : t.Inline) (s rest : Text) → InlineRead e s rest → (m : ℕ) → length s < m → (readers m).inline s ≡ got e rest
+pub up-inline : (e : t.Inline) (s rest : Text) → InlineRead e s rest → (m : ℕ) → length s < m → (readers m).inline s ≡ got e rest
 up-inline e s rest f zero lt = absurd (omega arith)
 up-inline e s rest f (suc m) lt = f m (omega arith)
 
-up-arguments : (names : List Text) (a : t.Arguments) (s rest : Text) → ArgumentsRead names a s rest → (m : ℕ) → length s < m → (readers m).arguments names s ≡ got a rest
+pub up-arguments : (names : List Text) (a : t.Arguments) (s rest : Text) → ArgumentsRead names a s rest → (m : ℕ) → length s < m → (readers m).arguments names s ≡ got a rest
 up-arguments names a s rest f zero lt = absurd (omega arith)
 up-arguments names a s rest f (suc m) lt = f m (omega arith)
 
-up-variants : (marked : Bool) (vs : t.Variants) (s rest : Text) → VariantsRead marked vs s rest → (m : ℕ) → length s < m → (readers m).variants marked s ≡ got vs rest
+pub up-variants : (marked : Bool) (vs : t.Variants) (s rest : Text) → VariantsRead marked vs s rest → (m : ℕ) → length s < m → (readers m).variants marked s ≡ got vs rest
 up-variants marked vs s rest f zero lt = absurd (omega arith)
 up-variants marked vs s rest f (suc m) lt = f m (omega arith)
 
-up-line : (ps : List Piece) (s rest : Text) → LineRead ps s rest → (m : ℕ) → length s < m → (readers m).line s ≡ got ps rest
+pub up-line : (ps : List Piece) (s rest : Text) → LineRead ps s rest → (m : ℕ) → length s < m → (readers m).line s ≡ got ps rest
 up-line ps s rest f zero lt = absurd (omega arith)
 up-line ps s rest f (suc m) lt = f m (omega arith)
 
-up-pieces : (ps : List Piece) (s rest : Text) → PiecesRead ps s rest → (m : ℕ) → length s < m → (readers m).pieces s ≡ got ps rest
+pub up-pieces : (ps : List Piece) (s rest : Text) → PiecesRead ps s rest → (m : ℕ) → length s < m → (readers m).pieces s ≡ got ps rest
 up-pieces ps s rest f zero lt = absurd (omega arith)
 up-pieces ps s rest f (suc m) lt = f m (omega arith)
 

@@ -124,3 +124,21 @@ entry_complete (a_term {id} {s} {u} {v} {rest} {value} {attributes} b h a c) = r
 entry_complete (a_comment {s} {rest} {lines} d) = as_comment s _ rest (comment_complete d 0 refl)
 entry_complete (a_group_comment {s} {rest} {lines} d) = as_comment s _ rest (comment_complete d 1 refl)
 entry_complete (a_resource_comment {s} {rest} {lines} d) = as_comment s _ rest (comment_complete d 2 refl)
+
+-- ---- which entry it is
+
+pub entry-of_letter : (s : Text) → begins is_letter s ≡ true → entry_at s ≡ message_at s
+unfolding entry_at
+entry-of_letter s b = let no = letter-no_sign s b in rw (no.0, no.1) refl
+
+hyphen-no_sign : (s : Text) → begins_with hyphen s ≡ true → begins_with number_sign s ≡ false
+hyphen-no_sign [] h = refl
+hyphen-no_sign (c ∷ cs) h = grind (arith, nat_tests)
+
+pub entry-of_hyphen : (s : Text) → begins_with hyphen s ≡ true → entry_at s ≡ term_entry_at s
+unfolding entry_at
+entry-of_hyphen s b = rw (hyphen-no_sign s b, b) refl
+
+pub entry-of_sign : (s : Text) → begins_with number_sign s ≡ true → entry_at s ≡ comment_at s
+unfolding entry_at
+entry-of_sign s b = rw b refl
