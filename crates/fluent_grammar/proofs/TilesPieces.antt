@@ -12,7 +12,7 @@ use Rattle.fluent_grammar.specs.Tiling.{behind_junk, is_field_kind, error_of, pi
 use Rattle.fluent_grammar.specs.Tiles.{Mode, full, runtime, passes_over, Part, blank_block, entry, junk, passed_over, Tiles, begins_blank, TilesItems, source_ends, an_entry, some_junk, a_line, text_of, error_of_junk, lies_apart, pieces_of, tree_of, errors_in}
 use Rattle.fluent_grammar.proofs.Within.{end-same, end-le, end-cons, end-blank_block}
 use Rattle.fluent_grammar.proofs.Tiles.{parts, items, item, line, front-append, front-whole, parts-tiled, tiles-unique}
-use Rattle.fluent_grammar.specs.TilingLaws.{EachTextHasATiling, NoTextHasTwoTilings, PartsAreTheText, TilingGivesTreeAndErrors}
+use Rattle.fluent_grammar.specs.TilingLaws.{EachTextHasATiling, NoTextHasTwoTilings, PartsAreTheText, PiecesNeedNoMoreSteps, TilingGivesTreeAndErrors}
 
 mutual
   pub tiles-text : (mode : Mode) {ps : List Part} {s : Text} → Tiles mode ps s → text_of ps ≡ s
@@ -102,3 +102,11 @@ parts_are_the_text mode s ps d = tiles-text mode d
 pub tiling_gives_tree_and_errors : TilingGivesTreeAndErrors
 tiling_gives_tree_and_errors full s ps d = (ap (entries_of None) (tiling-pieces s ps d), ap errors_of (tiling-pieces s ps d))
 tiling_gives_tree_and_errors runtime s ps d = (ap (entries_of None) (runtime_tiling-pieces s ps d), ap errors_of (runtime_tiling-pieces s ps d))
+
+parts-enough : (mode : Mode) (m n : ℕ) (s : Text) → length s < m → length s < n → parts mode m s ≡ parts mode n s
+parts-enough mode m n s p q = tiles-unique mode (parts-tiled mode m s p) n q
+
+pub pieces_need_no_more_steps : PiecesNeedNoMoreSteps
+pieces_need_no_more_steps m n at s p q =
+    (sym (full-pieces m at false s) ∙ ap (pieces_of full at false) (parts-enough full m n s p q) ∙ full-pieces n at false s,
+      sym (runtime-pieces m at s) ∙ ap (pieces_of runtime at false) (parts-enough runtime m n s p q) ∙ runtime-pieces n at s)

@@ -11,3 +11,4 @@ pub mod Levels
 pub mod Tiles
 pub mod TilingLaws
 pub mod Escapes
+pub mod SpellingLaws

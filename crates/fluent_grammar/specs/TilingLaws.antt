@@ -5,7 +5,7 @@ use Rattle.fluent_grammar.specs.Refusal.{Reading}
 use Rattle.fluent_grammar.specs.Tree as t
 use Rattle.fluent_grammar.specs.Lines.{Piece}
 use Rattle.fluent_grammar.specs.Reading.{Readers, readers, identifier_at, number_at, literal_at, key_at, placeable_at, pattern_at, attribute_at, attributes_at, head_at, comment_lines, comment_at, message_at, term_entry_at, entry_at}
-use Rattle.fluent_grammar.specs.Tiling.{ParserError, tree, errors, runtime_tree, runtime_errors, listed, list}
+use Rattle.fluent_grammar.specs.Tiling.{ParserError, pieces_from, runtime_pieces_from, tree, errors, runtime_tree, runtime_errors, listed, list}
 use Rattle.fluent_grammar.specs.Tiles.{Mode, full, runtime, Part, Tiles, text_of, tree_of, errors_in}
 use Rattle.fluent_grammar.specs.Ends.{EndsIn, Within, Took, Told}
 use Rattle.fluent_grammar.specs.Levels.{levels}
@@ -133,3 +133,8 @@ RuntimeHasTheSameList = (source : Text) → listed (runtime_tree source) ≡ lis
 -- Where the full reading has no junk, and so no error, that for runtime use has none.
 abbrev pub RuntimeAddsNoJunk : Type 0
 RuntimeAddsNoJunk = (source : Text) → errors source ≡ [] → runtime_errors source ≡ []
+
+-- As many steps as a text has bytes, and one, are enough for its pieces, in full and for runtime use.
+abbrev pub PiecesNeedNoMoreSteps : Type 0
+PiecesNeedNoMoreSteps = (m n at : ℕ) (text : Text) → length text < m → length text < n →
+    (pieces_from m at text ≡ pieces_from n at text) × (runtime_pieces_from m at text ≡ runtime_pieces_from n at text)

@@ -1,6 +1,6 @@
 //! Laws about reading and tiling.
 
-ghost use Rattle.fluent_grammar.specs.TilingLaws.{AttributesNeedNoMoreSteps, AttributesStayWithin, BottomIsNeverAsked, CommentsNeedNoMoreSteps, EachTextHasATiling, EntriesStayWithin, EntriesTakeSome, ErrorsAreTold, JunkIsSliced, LevelsAreEnough, NoTextHasTwoTilings, PartsAreTheText, PatternsNeedNoMoreLevels, PlacesStartInSlices, ReadersStayWithin, ReadersTakeSome, SlicesAscend, TilingGivesTreeAndErrors};
+ghost use Rattle.fluent_grammar.specs.TilingLaws.{AttributesNeedNoMoreSteps, AttributesStayWithin, BottomIsNeverAsked, CommentsNeedNoMoreSteps, EachTextHasATiling, EntriesStayWithin, EntriesTakeSome, ErrorsAreTold, JunkIsSliced, LevelsAreEnough, NoTextHasTwoTilings, PartsAreTheText, PatternsNeedNoMoreLevels, PiecesNeedNoMoreSteps, PlacesStartInSlices, ReadersStayWithin, ReadersTakeSome, RuntimeAddsNoJunk, RuntimeHasTheSameList, SlicesAscend, TilingGivesTreeAndErrors};
 
 /// What a reader leaves, and the place of its refusal, is an end of the text that it was given.
 pub fn readers_stay_within()
@@ -86,6 +86,12 @@ pub fn tiling_gives_tree_and_errors()
 {
 }
 
+/// One step more than a text has bytes is enough for its pieces, in full and for runtime use.
+pub fn pieces_need_no_more_steps()
+    ensures { PiecesNeedNoMoreSteps }
+{
+}
+
 /// There are as many errors as junk entries, in the same order, and the content of each junk is the source at its error's slice.
 pub fn junk_is_sliced()
     ensures { JunkIsSliced }
@@ -108,5 +114,17 @@ pub fn places_start_in_slices()
 /// the line feed of a string that isn't terminated.
 pub fn errors_are_told()
     ensures { ErrorsAreTold }
+{
+}
+
+/// The messages and terms that are read for runtime use are those of the full reading, comments set aside.
+pub fn runtime_has_the_same_list()
+    ensures { RuntimeHasTheSameList }
+{
+}
+
+/// Where the full reading of a source has no errors, and so no junk, the reading for runtime use has none.
+pub fn runtime_adds_no_junk()
+    ensures { RuntimeAddsNoJunk }
 {
 }
