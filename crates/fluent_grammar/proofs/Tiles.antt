@@ -10,10 +10,13 @@ use Rattle.fluent_grammar.specs.Ends.{EndsIn}
 use Rattle.fluent_grammar.specs.Reading.{entry_at, front}
 use Rattle.fluent_grammar.specs.Tiling as p
 use Rattle.fluent_grammar.specs.Tiling.{behind_junk, is_field_kind, error_of, pieces_from, runtime_pieces_from, and_pieces}
+use Rattle.fluent_grammar.specs.Recovery.{EndsJunk}
 use Rattle.fluent_grammar.specs.Tiles.{Mode, full, runtime, passes_over, Part, blank_block, entry, junk, passed_over, Tiles, begins_blank, TilesItems, source_ends, an_entry, some_junk, a_line, text_of, error_of_junk, lies_apart, pieces_of}
 use Rattle.fluent_grammar.proofs.Within.{end-same, end-le, end-cons, end-blank_block, Fair, entry-fair}
 use Rattle.fluent_grammar.proofs.LawsOfDepth.{entry-took}
 use Rattle.fluent_grammar.proofs.Taken.{Leaves, entry-leaves}
+use Rattle.fluent_grammar.proofs.Agreement.{entries_agree}
+use Rattle.fluent_grammar.proofs.TilesRecovery.{junk-ended, junk-end-once}
 use Rattle.fluent_grammar.proofs.TilesJunk.{junk-end, place-end}
 use Rattle.fluent_grammar.proofs.Repeated.{rest_of_line-tail}
 
@@ -50,10 +53,10 @@ item-tiled : (mode : Mode) (left : Text → List Part) (c : ℕ) (cs : Text) →
     (x : Reading t.Entry) → entry_at (c ∷ cs) ≡ x → passes_over mode (c ∷ cs) ≡ false → TilesItems mode (item left (c ∷ cs) x) (c ∷ cs)
 item-tiled mode left c cs tiled (got e rest) read p =
     let h : EndsIn rest cs = (rw read at (entry-leaves (c ∷ cs) (end-same cs))).parts in
-    an_entry p read (front-whole (end-cons c h)) (tiled rest h)
+    an_entry p ((entries_agree (c ∷ cs) e rest).0 read) (front-whole (end-cons c h)) (tiled rest h)
 item-tiled mode left c cs tiled (refused fault) read p =
     let h = junk-end c cs fault read in
-    some_junk p (λ e. absurd cc) read refl (front-whole (end-cons c h)) (omega (arith, end-le (place-end (c ∷ cs) fault read))) (tiled _ h)
+    some_junk p (λ e. absurd cc) read (omega (arith, end-le (place-end (c ∷ cs) fault read))) (junk-ended (c ∷ cs) fault.at (place-end (c ∷ cs) fault read)) (front-whole (end-cons c h)) (tiled _ h)
 
 items-tiled : (mode : Mode) (left : Text → List Part) (s : Text) → ((u : Text) → length u < length s → Tiles mode (left u) u) → TilesItems mode (items mode left s) s
 items-tiled mode left [] tiled = source_ends
@@ -67,6 +70,10 @@ parts-tiled mode zero s h = absurd (omega arith)
 parts-tiled mode (suc n) s h =
     let e : EndsIn (skip_blank_block s) s = end-blank_block (end-same s) in
     begins_blank (front-whole e) refl (items-tiled mode (parts mode n) (skip_blank_block s) (λ u k. parts-tiled mode n u (omega (arith, end-le e, k, h))))
+
+-- the rest behind junk is the one that is computed
+pub junk-rest : (s : Text) (fault : Refusal) (rest : Text) → entry_at s ≡ refused fault → EndsJunk s fault.at rest → behind_junk s fault.at ≡ rest
+junk-rest s fault rest read ends = junk-end-once s fault.at _ rest (junk-ended s fault.at (place-end s fault read)) ends
 
 -- a tiling is the one that is computed
 front-is : (s a f : Text) → s ≡ f ++ a → front s a ≡ f
@@ -112,6 +119,6 @@ mutual
 
   items-unique : (mode : Mode) {ps : List Part} {s : Text} → TilesItems mode ps s → (n : ℕ) → length s ≤ n → ps ≡ items mode (parts mode n) s
   items-unique mode source_ends n h = refl
-  items-unique mode (an_entry {text} {front} {rest} {e} {parts} p read w d) n h = entry-unique mode n text front rest e parts h p read w (λ k l. tiles-unique mode d k l)
-  items-unique mode (some_junk {text} {front} {rest} {fault} {place} {parts} p some read b w at d) n h = junk-unique mode n text front rest fault place parts h p some read b w at (λ k l. tiles-unique mode d k l)
+  items-unique mode (an_entry {text} {front} {rest} {e} {parts} p spelled w d) n h = entry-unique mode n text front rest e parts h p ((entries_agree text e rest).1 spelled) w (λ k l. tiles-unique mode d k l)
+  items-unique mode (some_junk {text} {front} {rest} {fault} {place} {parts} p some read at ends w d) n h = junk-unique mode n text front rest fault place parts h p some read (junk-rest text fault rest read ends) w at (λ k l. tiles-unique mode d k l)
   items-unique mode (a_line {text} {front} {rest} {parts} p l w d) n h = line-unique mode n text front rest parts h p l w (λ k m. tiles-unique mode d k m)

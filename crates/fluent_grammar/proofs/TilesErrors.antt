@@ -17,6 +17,8 @@ use Rattle.fluent_grammar.specs.Tiles.{Mode, full, runtime, Part, blank_block, e
 use Rattle.fluent_grammar.specs.TilingLaws.{junk_of, sliced, Ascend, StartsInSlice, JunkIsSliced, SlicesAscend, PlacesStartInSlices, ErrorsAreTold, tree_for, errors_for}
 use Rattle.fluent_grammar.proofs.Within.{Fair, entry-fair, end-same, end-le, end-cons}
 use Rattle.fluent_grammar.proofs.TilesJunk.{junk-end, place-end, resume-end}
+use Rattle.fluent_grammar.proofs.Agreement.{entries_agree}
+use Rattle.fluent_grammar.proofs.Tiles.{junk-rest}
 use Rattle.fluent_grammar.proofs.TilesPieces.{tiles-text, each_text_has_a_tiling, tiling_gives_tree_and_errors}
 
 -- no entry that is read is junk
@@ -108,9 +110,9 @@ mutual
 
   items-sound : (mode : Mode) {ps : List Part} {s : Text} → TilesItems mode ps s → Sound ps
   items-sound mode source_ends = tt
-  items-sound mode (an_entry {text} p read w d) = ((rw read at (entry-proper text)).parts, tiles-sound mode d)
-  items-sound mode (some_junk {text} {front} {rest} {fault} {place} p some read b w at d) =
-      (rw (tiles-text mode d) (junk-sound text front rest fault place some read b w at), tiles-sound mode d)
+  items-sound mode (an_entry {text} {rest} {e} p spelled w d) = ((rw ((entries_agree text e rest).1 spelled) at (entry-proper text)).parts, tiles-sound mode d)
+  items-sound mode (some_junk {text} {front} {rest} {fault} {place} p some read at ends w d) =
+      (rw (tiles-text mode d) (junk-sound text front rest fault place some read (junk-rest text fault rest read ends) w at), tiles-sound mode d)
   items-sound mode (a_line p l w d) = tiles-sound mode d
 
 -- what the error of junk says

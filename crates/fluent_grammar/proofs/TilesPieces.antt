@@ -21,7 +21,7 @@ mutual
   items-text : (mode : Mode) {ps : List Part} {s : Text} → TilesItems mode ps s → text_of ps ≡ s
   items-text mode source_ends = refl
   items-text mode (an_entry {front} p read w d) = ap (λ z. front ++ z) (tiles-text mode d) ∙ sym w
-  items-text mode (some_junk {front} p some read b w at d) = ap (λ z. front ++ z) (tiles-text mode d) ∙ sym w
+  items-text mode (some_junk {front} p some read at ends w d) = ap (λ z. front ++ z) (tiles-text mode d) ∙ sym w
   items-text mode (a_line {front} p l w d) = ap (λ z. front ++ z) (tiles-text mode d) ∙ sym w
 
 length-front : (s a : Text) → length (front s a) ≡ length s - length a

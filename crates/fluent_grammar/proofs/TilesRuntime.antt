@@ -16,7 +16,11 @@ use Rattle.fluent_grammar.specs.Tiling.{resume, behind_junk, at_column_zero, ent
 use Rattle.fluent_grammar.specs.Tiles.{Mode, full, runtime, passes_over, Part, blank_block, entry, junk, passed_over, Tiles, begins_blank, TilesItems, source_ends, an_entry, some_junk, a_line, text_of, error_of_junk, lies_apart, pieces_of}
 use Rattle.fluent_grammar.specs.TilingLaws.{RuntimeHasTheSameList, RuntimeAddsNoJunk}
 use Rattle.fluent_grammar.proofs.Within.{end-same, end-le, end-cons, end-blank_block, rest_of_line-end}
-use Rattle.fluent_grammar.proofs.Tiles.{front-whole}
+use Rattle.fluent_grammar.specs.Spelling.{SpellsEntry}
+use Rattle.fluent_grammar.specs.Recovery.{EndsJunk}
+use Rattle.fluent_grammar.proofs.Agreement.{entries_agree}
+use Rattle.fluent_grammar.proofs.TilesRecovery.{junk-ended}
+use Rattle.fluent_grammar.proofs.Tiles.{front-whole, junk-rest}
 use Rattle.fluent_grammar.proofs.TilesJunk.{resume-end}
 use Rattle.fluent_grammar.proofs.TilesPieces.{each_text_has_a_tiling, tiling_gives_tree_and_errors}
 use Rattle.fluent_grammar.proofs.Repeated.{rest_of_line-tail}
@@ -276,7 +280,7 @@ items-in-junk (c ∷ cs) ps qs done f same dirty = cases (begins_entry c)
       record { parts = k.parts; tiled = k.tiled; same = k.same ∙ sym same; clean = λ n. absurd (dirty n) })
     (λ e. record {
       parts = junk (g.front (c ∷ cs) (resume true (c ∷ cs))) r.expected_letter 0 ∷ f.parts;
-      tiled = some_junk {place = 0} (or-right (c == hyphen) _ (or-right (is_letter c) _ e)) (λ z. absurd cc) (none-begins c cs e) (behind-itself (c ∷ cs)) (front-whole (resume-end true (c ∷ cs) (end-same (c ∷ cs)))) (omega arith) f.tiled;
+      tiled = some_junk {place = 0} (or-right (c == hyphen) _ (or-right (is_letter c) _ e)) (λ z. absurd cc) (none-begins c cs e) (omega arith) (rw (behind-itself (c ∷ cs)) at (junk-ended (c ∷ cs) (c ∷ cs) (end-same (c ∷ cs)))) (front-whole (resume-end true (c ∷ cs) (end-same (c ∷ cs)))) f.tiled;
       same = f.same ∙ sym same;
       clean = λ n. absurd (dirty n);
     })
@@ -318,25 +322,28 @@ comment-in-junk s front fault place rest ps sign read b f =
         sym b ∙ ap (λ z. behind_junk s z) (comment-refused s fault read) ∙ ap (λ z. resume z v) (signs-column s sign) ∙ resume-line v ∙ ap (resume true) (sym (signs-rest (comment_level s) s (level-signs s))) in
     pass-line s (junk front fault.kind place ∷ ps) sign (line-in-junk (rest_of_line s).1 ps (junk front fault.kind place ∷ ps) (rw behind at f) refl (λ n. n))
 
-entry-follows : (s front : Text) (e : t.Entry) (rest : Text) (ps : List Part) → entry_at s ≡ got e rest → s ≡ front ++ rest → Follows rest ps → FollowsItems s (entry front e ∷ ps)
+got-comment : (s : Text) (e : t.Entry) (rest : Text) → begins_with number_sign s ≡ true → entry_at s ≡ got e rest → comment_at s ≡ got e rest
 unfolding entry_at
-entry-follows s front e rest ps read w f = cases (begins_with number_sign s)
-    (λ sign. comment-follows s front e rest ps sign (rw sign at read) f)
+got-comment s e rest sign read = rw sign at read
+
+entry-follows : (s front : Text) (e : t.Entry) (rest : Text) (ps : List Part) → SpellsEntry e s rest → s ≡ front ++ rest → Follows rest ps → FollowsItems s (entry front e ∷ ps)
+entry-follows s front e rest ps spelled w f = cases (begins_with number_sign s)
+    (λ sign. comment-follows s front e rest ps sign (got-comment s e rest sign ((entries_agree s e rest).1 spelled)) f)
     (λ sign. record {
       parts = entry front e ∷ f.parts;
-      tiled = an_entry sign read w f.tiled;
+      tiled = an_entry sign spelled w f.tiled;
       same = ap (λ z. listed (e ∷ []) ++ z) f.same;
       clean = f.clean;
     })
 
-junk-follows : (s front : Text) (fault : Refusal) (place : ℕ) (rest : Text) (ps : List Part) → (s ≡ [] → ⊥) → entry_at s ≡ refused fault → behind_junk s fault.at ≡ rest → s ≡ front ++ rest →
-    place + length fault.at ≡ length s → Follows rest ps → FollowsItems s (junk front fault.kind place ∷ ps)
+junk-follows : (s front : Text) (fault : Refusal) (place : ℕ) (rest : Text) (ps : List Part) → (s ≡ [] → ⊥) → entry_at s ≡ refused fault → place + length fault.at ≡ length s → EndsJunk s fault.at rest → s ≡ front ++ rest →
+    Follows rest ps → FollowsItems s (junk front fault.kind place ∷ ps)
 unfolding entry_at
-junk-follows s front fault place rest ps some read b w at f = cases (begins_with number_sign s)
-    (λ sign. comment-in-junk s front fault place rest ps sign (rw sign at read) b f)
+junk-follows s front fault place rest ps some read at ends w f = cases (begins_with number_sign s)
+    (λ sign. comment-in-junk s front fault place rest ps sign (rw sign at read) (junk-rest s fault rest read ends) f)
     (λ sign. record {
       parts = junk front fault.kind place ∷ f.parts;
-      tiled = some_junk sign some read b w at f.tiled;
+      tiled = some_junk sign some read at ends w f.tiled;
       same = f.same;
       clean = λ n. n;
     })
@@ -349,8 +356,8 @@ mutual
 
   items-follow : {ps : List Part} {s : Text} → TilesItems full ps s → FollowsItems s ps
   items-follow source_ends = record { parts = []; tiled = source_ends; same = refl; clean = λ n. n }
-  items-follow (an_entry {text} {front} {rest} {e} {parts} p read w d) = entry-follows text front e rest parts read w (tiles-follow d)
-  items-follow (some_junk {text} {front} {rest} {fault} {place} {parts} p some read b w at d) = junk-follows text front fault place rest parts some read b w at (tiles-follow d)
+  items-follow (an_entry {text} {front} {rest} {e} {parts} p spelled w d) = entry-follows text front e rest parts spelled w (tiles-follow d)
+  items-follow (some_junk {text} {front} {rest} {fault} {place} {parts} p some read at ends w d) = junk-follows text front fault place rest parts some read at ends w (tiles-follow d)
   items-follow (a_line p l w d) = absurd cc
 
 -- the list of a tree is that of its parts

@@ -1,12 +1,14 @@
 -- The tiling of a source: blank blocks, and between them entries and junk. It is a relation: nothing here bounds a depth,
 -- and no place is counted from the source's start.
-use Rattle.std.specs.Prelude.{◌≡◌, ℕ, ◌+◌, Bool, true, false, not, ◌==◌, if◌then◌else◌, List, [], ◌∷◌, ◌++◌, length, None}
+use Rattle.std.specs.Prelude.{◌≡◌, ◌≢◌, ℕ, ◌+◌, Bool, true, false, not, ◌==◌, if◌then◌else◌, List, [], ◌∷◌, ◌++◌, length, None}
 use Rattle.fluent_grammar.specs.Words.{Text, number_sign, begins_with, skip_blank_block, rest_of_line}
-use Rattle.fluent_grammar.specs.Refusal.{Kind, Refusal, got, refused}
+use Rattle.fluent_grammar.specs.Refusal.{Kind, Refusal, refused}
 use Rattle.fluent_grammar.specs.Tree as t
+use Rattle.fluent_grammar.specs.Spelling.{SpellsEntry}
 use Rattle.fluent_grammar.specs.Reading.{entry_at}
+use Rattle.fluent_grammar.specs.Recovery.{EndsJunk}
 use Rattle.fluent_grammar.specs.Tiling as p
-use Rattle.fluent_grammar.specs.Tiling.{ParserError, behind_junk, is_field_kind, entries_of, errors_of}
+use Rattle.fluent_grammar.specs.Tiling.{ParserError, is_field_kind, entries_of, errors_of}
 
 -- in full, or for runtime use, where each line that would begin an entry with `#` is passed over
 pub data Mode : Type 0 where
@@ -35,10 +37,10 @@ mutual
   -- the end, or an entry, junk or a line that is passed over, and what follows it
   pub data TilesItems (mode : Mode) : List Part → Text → Type 0 where
     source_ends : TilesItems mode [] []
-    an_entry : {text front rest : Text} {e : t.Entry} {parts : List Part} → passes_over mode text ≡ false → entry_at text ≡ got e rest →
+    an_entry : {text front rest : Text} {e : t.Entry} {parts : List Part} → passes_over mode text ≡ false → SpellsEntry e text rest →
         text ≡ front ++ rest → Tiles mode parts rest → TilesItems mode (entry front e ∷ parts) text
-    some_junk : {text front rest : Text} {fault : Refusal} {place : ℕ} {parts : List Part} → passes_over mode text ≡ false → (text ≡ [] → ⊥) →
-        entry_at text ≡ refused fault → behind_junk text fault.at ≡ rest → text ≡ front ++ rest → place + length fault.at ≡ length text →
+    some_junk : {text front rest : Text} {fault : Refusal} {place : ℕ} {parts : List Part} → passes_over mode text ≡ false → text ≢ [] →
+        entry_at text ≡ refused fault → place + length fault.at ≡ length text → EndsJunk text fault.at rest → text ≡ front ++ rest →
         Tiles mode parts rest → TilesItems mode (junk front fault.kind place ∷ parts) text
     a_line : {text front rest : Text} {parts : List Part} → passes_over mode text ≡ true → (rest_of_line text).1 ≡ rest →
         text ≡ front ++ rest → Tiles mode parts rest → TilesItems mode (passed_over front ∷ parts) text
