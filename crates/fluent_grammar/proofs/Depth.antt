@@ -15,7 +15,7 @@ use Rattle.fluent_grammar.proofs.Within.{Fair, FairReaders, readers-fair, MaybeE
 use Rattle.fluent_grammar.proofs.Taken.{Leaves, leaves-fair, identifier-leaves, inline-leaves, placeable-leaves, text_run-leaves}
 
 -- two readings are the same
-record Alike {A : Type 0} (x y : Reading A) : Type 0 where
+pub record Alike {A : Type 0} (x y : Reading A) : Type 0 where
   pub same : x ≡ y
 
 alike-refl : {A : Type 0} (x : Reading A) → Alike x x
@@ -33,7 +33,7 @@ alike-bind (got a rest) x' f f' w p l q = record { same = (q a rest l.parts).sam
 alike-bind (refused fault) x' f f' w p l q = record { same = ap (λ z. z >>= f') p.same }
 
 -- two readers that read the ends of a text alike
-record Agree (w : Text) (a b : Readers) : Type 0 where
+pub record Agree (w : Text) (a b : Readers) : Type 0 where
   pub inline : {s : Text} → EndsIn s w → Alike (a.inline s) (b.inline s)
   pub arguments : (names : List Text) {s : Text} → EndsIn s w → Alike (a.arguments names s) (b.arguments names s)
   pub variants : (marked : Bool) {s : Text} → EndsIn s w → Alike (a.variants marked s) (b.variants marked s)
@@ -88,7 +88,7 @@ module _ (a b : Readers) (w : Text) (agree : Agree w a b) (fair : FairReaders a)
   unfolding g.named_at
   named-alike s h = search (alikes, identifier-leaves, called-alike) depth 12
 
-  inline-alike : (s : Text) → EndsIn (drop 1 s) w → Alike (g.inline_at a s) (g.inline_at b s)
+  pub inline-alike : (s : Text) → EndsIn (drop 1 s) w → Alike (g.inline_at a s) (g.inline_at b s)
   unfolding g.inline_at
   inline-alike s h = search (alikes, term-alike, named-alike, placeable-alike) depth 12
 
@@ -106,7 +106,7 @@ module _ (a b : Readers) (w : Text) (agree : Agree w a b) (fair : FairReaders a)
   argument-alike names e (Some name) h = search (alikes, named_value-alike, positional-alike) depth 9
   argument-alike names e None h = positional-alike names e h
 
-  arguments-alike : (names : List Text) (s : Text) → EndsIn (drop 1 s) w → Alike (g.arguments_at a names s) (g.arguments_at b names s)
+  pub arguments-alike : (names : List Text) (s : Text) → EndsIn (drop 1 s) w → Alike (g.arguments_at a names s) (g.arguments_at b names s)
   unfolding g.arguments_at
   arguments-alike names s h = search (alikes, inline-alike, inline-leaves a fair, argument-alike) depth 12
 
@@ -127,7 +127,7 @@ module _ (a b : Readers) (w : Text) (agree : Agree w a b) (fair : FairReaders a)
   drop_two-end [] h = h
   drop_two-end (c ∷ cs) h = end-drop 1 h
 
-  pieces-alike : (s : Text) → EndsIn (drop 1 s) w → Alike (g.pieces_at a s) (g.pieces_at b s)
+  pub pieces-alike : (s : Text) → EndsIn (drop 1 s) w → Alike (g.pieces_at a s) (g.pieces_at b s)
   unfolding g.pieces_at
   pieces-alike s h = search (alikes, placeable_piece-alike, text_piece-alike, agree.line, drop_two-end) depth 12
 
@@ -136,7 +136,7 @@ module _ (a b : Readers) (w : Text) (agree : Agree w a b) (fair : FairReaders a)
   drop_one_more-end (suc n) [] h = h
   drop_one_more-end (suc n) (c ∷ cs) h = end-drop 1 (end-drop n h)
 
-  line-alike : (s : Text) → EndsIn (drop 1 s) w → Alike (g.line_at a s) (g.line_at b s)
+  pub line-alike : (s : Text) → EndsIn (drop 1 s) w → Alike (g.line_at a s) (g.line_at b s)
   unfolding g.line_at
   line-alike s h = search (alikes, placeable_piece-alike, text_piece-alike, pieces-alike, drop_one_more-end) depth 12
 
@@ -154,7 +154,7 @@ module _ (a b : Readers) (w : Text) (agree : Agree w a b) (fair : FairReaders a)
   unfolding g.pattern_at
   pattern-inside s h = alike-mapped _ (first_pieces-inside (skip_spaces s) s _ (end-spaces (end-same s)) (line_end-end (skip_spaces s)) h)
 
-  pattern-alike : {s : Text} → EndsIn s w → Alike (g.pattern_at a s) (g.pattern_at b s)
+  pub pattern-alike : {s : Text} → EndsIn s w → Alike (g.pattern_at a s) (g.pattern_at b s)
   unfolding g.pattern_at
   pattern-alike {s} h = alike-mapped _ (first_pieces-alike _ (end-spaces h) (line_end-end (skip_spaces s)))
 
@@ -176,7 +176,7 @@ module _ (a b : Readers) (w : Text) (agree : Agree w a b) (fair : FairReaders a)
   unfolding g.variant_or_end_at
   variant_or_end-alike default marked s h = search (alikes, variant-alike) depth 9
 
-  variants-alike : (marked : Bool) (s : Text) → EndsIn (drop 1 s) w → Alike (g.variants_at a marked s) (g.variants_at b marked s)
+  pub variants-alike : (marked : Bool) (s : Text) → EndsIn (drop 1 s) w → Alike (g.variants_at a marked s) (g.variants_at b marked s)
   unfolding g.variants_at
   variants-alike marked s h = search (alikes, variant_or_end-alike) depth 9
 

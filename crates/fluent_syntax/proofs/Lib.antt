@@ -5,4 +5,5 @@ pub mod Counted
 pub mod Scanned
 pub mod Strings
 pub mod Chars
+pub mod Whole
 pub mod Failing

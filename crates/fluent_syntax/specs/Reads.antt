@@ -1,9 +1,10 @@
 -- What a reader of the code gives, beside the reading of the definitions.
 use Rattle.std.specs.Prelude.{◌≡◌, ℕ, suc, ◌-◌, ◌≤◌, List, length, drop, Result, Ok, Err, if◌then◌else◌}
-use Rattle.fluent_grammar.specs.Words.{Text, begins_with}
+use Rattle.fluent_grammar.specs.Words.{Text, begins_with, quote, close_bracket, skip_blank, is_among}
+use Rattle.fluent_grammar.specs.Tree as t
 use Rattle.fluent_grammar.specs.Refusal as r
-use Rattle.fluent_grammar.specs.Refusal.{Kind, Reading, got, refused, refuse}
-use Rattle.fluent_grammar.specs.Reading.{Readers, readers}
+use Rattle.fluent_grammar.specs.Refusal.{Kind, Reading, got, refused, refuse, mapped, ◌>>=◌}
+use Rattle.fluent_grammar.specs.Reading.{Readers, readers, string_content, number_at, key_at, literal_at}
 use Rattle.fluent_syntax.specs.ErrorView.{kind_view, told, expected_char_range}
 use Rattle.fluent_syntax.specs.declared.parser.fault.Fault.{Fault}
 use Rattle.fluent_syntax.specs.declared.parser.fault.Fault.TheVariants as fault
@@ -46,3 +47,15 @@ IsRange (fault.Refused kind) range = kind_view kind ≡ expected_char_range rang
 -- a byte that has to stand here
 abbrev pub byte_at : ℕ → Text → Reading (Unit {0})
 byte_at byte s = if begins_with byte s then got tt (drop 1 s) else refuse (r.expected_token byte) s
+
+-- a string or a number
+abbrev pub string_or_number_at : Text → Reading t.Inline
+string_or_number_at s = if begins_with quote s then mapped t.string_literal (string_content (drop 1 s)) else mapped t.number_literal (number_at s)
+
+-- a key with its closing bracket, behind the opening one
+abbrev pub key_in_brackets_at : Text → Reading t.VariantKey
+key_in_brackets_at s = key_at (skip_blank s) >>= (λ key. byte_at close_bracket (skip_blank key.1) >>= (λ u. got key.0 u.1))
+
+-- the value of an argument of this name behind others, from the colon on
+abbrev pub argument_value_at : List Text → Text → Text → Reading t.Inline
+argument_value_at names name s = if is_among name names then refuse (r.duplicated_named_argument name) s else literal_at (skip_blank (drop 1 s))

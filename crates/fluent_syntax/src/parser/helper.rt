@@ -97,6 +97,7 @@ impl<'p, S: Drop, T: Texts<S>> Parser<'p, S, T> {
         ensures rest { self.new.rest.now ≡ drop count self.old.rest.now }
         ensures source { self.new.source.now ≡ self.old.source.now }
         ensures text { self.new.text.now ≡ self.old.text.now }
+        ensures onward { length self.new.rest.now ≤ length self.old.rest.now }
     {
         self.rest = behind(self.rest, count);
     }
@@ -109,6 +110,7 @@ impl<'p, S: Drop, T: Texts<S>> Parser<'p, S, T> {
         ensures rest { self.new.rest.now ≡ drop count self.old.rest.now }
         ensures source { self.new.source.now ≡ self.old.source.now }
         ensures text { self.new.text.now ≡ self.old.text.now }
+        ensures onward { length self.new.rest.now ≤ length self.old.rest.now }
     {
         let rest = self.bytes();
         let start = self.text.len() - rest.len();
@@ -131,6 +133,7 @@ impl<'p, S: Drop, T: Texts<S>> Parser<'p, S, T> {
         ensures rest { self.new.rest.now ≡ (if w.begins_with byte self.old.rest.now then drop 1 self.old.rest.now else self.old.rest.now) }
         ensures source { self.new.source.now ≡ self.old.source.now }
         ensures text { self.new.text.now ≡ self.old.text.now }
+        ensures onward { length self.new.rest.now ≤ length self.old.rest.now }
     {
         let found = self.is_current_byte(byte);
         if found {
@@ -144,6 +147,7 @@ impl<'p, S: Drop, T: Texts<S>> Parser<'p, S, T> {
         ensures rest { self.new.rest.now ≡ w.skip_spaces self.old.rest.now }
         ensures source { self.new.source.now ≡ self.old.source.now }
         ensures text { self.new.text.now ≡ self.old.text.now }
+        ensures onward { length self.new.rest.now ≤ length self.old.rest.now }
     {
         self.advance(words::blank_inline_len(self.bytes()));
     }
@@ -153,6 +157,7 @@ impl<'p, S: Drop, T: Texts<S>> Parser<'p, S, T> {
         ensures rest { self.new.rest.now ≡ w.skip_blank self.old.rest.now }
         ensures source { self.new.source.now ≡ self.old.source.now }
         ensures text { self.new.text.now ≡ self.old.text.now }
+        ensures onward { length self.new.rest.now ≤ length self.old.rest.now }
     {
         self.advance(words::blank_len(self.bytes()));
     }
@@ -163,6 +168,7 @@ impl<'p, S: Drop, T: Texts<S>> Parser<'p, S, T> {
         ensures rest { self.new.rest.now ≡ w.skip_blank_block self.old.rest.now }
         ensures source { self.new.source.now ≡ self.old.source.now }
         ensures text { self.new.text.now ≡ self.old.text.now }
+        ensures onward { length self.new.rest.now ≤ length self.old.rest.now }
     {
         let count = words::blank_block_len(self.bytes());
         self.advance(count);
@@ -175,6 +181,7 @@ impl<'p, S: Drop, T: Texts<S>> Parser<'p, S, T> {
         ensures rest { self.new.rest.now ≡ unwrap_or (w.after_line_end self.old.rest.now) self.old.rest.now }
         ensures source { self.new.source.now ≡ self.old.source.now }
         ensures text { self.new.text.now ≡ self.old.text.now }
+        ensures onward { length self.new.rest.now ≤ length self.old.rest.now }
     {
         let count = words::line_end_len(self.bytes());
         self.advance(count);
@@ -218,6 +225,7 @@ impl<'p, S: Drop, T: Texts<S>> Parser<'p, S, T> {
         ensures gives { Gives (λ u. u) self.new.rest.now result (byte_at byte self.old.rest.now) }
         ensures source { self.new.source.now ≡ self.old.source.now }
         ensures text { self.new.text.now ≡ self.old.text.now }
+        ensures onward { length self.new.rest.now ≤ length self.old.rest.now }
     {
         if self.take_byte_if(byte) {
             Ok(())
@@ -233,6 +241,7 @@ impl<'p, S: Drop, T: Texts<S>> Parser<'p, S, T> {
         ensures gives { Gives (name_of S T.text) self.new.rest.now result (identifier_at self.old.rest.now) }
         ensures source { self.new.source.now ≡ self.old.source.now }
         ensures text { self.new.text.now ≡ self.old.text.now }
+        ensures onward { length self.new.rest.now ≤ length self.old.rest.now }
     {
         let count = words::identifier_len(self.bytes());
         if count == 0 {
@@ -248,6 +257,7 @@ impl<'p, S: Drop, T: Texts<S>> Parser<'p, S, T> {
         ensures gives { Gives T.text self.new.rest.now result (number_at self.old.rest.now) }
         ensures source { self.new.source.now ≡ self.old.source.now }
         ensures text { self.new.text.now ≡ self.old.text.now }
+        ensures onward { length self.new.rest.now ≤ length self.old.rest.now }
     {
         match words::number_len(self.bytes()) {
             Ok(count) => {
@@ -267,6 +277,7 @@ impl<'p, S: Drop, T: Texts<S>> Parser<'p, S, T> {
         ensures gives { Gives T.text self.new.rest.now result (string_content self.old.rest.now) }
         ensures source { self.new.source.now ≡ self.old.source.now }
         ensures text { self.new.text.now ≡ self.old.text.now }
+        ensures onward { length self.new.rest.now ≤ length self.old.rest.now }
     {
         match words::string_end(self.bytes()) {
             StringEnd::Quote(count) => {

@@ -1,6 +1,7 @@
 //! Reading a source into its tree.
 
 pub mod errors;
+mod expression;
 mod fault;
 mod helper;
 mod slice;

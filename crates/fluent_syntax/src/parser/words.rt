@@ -1,7 +1,7 @@
 //! The words of the grammar: how many bytes of them stand at the front of a text.
 #![tactic(auto, using(crate::proofs::Counted::cuts))]
 
-ghost use Rattle.std.specs.Prelude.{◌≡◌, ℕ, ◌+◌, ◌-◌, ◌<◌, ◌≤◌, length, drop, take, slice_index};
+ghost use Rattle.std.specs.Prelude.{◌≡◌, ℕ, ◌+◌, ◌-◌, ◌<◌, ◌≤◌, ◌||◌, length, drop, take, slice_index};
 ghost use Rattle.std.specs.List.{prefix_len};
 ghost use Rattle.fluent_syntax.specs.Words as w;
 ghost use Rattle.fluent_syntax.specs.Counted.{Cuts, is_blank_at, is_comment_line, IsLineEnd, IsNumber, IsText, IsLine, IsString, IsStringStep, IsHexStep, is_sign, char_len, line_feed_end};
@@ -23,6 +23,13 @@ pub fn begins_with_letter(text: &[u8]) -> bool
     ensures { result ≡ w.begins w.is_letter text.now }
 {
     matches!(text, [b'a'..=b'z' | b'A'..=b'Z', ..])
+}
+
+/// Whether a text begins with a digit or a minus.
+pub fn begins_number(text: &[u8]) -> bool
+    ensures { result ≡ (w.begins w.is_digit text.now || w.begins_with w.hyphen text.now) }
+{
+    matches!(text, [b'-' | b'0'..=b'9', ..])
 }
 
 /// How many spaces stand at the front: production `blank_inline`, which may be empty here.
