@@ -5,5 +5,8 @@ pub mod Counted
 pub mod Scanned
 pub mod Strings
 pub mod Chars
+pub mod PieceViews
+pub mod Pieces
+pub mod Steps
 pub mod Whole
 pub mod Failing

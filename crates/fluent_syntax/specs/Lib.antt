@@ -10,3 +10,5 @@ pub mod View
 pub mod Counted
 pub mod ErrorView
 pub mod Reads
+pub mod Steps
+pub mod Pieces

@@ -25,7 +25,7 @@ Gives view rest (Ok x) read = read ≡ got (view x) rest
 Gives view rest (Err e) read = Fails e rest read
 
 -- readers of as many levels as a text has bytes, and more
-abbrev pub whole : Readers
+unfoldable pub whole : Readers
 whole = record {
   inline = λ s. (readers (suc (length s))).inline s;
   arguments = λ names s. (readers (suc (length s))).arguments names s;

@@ -1,5 +1,5 @@
 //! Expressions.
-#![tactic(auto, using(crate::proofs::Failing::handed))]
+#![tactic(auto, using(crate::proofs::Failing::handed, crate::proofs::Counted::cuts, crate::proofs::Steps::placeable_is))]
 
 use crate::ast::{Identifier, InlineExpression, NamedArgument, VariantKey};
 use crate::parser::fault::Fault;
