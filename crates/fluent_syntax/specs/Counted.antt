@@ -1,8 +1,8 @@
 -- What the counts of bytes say that the words of the grammar have.
-use Rattle.std.specs.Prelude.{◌≡◌, ℕ, zero, suc, ◌+◌, ◌-◌, ◌<◌, ◌≤◌, Bool, true, false, ◌&&◌, ◌||◌, ◌==◌, nat_lt, List, [], ◌∷◌, length, take, drop, slice_index, Option, Some, None, is_some, Result, Ok, Err, unwrap_or, if◌then◌else◌}
+use Rattle.std.specs.Prelude.{◌≡◌, ℕ, zero, suc, ◌+◌, ◌-◌, ◌<◌, ◌≤◌, Bool, true, false, not, ◌&&◌, ◌||◌, ◌==◌, nat_lt, List, [], ◌∷◌, length, take, drop, slice_index, Option, Some, None, is_some, Result, Ok, Err, unwrap_or, if◌then◌else◌}
 use Rattle.std.specs.Str.{IsUtf8, IsCharBoundary, continuation_len}
 use Rattle.std.specs.List.{prefix_len}
-use Rattle.fluent_grammar.specs.Words.{Text, space, line_feed, carriage_return, quote, backslash, number_sign, begins_with, after_line_end, is_hex_digit, rest_of_line}
+use Rattle.fluent_grammar.specs.Words.{Text, begins, is_digit, is_letter, hyphen, space, line_feed, carriage_return, quote, backslash, number_sign, begins_with, after_line_end, is_hex_digit, rest_of_line}
 use Rattle.fluent_grammar.specs.Refusal.{Reading, got, refuse}
 use Rattle.fluent_grammar.specs.Refusal as r
 use Rattle.fluent_grammar.specs.Reading.{number_at, text_run, string_content, before, missing_hex, character_or_space}
@@ -74,3 +74,7 @@ IsHexStep wanted digits step.Quote = ⊥
 IsHexStep wanted digits step.LineFeed = ⊥
 IsHexStep wanted digits step.UnknownEscape = ⊥
 IsHexStep wanted digits (step.MissingDigit count) = (digits < wanted) × (count ≡ digits)
+
+-- a quote, a digit, or a minus that no letter follows
+abbrev pub begins_literal : Text → Bool
+begins_literal s = (begins_with quote s || begins is_digit s) || (begins_with hyphen s && not (begins is_letter (drop 1 s)))

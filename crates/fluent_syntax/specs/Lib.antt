@@ -12,3 +12,4 @@ pub mod ErrorView
 pub mod Reads
 pub mod Steps
 pub mod Pieces
+pub mod Arguments

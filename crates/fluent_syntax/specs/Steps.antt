@@ -90,13 +90,16 @@ abbrev pub indent_at : Bool → Text → ℕ
 indent_at true s = spaces s
 indent_at false s = 0
 
+abbrev pub text_step : Bool → ℕ → Text → Reading (Option (Piece × Bool))
+text_step line indent u = text_run u >>= (λ x. got (Some (text_piece line indent x.0, ends_line x.0)) x.1)
+
 -- the next piece of a pattern behind so many spaces, and whether it ends its line; None where the text ends
 abbrev pub piece_behind : Bool → ℕ → Text → Reading (Option (Piece × Bool))
 piece_behind line indent u =
     if length u == 0 then got None []
     else if begins_with open_brace u then mapped (λ e. Some (placed (line && indent == 0) e, false)) (placeable_by u)
     else if begins_crlf u then got (Some (in_line (line_feed ∷ []), true)) (drop 2 u)
-    else text_run u >>= (λ x. got (Some (text_piece line indent x.0, ends_line x.0)) x.1)
+    else text_step line indent u
 
 -- The next piece, at a line start or within a line. None where the pattern ends.
 unfoldable pub piece_by : Bool → Text → Reading (Option (Piece × Bool))

@@ -4,6 +4,7 @@ pub mod errors;
 mod expression;
 mod fault;
 mod helper;
+mod pattern;
 mod pieces;
 mod slice;
 mod words;
