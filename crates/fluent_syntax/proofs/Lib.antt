@@ -5,6 +5,7 @@ pub mod Counted
 pub mod Scanned
 pub mod Strings
 pub mod Chars
+pub mod Names
 pub mod PieceViews
 pub mod Pieces
 pub mod Steps

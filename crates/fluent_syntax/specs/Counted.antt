@@ -78,3 +78,7 @@ IsHexStep wanted digits (step.MissingDigit count) = (digits < wanted) × (count 
 -- a quote, a digit, or a minus that no letter follows
 abbrev pub begins_literal : Text → Bool
 begins_literal s = (begins_with quote s || begins is_digit s) || (begins_with hyphen s && not (begins is_letter (drop 1 s)))
+
+-- a quote, a digit or a minus
+abbrev pub begins_value : Text → Bool
+begins_value s = begins_with quote s || (begins is_digit s || begins_with hyphen s)

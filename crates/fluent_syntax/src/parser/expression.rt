@@ -8,8 +8,9 @@ use crate::parser::words;
 use crate::parser::{ErrorKind, Texts};
 
 
-ghost use Rattle.std.specs.Prelude.{◌≡◌, ◌≤◌, ◌<◌, ◌||◌, true, false, [], length, drop, map, option_map, if◌then◌else◌, is_some, string_bytes};
+ghost use Rattle.std.specs.Prelude.{◌≡◌, ◌≤◌, ◌<◌, ◌||◌, true, false, [], length, drop, map, option_map, OnOk, if◌then◌else◌, is_some, string_bytes};
 ghost use Rattle.std.specs.List.{list_all};
+ghost use Rattle.std.specs.Str.{bytes_eq};
 ghost use Rattle.fluent_syntax.specs.Words as w;
 ghost use Rattle.fluent_syntax.specs.Refusal as r;
 ghost use Rattle.fluent_syntax.specs.Reading.{is_term_attribute, selector_fault};
@@ -232,6 +233,7 @@ impl<'p, S: Drop, T: Texts<S>> Parser<'p, S, T> {
     #[tactic(auto, using(crate::proofs::Failing::handed, crate::proofs::Counted::cuts), unfolding(crate::specs::Steps::argument_by))]
     fn get_argument(&mut self, others: &[NamedArgument<S>]) -> Result<Argument<S>, Fault>
         requires { T.text self.old.source.now ≡ self.old.text.now }
+        ensures less { OnOk result (length self.new.rest.now < length self.old.rest.now) }
         ensures gives { Gives (argument_view S T.text) self.new.rest.now result (argument_by (names_of (map (named_view S T.text) others.now)) self.old.rest.now) }
         ensures source { self.new.source.now ≡ self.old.source.now }
         ensures text { self.new.text.now ≡ self.old.text.now }
@@ -267,7 +269,7 @@ impl<'p, S: Drop, T: Texts<S>> Parser<'p, S, T> {
         }
         self.advance(1);
         self.skip_blank();
-        if words::begins_literal(self.bytes()) || self.is_current_byte(b'-') {
+        if words::begins_value(self.bytes()) {
             self.get_literal()
         } else {
             Err(Fault::Refused(ErrorKind::ExpectedLiteral))
@@ -278,7 +280,19 @@ impl<'p, S: Drop, T: Texts<S>> Parser<'p, S, T> {
     fn is_among(&self, name: &str, others: &[NamedArgument<S>]) -> bool
         ensures { result ≡ w.is_among name.now (names_of (map (named_view S T.text) others.now)) }
     {
-        others.iter().any(|other| self.texts.as_str(&other.name.name) == name)
+        for other in others {
+            if self.has_name(other, name) {
+                return true;
+            }
+        }
+        false
+    }
+
+    /// Whether an argument has this name.
+    fn has_name(&self, argument: &NamedArgument<S>, name: &str) -> bool
+        ensures { result ≡ bytes_eq (named_view S T.text argument.now).name name.now }
+    {
+        self.texts.as_str(&argument.name.name) == name
     }
 
     /// An expression that no arrow follows.

@@ -14,7 +14,7 @@ ghost use Rattle.fluent_syntax.specs.Lines.{in_line, pattern_ends};
 
 impl<'p, S: Drop, T: Texts<S>> Parser<'p, S, T> {
     ghost use Rattle.fluent_syntax.specs.Reads.{Gives};
-    ghost use Rattle.fluent_syntax.specs.Steps.{pattern_by, piece_by, piece_behind, text_piece, indent_at, text_step};
+    ghost use Rattle.fluent_syntax.specs.Steps.{pattern_by, piece_by, piece_behind, indent_at, text_step, first_place};
     ghost use Rattle.fluent_syntax.specs.View.{pattern_view};
     ghost use Rattle.fluent_syntax.specs.Pieces.{piece_view, step_view, IsPiece};
 

@@ -5,7 +5,7 @@ ghost use Rattle.std.specs.Prelude.{◌≡◌, ℕ, ◌+◌, ◌-◌, ◌<◌, �
 ghost use Rattle.std.specs.List.{prefix_len};
 ghost use Rattle.fluent_syntax.specs.Lines.{pattern_ends, ends_line};
 ghost use Rattle.fluent_syntax.specs.Words as w;
-ghost use Rattle.fluent_syntax.specs.Counted.{Cuts, is_blank_at, is_comment_line, IsLineEnd, IsNumber, IsText, IsLine, IsString, IsStringStep, IsHexStep, is_sign, char_len, line_feed_end, begins_literal};
+ghost use Rattle.fluent_syntax.specs.Counted.{Cuts, is_blank_at, is_comment_line, IsLineEnd, IsNumber, IsText, IsLine, IsString, IsStringStep, IsHexStep, is_sign, char_len, line_feed_end, begins_literal, begins_value};
 
 use memchr::{memchr, memchr3};
 
@@ -80,7 +80,14 @@ pub fn front(text: &[u8], count: usize) -> &[u8]
 pub fn ends_line(text: &[u8]) -> bool
     ensures { result ≡ ends_line text.now }
 {
-    text.last() == Some(&b'\n')
+    !text.is_empty() && text[text.len() - 1] == b'\n'
+}
+
+/// Whether a text begins with a quote, a digit or a minus.
+pub fn begins_value(text: &[u8]) -> bool
+    ensures { result ≡ begins_value text.now }
+{
+    matches!(text, [b'"' | b'-' | b'0'..=b'9', ..])
 }
 
 /// Whether a text begins with a quote, a digit, or a minus that no letter follows.
