@@ -1,13 +1,13 @@
 -- Heads and attributes: reading gives what is spelled, and what is spelled is read.
 use Rattle.std.proofs.Common.{◌≡◌, ℕ, zero, suc, ◌<◌, ◌≤◌, Bool, true, false, cond, List, [], ◌∷◌, length, drop, refl, sym, ap, ◌∙◌, arith, inl, inr}
-use Rattle.std.specs.Prelude.{◌⊎◌, ◌≢◌}
+use Rattle.std.specs.Prelude.{◌≢◌}
 use Rattle.fluent_grammar.specs.Words.{Text, begins_with, dot, equals, skip_spaces}
 use Rattle.fluent_grammar.specs.Refusal as r
 use Rattle.fluent_grammar.specs.Refusal.{Refusal, Reading, got, refused, refuse, mapped, ◌>>=◌}
 use Rattle.fluent_grammar.specs.Tree as t
 use Rattle.fluent_grammar.specs.Lexical.{SpellsName}
 use Rattle.fluent_grammar.specs.Spelling.{SpellsHead, a_head, SpellsAttribute, an_attribute, SpellsAttributes, no_further, one_more, SpellsPattern}
-use Rattle.fluent_grammar.specs.Reading.{identifier_at, pattern_at, readers, head_at, attribute_of, attribute_at, more_attributes, attributes_at}
+use Rattle.fluent_grammar.specs.Reading.{pattern_at, readers, head_at, attribute_of, attribute_at, more_attributes, attributes_at}
 use Rattle.fluent_grammar.proofs.Got.{bind_got, mapped_got, got_node, which, begins_is}
 use Rattle.fluent_grammar.proofs.Words.{name_sound, name_complete}
 use Rattle.fluent_grammar.proofs.Sound.{pattern_sound, readers_sound}
@@ -27,7 +27,7 @@ value_complete u v value rest e p = rw e (pattern_complete p (suc (length (equal
 
 equals_sound : (s id u : Text) (x : Text × t.Elements) (rest : Text) → SpellsName id s u →
     cond (begins_with equals (skip_spaces u)) (mapped (λ value. (id, value)) (pattern_at (readers (suc (length (skip_spaces u)))) (drop 1 (skip_spaces u))))
-      (refuse (r.expected_token equals) (skip_spaces u)) ≡ got x rest → SpellsHead x.0 x.1 s rest
+    (refuse (r.expected_token equals) (skip_spaces u)) ≡ got x rest → SpellsHead x.0 x.1 s rest
 equals_sound s id u x rest n h =
     elim (which (begins_with equals (skip_spaces u)) _ _ _ h) [
       | inl p ↦ let m = mapped_got _ _ _ _ p.1 in rw (← m.2) (value_sound s id u m.0 rest n p.0 m.1)
@@ -71,7 +71,7 @@ attribute_value_sound s id u a rest d n e h =
 
 attribute_equals_sound : (s id u : Text) (a : t.Attribute) (rest : Text) → begins_with dot (skip_spaces s) ≡ true → SpellsName id (drop 1 (skip_spaces s)) u →
     cond (begins_with equals (skip_spaces u)) (pattern_at (readers (suc (length (skip_spaces u)))) (drop 1 (skip_spaces u)) >>= (λ value. attribute_of id value.0 value.1))
-      (refuse (r.expected_token equals) (skip_spaces u)) ≡ got a rest → SpellsAttribute a s rest
+    (refuse (r.expected_token equals) (skip_spaces u)) ≡ got a rest → SpellsAttribute a s rest
 attribute_equals_sound s id u a rest d n h =
     elim (which (begins_with equals (skip_spaces u)) _ _ _ h) [
       | inl p ↦ attribute_value_sound s id u a rest d n p.0 p.1

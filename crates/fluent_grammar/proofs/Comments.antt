@@ -1,11 +1,10 @@
 -- Comments: reading gives what is spelled, and what is spelled is read.
-use Rattle.std.proofs.Common.{◌≡◌, ℕ, zero, suc, ◌+◌, ◌<◌, ◌≤◌, Bool, true, false, cond, not, ◌&&◌, ◌||◌, List, [], ◌∷◌, ◌++◌, length, drop, Option, Some, None, is_some, refl, sym, ap, ◌∙◌, arith, inl, inr, length-drop, one-add}
-use Rattle.std.specs.Prelude.{◌⊎◌, ◌==◌, ◌≢◌, nat_le}
+use Rattle.std.proofs.Common.{◌≡◌, ℕ, zero, suc, ◌<◌, ◌≤◌, Bool, true, false, cond, ◌&&◌, List, [], ◌∷◌, ◌++◌, length, drop, Option, Some, None, is_some, refl, sym, ap, ◌∙◌, arith, inl, inr, length-drop, one-add}
+use Rattle.std.specs.Prelude.{◌==◌, nat_le}
 use Rattle.std.specs.List.{prefix_len}
 use Rattle.std.proofs.lemmas.Bool.Decides.{nat_tests}
 use Rattle.fluent_grammar.specs.Words.{Text, begins_with, begins_crlf, number_sign, space, line_feed, carriage_return, after_line_end, rest_of_line, comment_level}
-use Rattle.fluent_grammar.specs.Refusal.{Refusal, Reading, got, refused, refuse, mapped, ◌>>=◌}
-use Rattle.fluent_grammar.specs.Refusal as r
+use Rattle.fluent_grammar.specs.Refusal.{Refusal, Reading, got, refused}
 use Rattle.fluent_grammar.specs.Tree as t
 use Rattle.fluent_grammar.specs.Spelling.{SpellsCommentText, at_end, empty_line, some_line, SpellsCommentLine, SpellsCommentLines, no_further, one_more, SpellsComment, a_comment}
 use Rattle.fluent_grammar.specs.Reading.{comment_line_at, more_lines, comment_lines, comment_of, comment_at}
@@ -70,7 +69,7 @@ rest_of_line-le : (s : Text) → length (rest_of_line s).1 ≤ length s
 rest_of_line-le [] = omega arith
 rest_of_line-le (c ∷ cs) =
     shorter-chosen (c == line_feed) _ _ (length (c ∷ cs)) (omega arith)
-      (shorter-chosen (c == carriage_return && begins_with line_feed cs) _ _ (length (c ∷ cs)) (omega (arith, length-drop 1 cs)) (omega (arith, rest_of_line-le cs)))
+    (shorter-chosen (c == carriage_return && begins_with line_feed cs) _ _ (length (c ∷ cs)) (omega (arith, length-drop 1 cs)) (omega (arith, rest_of_line-le cs)))
 
 text-no_longer : {lines : List Text} {s rest : Text} → SpellsCommentText lines s rest → length rest ≤ length s
 text-no_longer at_end = omega arith

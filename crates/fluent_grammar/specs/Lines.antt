@@ -1,5 +1,5 @@
 -- Pattern lines: pieces as they stand in the source, and the elements that they give.
-use Rattle.std.specs.Prelude.{ℕ, zero, suc, ◌+◌, ◌-◌, min, Bool, true, false, not, ◌&&◌, ◌||◌, ◌==◌, if◌then◌else◌, List, [], ◌∷◌, ◌++◌, length, take, drop, replicate, Option, Some, None, option_map}
+use Rattle.std.specs.Prelude.{ℕ, ◌-◌, min, Bool, false, not, ◌&&◌, ◌||◌, ◌==◌, if◌then◌else◌, List, [], ◌∷◌, ◌++◌, length, replicate, Option, Some, None}
 use Rattle.std.specs.List.{list_all}
 use Rattle.std.specs.Str.{trim_end}
 use Rattle.fluent_grammar.specs.Words.{Text, space, line_feed, carriage_return, dot, asterisk, open_bracket, open_brace, close_brace, begins, spaces, skip_spaces}

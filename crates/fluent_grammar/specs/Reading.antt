@@ -1,10 +1,10 @@
 -- Reading from left to right: the node at the front of a text, or the one refusal there.
 -- What nests or repeats is read through `Readers`: `step` reads one level, given readers for shorter texts, and
 -- `readers n` reads n levels. So a text of length below n is read by `readers n`.
-use Rattle.std.specs.Prelude.{ℕ, zero, suc, ◌+◌, ◌-◌, Bool, true, false, not, ◌&&◌, ◌||◌, ◌==◌, nat_lt, nat_le, if◌then◌else◌, List, [], ◌∷◌, ◌++◌, length, take, drop, Option, Some, None, is_some}
-use Rattle.std.specs.List.{prefix_len, list_all, list_any, starts_with}
+use Rattle.std.specs.Prelude.{ℕ, zero, suc, ◌-◌, Bool, true, false, ◌&&◌, ◌||◌, ◌==◌, if◌then◌else◌, List, [], ◌∷◌, ◌++◌, length, take, drop, Option, Some, None, is_some}
+use Rattle.std.specs.List.{prefix_len, list_all}
 use Rattle.std.specs.Str.{continuation_len}
-use Rattle.fluent_grammar.specs.Words.{Text, line_feed, carriage_return, space, quote, number_sign, dollar, open_paren, close_paren, asterisk, comma, hyphen, dot, colon, equals, greater, open_bracket, backslash, close_bracket, open_brace, close_brace, is_letter, is_digit, is_hex_digit, is_name_byte, is_callee_byte, begins, begins_with, spaces, skip_spaces, begins_crlf, after_line_end, skip_blank, skip_blank_block, name_len, small_u, capital_u, begins_arrow, skip_separator, rest_of_line, comment_level, hex_digits, is_among}
+use Rattle.fluent_grammar.specs.Words.{Text, line_feed, carriage_return, space, quote, number_sign, dollar, open_paren, close_paren, asterisk, hyphen, dot, colon, equals, open_bracket, backslash, close_bracket, open_brace, close_brace, is_letter, is_digit, is_hex_digit, is_callee_byte, begins, begins_with, spaces, skip_spaces, begins_crlf, after_line_end, skip_blank, skip_blank_block, name_len, small_u, capital_u, begins_arrow, skip_separator, rest_of_line, comment_level, hex_digits, is_among}
 use Rattle.fluent_grammar.specs.Refusal.{Kind, Refusal, Reading, got, refused, refuse, mapped, ◌>>=◌}
 use Rattle.fluent_grammar.specs.Refusal as r
 use Rattle.fluent_grammar.specs.Tree as t
@@ -61,10 +61,10 @@ string_content (c ∷ d ∷ ds) =
     if c == quote then got [] (d ∷ ds)
     else if c == line_feed then refuse r.unterminated_string_literal (c ∷ d ∷ ds)
     else if c == backslash then (
-      if d == backslash || d == quote then before (c ∷ d ∷ []) (string_content ds)
-      else if d == small_u then (if hex_digits 4 ds then before (c ∷ d ∷ []) (string_content ds) else missing_hex ds)
-      else if d == capital_u then (if hex_digits 6 ds then before (c ∷ d ∷ []) (string_content ds) else missing_hex ds)
-      else refuse (r.unknown_escape_sequence (first_char (d ∷ ds))) (c ∷ d ∷ ds))
+    if d == backslash || d == quote then before (c ∷ d ∷ []) (string_content ds)
+    else if d == small_u then (if hex_digits 4 ds then before (c ∷ d ∷ []) (string_content ds) else missing_hex ds)
+    else if d == capital_u then (if hex_digits 6 ds then before (c ∷ d ∷ []) (string_content ds) else missing_hex ds)
+    else refuse (r.unknown_escape_sequence (first_char (d ∷ ds))) (c ∷ d ∷ ds))
     else before (c ∷ []) (string_content (d ∷ ds))
 
 -- text up to and with the line feed, or up to an opening brace, a CR LF or the end
@@ -318,9 +318,9 @@ attribute_of id (t.placeable x es) s = got (record { id = id; value = t.placeabl
 -- Attribute, from its line's start on
 unfoldable pub attribute_at : Text → Reading t.Attribute
 attribute_at s = identifier_at (drop 1 (skip_spaces s)) >>= (λ id.
-  let u = skip_spaces id.1 in
-  if begins_with equals u then pattern_at (readers (suc (length u))) (drop 1 u) >>= (λ value. attribute_of id.0 value.0 value.1)
-  else refuse (r.expected_token equals) u)
+    let u = skip_spaces id.1 in
+    if begins_with equals u then pattern_at (readers (suc (length u))) (drop 1 u) >>= (λ value. attribute_of id.0 value.0 value.1)
+    else refuse (r.expected_token equals) u)
 
 -- an attribute before what is left, or the end at the start of its line
 abbrev pub more_attributes : (Text → List t.Attribute × Text) → Text → Reading t.Attribute → List t.Attribute × Text
@@ -335,9 +335,9 @@ attributes_at (suc n) s = if begins_with dot (skip_spaces s) then more_attribute
 -- an identifier, blank inline, an equals sign and what may be a pattern
 unfoldable pub head_at : Text → Reading (Text × t.Elements)
 head_at s = identifier_at s >>= (λ id.
-  let u = skip_spaces id.1 in
-  if begins_with equals u then mapped (λ value. (id.0, value)) (pattern_at (readers (suc (length u))) (drop 1 u))
-  else refuse (r.expected_token equals) u)
+    let u = skip_spaces id.1 in
+    if begins_with equals u then mapped (λ value. (id.0, value)) (pattern_at (readers (suc (length u))) (drop 1 u))
+    else refuse (r.expected_token equals) u)
 
 abbrev pub message_of : Text → Option t.Elements → List t.Attribute → Text → Reading t.Entry
 message_of id None [] s = refuse (r.expected_message_field id) s
@@ -351,16 +351,16 @@ term_of id (Some v) attributes s = got (t.term (record { id = id; value = v; att
 -- Message
 unfoldable pub message_at : Text → Reading t.Entry
 message_at s = head_at s >>= (λ h.
-  let u = skip_blank_block h.1 in
-  let attributes = attributes_at (length u) u in
-  message_of h.0.0 (value_of h.0.1) attributes.0 attributes.1)
+    let u = skip_blank_block h.1 in
+    let attributes = attributes_at (length u) u in
+    message_of h.0.0 (value_of h.0.1) attributes.0 attributes.1)
 
 -- Term, from its minus on
 unfoldable pub term_entry_at : Text → Reading t.Entry
 term_entry_at s = head_at (drop 1 s) >>= (λ h.
-  let u = skip_blank_block h.1 in
-  let attributes = attributes_at (length u) u in
-  term_of h.0.0 (value_of h.0.1) attributes.0 attributes.1)
+    let u = skip_blank_block h.1 in
+    let attributes = attributes_at (length u) u in
+    term_of h.0.0 (value_of h.0.1) attributes.0 attributes.1)
 
 -- the line behind a comment's sign, if it is one; a sign at the end of the text adds none
 unfoldable pub comment_line_at : Text → Reading (List Text)

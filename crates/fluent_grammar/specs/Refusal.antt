@@ -1,5 +1,5 @@
 -- Why a construct isn't read, and where.
-use Rattle.std.specs.Prelude.{ℕ, List, Bool}
+use Rattle.std.specs.Prelude.{ℕ}
 use Rattle.fluent_grammar.specs.Words.{Text}
 
 pub data Kind : Type 0 where

@@ -3,7 +3,7 @@
 -- things, how deep it may go and what it refuses are not said here: see `Reading`. The words are in `Lexical`.
 use Rattle.std.specs.Prelude.{◌≡◌, ◌≢◌, ◌⊎◌, ℕ, Bool, true, false, ◌==◌, List, [], ◌∷◌, ◌++◌, drop, Option, Some, None}
 use Rattle.std.specs.List.{list_all}
-use Rattle.fluent_grammar.specs.Words.{Text, line_feed, quote, number_sign, dollar, open_paren, close_paren, asterisk, hyphen, dot, colon, equals, greater, space, open_bracket, close_bracket, open_brace, close_brace, is_callee_byte, begins_with, spaces, skip_spaces, begins_crlf, after_line_end, skip_blank, skip_blank_block, begins_arrow, skip_separator, is_among, rest_of_line, comment_level}
+use Rattle.fluent_grammar.specs.Words.{Text, line_feed, quote, dollar, open_paren, close_paren, asterisk, hyphen, dot, colon, equals, greater, space, open_bracket, close_bracket, open_brace, close_brace, is_callee_byte, begins_with, spaces, skip_spaces, begins_crlf, after_line_end, skip_blank, skip_blank_block, begins_arrow, skip_separator, is_among, rest_of_line, comment_level}
 use Rattle.fluent_grammar.specs.Lexical.{SpellsName, SpellsNumber, SpellsString, SpellsAccessor, SpellsKey, SpellsLiteral, SpellsText}
 use Rattle.fluent_grammar.specs.Lines.{Piece, at_line_start, in_line, placed, elements_of, ends_line, pattern_ends, value_of}
 use Rattle.fluent_grammar.specs.Tree as t

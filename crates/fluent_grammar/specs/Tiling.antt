@@ -1,5 +1,5 @@
 -- A source as blank blocks, entries and junk.
-use Rattle.std.specs.Prelude.{ℕ, zero, suc, ◌+◌, ◌-◌, Bool, true, false, not, ◌&&◌, ◌||◌, ◌==◌, if◌then◌else◌, List, [], ◌∷◌, ◌++◌, length, take, drop, slice_index, Option, Some, None}
+use Rattle.std.specs.Prelude.{ℕ, zero, suc, ◌+◌, ◌-◌, Bool, true, false, not, ◌&&◌, ◌||◌, ◌==◌, if◌then◌else◌, List, [], ◌∷◌, ◌++◌, length, take, slice_index, Option, Some, None}
 use Rattle.fluent_grammar.specs.Words.{Text, line_feed, number_sign, begins_with, begins_entry, skip_blank_block, rest_of_line}
 use Rattle.fluent_grammar.specs.Refusal.{Kind, Refusal, Reading, got, refused}
 use Rattle.fluent_grammar.specs.Refusal as r
