@@ -8,7 +8,7 @@ use Rattle.fluent_grammar.specs.Refusal.{got, mapped}
 use Rattle.fluent_grammar.specs.Tree as t
 use Rattle.fluent_grammar.specs.Lines.{Piece, at_line_start, in_line, placed, elements_of, ends_line, pattern_ends}
 use Rattle.fluent_grammar.specs.Lexical.{SpellsName, SpellsNumber, unsigned, negative, SpellsAccessor, SpellsKey, SpellsLiteral, SpellsText}
-use Rattle.fluent_grammar.specs.Spelling.{may_stand_alone, may_be_selector, IsPositional, BeginsText, SpellsInline, a_string, a_number, a_variable, a_term, a_message, a_function, a_placeable, SpellsMaybeArguments, no_call, a_call, SpellsArguments, no_more, positional, named, SpellsPlaceable, in_braces, SpellsExpression, an_inline, a_select, SpellsVariants, all_read, lone_mark, a_variant, the_default, SpellsVariant, keyed, SpellsPattern, on_the_line, on_the_next, SpellsPieces, nothing_left, crlf_piece, text_piece, placeable_piece, SpellsLine, only_spaces_left, pattern_over, line_of_text, line_of_placeable, line_of_crlf, SpellsBehindText, next_line, same_line}
+use Rattle.fluent_grammar.specs.Spelling.{may_stand_alone, may_be_selector, IsPositional, BeginsText, SpellsInline, a_string_literal, a_number_literal, a_variable_reference, a_term_reference, a_message_reference, a_function_reference, a_placeable, SpellsMaybeArguments, no_call, a_call, SpellsArguments, no_more, positional, named, SpellsPlaceable, in_braces, SpellsExpression, an_inline, a_select, SpellsVariants, all_read, lone_mark, a_variant, the_default, SpellsVariant, keyed, SpellsPattern, on_the_line, on_the_next, SpellsPieces, nothing_left, crlf_piece, text_piece, placeable_piece, SpellsLine, only_spaces_left, pattern_over, line_of_text, line_of_placeable, line_of_crlf, SpellsBehindText, next_line, same_line}
 use Rattle.fluent_grammar.specs.Reading.{identifier_at, accessor_at, number_at, string_content, selector_fault, is_term_attribute, name_of_argument, with_positional, with_named, Readers, readers, variants_after, select_at, select_or_inline_at, closing_at, placeable_at, term_arguments_at, term_at, function_of, called_at, named_at, inline_at, positional_at, named_value_at, argument_at, arguments_at, after_text_at, placeable_piece_at, text_piece_at, pieces_at, line_at, first_pieces_at, pattern_at, variants_behind, variant_value_at, variant_at, variant_or_end_at, variants_at}
 use Rattle.fluent_grammar.proofs.Got.{begins_is}
 use Rattle.fluent_grammar.proofs.Words.{name_complete, number_complete, accessor_complete, key_complete, literal_complete, unsigned-digit}
@@ -357,14 +357,14 @@ placeable-begins (in_braces b d c) = rw b refl
 
 mutual
   pub inline_complete : {e : t.Inline} {s rest : Text} → SpellsInline e s rest → InlineRead e s rest
-  inline_complete (a_string {raw} {s} {u} {rest} b d) m le = rw b (string-read (readers m) u raw rest (string_complete d))
-  inline_complete (a_number d) m le = number-read (readers m) d
-  inline_complete (a_variable {name} {s} {u} {rest} b d) m le = rw b (variable-read (readers m) u name rest (name_complete d))
-  inline_complete (a_term {name} {s} {u} {v} {w} {rest} {attribute} {arguments = args} b n a c) m le =
+  inline_complete (a_string_literal {raw} {s} {u} {rest} b d) m le = rw b (string-read (readers m) u raw rest (string_complete d))
+  inline_complete (a_number_literal d) m le = number-read (readers m) d
+  inline_complete (a_variable_reference {name} {s} {u} {rest} b d) m le = rw b (variable-read (readers m) u name rest (name_complete d))
+  inline_complete (a_term_reference {name} {s} {u} {v} {w} {rest} {attribute} {arguments = args} b n a c) m le =
       let k : length (skip_blank w) ≤ m = omega (arith, ap length b, name-shorter n, accessor-no_longer a, skip_blank-le w) in
       rw b (term-read (readers m) u name v attribute w args rest n a (maybe_complete c name attribute m k))
-  inline_complete (a_message {name} {s} {u} {rest} {attribute} n o a) m le = letter-read (readers m) s name u n ∙ message-read (readers m) name u attribute rest o a
-  inline_complete (a_function {name} {s} {u} {v} {rest} {arguments = args} n c p a) m le =
+  inline_complete (a_message_reference {name} {s} {u} {rest} {attribute} n o a) m le = letter-read (readers m) s name u n ∙ message-read (readers m) name u attribute rest o a
+  inline_complete (a_function_reference {name} {s} {u} {v} {rest} {arguments = args} n c p a) m le =
       let k : length (skip_blank v) < m = omega (arith, name-shorter n, skip_blank-le u, ap length p, skip_blank-le v) in
       letter-read (readers m) s name u n ∙ function-read (readers m) name u v args rest c p (up-arguments [] args (skip_blank v) rest (arguments_complete a) m k)
   inline_complete (a_placeable {s} {rest} {e} d) m le =
