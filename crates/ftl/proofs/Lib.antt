@@ -1,0 +1,3 @@
+mod Computing
+mod Rows
+pub mod Requests

@@ -1,0 +1,10 @@
+pub mod Text
+pub mod Lines
+pub mod Requests
+pub mod RequestView
+pub mod Frames
+pub mod Devices
+pub mod Exchange
+pub mod ThinMessages
+pub mod ThinText
+pub mod Thin
