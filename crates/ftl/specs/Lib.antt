@@ -6,5 +6,6 @@ pub mod Frames
 pub mod Devices
 pub mod Exchange
 pub mod ThinMessages
+pub mod MessageView
 pub mod ThinText
 pub mod Thin
