@@ -1,3 +1,4 @@
 mod Computing
 mod Rows
 pub mod Requests
+pub mod Answers
