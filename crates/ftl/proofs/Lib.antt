@@ -1,4 +1,5 @@
 mod Computing
 mod Rows
 pub mod Requests
+pub mod Answers
 pub mod Messages

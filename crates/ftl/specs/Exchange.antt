@@ -1,5 +1,5 @@
 -- What a run reads and writes.
-use Rattle.std.specs.Prelude.{◌≡◌, ◌++◌, Option}
+use Rattle.std.specs.Prelude.{◌≡◌, ℕ, List, ◌++◌, Option}
 use Rattle.std.specs.Io.KnownBytes.{Consumes, Appends}
 use Rattle.ftl.specs.Text.{Text}
 

@@ -3,6 +3,7 @@ pub mod Lines
 pub mod Requests
 pub mod RequestView
 pub mod Frames
+pub mod AnswerView
 pub mod Devices
 pub mod Exchange
 pub mod ThinMessages
