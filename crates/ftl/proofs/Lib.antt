@@ -3,3 +3,5 @@ mod Rows
 pub mod Requests
 pub mod Answers
 pub mod Messages
+pub mod Formatting
+pub mod Catalogs

@@ -9,4 +9,6 @@ pub mod Exchange
 pub mod ThinMessages
 pub mod MessageView
 pub mod ThinText
+pub mod ReplyView
 pub mod Thin
+pub mod CatalogView
