@@ -5,3 +5,4 @@ pub mod Answers
 pub mod Messages
 pub mod Formatting
 pub mod Catalogs
+pub mod Engines

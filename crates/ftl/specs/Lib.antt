@@ -12,3 +12,4 @@ pub mod ThinText
 pub mod ReplyView
 pub mod Thin
 pub mod CatalogView
+pub mod EngineView
