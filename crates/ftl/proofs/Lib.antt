@@ -2,3 +2,8 @@ mod Computing
 mod Rows
 pub mod Requests
 pub mod Answers
+pub mod Exchange
+pub mod Lines
+pub mod Serving
+pub mod Runs
+pub mod Outcomes
