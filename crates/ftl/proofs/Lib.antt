@@ -7,3 +7,6 @@ pub mod Lines
 pub mod Serving
 pub mod Runs
 pub mod Outcomes
+pub mod Messages
+pub mod Formatting
+pub mod Catalogs

@@ -8,5 +8,8 @@ pub mod Devices
 pub mod Exchange
 pub mod Waiting
 pub mod ThinMessages
+pub mod MessageView
 pub mod ThinText
+pub mod ReplyView
 pub mod Thin
+pub mod CatalogView
