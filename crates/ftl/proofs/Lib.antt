@@ -2,6 +2,11 @@ mod Computing
 mod Rows
 pub mod Requests
 pub mod Answers
+pub mod Exchange
+pub mod Lines
+pub mod Serving
+pub mod Runs
+pub mod Outcomes
 pub mod Messages
 pub mod Formatting
 pub mod Catalogs

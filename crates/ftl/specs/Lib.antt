@@ -6,6 +6,7 @@ pub mod Frames
 pub mod AnswerView
 pub mod Devices
 pub mod Exchange
+pub mod Waiting
 pub mod ThinMessages
 pub mod MessageView
 pub mod ThinText
