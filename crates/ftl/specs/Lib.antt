@@ -9,3 +9,6 @@ pub mod Exchange
 pub mod ThinMessages
 pub mod ThinText
 pub mod Thin
+pub mod Words
+pub mod CommandView
+pub mod Faults
