@@ -3,5 +3,13 @@ mod Rows
 mod CommandRows
 pub mod Requests
 pub mod Answers
+pub mod Exchange
+pub mod Lines
+pub mod Serving
+pub mod Runs
+pub mod Outcomes
+pub mod Messages
+pub mod Formatting
+pub mod Catalogs
 pub mod FilesOfCommands
 pub mod FaultLemmas

@@ -6,9 +6,13 @@ pub mod Frames
 pub mod AnswerView
 pub mod Devices
 pub mod Exchange
+pub mod Waiting
 pub mod ThinMessages
+pub mod MessageView
 pub mod ThinText
+pub mod ReplyView
 pub mod Thin
+pub mod CatalogView
 pub mod Words
 pub mod CommandView
 pub mod Faults

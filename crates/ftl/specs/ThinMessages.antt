@@ -1,10 +1,10 @@
 -- Messages of one line, made of texts and variables.
-use Rattle.std.specs.Prelude.{ℕ, zero, suc, Bool, true, false, not, ◌&&◌, ◌||◌, ◌==◌, nat_le, if◌then◌else◌, List, [], ◌∷◌, ◌++◌, length, take, drop, Option, Some, None, option_map, option_and_then}
+use Rattle.std.specs.Prelude.{ℕ, zero, suc, Bool, false, not, ◌&&◌, ◌||◌, ◌==◌, nat_le, if◌then◌else◌, List, [], ◌∷◌, length, take, drop, Option, Some, None, option_map, option_and_then}
 use Rattle.std.specs.List.{prefix_len, list_all, flat_map, filter_map, position_or_len, slice_split}
 use Rattle.ftl.specs.Text.{Text, line_feed, space, dollar, equals, open_brace, close_brace}
 
 pub data Element : Type 0 where
-  literal : Text → Element
+  text_element : Text → Element
   variable : Text → Element
 
 pub record Message : Type 0 where
@@ -52,14 +52,14 @@ unfoldable pub placeable_at : Text → Option (Element × Text)
 placeable_at s = option_and_then closed (option_and_then identifier_at (after_byte dollar (skip_spaces s)))
 
 -- the longest text without a brace
-unfoldable pub literal_at : Text → Option (Element × Text)
-literal_at s =
+unfoldable pub text_element_at : Text → Option (Element × Text)
+text_element_at s =
     let n = position_or_len is_brace s in
-    if n == 0 then None else Some (literal (take n s), drop n s)
+    if n == 0 then None else Some (text_element (take n s), drop n s)
 
 -- the element at the front of a text
 abbrev pub element_behind : Text → Option Text → Option (Element × Text)
-element_behind s None = literal_at s
+element_behind s None = text_element_at s
 element_behind s (Some rest) = placeable_at rest
 
 unfoldable pub element_at : Text → Option (Element × Text)
@@ -74,28 +74,34 @@ elements_within (suc n) (b ∷ bs) = option_and_then (λ e. option_map (λ es. e
 abbrev pub elements_of : Text → Option (List Element)
 elements_of s = elements_within (length s) s
 
--- an equals sign, blank inline and at least one element
-abbrev pub message_with : Text → List Element → Option Message
-message_with id [] = None
-message_with id (e ∷ es) = Some (record { id = id; elements = e ∷ es })
-
-abbrev pub message_behind : Text × Text → Option Message
-message_behind name =
-    option_and_then (λ value. option_and_then (message_with name.0) (elements_of (skip_spaces value)))
-      (after_byte equals (skip_spaces name.1))
-
 -- printable ASCII that does not end in a space
 abbrev pub ends_in_space : Text → Bool
 ends_in_space [] = false
 ends_in_space (b ∷ []) = b == space
 ends_in_space (b ∷ c ∷ bs) = ends_in_space (c ∷ bs)
 
+abbrev pub is_printable : ℕ → Bool
+is_printable b = is_between 32 126 b
+
 abbrev pub is_plain : Text → Bool
-is_plain line = list_all (is_between 32 126) line && not (ends_in_space line)
+is_plain line = list_all is_printable line && not (ends_in_space line)
+
+-- what stands behind an equals sign and the spaces round it
+abbrev pub value_behind : Text × Text → Option (Text × Text)
+value_behind name = option_map (λ value. (name.0, skip_spaces value)) (after_byte equals (skip_spaces name.1))
+
+-- the identifier of a plain line, and its value: identifier, blank inline, equals sign, blank inline, value
+unfoldable pub message_head : Text → Option (Text × Text)
+message_head line = if is_plain line then option_and_then value_behind (identifier_at line) else None
+
+-- a message has at least one element
+abbrev pub message_with : Text → List Element → Option Message
+message_with id [] = None
+message_with id (e ∷ es) = Some (record { id = id; elements = e ∷ es })
 
 -- the message that a line is, if it is one
 unfoldable pub message_of : Text → Option Message
-message_of line = if is_plain line then option_and_then message_behind (identifier_at line) else None
+message_of line = option_and_then (λ head. option_and_then (message_with head.0) (elements_of head.1)) (message_head line)
 
 -- the messages of a source: every other line is passed over
 abbrev pub messages_of : Text → List Message
