@@ -5,8 +5,8 @@ use Rattle.std.proofs.lemmas.List.Elements.{Contains-get_or}
 use Rattle.std.proofs.lemmas.List.{length-map}
 use Rattle.std.proofs.Math.ListN.{get_or-map}
 use Rattle.ftl.specs.Text.{Text}
-use Rattle.ftl.specs.CommandView.{texts_of}
-use Rattle.ftl.specs.Faults.{IsOfFiles, status_of}
+use Rattle.ftl.specs.CatalogView.{texts}
+use Rattle.ftl.specs.Faults.{NamesOneOf, status_of}
 use Rattle.ftl.specs.declared.fault.Fault.{Fault}
 use Rattle.ftl.specs.declared.fault.Fault.TheVariants.{CommandLine, FileUnreadable, FileNotUtf8, Input, Output, Memory}
 
@@ -14,19 +14,19 @@ only_element : {X : Type 0} (x y : X) → Contains (x ∷ []) y → x ≡ y
 only_element x y (zero, below, is) = is
 only_element x y (suc k, below, is) = absurd (omega arith)
 
--- a fault of one file of a list is one of the list's
-pub IsOfFiles-one : (names : List Text) (name : Text) → Contains names name → (fault : Fault) → IsOfFiles (name ∷ []) fault → IsOfFiles names fault
-IsOfFiles-one names name listed CommandLine of_one = of_one
-IsOfFiles-one names name listed (FileUnreadable file) of_one = subst (Contains names) (only_element name file.now of_one) listed
-IsOfFiles-one names name listed (FileNotUtf8 file) of_one = subst (Contains names) (only_element name file.now of_one) listed
-IsOfFiles-one names name listed Input of_one = of_one
-IsOfFiles-one names name listed Output of_one = of_one
-IsOfFiles-one names name listed Memory of_one = of_one
+-- a fault that names one file of a list names one of the list
+pub NamesOneOf-one : (names : List Text) (name : Text) → Contains names name → (fault : Fault) → NamesOneOf (name ∷ []) fault → NamesOneOf names fault
+NamesOneOf-one names name listed CommandLine of_one = tt
+NamesOneOf-one names name listed (FileUnreadable file) of_one = subst (Contains names) (only_element name file.now of_one) listed
+NamesOneOf-one names name listed (FileNotUtf8 file) of_one = subst (Contains names) (only_element name file.now of_one) listed
+NamesOneOf-one names name listed Input of_one = tt
+NamesOneOf-one names name listed Output of_one = tt
+NamesOneOf-one names name listed Memory of_one = tt
 
-pub Contains-texts_of : (words : List (Bor Text)) (i : ℕ) (d : Bor Text) → i < length words → Contains (texts_of words) (get_or words i d).now
-Contains-texts_of words i d within =
-    subst (Contains (texts_of words)) (get_or-map (λ (w : Bor Text). w.now) words i d)
-    (Contains-get_or (texts_of words) i d.now (rw length-map within))
+pub Contains-texts : (words : List (Bor Text)) (i : ℕ) (d : Bor Text) → i < length words → Contains (texts words) (get_or words i d).now
+Contains-texts words i d within =
+    subst (Contains (texts words)) (get_or-map (λ (w : Bor Text). w.now) words i d)
+    (Contains-get_or (texts words) i d.now (rw length-map within))
 
 -- a fault's status is one of the program's
 pub status_of-among : (fault : Fault) → Contains (0 ∷ 2 ∷ 3 ∷ 4 ∷ []) (status_of fault)

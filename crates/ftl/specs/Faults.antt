@@ -15,14 +15,23 @@ status_of Input = 3
 status_of Output = 3
 status_of Memory = 4
 
--- the fault names one of these files, or is want of memory
-abbrev pub IsOfFiles : List Text → Fault → Type 0
-IsOfFiles names CommandLine = ⊥
-IsOfFiles names (FileUnreadable file) = Contains names file.now
-IsOfFiles names (FileNotUtf8 file) = Contains names file.now
-IsOfFiles names Input = ⊥
-IsOfFiles names Output = ⊥
-IsOfFiles names Memory = Unit {0}
+-- a file that the fault names is one of these
+abbrev pub NamesOneOf : List Text → Fault → Type 0
+NamesOneOf names CommandLine = Unit {0}
+NamesOneOf names (FileUnreadable file) = Contains names file.now
+NamesOneOf names (FileNotUtf8 file) = Contains names file.now
+NamesOneOf names Input = Unit {0}
+NamesOneOf names Output = Unit {0}
+NamesOneOf names Memory = Unit {0}
+
+-- a fault that comes while files are read
+abbrev pub IsOfFiles : Fault → Type 0
+IsOfFiles CommandLine = ⊥
+IsOfFiles (FileUnreadable file) = Unit {0}
+IsOfFiles (FileNotUtf8 file) = Unit {0}
+IsOfFiles Input = ⊥
+IsOfFiles Output = ⊥
+IsOfFiles Memory = Unit {0}
 
 -- the words or a file are at fault
 abbrev pub IsBeforeInput : Fault → Type 0

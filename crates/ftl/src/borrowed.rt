@@ -1,15 +1,15 @@
 //! Texts that are borrowed from their owners.
 ghost use Rattle.std.specs.Prelude.{◌≡◌, map, IfOk, string_bytes};
-ghost use Rattle.ftl.specs.CommandView.{texts_of};
+ghost use Rattle.ftl.specs.CatalogView.{texts};
 
 use std::alloc::{AllocError, Global};
 
 /// The texts, borrowed, in their order.
-pub fn borrow_texts(alloc: Global, texts: &[String]) -> Result<Vec<&str>, AllocError>
-    ensures { IfOk result (λ borrowed. texts_of borrowed.items ≡ map string_bytes texts.now) }
+pub fn borrow_texts(alloc: Global, owned: &[String]) -> Result<Vec<&str>, AllocError>
+    ensures { IfOk result (λ borrowed. texts borrowed.items ≡ map string_bytes owned.now) }
 {
-    let mut borrowed = Vec::with_capacity(alloc, texts.len())?;
-    for text in texts {
+    let mut borrowed = Vec::with_capacity(alloc, owned.len())?;
+    for text in owned {
         borrowed.push(text.as_str())?;
     }
     Ok(borrowed)

@@ -1,7 +1,7 @@
 //! The sources' files.
 ghost use Rattle.std.specs.Prelude.{◌≡◌, length, IfOk, IfErr, IfSome, IsErrOf, IsUtf8, ◌⊎◌, string_bytes, [], ◌∷◌};
-ghost use Rattle.ftl.specs.CommandView.{texts_of};
-ghost use Rattle.ftl.specs.Faults.{IsOfFiles};
+ghost use Rattle.ftl.specs.CatalogView.{texts};
+ghost use Rattle.ftl.specs.Faults.{NamesOneOf, IsOfFiles};
 
 use crate::fault::Fault;
 use std::alloc::Global;
@@ -17,7 +17,8 @@ pub fn read_sources<'words, R: Files>(
     files: &'words [&'words str],
 ) -> Result<Vec<String>, Fault<'words>>
     ensures each { IfOk result (λ sources. length sources.items ≡ length files.now) }
-    ensures fault { IfErr result (IsOfFiles (texts_of files.now)) }
+    ensures named { IfErr result (NamesOneOf (texts files.now)) }
+    ensures fault { IfErr result IsOfFiles }
 {
     let mut sources = Vec::new(alloc);
     for file in files {
@@ -33,7 +34,8 @@ fn read_source<'words, R: Files>(
     alloc: Global,
     file: &'words str,
 ) -> Result<String, Fault<'words>>
-    ensures { IfErr result (IsOfFiles (file.now ∷ [])) }
+    ensures named { IfErr result (NamesOneOf (file.now ∷ [])) }
+    ensures fault { IfErr result IsOfFiles }
 {
     match File::open(rt, file) {
         Ok(opened) => read_text(alloc, file, opened),
@@ -48,7 +50,8 @@ fn read_text<'words, R: Read + Drop>(
     mut reader: R,
 ) -> Result<String, Fault<'words>>
     ensures ok { IfOk result (λ text. IfSome (R.remaining reader) (λ bytes. string_bytes text ≡ bytes)) }
-    ensures fault { IfErr result (IsOfFiles (file.now ∷ [])) }
+    ensures named { IfErr result (NamesOneOf (file.now ∷ [])) }
+    ensures fault { IfErr result IsOfFiles }
     ensures not_utf8 { IsErrOf result (Fault.FileNotUtf8 file.entry) → IfSome (R.remaining reader) (λ bytes. IsUtf8 bytes → ⊥) }
 {
     let mut bytes = Vec::new(alloc);

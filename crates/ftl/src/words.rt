@@ -2,7 +2,8 @@
 ghost use Rattle.std.specs.Prelude.{◌≡◌, map, option_map};
 ghost use Rattle.std.specs.List.{list_all};
 ghost use Rattle.ftl.specs.Words.{command_of, run_command, files_command, is_file};
-ghost use Rattle.ftl.specs.CommandView.{command_view, texts_of};
+ghost use Rattle.ftl.specs.CatalogView.{texts};
+ghost use Rattle.ftl.specs.CommandView.{command_view};
 
 /// What the words ask for.
 #[derive(Clone, Copy, Debug, PartialEq, Eq)]
@@ -19,7 +20,7 @@ pub enum Command<'words> {
 /// Reads the words: `run`, then `--no-isolating` or nothing, then one or more files. A word that begins with `-` is no
 /// file. `None` for all other words.
 pub fn read_command<'words>(words: &'words [&'words str]) -> Option<Command<'words>>
-    ensures { option_map command_view result ≡ command_of (texts_of words.now) }
+    ensures { option_map command_view result ≡ command_of (texts words.now) }
 {
     match words.split_first() {
         Some((command, rest)) if *command == "run" => read_run(rest),
@@ -29,7 +30,7 @@ pub fn read_command<'words>(words: &'words [&'words str]) -> Option<Command<'wor
 
 /// `run` with these words behind it.
 fn read_run<'words>(words: &'words [&'words str]) -> Option<Command<'words>>
-    ensures { option_map command_view result ≡ run_command (texts_of words.now) }
+    ensures { option_map command_view result ≡ run_command (texts words.now) }
 {
     match words.split_first() {
         Some((option, files)) if *option == "--no-isolating" => read_files(false, files),
@@ -40,7 +41,7 @@ fn read_run<'words>(words: &'words [&'words str]) -> Option<Command<'words>>
 /// `run` with these words as its files.
 #[tactic(auto, using(crate::proofs::FilesOfCommands::files_command_at))]
 fn read_files<'words>(isolating: bool, files: &'words [&'words str]) -> Option<Command<'words>>
-    ensures { option_map command_view result ≡ files_command isolating (texts_of files.now) }
+    ensures { option_map command_view result ≡ files_command isolating (texts files.now) }
 {
     if !files.is_empty() && are_files(files) {
         Some(Command::Run { isolating, files })
