@@ -1,5 +1,6 @@
 mod Computing
 mod Rows
+mod CommandRows
 pub mod Requests
 pub mod Answers
 pub mod Exchange
@@ -12,3 +13,6 @@ pub mod Messages
 pub mod Formatting
 pub mod Catalogs
 pub mod Engines
+pub mod FilesOfCommands
+pub mod FaultLemmas
+pub mod RunLemmas

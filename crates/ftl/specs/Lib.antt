@@ -14,3 +14,7 @@ pub mod ReplyView
 pub mod Thin
 pub mod CatalogView
 pub mod EngineView
+pub mod Words
+pub mod CommandView
+pub mod Faults
+pub mod Program
