@@ -7,6 +7,7 @@ use Rattle.fluent_grammar.specs.Words.{Text, line_feed, begins, begins_entry}
 use Rattle.fluent_grammar.specs.Ends.{EndsIn}
 use Rattle.fluent_grammar.specs.Recovery.{IsColumnZero, MayBegin, EndsJunk}
 use Rattle.fluent_grammar.specs.Tiling.{resume, at_column_zero, behind_junk}
+use Rattle.fluent_grammar.specs.TilingLaws.{RecoveryFindsTheEnd}
 use Rattle.fluent_grammar.proofs.Within.{end-same, end-le, end-cons}
 use Rattle.fluent_grammar.proofs.TilesJunk.{end-cases}
 
@@ -106,3 +107,6 @@ no-later text place a b h k = elim h.stops [ inl e ↦ rw e (omega arith) | inr 
 -- junk has one end
 pub junk-end-once : (text place a b : Text) → EndsJunk text place a → EndsJunk text place b → a ≡ b
 junk-end-once text place a b h k = same-end a b place h.behind k.behind (omega (arith, no-later text place a b h k, no-later text place b a k h))
+
+pub recovery_finds_the_end : RecoveryFindsTheEnd
+recovery_finds_the_end text place rest h = ((λ k. junk-end-once text place _ rest (junk-ended text place h) k), (λ e. rw (← e) (junk-ended text place h)))

@@ -1,11 +1,12 @@
 -- The laws of reading and tiling, as statements.
-use Rattle.std.specs.Prelude.{◌≡◌, ℕ, ◌+◌, ◌-◌, ◌<◌, ◌≤◌, Bool, List, [], ◌∷◌, length, take, drop, map, Some, All}
+use Rattle.std.specs.Prelude.{◌≡◌, ℕ, ◌+◌, ◌-◌, ◌<◌, ◌≤◌, Bool, List, [], ◌∷◌, length, take, drop, map, Some, None, All, ◌↔◌}
 use Rattle.fluent_grammar.specs.Words.{Text}
 use Rattle.fluent_grammar.specs.Refusal.{Reading}
 use Rattle.fluent_grammar.specs.Tree as t
 use Rattle.fluent_grammar.specs.Lines.{Piece}
 use Rattle.fluent_grammar.specs.Reading.{Readers, readers, identifier_at, number_at, literal_at, key_at, placeable_at, pattern_at, attribute_at, attributes_at, head_at, comment_lines, comment_at, message_at, term_entry_at, entry_at}
-use Rattle.fluent_grammar.specs.Tiling.{ParserError, pieces_from, runtime_pieces_from, tree, errors, runtime_tree, runtime_errors, listed, list}
+use Rattle.fluent_grammar.specs.Tiling.{ParserError, behind_junk, pieces_from, runtime_pieces_from, tree, errors, runtime_tree, runtime_errors, listed, list}
+use Rattle.fluent_grammar.specs.Recovery.{EndsJunk}
 use Rattle.fluent_grammar.specs.Tiles.{Mode, full, runtime, Part, Tiles, text_of, tree_of, errors_in}
 use Rattle.fluent_grammar.specs.Ends.{EndsIn, Within, Took, Told}
 use Rattle.fluent_grammar.specs.Levels.{levels}
@@ -138,3 +139,18 @@ RuntimeAddsNoJunk = (source : Text) → errors source ≡ [] → runtime_errors 
 abbrev pub PiecesNeedNoMoreSteps : Type 0
 PiecesNeedNoMoreSteps = (m n at : ℕ) (text : Text) → length text < m → length text < n →
     (pieces_from m at text ≡ pieces_from n at text) × (runtime_pieces_from m at text ≡ runtime_pieces_from n at text)
+
+-- What is looked for behind a refusal is where the junk ends, and junk has one end.
+abbrev pub RecoveryFindsTheEnd : Type 0
+RecoveryFindsTheEnd = (text place rest : Text) → EndsIn place text → (EndsJunk text place rest ↔ (behind_junk text place ≡ rest))
+
+-- an entry that is no comment and has none
+abbrev pub HasNoComment : t.Entry → Type 0
+HasNoComment (t.message m) = m.comment ≡ None
+HasNoComment (t.term m) = m.comment ≡ None
+HasNoComment (t.junk content) = Unit {0}
+HasNoComment _ = ⊥
+
+-- The tree for runtime use has no comments.
+abbrev pub RuntimeHasNoComments : Type 0
+RuntimeHasNoComments = (source : Text) → All HasNoComment (runtime_tree source)

@@ -1,6 +1,6 @@
 //! Laws about reading and tiling.
 
-ghost use Rattle.fluent_grammar.specs.TilingLaws.{AttributesNeedNoMoreSteps, AttributesStayWithin, BottomIsNeverAsked, CommentsNeedNoMoreSteps, EachTextHasATiling, EntriesStayWithin, EntriesTakeSome, ErrorsAreTold, JunkIsSliced, LevelsAreEnough, NoTextHasTwoTilings, PartsAreTheText, PatternsNeedNoMoreLevels, PiecesNeedNoMoreSteps, PlacesStartInSlices, ReadersStayWithin, ReadersTakeSome, RuntimeAddsNoJunk, RuntimeHasTheSameList, SlicesAscend, TilingGivesTreeAndErrors};
+ghost use Rattle.fluent_grammar.specs.TilingLaws.{AttributesNeedNoMoreSteps, AttributesStayWithin, BottomIsNeverAsked, CommentsNeedNoMoreSteps, EachTextHasATiling, EntriesStayWithin, EntriesTakeSome, ErrorsAreTold, JunkIsSliced, LevelsAreEnough, NoTextHasTwoTilings, PartsAreTheText, PatternsNeedNoMoreLevels, PiecesNeedNoMoreSteps, PlacesStartInSlices, ReadersStayWithin, ReadersTakeSome, RecoveryFindsTheEnd, RuntimeHasNoComments, RuntimeAddsNoJunk, RuntimeHasTheSameList, SlicesAscend, TilingGivesTreeAndErrors};
 
 /// What a reader leaves, and the place of its refusal, is an end of the text that it was given.
 pub fn readers_stay_within()
@@ -80,6 +80,13 @@ pub fn parts_are_the_text()
 {
 }
 
+/// What is looked for behind a refusal is the end of the junk: the first place, at the refusal's or behind it, that an entry may
+/// begin at, or the end of the text.
+pub fn recovery_finds_the_end()
+    ensures { RecoveryFindsTheEnd }
+{
+}
+
 /// The tree of a source and its errors are those of its tiling.
 pub fn tiling_gives_tree_and_errors()
     ensures { TilingGivesTreeAndErrors }
@@ -126,5 +133,11 @@ pub fn runtime_has_the_same_list()
 /// Where the full reading of a source has no errors, and so no junk, the reading for runtime use has none.
 pub fn runtime_adds_no_junk()
     ensures { RuntimeAddsNoJunk }
+{
+}
+
+/// The tree for runtime use has no comments, neither as entries nor on messages and terms.
+pub fn runtime_has_no_comments()
+    ensures { RuntimeHasNoComments }
 {
 }
