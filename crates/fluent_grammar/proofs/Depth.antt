@@ -1,17 +1,16 @@
 -- Depth is always enough: a text is read alike by readers of any more levels than it has bytes.
-use Rattle.std.proofs.Common.{◌≡◌, ℕ, zero, suc, ◌+◌, ◌-◌, ◌<◌, ◌≤◌, Bool, true, false, cond, not, ◌&&◌, ◌||◌, List, [], ◌∷◌, ◌++◌, length, take, drop, Option, Some, None, refl, sym, ap, ◌∙◌, arith}
+use Rattle.std.proofs.Common.{◌≡◌, ℕ, zero, suc, ◌<◌, ◌≤◌, Bool, true, false, cond, List, [], ◌∷◌, length, drop, Option, Some, None, refl, sym, ap, ◌∙◌, arith}
 use Rattle.std.specs.Prelude.{◌==◌}
-use Rattle.fluent_grammar.specs.Words.{Text, skip_blank, skip_spaces, skip_separator, after_line_end, begins_with, begins_crlf, open_brace}
-use Rattle.fluent_grammar.specs.Refusal.{Kind, Reading, got, refused, refuse, mapped, ◌>>=◌}
-use Rattle.fluent_grammar.specs.Refusal as r
+use Rattle.fluent_grammar.specs.Words.{Text, skip_spaces, begins_with, begins_crlf, open_brace}
+use Rattle.fluent_grammar.specs.Refusal.{Kind, Reading, got, refused, mapped, ◌>>=◌}
 use Rattle.fluent_grammar.specs.Tree as t
 use Rattle.fluent_grammar.specs.Lines.{Piece}
 use Rattle.fluent_grammar.specs.Ends.{EndsIn}
 use Rattle.fluent_grammar.specs.Reading as g
 use Rattle.fluent_grammar.specs.Reading.{Readers, readers, no_readers, step, selector_fault}
 use Rattle.fluent_grammar.specs.Levels.{levels}
-use Rattle.fluent_grammar.specs.TilingLaws.{ReadAlike, LevelsAreEnough, BottomIsNeverAsked, PatternsNeedNoMoreLevels, AttributesNeedNoMoreSteps}
-use Rattle.fluent_grammar.proofs.Within.{Fair, FairReaders, readers-fair, MaybeEnd, ends, end-same, end-trans, end-drop, end-blank, end-drop_one, end-spaces, end-separator, end-blank_block, end-le, line_end-end, identifier-fair, accessor-fair, literal-fair, key-fair, pattern-fair, select_or_inline-fair}
+use Rattle.fluent_grammar.specs.TilingLaws.{LevelsAreEnough, BottomIsNeverAsked, PatternsNeedNoMoreLevels}
+use Rattle.fluent_grammar.proofs.Within.{FairReaders, readers-fair, MaybeEnd, ends, end-same, end-trans, end-drop, end-blank, end-drop_one, end-spaces, end-separator, end-blank_block, end-le, line_end-end, identifier-fair, accessor-fair, literal-fair, key-fair, pattern-fair, select_or_inline-fair}
 use Rattle.fluent_grammar.proofs.Taken.{Leaves, leaves-fair, identifier-leaves, inline-leaves, placeable-leaves, text_run-leaves}
 
 -- two readings are the same

@@ -1,10 +1,10 @@
 -- The laws of what readers leave, from the lemmas that carry more than they say.
-use Rattle.std.proofs.Common.{◌≡◌, ℕ, zero, suc, ◌<◌, ◌≤◌, List, [], ◌∷◌, length, drop, arith}
+use Rattle.std.proofs.Common.{ℕ, zero, suc, List, [], ◌∷◌, arith}
 use Rattle.fluent_grammar.specs.Words.{Text}
 use Rattle.fluent_grammar.specs.Refusal.{Reading, got, refused}
 use Rattle.fluent_grammar.specs.Reading as g
 use Rattle.fluent_grammar.specs.Reading.{Readers, readers, entry_at, attributes_at}
-use Rattle.fluent_grammar.specs.Ends.{EndsIn, Within, Took}
+use Rattle.fluent_grammar.specs.Ends.{Within, Took}
 use Rattle.fluent_grammar.specs.TilingLaws.{EntriesTakeSome, ReadersStayWithin, EntriesStayWithin, AttributesStayWithin, ReadersTakeSome}
 use Rattle.fluent_grammar.proofs.Within.{Fair, FairReaders, readers-fair, placeable-fair, pattern-fair, entry-fair, attributes-end, end-same, end-le}
 use Rattle.fluent_grammar.proofs.Taken.{Leaves, inline-leaves, argument_list-leaves, entry-leaves}

@@ -1,20 +1,18 @@
 -- Each text has exactly one tiling, and its pieces are those that `Tiling` computes.
-use Rattle.std.proofs.Common.{◌≡◌, ℕ, zero, suc, ◌+◌, ◌-◌, ◌<◌, ◌≤◌, Bool, true, false, cond, not, List, [], ◌∷◌, ◌++◌, length, take, drop, refl, sym, ap, ◌∙◌, arith}
-use Rattle.std.specs.Prelude.{◌==◌}
-use Rattle.std.proofs.lemmas.List.{length-append, length-take, take-append-le}
+use Rattle.std.proofs.Common.{◌≡◌, ℕ, zero, suc, ◌+◌, ◌-◌, ◌<◌, ◌≤◌, Bool, true, false, cond, List, [], ◌∷◌, ◌++◌, length, refl, sym, ap, ◌∙◌, arith}
+use Rattle.std.proofs.lemmas.List.{length-append}
 use Rattle.std.proofs.Math.Seq.{take-append_seam}
-use Rattle.fluent_grammar.specs.Words.{Text, begins_with, number_sign, skip_blank_block, rest_of_line}
-use Rattle.fluent_grammar.specs.Refusal.{Kind, Refusal, Reading, got, refused}
+use Rattle.fluent_grammar.specs.Words.{Text, skip_blank_block, rest_of_line}
+use Rattle.fluent_grammar.specs.Refusal.{Refusal, Reading, got, refused}
 use Rattle.fluent_grammar.specs.Tree as t
 use Rattle.fluent_grammar.specs.Ends.{EndsIn}
 use Rattle.fluent_grammar.specs.Reading.{entry_at, front}
-use Rattle.fluent_grammar.specs.Tiling as p
-use Rattle.fluent_grammar.specs.Tiling.{behind_junk, is_field_kind, error_of, pieces_from, runtime_pieces_from, and_pieces}
+use Rattle.fluent_grammar.specs.Tiling.{behind_junk}
 use Rattle.fluent_grammar.specs.Recovery.{EndsJunk}
-use Rattle.fluent_grammar.specs.Tiles.{Mode, full, runtime, passes_over, Part, blank_block, entry, junk, passed_over, Tiles, begins_blank, TilesItems, source_ends, an_entry, some_junk, a_line, text_of, error_of_junk, lies_apart, pieces_of}
-use Rattle.fluent_grammar.proofs.Within.{end-same, end-le, end-cons, end-blank_block, Fair, entry-fair}
+use Rattle.fluent_grammar.specs.Tiles.{Mode, full, runtime, passes_over, Part, blank_block, entry, junk, passed_over, Tiles, begins_blank, TilesItems, source_ends, an_entry, some_junk, a_line}
+use Rattle.fluent_grammar.proofs.Within.{end-same, end-le, end-cons, end-blank_block}
 use Rattle.fluent_grammar.proofs.LawsOfDepth.{entry-took}
-use Rattle.fluent_grammar.proofs.Taken.{Leaves, entry-leaves}
+use Rattle.fluent_grammar.proofs.Taken.{entry-leaves}
 use Rattle.fluent_grammar.proofs.Agreement.{entries_agree}
 use Rattle.fluent_grammar.proofs.TilesRecovery.{junk-ended, junk-end-once}
 use Rattle.fluent_grammar.proofs.TilesJunk.{junk-end, place-end}

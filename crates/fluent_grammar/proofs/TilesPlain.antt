@@ -1,14 +1,14 @@
 -- The tree for runtime use has no comments.
-use Rattle.std.proofs.Common.{◌≡◌, ℕ, zero, suc, ◌<◌, Bool, true, false, cond, List, [], ◌∷◌, ◌++◌, Option, Some, None, refl, sym, ap, arith}
+use Rattle.std.proofs.Common.{◌≡◌, ℕ, Bool, true, false, cond, List, [], ◌∷◌, Option, Some, None, refl, arith}
 use Rattle.std.specs.Prelude.{All}
 use Rattle.std.proofs.lemmas.List.Elements.{All-cons}
 use Rattle.fluent_grammar.specs.Words.{Text, hyphen, number_sign, begins_with}
-use Rattle.fluent_grammar.specs.Refusal.{Reading, got, refused, refuse, ◌>>=◌}
+use Rattle.fluent_grammar.specs.Refusal.{Reading, got, refused, ◌>>=◌}
 use Rattle.fluent_grammar.specs.Tree as t
 use Rattle.fluent_grammar.specs.Reading as g
 use Rattle.fluent_grammar.specs.Reading.{entry_at}
-use Rattle.fluent_grammar.specs.Tiling.{entries_of, waiting, attached, left_alone, runtime_tree}
-use Rattle.fluent_grammar.specs.Tiles.{Mode, full, runtime, Part, blank_block, entry, junk, passed_over, Tiles, begins_blank, TilesItems, source_ends, an_entry, some_junk, a_line, pieces_of}
+use Rattle.fluent_grammar.specs.Tiling.{entries_of}
+use Rattle.fluent_grammar.specs.Tiles.{runtime, Part, blank_block, entry, junk, passed_over, Tiles, begins_blank, TilesItems, source_ends, an_entry, some_junk, a_line, pieces_of}
 use Rattle.fluent_grammar.specs.TilingLaws.{HasNoComment, RuntimeHasNoComments}
 use Rattle.fluent_grammar.proofs.Agreement.{entries_agree}
 use Rattle.fluent_grammar.proofs.TilesPieces.{each_text_has_a_tiling, tiling_gives_tree_and_errors}

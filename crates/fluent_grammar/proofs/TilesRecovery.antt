@@ -1,9 +1,9 @@
 -- What is looked for behind a refusal is the first place that an entry may begin at.
-use Rattle.std.proofs.Common.{◌≡◌, ℕ, zero, suc, ◌+◌, ◌-◌, ◌<◌, ◌≤◌, Bool, true, false, cond, ◌&&◌, ◌||◌, List, [], ◌∷◌, ◌++◌, length, drop, get_or, refl, sym, ap, ◌∙◌, append_assoc, arith, inl, inr, eqb-true, eq-eqb}
+use Rattle.std.proofs.Common.{◌≡◌, ℕ, suc, ◌-◌, ◌≤◌, Bool, true, false, cond, ◌&&◌, [], ◌∷◌, ◌++◌, length, drop, get_or, refl, sym, ap, ◌∙◌, append_assoc, arith, inl, inr, eqb-true, eq-eqb}
 use Rattle.std.specs.Prelude.{◌==◌, ◌⊎◌}
 use Rattle.std.proofs.lemmas.List.{length-append, append_cancel_right, drop_at}
 use Rattle.std.proofs.Math.Seq.{get_or-append_seam}
-use Rattle.fluent_grammar.specs.Words.{Text, line_feed, begins, begins_entry}
+use Rattle.fluent_grammar.specs.Words.{Text, line_feed, begins_entry}
 use Rattle.fluent_grammar.specs.Ends.{EndsIn}
 use Rattle.fluent_grammar.specs.Recovery.{IsColumnZero, MayBegin, EndsJunk}
 use Rattle.fluent_grammar.specs.Tiling.{resume, at_column_zero, behind_junk}
@@ -22,9 +22,13 @@ last-byte front line c d e =
 
 snoc-reflects : (front : Text) (c : ℕ) → Reflects (c == line_feed) (front ++ (c ∷ []))
 unfolding Reflects
-snoc-reflects front c = (λ e. inr (front, ap (λ z. front ++ (z ∷ [])) (eqb-true c line_feed e)), elim [
-  | inl e ↦ absurd (omega (arith, ap length e, length-append front (c ∷ [])))
-  | inr e ↦ eq-eqb c line_feed (last-byte front e.0 c line_feed e.1) ])
+snoc-reflects front c = (
+  λ e. inr (front, ap (λ z. front ++ (z ∷ [])) (eqb-true c line_feed e)),
+  elim [
+    | inl e ↦ absurd (omega (arith, ap length e, length-append front (c ∷ [])))
+    | inr e ↦ eq-eqb c line_feed (last-byte front e.0 c line_feed e.1)
+  ],
+)
 
 and-both : (a b : Bool) → (a && b) ≡ true → (a ≡ true) × (b ≡ true)
 and-both true b e = (refl, e)
@@ -43,7 +47,8 @@ further b front c cs rest column e junk =
       stops = k.stops;
       first = λ other h m. elim (end-cases other c cs h) [
         | inl same ↦ absurd (here other same m)
-        | inr inside ↦ k.first other inside m ];
+        | inr inside ↦ k.first other inside m
+      ];
     }
   where
     here : (other : Text) → other ≡ c ∷ cs → MayBegin (front ++ (c ∷ cs)) other → ⊥
@@ -68,7 +73,8 @@ snoc-view : (front : Text) → (front ≡ []) ⊎ ((init : Text) × (c : ℕ) ×
 snoc-view [] = inl refl
 snoc-view (d ∷ ds) = elim (snoc-view ds) [
   | inl e ↦ inr ([], d, ap (λ z. d ∷ z) e)
-  | inr e ↦ inr (d ∷ e.0, e.1, ap (λ z. d ∷ z) e.2) ]
+  | inr e ↦ inr (d ∷ e.0, e.1, ap (λ z. d ∷ z) e.2)
+]
 
 column-start : (place : Text) → at_column_zero place place ≡ true
 column-start place = let none : length place - length place ≡ 0 = omega arith in rw none refl
@@ -91,7 +97,9 @@ reflects-start = ((λ e. inl refl), (λ e. refl))
 start-reflects : (front place : Text) → Reflects (at_column_zero (front ++ place) place) front
 start-reflects front place = elim (snoc-view front) [
   | inl e ↦ rw (e, column-start place) reflects-start
-  | inr e ↦ rw (e.2, column-snoc e.0 e.1 place) (snoc-reflects e.0 e.1) ]
+  | inr e ↦ rw (e.2, column-snoc e.0 e.1 place) (snoc-reflects e.0 e.1)
+]
+
 -- what is looked for is the end of the junk
 pub junk-ended : (text place : Text) → EndsIn place text → EndsJunk text place (behind_junk text place)
 junk-ended text place h = rw h.whole (resume-ends (at_column_zero (h.front ++ place) place) h.front place (start-reflects h.front place))

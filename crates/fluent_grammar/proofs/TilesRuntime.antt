@@ -1,21 +1,19 @@
 -- The tiling for runtime use has the messages and terms of the full one.
-use Rattle.std.proofs.Common.{◌≡◌, ℕ, zero, suc, ◌+◌, ◌-◌, ◌<◌, ◌≤◌, Bool, true, false, cond, not, ◌&&◌, ◌||◌, List, [], ◌∷◌, ◌++◌, length, take, drop, get_or, Option, Some, None, refl, sym, ap, ◌∙◌, arith, inl, inr, eqb-true}
-use Rattle.std.specs.Prelude.{◌==◌, ◌⊎◌, is_some, nat_le}
+use Rattle.std.proofs.Common.{◌≡◌, ℕ, zero, suc, ◌+◌, ◌-◌, ◌≤◌, Bool, true, false, cond, ◌&&◌, ◌||◌, List, [], ◌∷◌, ◌++◌, length, drop, get_or, Option, Some, None, refl, sym, ap, ◌∙◌, arith, eqb-true}
+use Rattle.std.specs.Prelude.{◌==◌, is_some, nat_le}
 use Rattle.std.specs.List.{prefix_len}
-use Rattle.std.proofs.lemmas.List.{length-append, length-drop}
+use Rattle.std.proofs.lemmas.List.{length-drop}
 use Rattle.std.proofs.lemmas.List.Sums.{prefix_len_passes, prefix_len-le-length}
-use Rattle.fluent_grammar.specs.Words.{Text, line_feed, carriage_return, space, hyphen, number_sign, begins, begins_with, begins_entry, is_letter, blank_lines, skip_blank_block, rest_of_line, comment_level, after_line_end}
+use Rattle.fluent_grammar.specs.Words.{Text, line_feed, carriage_return, space, hyphen, number_sign, begins_with, begins_entry, is_letter, blank_lines, skip_blank_block, rest_of_line, comment_level, after_line_end}
 use Rattle.fluent_grammar.specs.Refusal.{Kind, Refusal, Reading, got, refused, refuse, mapped, ◌>>=◌}
 use Rattle.fluent_grammar.specs.Refusal as r
 use Rattle.fluent_grammar.specs.Tree as t
-use Rattle.fluent_grammar.specs.Ends.{EndsIn}
 use Rattle.fluent_grammar.specs.Reading as g
 use Rattle.fluent_grammar.specs.Reading.{entry_at, comment_at, comment_line_at, comment_lines, more_lines}
-use Rattle.fluent_grammar.specs.Tiling as p
-use Rattle.fluent_grammar.specs.Tiling.{resume, behind_junk, at_column_zero, entries_of, errors_of, waiting, left_alone, listed, list, tree, errors, runtime_tree, runtime_errors}
-use Rattle.fluent_grammar.specs.Tiles.{Mode, full, runtime, passes_over, Part, blank_block, entry, junk, passed_over, Tiles, begins_blank, TilesItems, source_ends, an_entry, some_junk, a_line, text_of, error_of_junk, lies_apart, pieces_of}
+use Rattle.fluent_grammar.specs.Tiling.{resume, behind_junk, at_column_zero, entries_of, errors_of, waiting, left_alone, listed}
+use Rattle.fluent_grammar.specs.Tiles.{Mode, full, runtime, Part, blank_block, entry, junk, passed_over, Tiles, begins_blank, TilesItems, source_ends, an_entry, some_junk, a_line, lies_apart, pieces_of}
 use Rattle.fluent_grammar.specs.TilingLaws.{RuntimeHasTheSameList, RuntimeAddsNoJunk}
-use Rattle.fluent_grammar.proofs.Within.{end-same, end-le, end-cons, end-blank_block, rest_of_line-end}
+use Rattle.fluent_grammar.proofs.Within.{end-same, end-blank_block, rest_of_line-end}
 use Rattle.fluent_grammar.specs.Spelling.{SpellsEntry}
 use Rattle.fluent_grammar.specs.Recovery.{EndsJunk}
 use Rattle.fluent_grammar.proofs.Agreement.{entries_agree}
@@ -23,7 +21,6 @@ use Rattle.fluent_grammar.proofs.TilesRecovery.{junk-ended}
 use Rattle.fluent_grammar.proofs.Tiles.{front-whole, junk-rest}
 use Rattle.fluent_grammar.proofs.TilesJunk.{resume-end}
 use Rattle.fluent_grammar.proofs.TilesPieces.{each_text_has_a_tiling, tiling_gives_tree_and_errors}
-use Rattle.fluent_grammar.proofs.Repeated.{rest_of_line-tail}
 
 cases : {P : Type 0} (b : Bool) → (b ≡ true → P) → (b ≡ false → P) → P
 cases true p q = p refl
@@ -57,8 +54,8 @@ blank_lines-resume b line [] e = refl
 blank_lines-resume b line (c ∷ cs) e = cases (c == line_feed)
     (λ h. rw h (e ∙ resume-past b c cs (line_feed-begins-none c h) ∙ ap (λ z. resume z cs) h ∙ blank_lines-resume true cs cs refl))
     (λ h. cases (c == space || (c == carriage_return && begins_with line_feed cs))
-      (λ k. rw (h, k) (blank_lines-resume false line cs (e ∙ resume-past b c cs (spaced-begins-none c _ k) ∙ ap (λ z. resume z cs) h)))
-      (λ k. rw (h, k) refl))
+    (λ k. rw (h, k) (blank_lines-resume false line cs (e ∙ resume-past b c cs (spaced-begins-none c _ k) ∙ ap (λ z. resume z cs) h)))
+    (λ k. rw (h, k) refl))
 
 -- a blank block is as long as it can be
 blank_lines-done : (line s : Text) → ((start : Text) → blank_lines start line ≡ blank_lines start s) → skip_blank_block (blank_lines line s) ≡ blank_lines line s
@@ -66,8 +63,8 @@ blank_lines-done line [] e = e line
 blank_lines-done line (c ∷ cs) e = cases (c == line_feed)
     (λ h. rw h (blank_lines-done cs cs (λ start. refl)))
     (λ h. cases (c == space || (c == carriage_return && begins_with line_feed cs))
-      (λ k. rw (h, k) (blank_lines-done line cs (λ start. e start ∙ rw (h, k) refl)))
-      (λ k. rw (h, k) (e line ∙ rw (h, k) refl)))
+    (λ k. rw (h, k) (blank_lines-done line cs (λ start. e start ∙ rw (h, k) refl)))
+    (λ k. rw (h, k) (e line ∙ rw (h, k) refl)))
 
 skip_blank_block-done : (s : Text) → skip_blank_block (skip_blank_block s) ≡ skip_blank_block s
 skip_blank_block-done s = blank_lines-done s s (λ start. refl)
@@ -99,8 +96,8 @@ resume-line [] = refl
 resume-line (c ∷ cs) = cases (c == line_feed)
     (λ h. rw h refl)
     (λ h. cases (c == carriage_return && begins_with line_feed cs)
-      (λ k. rw (h, k) (line_feed-resume cs (and-right (c == carriage_return) _ k)))
-      (λ k. rw (h, k) (resume-line cs)))
+    (λ k. rw (h, k) (line_feed-resume cs (and-right (c == carriage_return) _ k)))
+    (λ k. rw (h, k) (resume-line cs)))
 
 -- signs at the front of a line don't change where it ends
 signs-rest : (k : ℕ) (s : Text) → k ≤ prefix_len (λ c. c == number_sign) s → (rest_of_line s).1 ≡ (rest_of_line (drop k s)).1
@@ -277,7 +274,7 @@ items-in-junk [] ps qs done f same dirty =
     record { parts = k.parts; tiled = k.tiled; same = k.same ∙ sym same; clean = λ n. absurd (dirty n) }
 items-in-junk (c ∷ cs) ps qs done f same dirty = cases (begins_entry c)
     (λ e. let k = without-blank (c ∷ cs) ps done (rw e at f) in
-      record { parts = k.parts; tiled = k.tiled; same = k.same ∙ sym same; clean = λ n. absurd (dirty n) })
+    record { parts = k.parts; tiled = k.tiled; same = k.same ∙ sym same; clean = λ n. absurd (dirty n) })
     (λ e. record {
       parts = junk (g.front (c ∷ cs) (resume true (c ∷ cs))) r.expected_letter 0 ∷ f.parts;
       tiled = some_junk {place = 0} (or-right (c == hyphen) _ (or-right (is_letter c) _ e)) (λ z. absurd cc) (none-begins c cs e) (omega arith) (rw (behind-itself (c ∷ cs)) at (junk-ended (c ∷ cs) (c ∷ cs) (end-same (c ∷ cs)))) (front-whole (resume-end true (c ∷ cs) (end-same (c ∷ cs)))) f.tiled;
@@ -319,7 +316,7 @@ comment-in-junk : (s front : Text) (fault : Refusal) (place : ℕ) (rest : Text)
 comment-in-junk s front fault place rest ps sign read b f =
     let v = drop (comment_level s) s in
     let behind : rest ≡ resume true (rest_of_line s).1 =
-        sym b ∙ ap (λ z. behind_junk s z) (comment-refused s fault read) ∙ ap (λ z. resume z v) (signs-column s sign) ∙ resume-line v ∙ ap (resume true) (sym (signs-rest (comment_level s) s (level-signs s))) in
+    sym b ∙ ap (λ z. behind_junk s z) (comment-refused s fault read) ∙ ap (λ z. resume z v) (signs-column s sign) ∙ resume-line v ∙ ap (resume true) (sym (signs-rest (comment_level s) s (level-signs s))) in
     pass-line s (junk front fault.kind place ∷ ps) sign (line-in-junk (rest_of_line s).1 ps (junk front fault.kind place ∷ ps) (rw behind at f) refl (λ n. n))
 
 got-comment : (s : Text) (e : t.Entry) (rest : Text) → begins_with number_sign s ≡ true → entry_at s ≡ got e rest → comment_at s ≡ got e rest

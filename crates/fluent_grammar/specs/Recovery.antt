@@ -1,5 +1,5 @@
 -- Where junk ends: at the first place that an entry may begin at.
-use Rattle.std.specs.Prelude.{◌≡◌, ◌≤◌, ◌⊎◌, true, List, [], ◌∷◌, ◌++◌, length}
+use Rattle.std.specs.Prelude.{◌≡◌, ◌≤◌, ◌⊎◌, true, [], ◌∷◌, ◌++◌, length}
 use Rattle.fluent_grammar.specs.Words.{Text, line_feed, begins, begins_entry}
 use Rattle.fluent_grammar.specs.Ends.{EndsIn}
 

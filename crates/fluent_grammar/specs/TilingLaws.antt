@@ -1,10 +1,8 @@
 -- The laws of reading and tiling, as statements.
-use Rattle.std.specs.Prelude.{◌≡◌, ℕ, ◌+◌, ◌-◌, ◌<◌, ◌≤◌, Bool, List, [], ◌∷◌, length, take, drop, map, Some, None, All, ◌↔◌}
+use Rattle.std.specs.Prelude.{◌≡◌, ℕ, ◌-◌, ◌<◌, ◌≤◌, Bool, List, [], ◌∷◌, length, take, drop, map, None, All, ◌↔◌}
 use Rattle.fluent_grammar.specs.Words.{Text}
-use Rattle.fluent_grammar.specs.Refusal.{Reading}
 use Rattle.fluent_grammar.specs.Tree as t
-use Rattle.fluent_grammar.specs.Lines.{Piece}
-use Rattle.fluent_grammar.specs.Reading.{Readers, readers, identifier_at, number_at, literal_at, key_at, placeable_at, pattern_at, attribute_at, attributes_at, head_at, comment_lines, comment_at, message_at, term_entry_at, entry_at}
+use Rattle.fluent_grammar.specs.Reading.{Readers, readers, placeable_at, pattern_at, attributes_at, comment_lines, entry_at}
 use Rattle.fluent_grammar.specs.Tiling.{ParserError, behind_junk, pieces_from, runtime_pieces_from, tree, errors, runtime_tree, runtime_errors, listed, list}
 use Rattle.fluent_grammar.specs.Recovery.{EndsJunk}
 use Rattle.fluent_grammar.specs.Tiles.{Mode, full, runtime, Part, Tiles, text_of, tree_of, errors_in}
