@@ -1,11 +1,11 @@
 -- Worked sources: what the definitions give, by computing. Places are counted by hand.
-use Rattle.std.specs.Prelude.{◌≡◌, ℕ, ◌+◌, Bool, true, false, List, [], ◌∷◌, ◌++◌, Option, Some, None, codes, length}
+use Rattle.std.specs.Prelude.{◌≡◌, ℕ, ◌+◌, true, false, [], ◌∷◌, ◌++◌, Some, None, codes, length}
 use Rattle.std.proofs.Common.{refl}
 use Rattle.fluent_grammar.specs.Words.{Text, carriage_return, line_feed, quote, close_brace, close_bracket, close_paren, equals, space}
 use Rattle.fluent_grammar.specs.Refusal as r
 use Rattle.fluent_grammar.specs.Refusal.{Kind}
 use Rattle.fluent_grammar.specs.Tree as t
-use Rattle.fluent_grammar.specs.Tiling.{ParserError, errors, tree, list, runtime_errors, runtime_tree}
+use Rattle.fluent_grammar.specs.Tiling.{ParserError, errors, tree, runtime_errors, runtime_tree}
 use Rattle.fluent_grammar.specs.Escapes.{unescaped}
 use Rattle.fluent_grammar.proofs.Computing.{computing}
 
@@ -36,7 +36,7 @@ broken_middle = codes "\nkey1 = Value 1\n\ng@Rb@ge = #2y ds\n\nkey2 = Value 2\n\
 
 broken_middle_entry_is_junk :
     tree broken_middle ≡ message_of (codes "key1") (one_text (codes "Value 1")) ∷ t.junk (codes "g@Rb@ge = #2y ds\n\n") ∷
-      message_of (codes "key2") (one_text (codes "Value 2")) ∷ []
+    message_of (codes "key2") (one_text (codes "Value 2")) ∷ []
 unfolding computing broken_middle message_of one_text
 broken_middle_entry_is_junk = refl
 
@@ -55,7 +55,7 @@ spaces_alone_are_junk = refl
 
 three_lines_lose_their_common_indent :
     tree (codes "a =\n    one\n      two\n    three\n") ≡
-      message_of (codes "a") (t.text (codes "one\n") (t.text (codes "  two\n") (one_text (codes "three")))) ∷ []
+    message_of (codes "a") (t.text (codes "one\n") (t.text (codes "  two\n") (one_text (codes "three")))) ∷ []
 unfolding computing message_of one_text
 three_lines_lose_their_common_indent = refl
 
@@ -64,13 +64,13 @@ crlf = carriage_return ∷ line_feed ∷ []
 
 crlf_gives_a_line_feed_of_its_own :
     tree (codes "a =" ++ crlf ++ codes "    x" ++ crlf ++ codes "    y" ++ crlf) ≡
-      message_of (codes "a") (t.text (codes "x") (t.text (codes "\n") (one_text (codes "y")))) ∷ []
+    message_of (codes "a") (t.text (codes "x") (t.text (codes "\n") (one_text (codes "y")))) ∷ []
 unfolding computing message_of one_text crlf
 crlf_gives_a_line_feed_of_its_own = refl
 
 placeable_at_column_zero_keeps_indents :
     tree (codes "a =\n{\".\"}\n    four") ≡
-      message_of (codes "a") (t.placeable (t.inline (t.string_literal (codes "."))) (t.text (codes "\n") (one_text (codes "    four")))) ∷ []
+    message_of (codes "a") (t.placeable (t.inline (t.string_literal (codes "."))) (t.text (codes "\n") (one_text (codes "    four")))) ∷ []
 unfolding computing message_of one_text
 placeable_at_column_zero_keeps_indents = refl
 
@@ -91,7 +91,7 @@ failed_attribute_begins_junk = refl
 
 comment_directly_above :
     tree (codes "# c\na = b\n") ≡
-      t.message (record { id = codes "a"; value = Some (one_text (codes "b")); attributes = []; comment = Some (codes "c" ∷ []) }) ∷ []
+    t.message (record { id = codes "a"; value = Some (one_text (codes "b")); attributes = []; comment = Some (codes "c" ∷ []) }) ∷ []
 unfolding computing one_text
 comment_directly_above = refl
 
@@ -119,26 +119,26 @@ no_error_at_runtime = refl
 
 select_with_default :
     tree (codes "m={$n ->\n[a]x\n*[1.0]y\n}") ≡
-      message_of (codes "m") (t.placeable (t.select (t.variable_reference (codes "n"))
-        (t.variant (t.identifier_key (codes "a")) (one_text (codes "x")) false
-        (t.variant (t.number_key (codes "1.0")) (one_text (codes "y")) true t.no_variants))) t.no_elements) ∷ []
+    message_of (codes "m") (t.placeable (t.select (t.variable_reference (codes "n"))
+    (t.variant (t.identifier_key (codes "a")) (one_text (codes "x")) false
+    (t.variant (t.number_key (codes "1.0")) (one_text (codes "y")) true t.no_variants))) t.no_elements) ∷ []
 unfolding computing message_of one_text
 select_with_default = refl
 
 lone_mark_ends_the_variants :
     tree (codes "m = { $n ->\n    [a] x\n  * }\n") ≡
-      message_of (codes "m") (t.placeable (t.select (t.variable_reference (codes "n"))
-        (t.variant (t.identifier_key (codes "a")) (one_text (codes "x")) false t.no_variants)) t.no_elements) ∷ []
+    message_of (codes "m") (t.placeable (t.select (t.variable_reference (codes "n"))
+    (t.variant (t.identifier_key (codes "a")) (one_text (codes "x")) false t.no_variants)) t.no_elements) ∷ []
 unfolding computing message_of one_text
 lone_mark_ends_the_variants = refl
 
 arguments_of_a_call :
     tree (codes "m={F(b .c,-1,{-t},k : \"v\",)}") ≡
-      message_of (codes "m") (t.placeable (t.inline (t.function_reference (codes "F") (t.arguments
-        (t.positional (t.message_reference (codes "b") (Some (codes "c")))
-        (t.positional (t.number_literal (codes "-1"))
-        (t.positional (t.nested (t.inline (t.term_reference (codes "t") None t.no_arguments))) t.no_inlines)))
-        (t.named (codes "k") (t.string_literal (codes "v")) t.no_nameds)))) t.no_elements) ∷ []
+    message_of (codes "m") (t.placeable (t.inline (t.function_reference (codes "F") (t.arguments
+    (t.positional (t.message_reference (codes "b") (Some (codes "c")))
+    (t.positional (t.number_literal (codes "-1"))
+    (t.positional (t.nested (t.inline (t.term_reference (codes "t") None t.no_arguments))) t.no_inlines)))
+    (t.named (codes "k") (t.string_literal (codes "v")) t.no_nameds)))) t.no_elements) ∷ []
 unfolding computing message_of one_text
 arguments_of_a_call = refl
 

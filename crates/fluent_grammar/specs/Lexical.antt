@@ -1,6 +1,6 @@
 -- The words of the grammar as relations: a text begins with the word, and the rest is what follows it. Each word is
 -- taken greedily. Nothing here reads: a word is told by its bytes, and by what does not go on it.
-use Rattle.std.specs.Prelude.{◌≡◌, ℕ, Bool, true, false, not, ◌||◌, ◌==◌, List, [], ◌∷◌, ◌++◌, Option, Some, None}
+use Rattle.std.specs.Prelude.{◌≡◌, ℕ, Bool, true, false, not, ◌||◌, ◌==◌, [], ◌∷◌, ◌++◌, Option, Some, None}
 use Rattle.std.specs.List.{list_all}
 use Rattle.fluent_grammar.specs.Words.{Text, line_feed, quote, hyphen, dot, backslash, open_brace, close_brace, small_u, capital_u, is_letter, is_digit, is_name_byte, begins, begins_with, begins_crlf, hex_digits}
 use Rattle.fluent_grammar.specs.Tree as t

@@ -11,8 +11,7 @@ pub fn words_agree()
     ensures keys { KeysAgree }
     ensures literals { LiteralsAgree }
     ensures text_pieces { TextPiecesAgree }
-{
-}
+{}
 
 /// Expressions are read exactly where they are spelled, by more levels than the text has bytes.
 pub fn expressions_agree()
@@ -20,23 +19,20 @@ pub fn expressions_agree()
     ensures placeables { PlaceablesAgree }
     ensures call_arguments { ArgumentsAgree }
     ensures variants { VariantsAgree }
-{
-}
+{}
 
 /// Patterns are read exactly where they are spelled, by as many levels as the text has bytes, and so are their pieces.
 pub fn patterns_agree()
     ensures patterns { PatternsAgree }
     ensures lines { LinesAgree }
     ensures pieces { PiecesAgree }
-{
-}
+{}
 
 /// Attributes are read exactly where they are spelled.
 pub fn attributes_agree()
     ensures one { AttributesAgree }
     ensures all { RunsOfAttributesAgree }
-{
-}
+{}
 
 /// Entries are read exactly where they are spelled: the messages, the terms and the comments.
 pub fn entries_agree()
@@ -44,8 +40,7 @@ pub fn entries_agree()
     ensures messages { MessagesAgree }
     ensures terms { TermsAgree }
     ensures comments { CommentsAgree }
-{
-}
+{}
 
 /// A text begins with at most one node of a kind, and one rest follows it.
 pub fn nodes_are_unique()
@@ -59,5 +54,4 @@ pub fn nodes_are_unique()
     ensures attributes { AttributesAreUnique }
     ensures runs_of_attributes { RunsOfAttributesAreUnique }
     ensures entries { EntriesAreUnique }
-{
-}
+{}
