@@ -9,7 +9,8 @@ use Rattle.fluent_grammar.specs.Tiles.{Mode, full, runtime, Part, Tiles, text_of
 use Rattle.fluent_grammar.specs.Ends.{EndsIn, Within, Took, Told}
 use Rattle.fluent_grammar.specs.Levels.{levels}
 
--- What each reader leaves, and the place of its refusal, is an end of the text that it was given.
+-- What a reader leaves, and the place of its refusal, is an end of the text that it was given. So it is for each reader,
+-- for placeables and patterns, for entries and for what attributes leave.
 pub record StaysWithin (inside : Readers) (text : Text) : Type 0 where
   pub inline : Within (inside.inline text) text
   pub arguments : (names : List Text) → Within (inside.arguments names text) text
@@ -55,7 +56,7 @@ LevelsAreEnough = (m n : ℕ) (text : Text) → length text < m → length text 
 abbrev pub BottomIsNeverAsked : Type 0
 BottomIsNeverAsked = (bottom : Readers) (m n : ℕ) (text : Text) → length text < m → length text < n → ReadAlike (readers m) (levels bottom n) text
 
--- A pattern asks its readers of shorter texts alone, but for its own first piece.
+-- As many levels as a text has bytes are enough for a pattern, which asks its readers of shorter texts alone.
 abbrev pub PatternsNeedNoMoreLevels : Type 0
 PatternsNeedNoMoreLevels = (m n : ℕ) (text : Text) → length text ≤ m → length text ≤ n → pattern_at (readers m) text ≡ pattern_at (readers n) text
 
