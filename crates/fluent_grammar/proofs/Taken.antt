@@ -42,7 +42,7 @@ leaves-fair (refused fault) w p = record { parts = tt }
 
 pub ruleset leaves = (leaves-got, leaves-refuse, leaves-if, leaves-bind, leaves-mapped, ends)
 
-one-plus : (n : ℕ) → 1 + n ≡ suc n
+pub one-plus : (n : ℕ) → 1 + n ≡ suc n
 one-plus n = omega arith
 
 pub name-end : (s : Text) {w : Text} → begins is_letter s ≡ true → EndsIn (drop 1 s) w → EndsIn (drop (name_len s) s) w

@@ -13,8 +13,8 @@ use Rattle.fluent_grammar.specs.Reading as g
 use Rattle.fluent_grammar.specs.Reading.{entry_at}
 use Rattle.fluent_grammar.specs.Tiling as p
 use Rattle.fluent_grammar.specs.Tiling.{ParserError, is_field_kind, entries_of, errors_of, waiting, left_alone, attached}
-use Rattle.fluent_grammar.specs.Tiles.{Mode, Part, blank_block, entry, junk, passed_over, Tiles, begins_blank, TilesItems, source_ends, an_entry, some_junk, a_line, text_of, error_of_junk, pieces_of}
-use Rattle.fluent_grammar.specs.TilingLaws.{junk_of, sliced, Ascend, StartsInSlice, JunkIsSliced, SlicesAscend, PlacesStartInSlices, ErrorsAreTold}
+use Rattle.fluent_grammar.specs.Tiles.{Mode, Part, blank_block, entry, junk, passed_over, Tiles, blank_first, TilesItems, source_ends, an_entry, some_junk, a_line, text_of, error_of_junk, pieces_of}
+use Rattle.fluent_grammar.specs.TilingLaws.{junk_of, sliced, Ascend, StartsInSlice, JunkIsSliced, SlicesAscend, PlacesStartInSlices, ErrorsAreTrue}
 use Rattle.fluent_grammar.proofs.Within.{entry-fair, end-same, end-le}
 use Rattle.fluent_grammar.proofs.TilesJunk.{junk-end, place-end, resume-end}
 use Rattle.fluent_grammar.proofs.Agreement.{entries_agree}
@@ -106,14 +106,14 @@ junk-sound (c ∷ cs) front rest fault place some read b w at =
 
 mutual
   tiles-sound : (mode : Mode) {ps : List Part} {s : Text} → Tiles mode ps s → Sound ps
-  tiles-sound mode (begins_blank e b d) = items-sound mode d
+  tiles-sound mode (blank_first b d) = items-sound mode d
 
   items-sound : (mode : Mode) {ps : List Part} {s : Text} → TilesItems mode ps s → Sound ps
   items-sound mode source_ends = tt
   items-sound mode (an_entry {text} {rest} {e} p spelled w d) = ((rw ((entries_agree text e rest).1 spelled) at (entry-proper text)).parts, tiles-sound mode d)
   items-sound mode (some_junk {text} {front} {rest} {fault} {place} p some read at ends w d) =
       (rw (tiles-text mode d) (junk-sound text front rest fault place some read (junk-rest text fault rest read ends) w at), tiles-sound mode d)
-  items-sound mode (a_line p l w d) = tiles-sound mode d
+  items-sound mode (a_line p l d) = tiles-sound mode d
 
 -- what the error of junk says
 record Describes (at : ℕ) (text : Text) (kind : Kind) (place : ℕ) (error : ParserError) : Type 0 where
@@ -238,7 +238,7 @@ places_start_in_slices mode source =
     let d = each_text_has_a_tiling mode source in
     rw (← (tiling_gives_tree_and_errors mode source d.0 d.1).1) (errors-start mode 0 false d.0 (tiles-sound mode d.1))
 
-pub errors_are_told : ErrorsAreTold
-errors_are_told mode source =
+pub errors_are_true : ErrorsAreTrue
+errors_are_true mode source =
     let d = each_text_has_a_tiling mode source in
     rw (← (tiling_gives_tree_and_errors mode source d.0 d.1).1) (errors-told mode source [] 0 false d.0 (tiles-sound mode d.1) refl (sym (tiles-text mode d.1)))

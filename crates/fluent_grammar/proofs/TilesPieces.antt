@@ -9,20 +9,20 @@ use Rattle.fluent_grammar.specs.Ends.{EndsIn}
 use Rattle.fluent_grammar.specs.Reading.{entry_at, front}
 use Rattle.fluent_grammar.specs.Tiling as p
 use Rattle.fluent_grammar.specs.Tiling.{behind_junk, is_field_kind, error_of, pieces_from, runtime_pieces_from, and_pieces, tree, errors, runtime_tree, runtime_errors, entries_of, errors_of}
-use Rattle.fluent_grammar.specs.Tiles.{Mode, full, runtime, Part, blank_block, Tiles, begins_blank, TilesItems, source_ends, an_entry, some_junk, a_line, text_of, error_of_junk, pieces_of}
+use Rattle.fluent_grammar.specs.Tiles.{Mode, full, runtime, Part, blank_block, Tiles, blank_first, TilesItems, source_ends, an_entry, some_junk, a_line, text_of, error_of_junk, pieces_of}
 use Rattle.fluent_grammar.proofs.Within.{end-same, end-le, end-blank_block}
 use Rattle.fluent_grammar.proofs.Tiles.{parts, items, item, line, parts-tiled, tiles-unique}
 use Rattle.fluent_grammar.specs.TilingLaws.{EachTextHasATiling, NoTextHasTwoTilings, PartsAreTheText, PiecesNeedNoMoreSteps, TilingGivesTreeAndErrors}
 
 mutual
   pub tiles-text : (mode : Mode) {ps : List Part} {s : Text} → Tiles mode ps s → text_of ps ≡ s
-  tiles-text mode (begins_blank {blanks} e b d) = ap (λ z. blanks ++ z) (items-text mode d) ∙ sym e
+  tiles-text mode (blank_first {blanks} b d) = ap (λ z. blanks ++ z) (items-text mode d) ∙ sym b.split
 
   items-text : (mode : Mode) {ps : List Part} {s : Text} → TilesItems mode ps s → text_of ps ≡ s
   items-text mode source_ends = refl
   items-text mode (an_entry {front} p read w d) = ap (λ z. front ++ z) (tiles-text mode d) ∙ sym w
   items-text mode (some_junk {front} p some read at ends w d) = ap (λ z. front ++ z) (tiles-text mode d) ∙ sym w
-  items-text mode (a_line {front} p l w d) = ap (λ z. front ++ z) (tiles-text mode d) ∙ sym w
+  items-text mode (a_line {front} p l d) = ap (λ z. front ++ z) (tiles-text mode d) ∙ sym l.split
 
 length-front : (s a : Text) → length (front s a) ≡ length s - length a
 length-front s a = omega (arith, length-take (length s - length a) s)

@@ -8,7 +8,7 @@ use Rattle.fluent_grammar.specs.Tree as t
 use Rattle.fluent_grammar.specs.Reading as g
 use Rattle.fluent_grammar.specs.Reading.{entry_at}
 use Rattle.fluent_grammar.specs.Tiling.{entries_of}
-use Rattle.fluent_grammar.specs.Tiles.{runtime, Part, blank_block, entry, junk, passed_over, Tiles, begins_blank, TilesItems, source_ends, an_entry, some_junk, a_line, pieces_of}
+use Rattle.fluent_grammar.specs.Tiles.{runtime, Part, blank_block, entry, junk, passed_over, Tiles, blank_first, TilesItems, source_ends, an_entry, some_junk, a_line, pieces_of}
 use Rattle.fluent_grammar.specs.TilingLaws.{HasNoComment, RuntimeHasNoComments}
 use Rattle.fluent_grammar.proofs.Agreement.{entries_agree}
 use Rattle.fluent_grammar.proofs.TilesPieces.{each_text_has_a_tiling, tiling_gives_tree_and_errors}
@@ -57,13 +57,13 @@ PlainEntries (_ ∷ ps) = PlainEntries ps
 
 mutual
   tiles-plain : {ps : List Part} {s : Text} → Tiles runtime ps s → PlainEntries ps
-  tiles-plain (begins_blank e b d) = items-plain d
+  tiles-plain (blank_first b d) = items-plain d
 
   items-plain : {ps : List Part} {s : Text} → TilesItems runtime ps s → PlainEntries ps
   items-plain source_ends = tt
   items-plain (an_entry {text} {rest} {e} p spelled w d) = ((rw ((entries_agree text e rest).1 spelled) at (entry-plain text p)).parts, tiles-plain d)
   items-plain (some_junk p some read at ends w d) = tiles-plain d
-  items-plain (a_line p l w d) = tiles-plain d
+  items-plain (a_line p l d) = tiles-plain d
 
 none : {X : Type 0} (P : X → Type 0) → All P []
 none P k d h = absurd (omega arith)

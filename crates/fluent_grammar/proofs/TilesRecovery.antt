@@ -8,6 +8,7 @@ use Rattle.fluent_grammar.specs.Ends.{EndsIn}
 use Rattle.fluent_grammar.specs.Recovery.{IsColumnZero, MayBegin, EndsJunk}
 use Rattle.fluent_grammar.specs.Tiling.{resume, at_column_zero, behind_junk}
 use Rattle.fluent_grammar.specs.TilingLaws.{RecoveryFindsTheEnd}
+use Rattle.fluent_grammar.proofs.Cases.{and-left, and-right}
 use Rattle.fluent_grammar.proofs.Within.{end-same, end-le, end-cons}
 use Rattle.fluent_grammar.proofs.TilesJunk.{end-cases}
 
@@ -29,10 +30,6 @@ snoc-reflects front c = (
     | inr e ↦ eq-eqb c line_feed (last-byte front e.0 c line_feed e.1)
   ],
 )
-
-and-both : (a b : Bool) → (a && b) ≡ true → (a ≡ true) × (b ≡ true)
-and-both true b e = (refl, e)
-and-both false b e = absurd cc
 
 both-and : (a b : Bool) → a ≡ true → b ≡ true → (a && b) ≡ false → ⊥
 both-and true b e h k = absurd cc
@@ -64,7 +61,7 @@ resume-ends b front (c ∷ cs) column = by_first (b && begins_entry c) refl (res
     by_first : (d : Bool) → (b && begins_entry c) ≡ d → EndsJunk ((front ++ (c ∷ [])) ++ cs) cs (resume (c == line_feed) cs) → EndsJunk (front ++ (c ∷ cs)) (c ∷ cs) (cond d (c ∷ cs) (resume (c == line_feed) cs))
     by_first true e junk = record {
       behind = end-same (c ∷ cs);
-      stops = inr (record { front = front; whole = refl; column_zero = column.0 (and-both b _ e).0; first_byte = (and-both b _ e).1 });
+      stops = inr (record { front = front; whole = refl; column_zero = column.0 (and-left b _ e); first_byte = and-right b _ e });
       first = λ other h m. end-le h;
     }
     by_first false e junk = further b front c cs _ column e junk

@@ -11,20 +11,18 @@ use Rattle.fluent_grammar.specs.Tree as t
 use Rattle.fluent_grammar.specs.Reading as g
 use Rattle.fluent_grammar.specs.Reading.{entry_at, comment_at, comment_line_at, comment_lines, more_lines}
 use Rattle.fluent_grammar.specs.Tiling.{resume, behind_junk, at_column_zero, entries_of, errors_of, waiting, left_alone, listed}
-use Rattle.fluent_grammar.specs.Tiles.{Mode, full, runtime, Part, blank_block, entry, junk, passed_over, Tiles, begins_blank, TilesItems, source_ends, an_entry, some_junk, a_line, lies_apart, pieces_of}
+use Rattle.fluent_grammar.specs.Tiles.{Mode, full, runtime, Part, blank_block, entry, junk, passed_over, Tiles, blank_first, TilesItems, source_ends, an_entry, some_junk, a_line, lies_apart, pieces_of}
 use Rattle.fluent_grammar.specs.TilingLaws.{RuntimeHasTheSameList, RuntimeAddsNoJunk}
 use Rattle.fluent_grammar.proofs.Within.{end-same, end-blank_block, rest_of_line-end}
 use Rattle.fluent_grammar.specs.Spelling.{SpellsEntry}
 use Rattle.fluent_grammar.specs.Recovery.{EndsJunk}
+use Rattle.fluent_grammar.proofs.Cases.{cases, and-left, and-right, or-left, or-right}
 use Rattle.fluent_grammar.proofs.Agreement.{entries_agree}
 use Rattle.fluent_grammar.proofs.TilesRecovery.{junk-ended}
-use Rattle.fluent_grammar.proofs.Tiles.{front-whole, junk-rest}
+use Rattle.fluent_grammar.proofs.Tiles.{front-whole, front-blank, front-line, junk-rest}
+use Rattle.fluent_grammar.proofs.Blanks.{block-skipped}
 use Rattle.fluent_grammar.proofs.TilesJunk.{resume-end}
 use Rattle.fluent_grammar.proofs.TilesPieces.{each_text_has_a_tiling, tiling_gives_tree_and_errors}
-
-cases : {P : Type 0} (b : Bool) → (b ≡ true → P) → (b ≡ false → P) → P
-cases true p q = p refl
-cases false p q = q refl
 
 -- no entry begins with a byte of a blank line
 line_feed-begins-none : (c : ℕ) → (c == line_feed) ≡ true → begins_entry c ≡ false
@@ -39,10 +37,6 @@ return-begins-none c e = rw (eqb-true c carriage_return e) refl
 resume-past : (b : Bool) (c : ℕ) (cs : Text) → begins_entry c ≡ false → resume b (c ∷ cs) ≡ resume (c == line_feed) cs
 resume-past true c cs e = rw e refl
 resume-past false c cs e = refl
-
-and-left : (a b : Bool) → (a && b) ≡ true → a ≡ true
-and-left true b e = refl
-and-left false b e = e
 
 -- a byte of a blank line, the line feed aside
 spaced-begins-none : (c : ℕ) (b : Bool) → (c == space || (c == carriage_return && b)) ≡ true → begins_entry c ≡ false
@@ -73,18 +67,6 @@ skip_blank_block-done s = blank_lines-done s s (λ start. refl)
 sign-no_blank : (s : Text) → begins_with number_sign s ≡ true → skip_blank_block s ≡ s
 sign-no_blank [] e = refl
 sign-no_blank (c ∷ cs) e = rw (eqb-true c number_sign e) refl
-
-or-left : (a b : Bool) → (a || b) ≡ false → a ≡ false
-or-left true b e = e
-or-left false b e = refl
-
-or-right : (a b : Bool) → (a || b) ≡ false → b ≡ false
-or-right true b e = absurd cc
-or-right false b e = e
-
-and-right : (a b : Bool) → (a && b) ≡ true → b ≡ true
-and-right true b e = e
-and-right false b e = absurd cc
 
 line_feed-resume : (s : Text) → begins_with line_feed s ≡ true → resume false s ≡ resume true (drop 1 s)
 line_feed-resume [] e = absurd cc
@@ -188,7 +170,7 @@ record FollowsItems (s : Text) (ps : List Part) : Type 0 where
 pass-line : (s : Text) (ps : List Part) → begins_with number_sign s ≡ true → Follows (rest_of_line s).1 ps → FollowsItems s ps
 pass-line s ps e f = record {
   parts = passed_over (g.front s (rest_of_line s).1) ∷ f.parts;
-  tiled = a_line e refl (front-whole (rest_of_line-end s (end-same s))) f.tiled;
+  tiled = a_line e (front-line s) f.tiled;
   same = f.same;
   clean = f.clean;
 }
@@ -196,7 +178,7 @@ pass-line s ps e f = record {
 after-blank : (s : Text) (ps : List Part) → FollowsItems (skip_blank_block s) ps → Follows s ps
 after-blank s ps f = record {
   parts = blank_block (g.front s (skip_blank_block s)) ∷ f.parts;
-  tiled = begins_blank (front-whole (end-blank_block (end-same s))) refl f.tiled;
+  tiled = blank_first (front-blank s) f.tiled;
   same = f.same;
   clean = f.clean;
 }
@@ -205,7 +187,7 @@ without-blank : (s : Text) (ps : List Part) → skip_blank_block s ≡ s → Fol
 without-blank s ps done f = by_parts f.tiled f.same f.clean
   where
     by_parts : {qs : List Part} → Tiles runtime qs s → listed_parts qs ≡ listed_parts ps → (NoJunk ps → NoJunk qs) → FollowsItems s ps
-    by_parts (begins_blank {blanks} {rest} {parts} e b d) same clean = record { parts = parts; tiled = rw (sym done ∙ b) d; same = same; clean = clean }
+    by_parts (blank_first {text} {blanks} {rest} {parts} b d) same clean = record { parts = parts; tiled = rw (sym done ∙ block-skipped blanks text rest b) d; same = same; clean = clean }
 
 comment_line-follows : (s : Text) (level : ℕ) (rest : Text) (ps : List Part) → 1 ≤ level → comment_level s ≡ level → rest ≡ (rest_of_line (drop level s)).1 → Follows rest ps → FollowsItems s ps
 comment_line-follows s level rest ps h e left f =
@@ -347,15 +329,15 @@ junk-follows s front fault place rest ps some read at ends w f = cases (begins_w
 
 mutual
   tiles-follow : {ps : List Part} {s : Text} → Tiles full ps s → Follows s ps
-  tiles-follow (begins_blank {text} {blanks} {rest} {parts} e b d) =
-      let k = after-blank text parts (rw (← b) at (items-follow d)) in
+  tiles-follow (blank_first {text} {blanks} {rest} {parts} b d) =
+      let k = after-blank text parts (rw (← block-skipped blanks text rest b) at (items-follow d)) in
       record { parts = k.parts; tiled = k.tiled; same = k.same; clean = k.clean }
 
   items-follow : {ps : List Part} {s : Text} → TilesItems full ps s → FollowsItems s ps
   items-follow source_ends = record { parts = []; tiled = source_ends; same = refl; clean = λ n. n }
   items-follow (an_entry {text} {front} {rest} {e} {parts} p spelled w d) = entry-follows text front e rest parts spelled w (tiles-follow d)
   items-follow (some_junk {text} {front} {rest} {fault} {place} {parts} p some read at ends w d) = junk-follows text front fault place rest parts some read at ends w (tiles-follow d)
-  items-follow (a_line p l w d) = absurd cc
+  items-follow (a_line p l d) = absurd cc
 
 -- the list of a tree is that of its parts
 listed-waiting : (held : Option (List Text)) (es : List t.Entry) → listed (waiting held ++ es) ≡ listed es

@@ -8,6 +8,7 @@ pub mod Reading
 pub mod Tiling
 pub mod Ends
 pub mod Levels
+pub mod Blanks
 pub mod Recovery
 pub mod Tiles
 pub mod TilingLaws

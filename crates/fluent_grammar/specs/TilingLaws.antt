@@ -1,9 +1,10 @@
 -- The laws of reading and tiling, as statements.
 use Rattle.std.specs.Prelude.{◌≡◌, ℕ, ◌-◌, ◌<◌, ◌≤◌, Bool, List, [], ◌∷◌, length, take, drop, map, None, All, ◌↔◌}
-use Rattle.fluent_grammar.specs.Words.{Text}
+use Rattle.fluent_grammar.specs.Words.{Text, skip_blank_block, rest_of_line}
 use Rattle.fluent_grammar.specs.Tree as t
 use Rattle.fluent_grammar.specs.Reading.{Readers, readers, placeable_at, pattern_at, attributes_at, comment_lines, entry_at}
 use Rattle.fluent_grammar.specs.Tiling.{ParserError, behind_junk, pieces_from, runtime_pieces_from, tree, errors, runtime_tree, runtime_errors, listed, list}
+use Rattle.fluent_grammar.specs.Blanks.{BlankBlock, Line}
 use Rattle.fluent_grammar.specs.Recovery.{EndsJunk}
 use Rattle.fluent_grammar.specs.Tiles.{Mode, full, runtime, Part, Tiles, text_of, tree_of, errors_in}
 use Rattle.fluent_grammar.specs.Ends.{EndsIn, Within, Took, Told}
@@ -123,8 +124,8 @@ abbrev pub PlacesStartInSlices : Type 0
 PlacesStartInSlices = (mode : Mode) (source : Text) → All StartsInSlice (errors_for mode source)
 
 -- What an error tells of the byte at its place is so.
-abbrev pub ErrorsAreTold : Type 0
-ErrorsAreTold = (mode : Mode) (source : Text) → All (λ error. Told error.kind (drop error.pos_start source)) (errors_for mode source)
+abbrev pub ErrorsAreTrue : Type 0
+ErrorsAreTrue = (mode : Mode) (source : Text) → All (λ error. Told error.kind (drop error.pos_start source)) (errors_for mode source)
 
 -- The messages and terms for runtime use are those of the full reading, comments set aside.
 abbrev pub RuntimeHasTheSameList : Type 0
@@ -153,3 +154,11 @@ HasNoComment _ = ⊥
 -- The tree for runtime use has no comments.
 abbrev pub RuntimeHasNoComments : Type 0
 RuntimeHasNoComments = (source : Text) → All HasNoComment (runtime_tree source)
+
+-- What is skipped for a blank block is one, and there is no other.
+abbrev pub BlankBlocksAreSkipped : Type 0
+BlankBlocksAreSkipped = (text rest : Text) → ((blanks : Text) × BlankBlock blanks text rest) ↔ (skip_blank_block text ≡ rest)
+
+-- What is left behind a line is what stands behind its line feed.
+abbrev pub LinesAreLeft : Type 0
+LinesAreLeft = (text rest : Text) → ((line : Text) × Line line text rest) ↔ ((rest_of_line text).1 ≡ rest)

@@ -1,6 +1,6 @@
 //! Laws about reading and tiling.
 
-ghost use Rattle.fluent_grammar.specs.TilingLaws.{AttributesNeedNoMoreSteps, AttributesStayWithin, BottomIsNeverAsked, CommentsNeedNoMoreSteps, EachTextHasATiling, EntriesStayWithin, EntriesTakeSome, ErrorsAreTold, JunkIsSliced, LevelsAreEnough, NoTextHasTwoTilings, PartsAreTheText, PatternsNeedNoMoreLevels, PiecesNeedNoMoreSteps, PlacesStartInSlices, ReadersStayWithin, ReadersTakeSome, RecoveryFindsTheEnd, RuntimeHasNoComments, RuntimeAddsNoJunk, RuntimeHasTheSameList, SlicesAscend, TilingGivesTreeAndErrors};
+ghost use Rattle.fluent_grammar.specs.TilingLaws.{AttributesNeedNoMoreSteps, AttributesStayWithin, BlankBlocksAreSkipped, BottomIsNeverAsked, CommentsNeedNoMoreSteps, EachTextHasATiling, EntriesStayWithin, EntriesTakeSome, ErrorsAreTrue, JunkIsSliced, LevelsAreEnough, LinesAreLeft, NoTextHasTwoTilings, PartsAreTheText, PatternsNeedNoMoreLevels, PiecesNeedNoMoreSteps, PlacesStartInSlices, ReadersStayWithin, ReadersTakeSome, RecoveryFindsTheEnd, RuntimeHasNoComments, RuntimeAddsNoJunk, RuntimeHasTheSameList, SlicesAscend, TilingGivesTreeAndErrors};
 
 /// What a reader leaves, and the place of its refusal, is an end of the text that it was given.
 pub fn readers_stay_within()
@@ -52,6 +52,16 @@ pub fn comments_need_no_more_steps()
     ensures { CommentsNeedNoMoreSteps }
 {}
 
+/// What is skipped for a blank block at column 0 is as many blank lines as there are.
+pub fn blank_blocks_are_skipped()
+    ensures { BlankBlocksAreSkipped }
+{}
+
+/// What is left behind a line is what stands behind its line feed, or nothing where it has none.
+pub fn lines_are_left()
+    ensures { LinesAreLeft }
+{}
+
 /// Each text has a tiling, in full and for runtime use.
 pub fn each_text_has_a_tiling()
     ensures { EachTextHasATiling }
@@ -100,8 +110,8 @@ pub fn places_start_in_slices()
 
 /// Where a token is said to be expected, it doesn't stand there; an unbalanced closing brace stands at its place, and so does
 /// the line feed of a string that isn't terminated.
-pub fn errors_are_told()
-    ensures { ErrorsAreTold }
+pub fn errors_are_true()
+    ensures { ErrorsAreTrue }
 {}
 
 /// The messages and terms that are read for runtime use are those of the full reading, comments set aside.
