@@ -1,11 +1,11 @@
 -- Blank blocks and lines are what is skipped for them.
-use Rattle.std.proofs.Common.{◌≡◌, ℕ, zero, suc, ◌+◌, ◌<◌, ◌≤◌, Bool, true, false, cond, not, ◌&&◌, ◌||◌, List, [], ◌∷◌, ◌++◌, length, drop, Option, Some, None, refl, sym, ap, ◌∙◌, append_assoc, arith, inl, inr, eqb-true, replicate}
+use Rattle.std.proofs.Common.{◌≡◌, ℕ, zero, suc, Bool, true, false, not, ◌&&◌, [], ◌∷◌, ◌++◌, drop, Some, None, refl, sym, ap, ◌∙◌, append_assoc, inl, inr, eqb-true, replicate}
 use Rattle.std.specs.Prelude.{◌==◌, ◌⊎◌}
 use Rattle.std.specs.List.{list_all}
-use Rattle.fluent_grammar.specs.Words.{Text, line_feed, carriage_return, space, spaces, skip_spaces, begins_with, begins_crlf, after_line_end, blank_lines, skip_blank_block, rest_of_line}
+use Rattle.fluent_grammar.specs.Words.{Text, line_feed, carriage_return, space, spaces, skip_spaces, begins_with, after_line_end, blank_lines, skip_blank_block, rest_of_line}
 use Rattle.fluent_grammar.specs.Blanks.{BlankLines, no_lines, ends_lf, ends_crlf, BlankBlock, Line}
 use Rattle.fluent_grammar.specs.TilingLaws.{BlankBlocksAreSkipped, LinesAreLeft}
-use Rattle.fluent_grammar.proofs.Cases.{cases, and-left, and-right, or-left, or-right}
+use Rattle.fluent_grammar.proofs.Cases.{cases, and-left, and-right}
 use Rattle.fluent_grammar.proofs.Taken.{one-plus}
 
 -- spaces at the front
@@ -49,10 +49,10 @@ none-skipped line [] e = refl
 none-skipped line (c ∷ cs) e = cases (c == line_feed)
     (λ h. absurd (no_lf c cs h e))
     (λ h. cases (c == space)
-      (λ k. rw (h, k) (none-skipped line cs (past_space c cs k e)))
-      (λ k. cases (c == carriage_return && begins_with line_feed cs)
-        (λ l. absurd (no_crlf c cs l e))
-        (λ l. rw (h, k, l) refl)))
+    (λ k. rw (h, k) (none-skipped line cs (past_space c cs k e)))
+    (λ k. cases (c == carriage_return && begins_with line_feed cs)
+    (λ l. absurd (no_crlf c cs l e))
+    (λ l. rw (h, k, l) refl)))
 
 -- blank lines are skipped
 lines-skipped : {blanks : Text} → BlankLines blanks → (line rest : Text) → skip_blank_block (blanks ++ rest) ≡ skip_blank_block rest
@@ -74,27 +74,36 @@ Found line rest = (blanks : Text) × BlankBlock blanks line rest
 
 found-lf : (n : ℕ) (line cs rest : Text) → line ≡ replicate n space ++ line_feed ∷ cs → Found cs rest → Found line rest
 unfolding Found
-found-lf n line cs rest e f = (replicate n space ++ line_feed ∷ f.0, record {
-  split = e ∙ ap (λ z. replicate n space ++ line_feed ∷ z) f.1.split ∙ sym (append_assoc (replicate n space) (line_feed ∷ f.0) rest);
-  lines = ends_lf n f.1.lines;
-  longest = f.1.longest;
-})
+found-lf n line cs rest e f = (
+  replicate n space ++ line_feed ∷ f.0,
+  record {
+    split = e ∙ ap (λ z. replicate n space ++ line_feed ∷ z) f.1.split ∙ sym (append_assoc (replicate n space) (line_feed ∷ f.0) rest);
+    lines = ends_lf n f.1.lines;
+    longest = f.1.longest;
+  },
+)
 
 found-crlf : (n : ℕ) (line cs rest : Text) → line ≡ replicate n space ++ carriage_return ∷ line_feed ∷ cs → Found cs rest → Found line rest
 unfolding Found
-found-crlf n line cs rest e f = (replicate n space ++ carriage_return ∷ line_feed ∷ f.0, record {
-  split = e ∙ ap (λ z. replicate n space ++ carriage_return ∷ line_feed ∷ z) f.1.split ∙ sym (append_assoc (replicate n space) (carriage_return ∷ line_feed ∷ f.0) rest);
-  lines = ends_crlf n f.1.lines;
-  longest = f.1.longest;
-})
+found-crlf n line cs rest e f = (
+  replicate n space ++ carriage_return ∷ line_feed ∷ f.0,
+  record {
+    split = e ∙ ap (λ z. replicate n space ++ carriage_return ∷ line_feed ∷ z) f.1.split ∙ sym (append_assoc (replicate n space) (carriage_return ∷ line_feed ∷ f.0) rest);
+    lines = ends_crlf n f.1.lines;
+    longest = f.1.longest;
+  },
+)
 
 found-none : (n : ℕ) (line s : Text) → line ≡ replicate n space ++ s → after_line_end (skip_spaces s) ≡ None → Found line line
 unfolding Found
-found-none n line s e none = ([], record {
-  split = refl;
-  lines = no_lines;
-  longest = ap (λ z. after_line_end (skip_spaces z)) e ∙ ap after_line_end (skip_spaces-spaced n s) ∙ none;
-})
+found-none n line s e none = (
+  [],
+  record {
+    split = refl;
+    lines = no_lines;
+    longest = ap (λ z. after_line_end (skip_spaces z)) e ∙ ap after_line_end (skip_spaces-spaced n s) ∙ none;
+  },
+)
 
 none-other : (c : ℕ) (cs : Text) → (c == line_feed) ≡ false → (c == space) ≡ false → (c == carriage_return && begins_with line_feed cs) ≡ false → after_line_end (skip_spaces (c ∷ cs)) ≡ None
 none-other c cs h k l = ap after_line_end (skip_spaces-other c cs k) ∙ rw (h, l) refl
@@ -106,10 +115,10 @@ found line [] (inr seen) = absurd cc
 found line (c ∷ cs) (inl seen) = cases (c == line_feed)
     (λ h. rw h (found-lf seen.0 line cs _ (seen.1 ∙ ap (λ z. replicate seen.0 space ++ z ∷ cs) (eqb-true c line_feed h)) (found cs cs (inl (0, refl)))))
     (λ h. cases (c == space)
-      (λ k. rw (h, k) (found line cs (inl (suc seen.0, seen.1 ∙ ap (λ z. replicate seen.0 space ++ z ∷ cs) (eqb-true c space k) ∙ spaced-snoc seen.0 cs))))
-      (λ k. cases (c == carriage_return && begins_with line_feed cs)
-        (λ l. rw (h, k, l) (found line cs (inr (seen.0, seen.1 ∙ ap (λ z. replicate seen.0 space ++ z ∷ cs) (eqb-true c carriage_return (and-left (c == carriage_return) _ l)), and-right (c == carriage_return) _ l))))
-        (λ l. rw (h, k, l) (found-none seen.0 line (c ∷ cs) seen.1 (none-other c cs h k l)))))
+    (λ k. rw (h, k) (found line cs (inl (suc seen.0, seen.1 ∙ ap (λ z. replicate seen.0 space ++ z ∷ cs) (eqb-true c space k) ∙ spaced-snoc seen.0 cs))))
+    (λ k. cases (c == carriage_return && begins_with line_feed cs)
+    (λ l. rw (h, k, l) (found line cs (inr (seen.0, seen.1 ∙ ap (λ z. replicate seen.0 space ++ z ∷ cs) (eqb-true c carriage_return (and-left (c == carriage_return) _ l)), and-right (c == carriage_return) _ l))))
+    (λ l. rw (h, k, l) (found-none seen.0 line (c ∷ cs) seen.1 (none-other c cs h k l)))))
 found line (c ∷ cs) (inr seen) =
     rw seen.2 (found-crlf seen.0 line cs _ (seen.1 ∙ ap (λ z. replicate seen.0 space ++ carriage_return ∷ z ∷ cs) (eqb-true c line_feed seen.2)) (found cs cs (inl (0, refl))))
 
@@ -160,18 +169,23 @@ rest-past (c ∷ cs) tail h = cases (c == carriage_return && begins_with line_fe
 pub line-rest : (line text rest : Text) → Line line text rest → (rest_of_line text).1 ≡ rest
 line-rest line text rest l = elim l.ends [
   | inl ended ↦ ap (λ z. (rest_of_line z).1) (l.split ∙ ap (λ z. z ++ rest) ended.1 ∙ append_assoc ended.0 (line_feed ∷ []) rest) ∙ rest-past ended.0 (line_feed ∷ rest) ended.2
-  | inr last ↦ ap (λ z. (rest_of_line z).1) (l.split ∙ ap (λ z. line ++ z) last.0) ∙ rest-past line [] last.1 ∙ sym last.0 ]
+  | inr last ↦ ap (λ z. (rest_of_line z).1) (l.split ∙ ap (λ z. line ++ z) last.0) ∙ rest-past line [] last.1 ∙ sym last.0
+]
 
 abbrev LineFound : Text → Text → Type 0
 LineFound text rest = (line : Text) × Line line text rest
 
 line-longer : (c : ℕ) (cs rest : Text) → (c == line_feed) ≡ false → LineFound cs rest → LineFound (c ∷ cs) rest
-line-longer c cs rest e f = (c ∷ f.0, record {
-  split = ap (λ z. c ∷ z) f.1.split;
-  ends = elim f.1.ends [
-    | inl ended ↦ inl (c ∷ ended.0, ap (λ z. c ∷ z) ended.1, unended-cons c ended.0 e ended.2)
-    | inr last ↦ inr (last.0, unended-cons c f.0 e last.1) ];
-})
+line-longer c cs rest e f = (
+  c ∷ f.0,
+  record {
+    split = ap (λ z. c ∷ z) f.1.split;
+    ends = elim f.1.ends [
+      | inl ended ↦ inl (c ∷ ended.0, ap (λ z. c ∷ z) ended.1, unended-cons c ended.0 e ended.2)
+      | inr last ↦ inr (last.0, unended-cons c f.0 e last.1)
+    ];
+  },
+)
 
 line-ended : (cs : Text) → LineFound (line_feed ∷ cs) cs
 line-ended cs = (line_feed ∷ [], record { split = refl; ends = inl ([], refl, refl) })
@@ -185,8 +199,8 @@ line-at [] = ([], record { split = refl; ends = inr (refl, refl) })
 line-at (c ∷ cs) = cases (c == line_feed)
     (λ h. rw h (rw (eqb-true c line_feed h) (line-ended cs)))
     (λ h. cases (c == carriage_return && begins_with line_feed cs)
-      (λ k. rw (h, k) (line-longer c cs (drop 1 cs) h (line-at_lf cs (and-right (c == carriage_return) _ k))))
-      (λ k. rw (h, k) (line-longer c cs (rest_of_line cs).1 h (line-at cs))))
+    (λ k. rw (h, k) (line-longer c cs (drop 1 cs) h (line-at_lf cs (and-right (c == carriage_return) _ k))))
+    (λ k. rw (h, k) (line-longer c cs (rest_of_line cs).1 h (line-at cs))))
 
 pub blank_blocks_are_skipped : BlankBlocksAreSkipped
 blank_blocks_are_skipped text rest = ((λ b. block-skipped b.0 text rest b.1), (λ e. rw (← e) (block-at text)))

@@ -13,7 +13,7 @@ use Rattle.fluent_grammar.specs.Reading.{entry_at, comment_at, comment_line_at, 
 use Rattle.fluent_grammar.specs.Tiling.{resume, behind_junk, at_column_zero, entries_of, errors_of, waiting, left_alone, listed}
 use Rattle.fluent_grammar.specs.Tiles.{Mode, full, runtime, Part, blank_block, entry, junk, passed_over, Tiles, blank_first, TilesItems, source_ends, an_entry, some_junk, a_line, lies_apart, pieces_of}
 use Rattle.fluent_grammar.specs.TilingLaws.{RuntimeHasTheSameList, RuntimeAddsNoJunk}
-use Rattle.fluent_grammar.proofs.Within.{end-same, end-blank_block, rest_of_line-end}
+use Rattle.fluent_grammar.proofs.Within.{end-same}
 use Rattle.fluent_grammar.specs.Spelling.{SpellsEntry}
 use Rattle.fluent_grammar.specs.Recovery.{EndsJunk}
 use Rattle.fluent_grammar.proofs.Cases.{cases, and-left, and-right, or-left, or-right}

@@ -1,5 +1,5 @@
 -- Blank blocks and lines, by their bytes.
-use Rattle.std.specs.Prelude.{◌≡◌, ◌⊎◌, ℕ, not, ◌==◌, List, [], ◌∷◌, ◌++◌, replicate, None, true}
+use Rattle.std.specs.Prelude.{◌≡◌, ◌⊎◌, ℕ, not, ◌==◌, [], ◌∷◌, ◌++◌, replicate, None, true}
 use Rattle.std.specs.List.{list_all}
 use Rattle.fluent_grammar.specs.Words.{Text, line_feed, carriage_return, space, skip_spaces, after_line_end}
 
