@@ -9,7 +9,7 @@ use Rattle.fluent_grammar.specs.Ends.{EndsIn}
 use Rattle.fluent_grammar.specs.Reading as g
 use Rattle.fluent_grammar.specs.Reading.{Readers, readers, no_readers, step, selector_fault}
 use Rattle.fluent_grammar.specs.Levels.{levels}
-use Rattle.fluent_grammar.specs.TilingLaws.{LevelsAreEnough, BottomIsNeverAsked, PatternsNeedNoMoreLevels}
+use Rattle.fluent_grammar.specs.TilingLaws.{LevelsAreEnough, BottomIsNeverAsked, PatternsNeverAskTheBottom, PatternsNeedNoMoreLevels}
 use Rattle.fluent_grammar.proofs.Within.{FairReaders, readers-fair, MaybeEnd, ends, end-same, end-trans, end-drop, end-blank, end-drop_one, end-spaces, end-separator, end-blank_block, end-le, line_end-end, identifier-fair, accessor-fair, literal-fair, key-fair, pattern-fair, select_or_inline-fair}
 use Rattle.fluent_grammar.proofs.Taken.{Leaves, leaves-fair, identifier-leaves, inline-leaves, placeable-leaves, text_run-leaves}
 
@@ -253,8 +253,8 @@ levels_are_enough m n s p q =
       pieces = h.pieces ∙ sym k.pieces;
     }
 
-pub pattern-levels : (bottom : Readers) (m n : ℕ) (s : Text) → length s ≤ m → length s ≤ n → g.pattern_at (readers m) s ≡ g.pattern_at (levels bottom n) s
-pattern-levels bottom m n s p q = (pattern-step (readers m) (levels bottom n) (readers-fair m) (length s) (λ u l. agree (length s) m n bottom u l p q) s (omega arith)).same
+pub patterns_never_ask_the_bottom : PatternsNeverAskTheBottom
+patterns_never_ask_the_bottom bottom m n s p q = (pattern-step (readers m) (levels bottom n) (readers-fair m) (length s) (λ u l. agree (length s) m n bottom u l p q) s (omega arith)).same
 
 pub patterns_need_no_more_levels : PatternsNeedNoMoreLevels
-patterns_need_no_more_levels m n s p q = pattern-levels no_readers m n s p q ∙ sym (pattern-levels no_readers n n s q q)
+patterns_need_no_more_levels m n s p q = patterns_never_ask_the_bottom no_readers m n s p q ∙ sym (patterns_never_ask_the_bottom no_readers n n s q q)

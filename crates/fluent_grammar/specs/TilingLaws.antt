@@ -2,7 +2,7 @@
 use Rattle.std.specs.Prelude.{◌≡◌, ℕ, ◌-◌, ◌<◌, ◌≤◌, Bool, List, [], ◌∷◌, length, take, drop, map, None, All, ◌↔◌}
 use Rattle.fluent_grammar.specs.Words.{Text, skip_blank_block, rest_of_line}
 use Rattle.fluent_grammar.specs.Tree as t
-use Rattle.fluent_grammar.specs.Reading.{Readers, readers, placeable_at, pattern_at, attributes_at, comment_lines, entry_at}
+use Rattle.fluent_grammar.specs.Reading.{Readers, readers, identifier_at, number_at, attribute_at, placeable_at, pattern_at, attributes_at, comment_lines, entry_at}
 use Rattle.fluent_grammar.specs.Tiling.{ParserError, behind_junk, pieces_from, runtime_pieces_from, tree, errors, runtime_tree, runtime_errors, listed, list}
 use Rattle.fluent_grammar.specs.Blanks.{BlankBlock, Line}
 use Rattle.fluent_grammar.specs.Recovery.{EndsJunk}
@@ -30,13 +30,24 @@ EntriesStayWithin = (text : Text) → Within (entry_at text) text
 abbrev pub AttributesStayWithin : Type 0
 AttributesStayWithin = (n : ℕ) (text : Text) → EndsIn (attributes_at n text).1 text
 
--- An expression, what is left of call arguments (their closing parenthesis, at least) and an entry have a byte or more.
+-- An expression, what is left of call arguments (their closing parenthesis, at least) and a placeable have a byte or more.
 pub record TakesSome (inside : Readers) (text : Text) : Type 0 where
   pub inline : Took (inside.inline text) text
   pub arguments : (names : List Text) → Took (inside.arguments names text) text
+  pub placeable : Took (placeable_at inside text) text
 
 abbrev pub ReadersTakeSome : Type 0
 ReadersTakeSome = (n : ℕ) (text : Text) → TakesSome (readers n) text
+
+-- So have an identifier, a number literal, an attribute and an entry.
+abbrev pub NamesTakeSome : Type 0
+NamesTakeSome = (text : Text) → Took (identifier_at text) text
+
+abbrev pub NumbersTakeSome : Type 0
+NumbersTakeSome = (text : Text) → Took (number_at text) text
+
+abbrev pub AttributesTakeSome : Type 0
+AttributesTakeSome = (text : Text) → Took (attribute_at text) text
 
 abbrev pub EntriesTakeSome : Type 0
 EntriesTakeSome = (text : Text) → Took (entry_at text) text
@@ -60,6 +71,9 @@ BottomIsNeverAsked = (bottom : Readers) (m n : ℕ) (text : Text) → length tex
 -- As many levels as a text has bytes are enough for a pattern, which asks its readers of shorter texts alone.
 abbrev pub PatternsNeedNoMoreLevels : Type 0
 PatternsNeedNoMoreLevels = (m n : ℕ) (text : Text) → length text ≤ m → length text ≤ n → pattern_at (readers m) text ≡ pattern_at (readers n) text
+
+abbrev pub PatternsNeverAskTheBottom : Type 0
+PatternsNeverAskTheBottom = (bottom : Readers) (m n : ℕ) (text : Text) → length text ≤ m → length text ≤ n → pattern_at (readers m) text ≡ pattern_at (levels bottom n) text
 
 -- as many steps as a text has bytes are enough for its attributes
 abbrev pub AttributesNeedNoMoreSteps : Type 0

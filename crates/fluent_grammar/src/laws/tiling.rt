@@ -1,6 +1,6 @@
 //! Laws about reading and tiling.
 
-ghost use Rattle.fluent_grammar.specs.TilingLaws.{AttributesNeedNoMoreSteps, AttributesStayWithin, BlankBlocksAreSkipped, BottomIsNeverAsked, CommentsNeedNoMoreSteps, EachTextHasATiling, EntriesStayWithin, EntriesTakeSome, ErrorsAreTrue, JunkIsSliced, LevelsAreEnough, LinesAreLeft, NoTextHasTwoTilings, PartsAreTheText, PatternsNeedNoMoreLevels, PiecesNeedNoMoreSteps, PlacesStartInSlices, ReadersStayWithin, ReadersTakeSome, RecoveryFindsTheEnd, RuntimeHasNoComments, RuntimeAddsNoJunk, RuntimeHasTheSameList, SlicesAscend, TilingGivesTreeAndErrors};
+ghost use Rattle.fluent_grammar.specs.TilingLaws.{AttributesNeedNoMoreSteps, AttributesStayWithin, AttributesTakeSome, BlankBlocksAreSkipped, BottomIsNeverAsked, CommentsNeedNoMoreSteps, EachTextHasATiling, EntriesStayWithin, EntriesTakeSome, ErrorsAreTrue, JunkIsSliced, LevelsAreEnough, LinesAreLeft, NamesTakeSome, NoTextHasTwoTilings, NumbersTakeSome, PartsAreTheText, PatternsNeedNoMoreLevels, PatternsNeverAskTheBottom, PiecesNeedNoMoreSteps, PlacesStartInSlices, ReadersStayWithin, ReadersTakeSome, RecoveryFindsTheEnd, RuntimeHasNoComments, RuntimeAddsNoJunk, RuntimeHasTheSameList, SlicesAscend, TilingGivesTreeAndErrors};
 
 /// What a reader leaves, and the place of its refusal, is an end of the text that it was given.
 pub fn readers_stay_within()
@@ -17,14 +17,17 @@ pub fn attributes_stay_within()
     ensures { AttributesStayWithin }
 {}
 
-/// An expression, and what is left of call arguments, have at least one byte.
+/// An expression, what is left of call arguments, and a placeable have at least one byte.
 pub fn readers_take_some()
     ensures { ReadersTakeSome }
 {}
 
-/// An entry has at least one byte.
-pub fn entries_take_some()
-    ensures { EntriesTakeSome }
+/// An identifier, a number literal, an attribute and an entry have at least one byte.
+pub fn constructs_take_some()
+    ensures names { NamesTakeSome }
+    ensures numbers { NumbersTakeSome }
+    ensures attributes { AttributesTakeSome }
+    ensures entries { EntriesTakeSome }
 {}
 
 /// A text is read in full by readers of more levels than it has bytes: further levels change nothing.
@@ -39,7 +42,8 @@ pub fn bottom_is_never_asked()
 
 /// As many levels as a text has bytes are enough for a pattern, which asks for shorter texts alone.
 pub fn patterns_need_no_more_levels()
-    ensures { PatternsNeedNoMoreLevels }
+    ensures levels { PatternsNeedNoMoreLevels }
+    ensures bottom { PatternsNeverAskTheBottom }
 {}
 
 /// As many steps as a text has bytes are enough for its attributes.
