@@ -7,6 +7,7 @@ pub mod Lines
 pub mod Serving
 pub mod Runs
 pub mod Outcomes
+pub mod SameAnswers
 pub mod Messages
 pub mod Formatting
 pub mod Catalogs

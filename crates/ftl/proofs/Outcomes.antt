@@ -32,3 +32,7 @@ by_outcome (Ok tt) not_write ok memory read = ok refl
 by_outcome (Err Memory) not_write ok memory read = memory refl
 by_outcome (Err Read) not_write ok memory read = read refl
 by_outcome (Err Write) not_write ok memory read = absurd (not_write refl)
+
+pub on_ok_both : {T E P Q S : Type 0} (r : Result T E) → (P → Q → S) → OnOk r P → OnOk r Q → OnOk r S
+on_ok_both (Ok x) f p q = f p q
+on_ok_both (Err e) f p q = search rules
