@@ -1,25 +1,23 @@
 -- What is left behind an entry stands at column 0, or is nothing.
-use Rattle.std.proofs.Common.{◌≡◌, ℕ, zero, suc, ◌+◌, ◌<◌, ◌≤◌, Bool, true, false, cond, not, ◌&&◌, ◌||◌, List, [], ◌∷◌, ◌++◌, length, drop, Option, Some, None, refl, sym, ap, ◌∙◌, append_assoc, append-nil, arith, inl, inr, eqb-true, replicate}
+use Rattle.std.proofs.Common.{◌≡◌, ℕ, zero, suc, Bool, true, false, cond, ◌&&◌, List, [], ◌∷◌, ◌++◌, length, drop, Option, Some, None, refl, sym, ap, ◌∙◌, append_assoc, append-nil, inl, inr, eqb-true, replicate}
 use Rattle.std.specs.Prelude.{◌==◌, ◌⊎◌, is_some}
-use Rattle.fluent_grammar.specs.Words.{Text, number_sign, hyphen, equals, line_feed, carriage_return, space, dot, begins_with, begins_crlf, open_brace, close_brace, skip_spaces, spaces, after_line_end, skip_blank_block, rest_of_line, comment_level}
-use Rattle.fluent_grammar.specs.Refusal.{Kind, Refusal, Reading, got, refused, refuse, mapped, ◌>>=◌}
-use Rattle.fluent_grammar.specs.Refusal as r
+use Rattle.fluent_grammar.specs.Words.{Text, number_sign, hyphen, equals, line_feed, carriage_return, space, dot, begins_with, begins_crlf, open_brace, close_brace, skip_spaces, after_line_end, skip_blank_block, rest_of_line, comment_level}
+use Rattle.fluent_grammar.specs.Refusal.{Kind, Reading, got, refused, refuse, mapped, ◌>>=◌}
 use Rattle.fluent_grammar.specs.Tree as t
 use Rattle.fluent_grammar.specs.Lines.{Piece, ends_line, pattern_ends}
 use Rattle.fluent_grammar.specs.Ends.{EndsIn}
 use Rattle.fluent_grammar.specs.Blanks.{BlankLines, no_lines, ends_lf, ends_crlf, BlankBlock, Line}
 use Rattle.fluent_grammar.specs.Reading as g
 use Rattle.fluent_grammar.specs.Reading.{Readers, readers, step, text_run, before}
-use Rattle.fluent_grammar.specs.Recovery.{IsColumnZero, MayBegin, EndsJunk}
+use Rattle.fluent_grammar.specs.Recovery.{IsColumnZero, EndsJunk}
 use Rattle.fluent_grammar.specs.Spelling.{SpellsEntry}
 use Rattle.fluent_grammar.specs.Tiles.{Mode, Part, Tiles, blank_first, TilesItems, source_ends, an_entry, some_junk, a_line, text_of_part, text_of}
 use Rattle.fluent_grammar.specs.TilingLaws.{PartsBeginAtColumnZero}
 use Rattle.std.proofs.lemmas.List.{append_cancel_right}
 use Rattle.fluent_grammar.proofs.Agreement.{entries_agree}
-use Rattle.fluent_grammar.proofs.Within.{FairReaders, readers-fair, MaybeEnd, ends, end-same, end-trans, end-none, end-drop, end-cons, end-spaces, placeable-fair, identifier-fair, Fair}
-use Rattle.fluent_grammar.proofs.Taken.{Leaves, leaves-fair}
+use Rattle.fluent_grammar.proofs.Within.{FairReaders, readers-fair, ends, end-same, end-none, end-drop, end-cons, end-spaces, placeable-fair, identifier-fair, Fair}
 use Rattle.fluent_grammar.proofs.Blanks.{block-at, line-at}
-use Rattle.fluent_grammar.proofs.Cases.{cases, and-left, and-right}
+use Rattle.fluent_grammar.proofs.Cases.{cases, and-right}
 
 -- what stands behind a line feed of a text
 Behind : Text → Text → Type 0
@@ -33,7 +31,8 @@ stops-in : (rest u whole : Text) → EndsIn u whole → Stops rest u → Stops r
 unfolding Stops Behind
 stops-in rest u whole h s = elim s [
   | inl e ↦ inl e
-  | inr l ↦ inr (h.front ++ l.0, h.whole ∙ ap (λ z. h.front ++ z) l.1 ∙ sym (append_assoc h.front l.0 (line_feed ∷ rest))) ]
+  | inr l ↦ inr (h.front ++ l.0, h.whole ∙ ap (λ z. h.front ++ z) l.1 ∙ sym (append_assoc h.front l.0 (line_feed ∷ rest)))
+]
 
 -- at the start of a line, or there
 StopsOrStays : Text → Text → Type 0
@@ -56,7 +55,8 @@ stops-behind : (rest u whole : Text) → Behind u whole → StopsOrStays rest u 
 unfolding StopsOrStays Stops Behind
 stops-behind rest u whole b s = elim s [
   | inl e ↦ inr (b.0, b.1 ∙ ap (λ z. b.0 ++ line_feed ∷ z) (sym e))
-  | inr l ↦ stops-in rest u whole (behind-end u whole b) l ]
+  | inr l ↦ stops-in rest u whole (behind-end u whole b) l
+]
 
 stops-then : (rest u whole : Text) → Stops u whole → StopsOrStays rest u → Stops rest whole
 unfolding StopsOrStays
@@ -71,8 +71,10 @@ lines-stop : {blanks : Text} → BlankLines blanks → (rest : Text) → StopsOr
 unfolding StopsOrStays Behind
 lines-stop no_lines rest = inl refl
 lines-stop (ends_lf {more} n d) rest = inr (stops-behind rest (more ++ rest) _ (replicate n space, append_assoc (replicate n space) (line_feed ∷ more) rest) (lines-stop d rest))
-lines-stop (ends_crlf {more} n d) rest = inr (stops-behind rest (more ++ rest) _ (replicate n space ++ carriage_return ∷ [],
-    append_assoc (replicate n space) (carriage_return ∷ line_feed ∷ more) rest ∙ sym (append_assoc (replicate n space) (carriage_return ∷ []) (line_feed ∷ (more ++ rest)))) (lines-stop d rest))
+lines-stop (ends_crlf {more} n d) rest = inr (stops-behind rest (more ++ rest) _ (
+  replicate n space ++ carriage_return ∷ [],
+  append_assoc (replicate n space) (carriage_return ∷ line_feed ∷ more) rest ∙ sym (append_assoc (replicate n space) (carriage_return ∷ []) (line_feed ∷ (more ++ rest))),
+) (lines-stop d rest))
 
 block-stops : (s : Text) → StopsOrStays (skip_blank_block s) s
 block-stops s = let b = block-at s in rw (← b.1.split) at (lines-stop b.1.lines (skip_blank_block s))
@@ -81,7 +83,8 @@ line-stops : (s : Text) → Stops (rest_of_line s).1 s
 unfolding Stops Behind
 line-stops s = let l = line-at s in elim l.1.ends [
   | inl ended ↦ inr (ended.0, l.1.split ∙ ap (λ z. z ++ (rest_of_line s).1) ended.1 ∙ append_assoc ended.0 (line_feed ∷ []) (rest_of_line s).1)
-  | inr last ↦ inl last.0 ]
+  | inr last ↦ inl last.0
+]
 
 -- what holds of a node that is read and what is left behind it
 abbrev GetsParts : {A : Type 0} → (A → Text → Type 0) → Reading A → Type 0
@@ -237,10 +240,10 @@ attribute-stops : (s : Text) → Gets (λ a rest. Stops rest s) (g.attribute_at 
 unfolding g.attribute_at
 attribute-stops s = gets-bind _ (λ id u. EndsIn u s) _ _ (gets-fair s _ (identifier-fair (end-drop 1 (end-spaces (end-same s)))))
     (λ id u h. let v = skip_spaces u in
-      gets-if _ (begins_with equals v) _ _
-        (λ e. gets-bind _ (λ value w. Stops w s) _ _ (gets-in (drop 1 v) s _ (end-drop 1 (end-spaces h)) (pattern-stops (suc (length v)) (drop 1 v)))
-          (λ value w k. attribute_of-stops id value w s k))
-        (λ e. gets-refuse _ _ _))
+    gets-if _ (begins_with equals v) _ _
+    (λ e. gets-bind _ (λ value w. Stops w s) _ _ (gets-in (drop 1 v) s _ (end-drop 1 (end-spaces h)) (pattern-stops (suc (length v)) (drop 1 v)))
+    (λ value w k. attribute_of-stops id value w s k))
+    (λ e. gets-refuse _ _ _))
 
 more_attributes-stays : (left : Text → List t.Attribute × Text) (s : Text) (x : Reading t.Attribute) → ((u : Text) → StopsOrStays (left u).1 u) → Gets (λ a rest. Stops rest s) x → StopsOrStays (g.more_attributes left s x).1 s
 unfolding StopsOrStays
@@ -258,9 +261,9 @@ head-stops : (s : Text) → Gets (λ h rest. Stops rest s) (g.head_at s)
 unfolding g.head_at
 head-stops s = gets-bind _ (λ id u. EndsIn u s) _ _ (gets-fair s _ (identifier-fair (end-same s)))
     (λ id u h. let v = skip_spaces u in
-      gets-if _ (begins_with equals v) _ _
-        (λ e. gets-mapped _ (λ value w. Stops w s) _ _ (gets-in (drop 1 v) s _ (end-drop 1 (end-spaces h)) (pattern-stops (suc (length v)) (drop 1 v))) (λ value w k. k))
-        (λ e. gets-refuse _ _ _))
+    gets-if _ (begins_with equals v) _ _
+    (λ e. gets-mapped _ (λ value w. Stops w s) _ _ (gets-in (drop 1 v) s _ (end-drop 1 (end-spaces h)) (pattern-stops (suc (length v)) (drop 1 v))) (λ value w k. k))
+    (λ e. gets-refuse _ _ _))
 
 behind_head-stops : (u s : Text) → Stops u s → Stops (g.attributes_at (length (skip_blank_block u)) (skip_blank_block u)).1 s
 behind_head-stops u s h = stops-then _ u s h (stays-then _ (skip_blank_block u) u (block-stops u) (attributes-stay (length (skip_blank_block u)) (skip_blank_block u)))
@@ -298,7 +301,7 @@ unfolding g.comment_lines StopsOrStays
 comment_lines-stay zero level s = inl refl
 comment_lines-stay (suc n) level s = cases (comment_level s == level)
     (λ e. rw e (more_lines-stays (g.comment_lines n level) s (g.comment_line_at (drop level s)) (λ u. comment_lines-stay n level u)
-      (gets-in (drop level s) s _ (end-drop level (end-same s)) (comment_line-stops (drop level s)))))
+    (gets-in (drop level s) s _ (end-drop level (end-same s)) (comment_line-stops (drop level s)))))
     (λ e. rw e (inl refl))
 
 comment-stops : (s : Text) → Gets (λ e rest. Stops rest s) (g.comment_at s)
@@ -335,13 +338,16 @@ junk-stays text place rest j = elim j.stops [
   | inl none ↦ inr (inl none)
   | inr m ↦ elim m.column_zero [
     | inl start ↦ inl (sym (m.whole ∙ ap (λ z. z ++ rest) start))
-    | inr line ↦ inr (inr (line.0, m.whole ∙ ap (λ z. z ++ rest) line.1 ∙ append_assoc line.0 (line_feed ∷ []) rest)) ] ]
+    | inr line ↦ inr (inr (line.0, m.whole ∙ ap (λ z. z ++ rest) line.1 ∙ append_assoc line.0 (line_feed ∷ []) rest))
+  ]
+]
 
 line_left-stays : (front text rest : Text) → Line front text rest → StopsOrStays rest text
 unfolding StopsOrStays Stops Behind
 line_left-stays front text rest l = elim l.ends [
   | inl ended ↦ inr (inr (ended.0, l.split ∙ ap (λ z. z ++ rest) ended.1 ∙ append_assoc ended.0 (line_feed ∷ []) rest))
-  | inr last ↦ inr (inl last.0) ]
+  | inr last ↦ inr (inl last.0)
+]
 
 entry-stays : (text rest : Text) (e : t.Entry) → SpellsEntry e text rest → StopsOrStays rest text
 unfolding StopsOrStays
@@ -371,4 +377,5 @@ columns-at start (first ∷ before) part behind c = rw (← append_assoc start (
 pub parts_begin_at_column_zero : PartsBeginAtColumnZero
 parts_begin_at_column_zero mode source before part behind d some = elim (columns-at [] before part behind (tiles-columns mode d [] (inr (inl refl)))) [
   | inl none ↦ absurd (some none)
-  | inr column ↦ column ]
+  | inr column ↦ column
+]
