@@ -1,12 +1,12 @@
 -- The laws of reading and tiling, as statements.
-use Rattle.std.specs.Prelude.{◌≡◌, ℕ, ◌-◌, ◌<◌, ◌≤◌, Bool, List, [], ◌∷◌, length, take, drop, map, None, All, ◌↔◌}
+use Rattle.std.specs.Prelude.{◌≡◌, ◌≢◌, ℕ, ◌-◌, ◌<◌, ◌≤◌, Bool, List, [], ◌∷◌, ◌++◌, length, take, drop, map, None, All, ◌↔◌}
 use Rattle.fluent_grammar.specs.Words.{Text, skip_blank_block, rest_of_line}
 use Rattle.fluent_grammar.specs.Tree as t
 use Rattle.fluent_grammar.specs.Reading.{Readers, readers, identifier_at, number_at, attribute_at, placeable_at, pattern_at, attributes_at, comment_lines, entry_at}
 use Rattle.fluent_grammar.specs.Tiling.{ParserError, behind_junk, pieces_from, runtime_pieces_from, tree, errors, runtime_tree, runtime_errors, listed, list}
 use Rattle.fluent_grammar.specs.Blanks.{BlankBlock, Line}
-use Rattle.fluent_grammar.specs.Recovery.{EndsJunk}
-use Rattle.fluent_grammar.specs.Tiles.{Mode, full, runtime, Part, Tiles, text_of, tree_of, errors_in}
+use Rattle.fluent_grammar.specs.Recovery.{IsColumnZero, EndsJunk}
+use Rattle.fluent_grammar.specs.Tiles.{Mode, full, runtime, Part, Tiles, text_of_part, text_of, tree_of, errors_in}
 use Rattle.fluent_grammar.specs.Ends.{EndsIn, Within, Took, Told}
 use Rattle.fluent_grammar.specs.Levels.{levels}
 
@@ -176,3 +176,8 @@ BlankBlocksAreSkipped = (text rest : Text) → ((blanks : Text) × BlankBlock bl
 -- What is left behind a line is what stands behind its line feed.
 abbrev pub LinesAreLeft : Type 0
 LinesAreLeft = (text rest : Text) → ((line : Text) × Line line text rest) ↔ ((rest_of_line text).1 ≡ rest)
+
+-- Each part of a tiling that isn't empty begins at column 0.
+abbrev pub PartsBeginAtColumnZero : Type 0
+PartsBeginAtColumnZero = (mode : Mode) (source : Text) (before : List Part) (part : Part) (behind : List Part) →
+    Tiles mode (before ++ part ∷ behind) source → text_of_part part ≢ [] → IsColumnZero (text_of before)

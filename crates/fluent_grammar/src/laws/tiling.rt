@@ -1,6 +1,6 @@
 //! Laws about reading and tiling.
 
-ghost use Rattle.fluent_grammar.specs.TilingLaws.{AttributesNeedNoMoreSteps, AttributesStayWithin, AttributesTakeSome, BlankBlocksAreSkipped, BottomIsNeverAsked, CommentsNeedNoMoreSteps, EachTextHasATiling, EntriesStayWithin, EntriesTakeSome, ErrorsAreTrue, JunkIsSliced, LevelsAreEnough, LinesAreLeft, NamesTakeSome, NoTextHasTwoTilings, NumbersTakeSome, PartsAreTheText, PatternsNeedNoMoreLevels, PatternsNeverAskTheBottom, PiecesNeedNoMoreSteps, PlacesStartInSlices, ReadersStayWithin, ReadersTakeSome, RecoveryFindsTheEnd, RuntimeHasNoComments, RuntimeAddsNoJunk, RuntimeHasTheSameList, SlicesAscend, TilingGivesTreeAndErrors};
+ghost use Rattle.fluent_grammar.specs.TilingLaws.{AttributesNeedNoMoreSteps, AttributesStayWithin, AttributesTakeSome, BlankBlocksAreSkipped, BottomIsNeverAsked, CommentsNeedNoMoreSteps, EachTextHasATiling, EntriesStayWithin, EntriesTakeSome, ErrorsAreTrue, JunkIsSliced, LevelsAreEnough, LinesAreLeft, NamesTakeSome, NoTextHasTwoTilings, NumbersTakeSome, PartsAreTheText, PartsBeginAtColumnZero, PatternsNeedNoMoreLevels, PatternsNeverAskTheBottom, PiecesNeedNoMoreSteps, PlacesStartInSlices, ReadersStayWithin, ReadersTakeSome, RecoveryFindsTheEnd, RuntimeHasNoComments, RuntimeAddsNoJunk, RuntimeHasTheSameList, SlicesAscend, TilingGivesTreeAndErrors};
 
 /// What a reader leaves, and the place of its refusal, is an end of the text that it was given.
 pub fn readers_stay_within()
@@ -79,6 +79,11 @@ pub fn no_text_has_two_tilings()
 /// The parts of a tiling, put together, are the text: no byte is lost.
 pub fn parts_are_the_text()
     ensures { PartsAreTheText }
+{}
+
+/// Each part of a tiling that isn't empty begins at column 0: a blank block, an entry, junk or a line that is passed over.
+pub fn parts_begin_at_column_zero()
+    ensures { PartsBeginAtColumnZero }
 {}
 
 /// What is looked for behind a refusal is the end of the junk: the first place, at the refusal's or behind it, that an entry may
