@@ -5,3 +5,4 @@ pub mod Refusal
 pub mod Reading
 pub mod Spelling
 pub mod Tiling
+pub mod Written
