@@ -1,6 +1,13 @@
 //! Laws about spelling and reading: reading gives a node and a rest exactly where the node is spelled up to that rest.
 
-ghost use Rattle.fluent_grammar.specs.SpellingLaws.{AccessorsAgree, ArgumentsAgree, ArgumentsAreUnique, AttributesAgree, AttributesAreUnique, CommentsAgree, EntriesAgree, EntriesAreUnique, ExpressionsAgree, ExpressionsAreUnique, KeysAgree, LinesAgree, LinesAreUnique, LiteralsAgree, MessagesAgree, NamesAgree, NumbersAgree, PatternsAgree, PatternsAreUnique, PiecesAgree, PiecesAreUnique, PlaceablesAgree, PlaceablesAreUnique, RunsOfAttributesAgree, RunsOfAttributesAreUnique, StringsAgree, TermsAgree, TextPiecesAgree, VariantsAgree, VariantsAreUnique};
+ghost use Rattle.fluent_grammar.specs.SpellingLaws.{AccessorsAgree, ArgumentsAgree, ArgumentsAreUnique, AttributesAgree, AttributesAreUnique, BlankAgrees, BlankInlineAgrees, CommentsAgree, EntriesAgree, EntriesAreUnique, ExpressionsAgree, ExpressionsAreUnique, KeysAgree, LineEndsAgree, LinesAgree, LinesAreUnique, LiteralsAgree, MessagesAgree, NamesAgree, NumbersAgree, PatternsAgree, PatternsAreUnique, PiecesAgree, PiecesAreUnique, PlaceablesAgree, PlaceablesAreUnique, RunsOfAttributesAgree, RunsOfAttributesAreUnique, StringsAgree, TermsAgree, TextPiecesAgree, VariantsAgree, VariantsAreUnique};
+
+/// What is skipped is the longest blank, told by its bytes.
+pub fn blanks_agree()
+    ensures blank_inline { BlankInlineAgrees }
+    ensures line_ends { LineEndsAgree }
+    ensures blank { BlankAgrees }
+{}
 
 /// The words are read exactly where they are spelled.
 pub fn words_agree()
