@@ -1,9 +1,9 @@
 -- Blank inline, line ends and blank: what is skipped is what is spelled.
 use Rattle.std.proofs.Common.{◌≡◌, ℕ, Bool, true, false, [], ◌∷◌, ◌++◌, drop, take, Option, Some, None, refl, sym, ap, ◌∙◌, arith, inl, inr}
 use Rattle.std.specs.Prelude.{◌==◌, ◌&&◌, ◌||◌, ◌⊎◌}
-use Rattle.fluent_grammar.specs.Words.{Text, line_feed, carriage_return, space, spaces, begins_with, begins_crlf, skip_spaces, after_line_end, skip_blank}
-use Rattle.fluent_grammar.specs.Lexical.{IsLongestRun, SpellsLineEnd, lf, crlf, IsBlank, no_blank, then_space, then_lf, then_crlf, SpellsBlank, SpellsBlankInline}
-use Rattle.fluent_grammar.specs.SpellingLaws.{BlankInlineAgrees, LineEndsAgree, BlankAgrees}
+use Rattle.fluent_grammar.specs.Words.{Text, line_feed, carriage_return, space, spaces, begins_with, begins_crlf, skip_spaces, after_line_end, skip_blank, rest_of_line}
+use Rattle.fluent_grammar.specs.Lexical.{IsLongestRun, SpellsLineEnd, lf, crlf, IsBlank, no_blank, then_space, then_lf, then_crlf, SpellsBlank, SpellsBlankInline, SpellsRestOfLine, line_ends, text_ends, line_byte}
+use Rattle.fluent_grammar.specs.SpellingLaws.{BlankInlineAgrees, LineEndsAgree, BlankAgrees, RestsOfLinesAgree}
 use Rattle.fluent_grammar.proofs.Got.{which, begins_is, same, either, decide}
 use Rattle.fluent_grammar.proofs.Runs.{run_counted, drop_run}
 
@@ -98,21 +98,24 @@ blank_sound (c ∷ cs) rest e = elim (which (c == space || c == line_feed) _ _ _
       ]
   ]
 
+no_line_feed : (c : ℕ) (cs : Text) → ((more : Text) → SpellsLineEnd (c ∷ cs) more → ⊥) → (c == line_feed) ≡ false
+no_line_feed c cs none = elim (decide (c == line_feed)) [
+    | inl p ↦ absurd (none cs (lf-at (ap (λ x. x ∷ cs) (same c line_feed p))))
+    | inr p ↦ p
+  ]
+
+no_return : (c : ℕ) (cs : Text) → ((more : Text) → SpellsLineEnd (c ∷ cs) more → ⊥) → (c == carriage_return && begins_with line_feed cs) ≡ false
+no_return c cs none = elim (decide (c == carriage_return && begins_with line_feed cs)) [
+    | inl p ↦
+        let m : c ≡ carriage_return = grind arith in
+        let h : begins_with line_feed cs ≡ true = grind arith in
+        absurd (none (drop 1 cs) (crlf-at (ap (λ x. x ∷ cs) m ∙ ap (λ x. carriage_return ∷ x) (begins_is line_feed cs h))))
+    | inr p ↦ p
+  ]
+
 stays : (rest : Text) → begins_with space rest ≡ false → ((more : Text) → SpellsLineEnd rest more → ⊥) → skip_blank rest ≡ rest
 stays [] no_space no_line_end = refl
-stays (c ∷ cs) no_space no_line_end =
-    let no_lf : (c == line_feed) ≡ false = elim (decide (c == line_feed)) [
-        | inl p ↦ absurd (no_line_end cs (lf-at (ap (λ x. x ∷ cs) (same c line_feed p))))
-        | inr p ↦ p
-      ] in
-    let no_crlf : (c == carriage_return && begins_with line_feed cs) ≡ false = elim (decide (c == carriage_return && begins_with line_feed cs)) [
-        | inl p ↦
-            let m : c ≡ carriage_return = grind arith in
-            let h : begins_with line_feed cs ≡ true = grind arith in
-            absurd (no_line_end (drop 1 cs) (crlf-at (ap (λ x. x ∷ cs) m ∙ ap (λ x. carriage_return ∷ x) (begins_is line_feed cs h))))
-        | inr p ↦ p
-      ] in
-    rw (no_space, no_lf, no_crlf) refl
+stays (c ∷ cs) no_space no_line_end = rw (no_space, no_line_feed c cs no_line_end, no_return c cs no_line_end) refl
 
 blank_skipped : {blank : Text} (rest : Text) → IsBlank blank → skip_blank (blank ++ rest) ≡ skip_blank rest
 blank_skipped rest no_blank = refl
@@ -127,3 +130,36 @@ blank_complete s rest spelled =
 
 pub blank_agrees : BlankAgrees
 blank_agrees s rest = (blank_sound s rest, blank_complete s rest)
+
+-- ---- the rest of a line
+
+rest_of_line_sound : (s line rest : Text) → rest_of_line s ≡ (line, rest) → SpellsRestOfLine line s rest
+rest_of_line_sound [] line rest e = let a : [] ≡ line = ap (λ x. x.0) e in let b : [] ≡ rest = ap (λ x. x.1) e in rw (← a, ← b) text_ends
+rest_of_line_sound (c ∷ cs) line rest e = elim (which (c == line_feed) _ _ _ e) [
+    | inl p ↦
+        let n : c ≡ line_feed = same c line_feed p.0 in
+        let a : [] ≡ line = ap (λ x. x.0) p.1 in
+        let b : cs ≡ rest = ap (λ x. x.1) p.1 in
+        rw (← a) (line_ends (lf-at {s = c ∷ cs} {rest = rest} (rw (n, b) refl)))
+    | inr p ↦ elim (which (c == carriage_return && begins_with line_feed cs) _ _ _ p.1) [
+        | inl q ↦
+            let m : c ≡ carriage_return = grind arith in
+            let h : begins_with line_feed cs ≡ true = grind arith in
+            let a : [] ≡ line = ap (λ x. x.0) q.1 in
+            let b : drop 1 cs ≡ rest = ap (λ x. x.1) q.1 in
+            rw (← a, ← b) (line_ends (crlf-at (ap (λ x. x ∷ cs) m ∙ ap (λ x. carriage_return ∷ x) (begins_is line_feed cs h))))
+        | inr q ↦
+            let a : c ∷ (rest_of_line cs).0 ≡ line = ap (λ x. x.0) q.1 in
+            let b : (rest_of_line cs).1 ≡ rest = ap (λ x. x.1) q.1 in
+            rw (← a, ← b) (line_byte (λ more d. no_line_end-here c cs more p.0 q.0 d) (rest_of_line_sound cs (rest_of_line cs).0 (rest_of_line cs).1 refl))
+      ]
+  ]
+
+rest_of_line_complete : {s line rest : Text} → SpellsRestOfLine line s rest → rest_of_line s ≡ (line, rest)
+rest_of_line_complete (line_ends lf) = refl
+rest_of_line_complete (line_ends crlf) = refl
+rest_of_line_complete text_ends = refl
+rest_of_line_complete (line_byte {c} {line} {s} {rest} none d) = rw (no_line_feed c s none, no_return c s none, rest_of_line_complete d) refl
+
+pub rests_of_lines_agree : RestsOfLinesAgree
+rests_of_lines_agree s line rest = (rest_of_line_sound s line rest, rest_of_line_complete)

@@ -34,6 +34,13 @@ pub record SpellsBlank (blank text rest : Text) : Type 0 where
   pub no_space : begins_with space rest ≡ false
   pub no_line_end : (more : Text) → SpellsLineEnd rest more → ⊥
 
+-- The rest of a line: bytes up to a line end, which is taken, or up to the end of the text. A carriage return that isn't
+-- part of a line end is one of the bytes.
+pub data SpellsRestOfLine : Text → Text → Text → Type 0 where
+  line_ends : {s rest : Text} → SpellsLineEnd s rest → SpellsRestOfLine [] s rest
+  text_ends : SpellsRestOfLine [] [] []
+  line_byte : {c : ℕ} {line s rest : Text} → ((more : Text) → SpellsLineEnd (c ∷ s) more → ⊥) → SpellsRestOfLine line s rest → SpellsRestOfLine (c ∷ line) (c ∷ s) rest
+
 -- Identifier: an ASCII letter, then letters, digits, `-` and `_`.
 pub record SpellsName (name text rest : Text) : Type 0 where
   pub letter_first : begins is_letter text ≡ true

@@ -1,8 +1,8 @@
 -- Laws of spelling and reading, as statements: reading gives a node and a rest exactly where the node is spelled up to
 -- that rest; so a text begins with at most one node of a kind.
 use Rattle.std.specs.Prelude.{◌≡◌, ◌↔◌, ◌<◌, ◌≤◌, ℕ, Bool, true, List, length, Some}
-use Rattle.fluent_grammar.specs.Words.{Text, begins, begins_with, is_letter, hyphen, number_sign, open_brace, dot, skip_spaces, after_line_end, skip_blank}
-use Rattle.fluent_grammar.specs.Lexical.{SpellsBlankInline, SpellsLineEnd, SpellsBlank, SpellsName, SpellsNumber, SpellsString, SpellsAccessor, SpellsKey, SpellsLiteral, SpellsText}
+use Rattle.fluent_grammar.specs.Words.{Text, begins, begins_with, is_letter, hyphen, number_sign, open_brace, dot, skip_spaces, after_line_end, skip_blank, rest_of_line}
+use Rattle.fluent_grammar.specs.Lexical.{SpellsBlankInline, SpellsLineEnd, SpellsBlank, SpellsRestOfLine, SpellsName, SpellsNumber, SpellsString, SpellsAccessor, SpellsKey, SpellsLiteral, SpellsText}
 use Rattle.fluent_grammar.specs.Refusal.{Reading, got}
 use Rattle.fluent_grammar.specs.Reading.{identifier_at, number_at, string_content, accessor_at, key_at, literal_at, text_run, readers, placeable_at, pattern_at, attribute_at, attributes_at, message_at, term_entry_at, comment_at, entry_at}
 use Rattle.fluent_grammar.specs.Spelling.{SpellsInline, SpellsArguments, SpellsPlaceable, SpellsVariants, SpellsPattern, SpellsPieces, SpellsLine, SpellsAttribute, SpellsAttributes, SpellsEntry}
@@ -31,6 +31,9 @@ LineEndsAgree = (s rest : Text) → (after_line_end s ≡ Some rest) ↔ SpellsL
 
 abbrev pub BlankAgrees : Type 0
 BlankAgrees = (s rest : Text) → (skip_blank s ≡ rest) ↔ ((blank : Text) × SpellsBlank blank s rest)
+
+abbrev pub RestsOfLinesAgree : Type 0
+RestsOfLinesAgree = (s line rest : Text) → (rest_of_line s ≡ (line, rest)) ↔ SpellsRestOfLine line s rest
 
 abbrev pub NamesAgree : Type 0
 NamesAgree = Agree identifier_at SpellsName

@@ -1,12 +1,13 @@
 //! Laws about spelling and reading: reading gives a node and a rest exactly where the node is spelled up to that rest.
 
-ghost use Rattle.fluent_grammar.specs.SpellingLaws.{AccessorsAgree, ArgumentsAgree, ArgumentsAreUnique, AttributesAgree, AttributesAreUnique, BlankAgrees, BlankInlineAgrees, CommentsAgree, EntriesAgree, EntriesAreUnique, ExpressionsAgree, ExpressionsAreUnique, KeysAgree, LineEndsAgree, LinesAgree, LinesAreUnique, LiteralsAgree, MessagesAgree, NamesAgree, NumbersAgree, PatternsAgree, PatternsAreUnique, PiecesAgree, PiecesAreUnique, PlaceablesAgree, PlaceablesAreUnique, RunsOfAttributesAgree, RunsOfAttributesAreUnique, StringsAgree, TermsAgree, TextPiecesAgree, VariantsAgree, VariantsAreUnique};
+ghost use Rattle.fluent_grammar.specs.SpellingLaws.{AccessorsAgree, ArgumentsAgree, ArgumentsAreUnique, AttributesAgree, AttributesAreUnique, BlankAgrees, BlankInlineAgrees, CommentsAgree, EntriesAgree, EntriesAreUnique, ExpressionsAgree, ExpressionsAreUnique, KeysAgree, LineEndsAgree, LinesAgree, LinesAreUnique, LiteralsAgree, MessagesAgree, NamesAgree, NumbersAgree, PatternsAgree, PatternsAreUnique, PiecesAgree, PiecesAreUnique, PlaceablesAgree, PlaceablesAreUnique, RestsOfLinesAgree, RunsOfAttributesAgree, RunsOfAttributesAreUnique, StringsAgree, TermsAgree, TextPiecesAgree, VariantsAgree, VariantsAreUnique};
 
-/// What is skipped is the longest blank, told by its bytes.
+/// What is skipped is the longest blank, told by its bytes; and so is the rest of a line.
 pub fn blanks_agree()
     ensures blank_inline { BlankInlineAgrees }
     ensures line_ends { LineEndsAgree }
     ensures blank { BlankAgrees }
+    ensures rests_of_lines { RestsOfLinesAgree }
 {}
 
 /// The words are read exactly where they are spelled.
