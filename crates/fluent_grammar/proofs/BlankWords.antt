@@ -26,7 +26,7 @@ lf-at e = rw e lf
 crlf-at : {s rest : Text} → s ≡ carriage_return ∷ line_feed ∷ rest → SpellsLineEnd s rest
 crlf-at e = rw e crlf
 
-line_end_sound : (s rest : Text) → after_line_end s ≡ Some rest → SpellsLineEnd s rest
+pub line_end_sound : (s rest : Text) → after_line_end s ≡ Some rest → SpellsLineEnd s rest
 line_end_sound [] rest e = absurd cc
 line_end_sound (c ∷ []) rest e = elim (which (c == line_feed) _ _ _ e) [
     | inl p ↦ let n : c ≡ line_feed = same c line_feed p.0 in let r : [] ≡ rest = cc in lf-at (rw (n, r) refl)
@@ -40,7 +40,7 @@ line_end_sound (c ∷ d ∷ ds) rest e = elim (which (c == line_feed) _ _ _ e) [
       ]
   ]
 
-line_end_complete : {s rest : Text} → SpellsLineEnd s rest → after_line_end s ≡ Some rest
+pub line_end_complete : {s rest : Text} → SpellsLineEnd s rest → after_line_end s ≡ Some rest
 line_end_complete lf = refl
 line_end_complete crlf = refl
 
@@ -82,7 +82,7 @@ no_line_end-here : (c : ℕ) (cs more : Text) → (c == line_feed) ≡ false →
 no_line_end-here c cs more no_lf no_crlf lf = absurd cc
 no_line_end-here c cs more no_lf no_crlf crlf = absurd cc
 
-blank_sound : (s rest : Text) → skip_blank s ≡ rest → (blank : Text) × SpellsBlank blank s rest
+pub blank_sound : (s rest : Text) → skip_blank s ≡ rest → (blank : Text) × SpellsBlank blank s rest
 blank_sound [] rest e = ([], record { split = e; is_blank = no_blank; no_space = rw (← e) refl; no_line_end = rw (← e) (λ more d. elim d [ ]) })
 blank_sound (c ∷ cs) rest e = elim (which (c == space || c == line_feed) _ _ _ e) [
     | inl p ↦ elim (either (c == space) (c == line_feed) p.0) [
@@ -123,7 +123,7 @@ blank_skipped rest (then_space b) = blank_skipped rest b
 blank_skipped rest (then_lf b) = blank_skipped rest b
 blank_skipped rest (then_crlf b) = blank_skipped rest b
 
-blank_complete : (s rest : Text) → (blank : Text) × SpellsBlank blank s rest → skip_blank s ≡ rest
+pub blank_complete : (s rest : Text) → (blank : Text) × SpellsBlank blank s rest → skip_blank s ≡ rest
 blank_complete s rest spelled =
     let d = spelled.1 in
     rw d.split (blank_skipped rest d.is_blank ∙ stays rest d.no_space d.no_line_end)
@@ -133,7 +133,7 @@ blank_agrees s rest = (blank_sound s rest, blank_complete s rest)
 
 -- ---- the rest of a line
 
-rest_of_line_sound : (s line rest : Text) → rest_of_line s ≡ (line, rest) → SpellsRestOfLine line s rest
+pub rest_of_line_sound : (s line rest : Text) → rest_of_line s ≡ (line, rest) → SpellsRestOfLine line s rest
 rest_of_line_sound [] line rest e = let a : [] ≡ line = ap (λ x. x.0) e in let b : [] ≡ rest = ap (λ x. x.1) e in rw (← a, ← b) text_ends
 rest_of_line_sound (c ∷ cs) line rest e = elim (which (c == line_feed) _ _ _ e) [
     | inl p ↦
@@ -155,7 +155,7 @@ rest_of_line_sound (c ∷ cs) line rest e = elim (which (c == line_feed) _ _ _ e
       ]
   ]
 
-rest_of_line_complete : {s line rest : Text} → SpellsRestOfLine line s rest → rest_of_line s ≡ (line, rest)
+pub rest_of_line_complete : {s line rest : Text} → SpellsRestOfLine line s rest → rest_of_line s ≡ (line, rest)
 rest_of_line_complete (line_ends lf) = refl
 rest_of_line_complete (line_ends crlf) = refl
 rest_of_line_complete text_ends = refl
