@@ -1,8 +1,8 @@
 -- Blank inline, line ends and blank: what is skipped is what is spelled.
-use Rattle.std.proofs.Common.{◌≡◌, ℕ, Bool, true, false, [], ◌∷◌, ◌++◌, drop, take, Option, Some, None, refl, sym, ap, ◌∙◌, arith, inl, inr}
-use Rattle.std.specs.Prelude.{◌==◌, ◌&&◌, ◌||◌, ◌⊎◌}
-use Rattle.fluent_grammar.specs.Words.{Text, line_feed, carriage_return, space, spaces, begins_with, begins_crlf, skip_spaces, after_line_end, skip_blank, rest_of_line}
-use Rattle.fluent_grammar.specs.Lexical.{IsLongestRun, SpellsLineEnd, lf, crlf, IsBlank, no_blank, then_space, then_lf, then_crlf, SpellsBlank, SpellsBlankInline, SpellsRestOfLine, line_ends, text_ends, line_byte}
+use Rattle.std.proofs.Common.{◌≡◌, ℕ, true, false, [], ◌∷◌, ◌++◌, drop, take, Some, refl, sym, ap, ◌∙◌, arith, inl, inr}
+use Rattle.std.specs.Prelude.{◌==◌, ◌&&◌, ◌||◌}
+use Rattle.fluent_grammar.specs.Words.{Text, line_feed, carriage_return, space, spaces, begins_with, skip_spaces, after_line_end, skip_blank, rest_of_line}
+use Rattle.fluent_grammar.specs.Lexical.{SpellsLineEnd, lf, crlf, IsBlank, no_blank, then_space, then_lf, then_crlf, SpellsBlank, SpellsBlankInline, SpellsRestOfLine, line_ends, text_ends, line_byte}
 use Rattle.fluent_grammar.specs.SpellingLaws.{BlankInlineAgrees, LineEndsAgree, BlankAgrees, RestsOfLinesAgree}
 use Rattle.fluent_grammar.proofs.Got.{which, begins_is, same, either, decide}
 use Rattle.fluent_grammar.proofs.Runs.{run_counted, drop_run}
@@ -29,16 +29,16 @@ crlf-at e = rw e crlf
 pub line_end_sound : (s rest : Text) → after_line_end s ≡ Some rest → SpellsLineEnd s rest
 line_end_sound [] rest e = absurd cc
 line_end_sound (c ∷ []) rest e = elim (which (c == line_feed) _ _ _ e) [
-    | inl p ↦ let n : c ≡ line_feed = same c line_feed p.0 in let r : [] ≡ rest = cc in lf-at (rw (n, r) refl)
-    | inr p ↦ absurd (grind arith)
-  ]
+  | inl p ↦ let n : c ≡ line_feed = same c line_feed p.0 in let r : [] ≡ rest = cc in lf-at (rw (n, r) refl)
+  | inr p ↦ absurd (grind arith)
+]
 line_end_sound (c ∷ d ∷ ds) rest e = elim (which (c == line_feed) _ _ _ e) [
-    | inl p ↦ let n : c ≡ line_feed = same c line_feed p.0 in let r : d ∷ ds ≡ rest = cc in lf-at (rw (n, r) refl)
-    | inr p ↦ elim (which (c == carriage_return && d == line_feed) _ _ _ p.1) [
-        | inl q ↦ let m : c ≡ carriage_return = grind arith in let n : d ≡ line_feed = grind arith in let r : ds ≡ rest = cc in crlf-at (rw (m, n, r) refl)
-        | inr q ↦ absurd cc
-      ]
+  | inl p ↦ let n : c ≡ line_feed = same c line_feed p.0 in let r : d ∷ ds ≡ rest = cc in lf-at (rw (n, r) refl)
+  | inr p ↦ elim (which (c == carriage_return && d == line_feed) _ _ _ p.1) [
+    | inl q ↦ let m : c ≡ carriage_return = grind arith in let n : d ≡ line_feed = grind arith in let r : ds ≡ rest = cc in crlf-at (rw (m, n, r) refl)
+    | inr q ↦ absurd cc
   ]
+]
 
 pub line_end_complete : {s rest : Text} → SpellsLineEnd s rest → after_line_end s ≡ Some rest
 line_end_complete lf = refl
@@ -70,13 +70,15 @@ one-lf c cs rest e more =
 one-return : (c : ℕ) (cs rest : Text) → c ≡ carriage_return → begins_with line_feed cs ≡ true → (blank : Text) × SpellsBlank blank cs rest →
     (blank : Text) × SpellsBlank blank (c ∷ cs) rest
 one-return c cs rest e h more =
-    let d = more.1 in
-    (carriage_return ∷ more.0, record {
-      split = rw (e, ← d.split) refl;
-      is_blank = behind_return cs more.0 rest h d.is_blank d.split d.no_line_end;
-      no_space = d.no_space;
-      no_line_end = d.no_line_end;
-    })
+    let d = more.1 in (
+      carriage_return ∷ more.0,
+      record {
+        split = rw (e, ← d.split) refl;
+        is_blank = behind_return cs more.0 rest h d.is_blank d.split d.no_line_end;
+        no_space = d.no_space;
+        no_line_end = d.no_line_end;
+      },
+    )
 
 no_line_end-here : (c : ℕ) (cs more : Text) → (c == line_feed) ≡ false → (c == carriage_return && begins_with line_feed cs) ≡ false → SpellsLineEnd (c ∷ cs) more → ⊥
 no_line_end-here c cs more no_lf no_crlf lf = absurd cc
@@ -85,33 +87,33 @@ no_line_end-here c cs more no_lf no_crlf crlf = absurd cc
 pub blank_sound : (s rest : Text) → skip_blank s ≡ rest → (blank : Text) × SpellsBlank blank s rest
 blank_sound [] rest e = ([], record { split = e; is_blank = no_blank; no_space = rw (← e) refl; no_line_end = rw (← e) (λ more d. elim d [ ]) })
 blank_sound (c ∷ cs) rest e = elim (which (c == space || c == line_feed) _ _ _ e) [
-    | inl p ↦ elim (either (c == space) (c == line_feed) p.0) [
-        | inl q ↦ one-space c cs rest (same c space q) (blank_sound cs rest p.1)
-        | inr q ↦ one-lf c cs rest (same c line_feed q) (blank_sound cs rest p.1)
-      ]
-    | inr p ↦ elim (which (c == carriage_return && begins_with line_feed cs) _ _ _ p.1) [
-        | inl q ↦ one-return c cs rest (grind arith) (grind arith) (blank_sound cs rest q.1)
-        | inr q ↦
-            let no_sp : (c == space) ≡ false = grind arith in
-            let no_lf : (c == line_feed) ≡ false = grind arith in
-            ([], record { split = q.1; is_blank = no_blank; no_space = rw (← q.1) no_sp; no_line_end = rw (← q.1) (λ more d. no_line_end-here c cs more no_lf q.0 d) })
-      ]
+  | inl p ↦ elim (either (c == space) (c == line_feed) p.0) [
+    | inl q ↦ one-space c cs rest (same c space q) (blank_sound cs rest p.1)
+    | inr q ↦ one-lf c cs rest (same c line_feed q) (blank_sound cs rest p.1)
   ]
+  | inr p ↦ elim (which (c == carriage_return && begins_with line_feed cs) _ _ _ p.1) [
+    | inl q ↦ one-return c cs rest (grind arith) (grind arith) (blank_sound cs rest q.1)
+    | inr q ↦
+        let no_sp : (c == space) ≡ false = grind arith in
+        let no_lf : (c == line_feed) ≡ false = grind arith in
+        ([], record { split = q.1; is_blank = no_blank; no_space = rw (← q.1) no_sp; no_line_end = rw (← q.1) (λ more d. no_line_end-here c cs more no_lf q.0 d) })
+  ]
+]
 
 no_line_feed : (c : ℕ) (cs : Text) → ((more : Text) → SpellsLineEnd (c ∷ cs) more → ⊥) → (c == line_feed) ≡ false
 no_line_feed c cs none = elim (decide (c == line_feed)) [
-    | inl p ↦ absurd (none cs (lf-at (ap (λ x. x ∷ cs) (same c line_feed p))))
-    | inr p ↦ p
-  ]
+  | inl p ↦ absurd (none cs (lf-at (ap (λ x. x ∷ cs) (same c line_feed p))))
+  | inr p ↦ p
+]
 
 no_return : (c : ℕ) (cs : Text) → ((more : Text) → SpellsLineEnd (c ∷ cs) more → ⊥) → (c == carriage_return && begins_with line_feed cs) ≡ false
 no_return c cs none = elim (decide (c == carriage_return && begins_with line_feed cs)) [
-    | inl p ↦
-        let m : c ≡ carriage_return = grind arith in
-        let h : begins_with line_feed cs ≡ true = grind arith in
-        absurd (none (drop 1 cs) (crlf-at (ap (λ x. x ∷ cs) m ∙ ap (λ x. carriage_return ∷ x) (begins_is line_feed cs h))))
-    | inr p ↦ p
-  ]
+  | inl p ↦
+      let m : c ≡ carriage_return = grind arith in
+      let h : begins_with line_feed cs ≡ true = grind arith in
+      absurd (none (drop 1 cs) (crlf-at (ap (λ x. x ∷ cs) m ∙ ap (λ x. carriage_return ∷ x) (begins_is line_feed cs h))))
+  | inr p ↦ p
+]
 
 stays : (rest : Text) → begins_with space rest ≡ false → ((more : Text) → SpellsLineEnd rest more → ⊥) → skip_blank rest ≡ rest
 stays [] no_space no_line_end = refl
@@ -136,24 +138,24 @@ blank_agrees s rest = (blank_sound s rest, blank_complete s rest)
 pub rest_of_line_sound : (s line rest : Text) → rest_of_line s ≡ (line, rest) → SpellsRestOfLine line s rest
 rest_of_line_sound [] line rest e = let a : [] ≡ line = ap (λ x. x.0) e in let b : [] ≡ rest = ap (λ x. x.1) e in rw (← a, ← b) text_ends
 rest_of_line_sound (c ∷ cs) line rest e = elim (which (c == line_feed) _ _ _ e) [
-    | inl p ↦
-        let n : c ≡ line_feed = same c line_feed p.0 in
-        let a : [] ≡ line = ap (λ x. x.0) p.1 in
-        let b : cs ≡ rest = ap (λ x. x.1) p.1 in
-        rw (← a) (line_ends (lf-at {s = c ∷ cs} {rest = rest} (rw (n, b) refl)))
-    | inr p ↦ elim (which (c == carriage_return && begins_with line_feed cs) _ _ _ p.1) [
-        | inl q ↦
-            let m : c ≡ carriage_return = grind arith in
-            let h : begins_with line_feed cs ≡ true = grind arith in
-            let a : [] ≡ line = ap (λ x. x.0) q.1 in
-            let b : drop 1 cs ≡ rest = ap (λ x. x.1) q.1 in
-            rw (← a, ← b) (line_ends (crlf-at (ap (λ x. x ∷ cs) m ∙ ap (λ x. carriage_return ∷ x) (begins_is line_feed cs h))))
-        | inr q ↦
-            let a : c ∷ (rest_of_line cs).0 ≡ line = ap (λ x. x.0) q.1 in
-            let b : (rest_of_line cs).1 ≡ rest = ap (λ x. x.1) q.1 in
-            rw (← a, ← b) (line_byte (λ more d. no_line_end-here c cs more p.0 q.0 d) (rest_of_line_sound cs (rest_of_line cs).0 (rest_of_line cs).1 refl))
-      ]
+  | inl p ↦
+      let n : c ≡ line_feed = same c line_feed p.0 in
+      let a : [] ≡ line = ap (λ x. x.0) p.1 in
+      let b : cs ≡ rest = ap (λ x. x.1) p.1 in
+      rw (← a) (line_ends (lf-at {s = c ∷ cs} {rest = rest} (rw (n, b) refl)))
+  | inr p ↦ elim (which (c == carriage_return && begins_with line_feed cs) _ _ _ p.1) [
+    | inl q ↦
+        let m : c ≡ carriage_return = grind arith in
+        let h : begins_with line_feed cs ≡ true = grind arith in
+        let a : [] ≡ line = ap (λ x. x.0) q.1 in
+        let b : drop 1 cs ≡ rest = ap (λ x. x.1) q.1 in
+        rw (← a, ← b) (line_ends (crlf-at (ap (λ x. x ∷ cs) m ∙ ap (λ x. carriage_return ∷ x) (begins_is line_feed cs h))))
+    | inr q ↦
+        let a : c ∷ (rest_of_line cs).0 ≡ line = ap (λ x. x.0) q.1 in
+        let b : (rest_of_line cs).1 ≡ rest = ap (λ x. x.1) q.1 in
+        rw (← a, ← b) (line_byte (λ more d. no_line_end-here c cs more p.0 q.0 d) (rest_of_line_sound cs (rest_of_line cs).0 (rest_of_line cs).1 refl))
   ]
+]
 
 pub rest_of_line_complete : {s line rest : Text} → SpellsRestOfLine line s rest → rest_of_line s ≡ (line, rest)
 rest_of_line_complete (line_ends lf) = refl
