@@ -8,3 +8,4 @@ pub mod Reading
 pub mod Tiling
 pub mod Escapes
 pub mod SpellingLaws
+pub mod LineLaws
