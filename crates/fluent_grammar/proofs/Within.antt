@@ -42,6 +42,7 @@ accessor-within s = within-if (begins_with dot s) _ _ _ (within-mapped _ _ _ (wi
 module _ (inside : Readers)
     (inline : (s : Text) → Within (inside.inline s) (length s))
     (arguments : (names : List Text) (s : Text) → Within (inside.arguments names s) (length s)) where
+
   term_arguments-within : (id : Text) (attr : Option Text) (s : Text) → Within (term_arguments_at inside id attr s) (length s)
   unfolding term_arguments_at
   term_arguments-within id attr s = within-if (begins_with open_paren s) _ _ _
