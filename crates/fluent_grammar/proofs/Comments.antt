@@ -10,6 +10,7 @@ use Rattle.fluent_grammar.specs.Spelling.{SpellsCommentText, at_end, empty_line,
 use Rattle.fluent_grammar.specs.Reading.{comment_line_at, more_lines, comment_lines, comment_of, comment_at}
 use Rattle.fluent_grammar.proofs.Got.{bind_got, got_node, which, begins_is, no_text, same}
 use Rattle.fluent_grammar.proofs.Lengths.{line_end-lt}
+use Rattle.fluent_grammar.proofs.BlankWords.{line_end_sound, line_end_complete, rest_of_line_sound, rest_of_line_complete}
 
 -- ---- the text behind a sign
 
@@ -30,7 +31,7 @@ some_next None h = absurd cc
 some_next (Some w) h = (w, refl)
 
 some_line-at : {lines : List Text} {s u rest : Text} → s ≡ space ∷ u → (rest_of_line u).0 ∷ [] ≡ lines → (rest_of_line u).1 ≡ rest → SpellsCommentText lines s rest
-some_line-at e f g = rw (e, ← f, ← g) some_line
+some_line-at {lines} {s} {u} {rest} e f g = rw (e, ← f, ← g) (some_line (rest_of_line_sound u (rest_of_line u).0 (rest_of_line u).1 refl))
 
 pub text_sound : (s : Text) (lines : List Text) (rest : Text) → comment_line_at s ≡ got lines rest → SpellsCommentText lines s rest
 unfolding comment_line_at
@@ -41,7 +42,7 @@ text_sound s lines rest h =
         | inl p ↦ let g = got_node p.1 in
             let n = some_next (after_line_end s) p.0 in
             let e : after_line_end s ≡ Some rest = n.1 ∙ ap Some (sym (line_end-rest s n.0 n.1) ∙ g.1) in
-            rw (← g.0) (empty_line e)
+            rw (← g.0) (empty_line (line_end_sound s rest e))
         | inr p ↦ elim (which (begins_with space s) _ _ _ p.1) [
           | inl q ↦ let g = got_node q.1 in some_line-at (begins_is space s q.0) g.0 g.1
           | inr q ↦ absurd cc
@@ -56,10 +57,11 @@ line_end-begun (c ∷ cs) w h = grind arith
 pub text_complete : {lines : List Text} {s rest : Text} → SpellsCommentText lines s rest → comment_line_at s ≡ got lines rest
 unfolding comment_line_at
 text_complete at_end = refl
-text_complete (empty_line {s} {rest} h) =
+text_complete (empty_line {s} {rest} d) =
+    let h : after_line_end s ≡ Some rest = line_end_complete d in
     let e : (rest_of_line s).1 ≡ rest = line_end-rest s rest h in
     rw (line_end-begun s rest h, h) (ap (λ u. got ([] ∷ []) u) e)
-text_complete (some_line {s}) = let e : (length (space ∷ s) == 0) ≡ false = grind arith in rw e refl
+text_complete (some_line {line} {s} {rest} d) = let e : (length (space ∷ s) == 0) ≡ false = grind arith in rw (e, rest_of_line_complete d) refl
 
 shorter-chosen : (b : Bool) (x y : Text × Text) (n : ℕ) → length x.1 ≤ n → length y.1 ≤ n → length (cond b x y).1 ≤ n
 shorter-chosen true x y n h k = h
@@ -73,8 +75,10 @@ rest_of_line-le (c ∷ cs) =
 
 text-no_longer : {lines : List Text} {s rest : Text} → SpellsCommentText lines s rest → length rest ≤ length s
 text-no_longer at_end = omega arith
-text-no_longer (empty_line {s} {rest} h) = omega (arith, line_end-lt s rest h)
-text-no_longer (some_line {s}) = omega (arith, rest_of_line-le s)
+text-no_longer (empty_line {s} {rest} d) = omega (arith, line_end-lt s rest (line_end_complete d))
+text-no_longer (some_line {line} {s} {rest} d) =
+    let n : length rest ≤ length s = rw (rest_of_line_complete d) at (rest_of_line-le s) in
+    omega (arith, n)
 
 -- ---- lines of a level
 

@@ -263,6 +263,87 @@ expected_literal : Refuses (codes "a={F(x:y)}") r.expected_literal 7
 unfolding computing Refuses error_at
 expected_literal = refl
 
+-- ---- where the rules leave a choice, and where two failures meet at one place
+
+-- a pattern that isn't there takes its blank
+absent_pattern_takes_its_blank :
+    errors (codes "a = ") ≡ record { kind = r.expected_message_field (codes "a"); pos_start = 0; pos_end = 4; slice_start = 0; slice_end = 4 } ∷ []
+unfolding computing
+absent_pattern_takes_its_blank = refl
+
+value_is_missing_at_the_end : Refuses (codes "a={F(x:") r.expected_literal 7
+unfolding computing Refuses error_at
+value_is_missing_at_the_end = refl
+
+term_attribute_at_the_end : Refuses (codes "a={-b.c") r.term_attribute_as_placeable 7
+unfolding computing Refuses error_at
+term_attribute_at_the_end = refl
+
+escape_before_line_feed_is_met_first : Refuses (codes "a={\"\\\n") (r.unknown_escape_sequence (codes "\n")) 4
+unfolding computing Refuses error_at
+escape_before_line_feed_is_met_first = refl
+
+escape_before_the_end_is_met_first : Refuses (codes "a={\"\\") (r.unknown_escape_sequence (codes " ")) 4
+unfolding computing Refuses error_at
+escape_before_the_end_is_met_first = refl
+
+digits_are_missing_at_the_end : Refuses (codes "a={\"\\u1") (r.invalid_unicode_escape_sequence (codes "1")) 7
+unfolding computing Refuses error_at
+digits_are_missing_at_the_end = refl
+
+minus_begins_a_number_as_value : Refuses (codes "a={F(x:-t") r.expected_digit 8
+unfolding computing Refuses error_at
+minus_begins_a_number_as_value = refl
+
+no_blank_before_the_attribute_of_a_term : Refuses (codes "a={-b .c}") (r.expected_token close_brace) 6
+unfolding computing Refuses error_at
+no_blank_before_the_attribute_of_a_term = refl
+
+four_escapes_alone : Refuses (codes "a={\"\\{\"}") (r.unknown_escape_sequence (codes "{")) 4
+unfolding computing Refuses error_at
+four_escapes_alone = refl
+
+call_is_refused_behind_its_arguments : Refuses (codes "a={f(x:1,x:2)}") (r.duplicated_named_argument (codes "x")) 10
+unfolding computing Refuses error_at
+call_is_refused_behind_its_arguments = refl
+
+four_signs_are_three_and_no_space : Refuses (codes "#### a") (r.expected_token space) 3
+unfolding computing Refuses error_at
+four_signs_are_three_and_no_space = refl
+
+lone_mark_before_a_line_end :
+    tree (codes "a={1->\n*\n}") ≡ message_of (codes "a") (t.placeable (t.select (t.number_literal (codes "1")) t.no_variants) t.no_elements) ∷ []
+unfolding computing message_of
+lone_mark_before_a_line_end = refl
+
+junk_ends_behind_the_place_of_the_refusal :
+    errors (codes "a = {\nc = 1\nd = 2\n") ≡ error_at (r.expected_token close_brace) 8 0 12 ∷ []
+unfolding computing error_at
+junk_ends_behind_the_place_of_the_refusal = refl
+
+junk_ends_before_a_comment :
+    errors (codes "a = {\n# x\nc = 1\n") ≡ error_at r.expected_inline_expression 6 0 6 ∷ []
+unfolding computing error_at
+junk_ends_before_a_comment = refl
+
+tab_at_the_end_is_trimmed : tree (codes "a = b\t") ≡ message_of (codes "a") (one_text (codes "b")) ∷ []
+unfolding computing message_of one_text
+tab_at_the_end_is_trimmed = refl
+
+tab_alone_is_an_empty_text : tree (codes "a = \t") ≡ message_of (codes "a") (one_text []) ∷ []
+unfolding computing message_of one_text
+tab_alone_is_an_empty_text = refl
+
+-- a line of spaces within a pattern keeps those beyond the common indent
+blank_line_keeps_its_spaces :
+    tree (codes "a=\n b\n  \n c") ≡ message_of (codes "a") (t.text (codes "b\n") (t.text (codes " \n") (one_text (codes "c")))) ∷ []
+unfolding computing message_of one_text
+blank_line_keeps_its_spaces = refl
+
+blank_block_behind_a_line_that_is_passed_over : runtime_tree (codes "#a\n \nb = c") ≡ message_of (codes "b") (one_text (codes "c")) ∷ []
+unfolding computing message_of one_text
+blank_block_behind_a_line_that_is_passed_over = refl
+
 -- ---- escapes
 
 escapes_give_their_characters : unescaped (codes "Foo \\u5bd2 Bar\\\\\\U01F602\\\"") ≡ codes "Foo " ++ 229 ∷ 175 ∷ 146 ∷ codes " Bar\\" ++ 240 ∷ 159 ∷ 152 ∷ 130 ∷ codes "\""

@@ -15,3 +15,4 @@ pub mod TilingLaws
 pub mod Escapes
 pub mod SpellingLaws
 pub mod Written
+pub mod LineLaws

@@ -26,7 +26,8 @@ goes_on_at_column_zero c = c == open_brace || (c == carriage_return || c == line
 abbrev pub ends_behind_spaces : ℕ → Bool
 ends_behind_spaces c = c == close_brace || (c == dot || (c == open_bracket || c == asterisk))
 
--- whether a pattern ends at this line start; at the end of the text it does so, too, which is said where lines are read
+-- Whether a pattern ends at this line start, by the byte that stands there. It ends at the end of the text, too: that is said
+-- by the rules of a line.
 abbrev pub pattern_ends : Text → Bool
 pattern_ends s = if spaces s == 0 then not (begins goes_on_at_column_zero s) else begins ends_behind_spaces (skip_spaces s)
 

@@ -3,8 +3,8 @@
 -- things, how deep it may go and what it refuses are not said here: see `Reading`. The words are in `Lexical`.
 use Rattle.std.specs.Prelude.{◌≡◌, ◌≢◌, ◌⊎◌, ℕ, Bool, true, false, ◌==◌, List, [], ◌∷◌, ◌++◌, drop, Option, Some, None}
 use Rattle.std.specs.List.{list_all}
-use Rattle.fluent_grammar.specs.Words.{Text, line_feed, quote, dollar, open_paren, close_paren, asterisk, hyphen, dot, colon, equals, greater, space, open_bracket, close_bracket, open_brace, close_brace, is_callee_byte, begins_with, spaces, skip_spaces, begins_crlf, after_line_end, skip_blank, skip_blank_block, begins_arrow, skip_separator, is_among, rest_of_line, comment_level}
-use Rattle.fluent_grammar.specs.Lexical.{SpellsName, SpellsNumber, SpellsString, SpellsAccessor, SpellsKey, SpellsLiteral, SpellsText}
+use Rattle.fluent_grammar.specs.Words.{Text, line_feed, quote, dollar, open_paren, close_paren, asterisk, hyphen, dot, colon, equals, greater, space, open_bracket, close_bracket, open_brace, close_brace, is_callee_byte, begins_with, spaces, skip_spaces, begins_crlf, after_line_end, skip_blank, skip_blank_block, begins_arrow, skip_separator, is_among, comment_level}
+use Rattle.fluent_grammar.specs.Lexical.{SpellsLineEnd, SpellsRestOfLine, SpellsName, SpellsNumber, SpellsString, SpellsAccessor, SpellsKey, SpellsLiteral, SpellsText}
 use Rattle.fluent_grammar.specs.Lines.{Piece, at_line_start, in_line, placed, elements_of, ends_line, pattern_ends, value_of}
 use Rattle.fluent_grammar.specs.Tree as t
 
@@ -159,8 +159,8 @@ pub data SpellsAttributes : List t.Attribute → Text → Text → Type 0 where
 -- line.
 pub data SpellsCommentText : List Text → Text → Text → Type 0 where
   at_end : SpellsCommentText [] [] []
-  empty_line : {s rest : Text} → after_line_end s ≡ Some rest → SpellsCommentText ([] ∷ []) s rest
-  some_line : {s : Text} → SpellsCommentText ((rest_of_line s).0 ∷ []) (space ∷ s) (rest_of_line s).1
+  empty_line : {s rest : Text} → SpellsLineEnd s rest → SpellsCommentText ([] ∷ []) s rest
+  some_line : {line s rest : Text} → SpellsRestOfLine line s rest → SpellsCommentText (line ∷ []) (space ∷ s) rest
 
 -- CommentLine of a level: one sign, `#`, `##` or `###`.
 pub record SpellsCommentLine (level : ℕ) (lines : List Text) (text rest : Text) : Type 0 where
