@@ -1,0 +1,10 @@
+pub mod Decimal
+pub mod Parts
+pub mod Digits
+pub mod Options
+pub mod Number
+pub mod Reading
+pub mod Text
+pub mod Operands
+pub mod Plurals
+pub mod Conversion

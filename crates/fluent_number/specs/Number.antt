@@ -1,0 +1,12 @@
+-- A number: a decimal and its options.
+use Rattle.std.specs.Prelude.{ℤ}
+use Rattle.fluent_number.specs.Options.{Options, options_of}
+use Rattle.fluent_number.specs.declared.number.FluentNumber.{FluentNumber}
+
+-- a number without where its options lie in memory
+pub record Number : Type 0 where
+  pub value : ℤ
+  pub options : Options
+
+abbrev pub number_of : FluentNumber → Number
+number_of number = record { value = number.value; options = options_of number.options }

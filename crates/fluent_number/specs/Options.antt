@@ -1,0 +1,89 @@
+-- The options of a number, and what `merge` makes of them.
+use Rattle.std.specs.Prelude.{ℕ, ◌-◌, ◌^◌, ℤ, Bool, true, not, List, Option, Some, None, option_map, unwrap_or, codes, string_bytes, bytes_eq, if◌then◌else◌}
+use Rattle.fluent_number.specs.Digits.{Text}
+use Rattle.fluent_number.specs.Conversion.{unsigned_within}
+use Rattle.fluent_number.specs.declared.options.FluentNumberType.{FluentNumberType}
+use Rattle.fluent_number.specs.declared.options.FluentNumberType.TheVariants.{Cardinal, Ordinal}
+use Rattle.fluent_number.specs.declared.options.FluentNumberStyle.{FluentNumberStyle}
+use Rattle.fluent_number.specs.declared.options.FluentNumberStyle.TheVariants.{Decimal, Currency, Percent}
+use Rattle.fluent_number.specs.declared.options.FluentNumberCurrencyDisplayStyle.{FluentNumberCurrencyDisplayStyle}
+use Rattle.fluent_number.specs.declared.options.FluentNumberCurrencyDisplayStyle.TheVariants.{Symbol, Code, Name}
+use Rattle.fluent_number.specs.declared.options.FluentNumberOptions.{FluentNumberOptions}
+
+-- the options without where their text lies in memory
+pub record Options : Type 0 where
+  pub number_type : FluentNumberType
+  pub style : FluentNumberStyle
+  pub currency : Option Text
+  pub currency_display : FluentNumberCurrencyDisplayStyle
+  pub use_grouping : Bool
+  pub minimum_integer_digits : Option ℕ
+  pub minimum_fraction_digits : Option ℕ
+  pub maximum_fraction_digits : Option ℕ
+  pub minimum_significant_digits : Option ℕ
+  pub maximum_significant_digits : Option ℕ
+
+abbrev pub options_of : FluentNumberOptions → Options
+options_of options = record {
+  number_type = options.number_type;
+  style = options.style;
+  currency = option_map string_bytes options.currency;
+  currency_display = options.currency_display;
+  use_grouping = options.use_grouping;
+  minimum_integer_digits = options.minimum_integer_digits;
+  minimum_fraction_digits = options.minimum_fraction_digits;
+  maximum_fraction_digits = options.maximum_fraction_digits;
+  minimum_significant_digits = options.minimum_significant_digits;
+  maximum_significant_digits = options.maximum_significant_digits;
+}
+
+abbrev pub default_options : Options
+default_options = record {
+  number_type = Cardinal;
+  style = Decimal;
+  currency = None;
+  currency_display = Symbol;
+  use_grouping = true;
+  minimum_integer_digits = None;
+  minimum_fraction_digits = None;
+  maximum_fraction_digits = None;
+  minimum_significant_digits = None;
+  maximum_significant_digits = None;
+}
+
+-- the type, the style and the currency display that a text names; any other text names the default
+abbrev pub number_type_named : Text → FluentNumberType
+number_type_named text = if bytes_eq text (codes "ordinal") then Ordinal else Cardinal
+
+abbrev pub style_named : Text → FluentNumberStyle
+style_named text =
+    if bytes_eq text (codes "currency") then Currency
+    else (if bytes_eq text (codes "percent") then Percent else Decimal)
+
+abbrev pub currency_display_named : Text → FluentNumberCurrencyDisplayStyle
+currency_display_named text =
+    if bytes_eq text (codes "code") then Code
+    else (if bytes_eq text (codes "name") then Name else Symbol)
+
+-- a setting read from what stands under its key; it stays where there is nothing of its kind
+abbrev pub updated : {V A : Type 0} → (V → A) → Option V → A → A
+updated read found before = unwrap_or (option_map read found) before
+
+-- a count of digits: a number's whole part, as a `usize`
+abbrev pub count_of : ℤ → Option ℕ
+count_of value = Some (unsigned_within (2 ^ 64 - 1) value)
+
+-- The options after a merge with a source that has these texts and these numbers under its keys.
+abbrev pub merged : (Text → Option Text) → (Text → Option ℤ) → Options → Options
+merged text number before = record {
+  number_type = updated number_type_named (text (codes "type")) before.number_type;
+  style = updated style_named (text (codes "style")) before.style;
+  currency = updated Some (text (codes "currency")) before.currency;
+  currency_display = updated currency_display_named (text (codes "currencyDisplay")) before.currency_display;
+  use_grouping = updated (λ found. not (bytes_eq found (codes "false"))) (text (codes "useGrouping")) before.use_grouping;
+  minimum_integer_digits = updated count_of (number (codes "minimumIntegerDigits")) before.minimum_integer_digits;
+  minimum_fraction_digits = updated count_of (number (codes "minimumFractionDigits")) before.minimum_fraction_digits;
+  maximum_fraction_digits = updated count_of (number (codes "maximumFractionDigits")) before.maximum_fraction_digits;
+  minimum_significant_digits = updated count_of (number (codes "minimumSignificantDigits")) before.minimum_significant_digits;
+  maximum_significant_digits = updated count_of (number (codes "maximumSignificantDigits")) before.maximum_significant_digits;
+}
