@@ -1,1 +1,4 @@
+pub mod Numerals
+pub mod Powers
 mod Rows
+pub mod Worth

@@ -1,6 +1,7 @@
 -- Which number a text is, if it is one.
-use Rattle.std.specs.Prelude.{ℕ, ◌+◌, ◌-◌, ◌*◌, ◌^◌, Bool, ◌&&◌, ◌||◌, ◌==◌, nat_lt, nat_le, if◌then◌else◌, length, drop, take, position, Option, Some, None, option_map, unwrap_or, slice_index, [], ◌++◌}
-use Rattle.std.specs.Str.{all_ascii_digits}
+use Rattle.std.specs.Prelude.{ℕ, ℤ, ◌+◌, ◌-◌, ◌*◌, ◌^◌, Bool, ◌&&◌, ◌||◌, ◌==◌, nat_lt, nat_le, if◌then◌else◌, length, drop, take, position, Option, Some, None, option_map, unwrap_or, slice_index, [], ◌++◌}
+use Rattle.std.specs.Char.{is_ascii_digit}
+use Rattle.std.specs.List.{list_all}
 use Rattle.fluent_number.specs.Decimal.{signed}
 use Rattle.fluent_number.specs.Digits.{Text, digits_worth}
 use Rattle.fluent_number.specs.Number.{Number}
@@ -23,30 +24,27 @@ parted text (Some place) = record { whole = take place text; fraction = Some (dr
 abbrev pub numeral_of : Text → Numeral
 numeral_of text = parted text (position is_point text)
 
--- what stands behind the point, nothing where there is none
-abbrev pub behind_point : Numeral → Text
-behind_point numeral = unwrap_or numeral.fraction []
+-- Digits before and behind a point are a decimal: there is at least one, at most 18 are behind the point, and the whole
+-- part is below 2 ^ 64.
+abbrev pub are_decimal : Text → Text → Bool
+are_decimal whole behind =
+    list_all is_ascii_digit (whole ++ behind)
+    && (nat_lt 0 (length (whole ++ behind)) && (nat_le (length behind) 18 && nat_lt (digits_worth whole) (2 ^ 64)))
 
--- all its digits, as if no point parted them
-abbrev pub all_digits : Numeral → Text
-all_digits numeral = numeral.whole ++ behind_point numeral
+-- how many units they are: all the digits as one number, of which so many stand behind the point
+abbrev pub units_of : Text → Text → ℕ
+units_of whole behind = digits_worth (whole ++ behind) * 10 ^ (18 - length behind)
 
--- it is digits alone, at least one, at most 18 of them behind the point, and its whole part is below 2 ^ 64
-abbrev pub is_decimal : Numeral → Bool
-is_decimal numeral =
-    all_ascii_digits (all_digits numeral)
-    && (nat_lt 0 (length (all_digits numeral))
-    && (nat_le (length (behind_point numeral)) 18 && nat_lt (digits_worth numeral.whole) (2 ^ 64)))
+-- the decimal that they are with that sign, if they are one
+abbrev pub read_decimal : Bool → Text → Text → Option ℤ
+read_decimal negative whole behind =
+    if are_decimal whole behind then Some (signed negative (units_of whole behind)) else None
 
--- how many units it is: its digits as one number, of which so many stand behind the point
-abbrev pub units_of : Numeral → ℕ
-units_of numeral = digits_worth (all_digits numeral) * 10 ^ (18 - length (behind_point numeral))
-
--- the number with that sign: as many digits are shown behind the point as were written there
-abbrev pub number_of_numeral : Bool → Numeral → Number
-number_of_numeral negative numeral = record {
-  value = signed negative (units_of numeral);
-  options = record default_options { minimum_fraction_digits = option_map length numeral.fraction };
+-- a decimal as a number that shows as many digits behind the point as were written there
+abbrev pub number_read : Option Text → ℤ → Number
+number_read fraction value = record {
+  value = value;
+  options = record default_options { minimum_fraction_digits = option_map length fraction };
 }
 
 abbrev pub begins_with_minus : Text → Bool
@@ -63,4 +61,4 @@ without_sign text = if begins_with_sign text then drop 1 text else text
 unfoldable pub read_number : Text → Option Number
 read_number text =
     let numeral = numeral_of (without_sign text) in
-    if is_decimal numeral then Some (number_of_numeral (begins_with_minus text) numeral) else None
+    option_map (number_read numeral.fraction) (read_decimal (begins_with_minus text) numeral.whole (unwrap_or numeral.fraction []))

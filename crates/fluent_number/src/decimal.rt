@@ -1,10 +1,44 @@
-ghost use Rattle.std.specs.Prelude.{◌≡◌, ◌+◌, ◌*◌, ◌<◌, ◌<ℤ◌, ◌↔◌, pos, IsTrue, IsSome, IfSome};
+ghost use Rattle.std.specs.Prelude.{◌≡◌, ◌+◌, ◌*◌, ◌^◌, ◌<◌, ◌≤◌, ◌<ℤ◌, ◌↔◌, pos, IsTrue, IsSome, IfSome};
 ghost use Rattle.fluent_number.specs.Decimal.{units_per_one, signed, whole_of, fraction_of};
 
 use std::marker::Model;
 
+/// How many digits a decimal has behind its point.
+pub(crate) const FRACTION_DIGITS: usize = 18;
+
 /// How many units make one.
-pub const UNITS_PER_ONE: u64 = 1_000_000_000_000_000_000;
+pub(crate) const UNITS_PER_ONE: u64 = 1_000_000_000_000_000_000;
+
+/// The powers of ten up to that of all digits behind the point.
+const POWERS_OF_TEN: [u64; 19] = [
+    1,
+    10,
+    100,
+    1_000,
+    10_000,
+    100_000,
+    1_000_000,
+    10_000_000,
+    100_000_000,
+    1_000_000_000,
+    10_000_000_000,
+    100_000_000_000,
+    1_000_000_000_000,
+    10_000_000_000_000,
+    100_000_000_000_000,
+    1_000_000_000_000_000,
+    10_000_000_000_000_000,
+    100_000_000_000_000_000,
+    UNITS_PER_ONE,
+];
+
+/// Ten to a power of at most 18.
+pub(crate) fn power_of_ten(exponent: usize) -> u64
+    requires { exponent ≤ 18 }
+    ensures { result ≡ 10 ^ exponent }
+{
+    POWERS_OF_TEN[exponent]
+}
 
 /// An exact decimal number: a sign, a whole part below 2<sup>64</sup>, and a fraction of at most 18 digits.
 ///

@@ -10,6 +10,7 @@ pub mod laws;
 mod number;
 mod options;
 mod plural;
+mod reading;
 
 pub use decimal::Decimal;
 pub use number::{FluentNumber, NotANumber};

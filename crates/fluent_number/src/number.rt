@@ -1,10 +1,56 @@
+ghost use Rattle.std.specs.Prelude.{◌≡◌, Some, None, MatchResult};
+ghost use Rattle.fluent_number.specs.Number.{number_of};
+ghost use Rattle.fluent_number.specs.Reading.{read_number};
+
 use crate::decimal::Decimal;
 use crate::options::FluentNumberOptions;
+use crate::reading::read;
+use std::error::Error;
+use std::fmt;
+use std::str::FromStr;
 
+/// A number: its value, and how it is to be shown.
 #[derive(Debug, Drop, PartialEq, Eq, Hash)]
 pub struct FluentNumber {
+    /// The value.
     pub value: Decimal,
+    /// How it is to be shown.
     pub options: FluentNumberOptions,
 }
+
+impl FluentNumber {
+    /// The number of this value and these options.
+    pub fn new(value: Decimal, options: FluentNumberOptions) -> Self
+        ensures value { result.value ≡ value }
+        ensures options { result.options ≡ options }
+    {
+        FluentNumber { value, options }
+    }
+}
+
+/// Reads a number: an optional sign, and digits with at most one point among them.
+///
+/// At least one digit is needed, at most 18 may stand behind the point, and the whole part has to be below
+/// 2<sup>64</sup>. Where there is a point, `minimum_fraction_digits` is the count of digits behind it; all other options
+/// have their defaults. Every other text is [`NotANumber`].
+impl FromStr for FluentNumber {
+    type Err = NotANumber;
+
+    ghost from_str_gives = { λ text read. MatchResult read (λ number. read_number text ≡ Some (number_of number)) (λ _. read_number text ≡ None) };
+
+    fn from_str(text: &str) -> Result<Self, NotANumber> {
+        read(text).ok_or(NotANumber)
+    }
+}
+
+/// A text that is no number.
 #[derive(Clone, Copy, Debug, PartialEq, Eq)]
 pub struct NotANumber;
+
+impl fmt::Display for NotANumber {
+    fn fmt<W: fmt::Write>(&self, f: &mut fmt::Formatter<W>) -> fmt::Result {
+        f.write_str("not a number")
+    }
+}
+
+impl Error for NotANumber {}

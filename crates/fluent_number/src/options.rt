@@ -1,5 +1,5 @@
 ghost use Rattle.std.specs.Prelude.{◌≡◌, IfOk};
-ghost use Rattle.fluent_number.specs.Options.{number_type_named, style_named, currency_display_named};
+ghost use Rattle.fluent_number.specs.Options.{options_of, default_options, number_type_named, style_named, currency_display_named};
 
 use std::alloc::{AllocError, Global};
 
@@ -81,4 +81,24 @@ pub struct FluentNumberOptions {
     pub maximum_fraction_digits: Option<usize>,
     pub minimum_significant_digits: Option<usize>,
     pub maximum_significant_digits: Option<usize>,
+}
+
+/// A cardinal number in the decimal style with grouping; no other option is set.
+impl Default for FluentNumberOptions {
+    ghost is_default = { λ options. options_of options ≡ default_options };
+
+    fn default() -> Self {
+        FluentNumberOptions {
+            number_type: FluentNumberType::default(),
+            style: FluentNumberStyle::default(),
+            currency: None,
+            currency_display: FluentNumberCurrencyDisplayStyle::default(),
+            use_grouping: true,
+            minimum_integer_digits: None,
+            minimum_fraction_digits: None,
+            maximum_fraction_digits: None,
+            minimum_significant_digits: None,
+            maximum_significant_digits: None,
+        }
+    }
 }
