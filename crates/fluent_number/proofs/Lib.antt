@@ -1,3 +1,4 @@
+pub mod EndZeros
 pub mod Numerals
 pub mod Powers
 mod Rows

@@ -1,5 +1,5 @@
 -- The text of a number.
-use Rattle.std.specs.Prelude.{ℕ, ◌-◌, ℤ, List, [], ◌∷◌, ◌++◌, length, replicate, Option, Some, None, decimal, if◌then◌else◌}
+use Rattle.std.specs.Prelude.{ℕ, ◌-◌, ℤ, List, [], ◌∷◌, ◌++◌, length, replicate, Option, is_none, unwrap_or, ◌&&◌, ◌==◌, decimal, if◌then◌else◌}
 use Rattle.fluent_number.specs.Decimal.{is_below_zero, whole_of, fraction_of}
 use Rattle.fluent_number.specs.Digits.{Text, last_digits, without_end_zeros}
 use Rattle.fluent_number.specs.Number.{Number}
@@ -12,11 +12,10 @@ fraction_text value = without_end_zeros (last_digits 18 (fraction_of value))
 abbrev pub filled_up : ℕ → Text → Text
 filled_up least digits = digits ++ replicate (least - length digits) 48
 
--- A point and the digits behind it: without a least count only where there are digits.
+-- A point and the digits behind it. Without a least count a point is written only before digits.
 abbrev pub point_and : Option ℕ → Text → Text
-point_and None [] = []
-point_and None (c ∷ cs) = 46 ∷ c ∷ cs
-point_and (Some least) digits = 46 ∷ filled_up least digits
+point_and least digits =
+    if is_none least && length digits == 0 then [] else 46 ∷ filled_up (unwrap_or least 0) digits
 
 -- what stands before the whole part
 abbrev pub minus_of : ℤ → Text

@@ -11,6 +11,7 @@ mod number;
 mod options;
 mod plural;
 mod reading;
+mod writing;
 
 pub use decimal::Decimal;
 pub use number::{FluentNumber, NotANumber};

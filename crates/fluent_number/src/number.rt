@@ -1,10 +1,13 @@
-ghost use Rattle.std.specs.Prelude.{◌≡◌, Some, None, MatchResult};
+ghost use Rattle.std.specs.Prelude.{◌≡◌, Some, None, MatchResult, IfOk, string_bytes};
 ghost use Rattle.fluent_number.specs.Number.{number_of};
 ghost use Rattle.fluent_number.specs.Reading.{read_number};
+ghost use Rattle.fluent_number.specs.Text.{number_text};
 
 use crate::decimal::Decimal;
 use crate::options::FluentNumberOptions;
 use crate::reading::read;
+use crate::writing::text_of;
+use std::alloc::{AllocError, Global};
 use std::error::Error;
 use std::fmt;
 use std::str::FromStr;
@@ -25,6 +28,18 @@ impl FluentNumber {
         ensures options { result.options ≡ options }
     {
         FluentNumber { value, options }
+    }
+
+    /// The text of the number: a minus if it is negative, the whole part and, where there are any, a point and the digits
+    /// behind it without zeros at the end.
+    ///
+    /// Where `minimum_fraction_digits` is set a point is always written, and zeros are added until so many digits
+    /// stand behind it. The error is that memory was refused; a count that no memory holds is refused at once.
+    #[tactic(auto, unfolding(crate::specs::Text::number_text))]
+    pub fn as_string(&self, alloc: Global) -> Result<String, AllocError>
+        ensures { IfOk result (λ text. string_bytes text ≡ number_text (number_of self.now)) }
+    {
+        text_of(alloc, self.value, self.options.minimum_fraction_digits)
     }
 }
 
