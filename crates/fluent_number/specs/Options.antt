@@ -1,7 +1,7 @@
 -- The options of a number, and what `merge` makes of them.
 use Rattle.std.specs.Prelude.{ℕ, ◌-◌, ◌^◌, ℤ, Bool, true, not, List, Option, Some, None, option_map, unwrap_or, codes, string_bytes, bytes_eq, if◌then◌else◌}
 use Rattle.fluent_number.specs.Digits.{Text}
-use Rattle.fluent_number.specs.Conversion.{unsigned_within}
+use Rattle.fluent_number.specs.Conversion.{unsigned_of}
 use Rattle.fluent_number.specs.declared.options.FluentNumberType.{FluentNumberType}
 use Rattle.fluent_number.specs.declared.options.FluentNumberType.TheVariants.{Cardinal, Ordinal}
 use Rattle.fluent_number.specs.declared.options.FluentNumberStyle.{FluentNumberStyle}
@@ -71,7 +71,7 @@ updated read found before = unwrap_or (option_map read found) before
 
 -- a count of digits: a number's whole part, as a `usize`
 abbrev pub count_of : ℤ → Option ℕ
-count_of value = Some (unsigned_within (2 ^ 64 - 1) value)
+count_of value = Some (unsigned_of 64 value)
 
 -- The options after a merge with a source that has these texts and these numbers under its keys.
 abbrev pub merged : (Text → Option Text) → (Text → Option ℤ) → Options → Options

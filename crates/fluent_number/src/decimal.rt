@@ -1,5 +1,6 @@
-ghost use Rattle.std.specs.Prelude.{◌≡◌, ◌+◌, ◌*◌, ◌^◌, ◌<◌, ◌≤◌, ◌<ℤ◌, ◌↔◌, pos, IsTrue, IsSome, IfSome};
+ghost use Rattle.std.specs.Prelude.{◌≡◌, ◌+◌, ◌*◌, ◌^◌, ◌<◌, ◌≤◌, ◌<ℤ◌, ◌↔◌, pos, unsigned_abs, IsTrue, IsSome, IfSome};
 ghost use Rattle.fluent_number.specs.Decimal.{units_per_one, signed, whole_of, fraction_of};
+ghost use Rattle.fluent_number.specs.Conversion.{from_integer, truncated};
 
 use std::marker::Model;
 
@@ -89,6 +90,26 @@ impl Decimal {
             whole,
             fraction,
         })
+    }
+
+    /// The integer of this sign and this absolute value.
+    pub(crate) fn integer(negative: bool, magnitude: u64) -> Self
+        ensures { result ≡ from_integer (signed negative magnitude) }
+    {
+        Decimal {
+            negative: negative && magnitude > 0,
+            whole: magnitude,
+            fraction: 0,
+        }
+    }
+
+    /// The integer that is left where what stands behind the point is dropped.
+    pub(crate) fn truncated(self) -> i128
+        ensures value { result ≡ truncated self }
+        ensures small { unsigned_abs result < 2 ^ 64 }
+    {
+        let whole = i128::from(self.whole);
+        if self.negative { -whole } else { whole }
     }
 
     /// Whether it is below zero.

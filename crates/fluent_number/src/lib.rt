@@ -6,11 +6,13 @@
 #![tactic(auto)]
 
 mod decimal;
+mod from_integers;
 pub mod laws;
 mod number;
 mod options;
 mod plural;
 mod reading;
+mod to_integers;
 mod writing;
 
 pub use decimal::Decimal;
