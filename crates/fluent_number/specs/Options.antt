@@ -65,6 +65,10 @@ currency_display_named text =
     if bytes_eq text (codes "code") then Code
     else (if bytes_eq text (codes "name") then Name else Symbol)
 
+-- grouping is asked for unless the text is `false`
+abbrev pub asks_for_grouping : Text → Bool
+asks_for_grouping text = not (bytes_eq text (codes "false"))
+
 -- a setting read from what stands under its key; it stays where there is nothing of its kind
 abbrev pub updated : {V A : Type 0} → (V → A) → Option V → A → A
 updated read found before = unwrap_or (option_map read found) before
@@ -73,17 +77,27 @@ updated read found before = unwrap_or (option_map read found) before
 abbrev pub count_of : ℤ → Option ℕ
 count_of value = Some (unsigned_of 64 value)
 
--- The options after a merge with a source that has these texts and these numbers under its keys.
-abbrev pub merged : (Text → Option Text) → (Text → Option ℤ) → Options → Options
-merged text number before = record {
+-- the options that a source of these texts sets, but for the currency
+abbrev pub with_texts : (Text → Option Text) → Options → Options
+with_texts text before = record before {
   number_type = updated number_type_named (text (codes "type")) before.number_type;
   style = updated style_named (text (codes "style")) before.style;
-  currency = updated Some (text (codes "currency")) before.currency;
   currency_display = updated currency_display_named (text (codes "currencyDisplay")) before.currency_display;
-  use_grouping = updated (λ found. not (bytes_eq found (codes "false"))) (text (codes "useGrouping")) before.use_grouping;
+  use_grouping = updated asks_for_grouping (text (codes "useGrouping")) before.use_grouping;
+}
+
+-- the counts of digits that a source of these numbers sets
+abbrev pub with_counts : (Text → Option ℤ) → Options → Options
+with_counts number before = record before {
   minimum_integer_digits = updated count_of (number (codes "minimumIntegerDigits")) before.minimum_integer_digits;
   minimum_fraction_digits = updated count_of (number (codes "minimumFractionDigits")) before.minimum_fraction_digits;
   maximum_fraction_digits = updated count_of (number (codes "maximumFractionDigits")) before.maximum_fraction_digits;
   minimum_significant_digits = updated count_of (number (codes "minimumSignificantDigits")) before.minimum_significant_digits;
   maximum_significant_digits = updated count_of (number (codes "maximumSignificantDigits")) before.maximum_significant_digits;
 }
+
+-- The options after a merge with a source that has these texts and these numbers under its keys.
+abbrev pub merged : (Text → Option Text) → (Text → Option ℤ) → Options → Options
+merged text number before =
+    let currency = updated Some (text (codes "currency")) before.currency in
+    with_counts number (with_texts text (record before { currency = currency }))

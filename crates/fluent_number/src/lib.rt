@@ -12,6 +12,7 @@ mod number;
 mod options;
 mod plural;
 mod reading;
+mod source;
 mod to_integers;
 mod writing;
 
@@ -20,4 +21,5 @@ pub use number::{FluentNumber, NotANumber};
 pub use options::{
     FluentNumberCurrencyDisplayStyle, FluentNumberOptions, FluentNumberStyle, FluentNumberType,
 };
+pub use source::OptionSource;
 pub use plural::{PluralCategory, PluralOperands, PluralRuleType, english_category};

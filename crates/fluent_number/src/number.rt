@@ -30,6 +30,16 @@ impl FluentNumber {
         FluentNumber { value, options }
     }
 
+    /// A copy. The error is that memory was refused for the text of the option `currency`.
+    pub fn try_clone(&self, alloc: Global) -> Result<Self, AllocError>
+        ensures { IfOk result (λ copy. number_of copy ≡ number_of self.now) }
+    {
+        Ok(FluentNumber::new(
+            self.value,
+            self.options.try_clone(alloc)?,
+        ))
+    }
+
     /// The text of the number: a minus if it is negative, the whole part and, where there are any, a point and the digits
     /// behind it without zeros at the end.
     ///

@@ -1,6 +1,7 @@
-ghost use Rattle.std.specs.Prelude.{◌≡◌, IfOk};
-ghost use Rattle.fluent_number.specs.Options.{options_of, default_options, number_type_named, style_named, currency_display_named};
+ghost use Rattle.std.specs.Prelude.{◌≡◌, IfOk, OnOk, OnErr, option_map, option_copied, string_bytes, codes};
+ghost use Rattle.fluent_number.specs.Options.{options_of, default_options, merged, with_texts, with_counts, updated, asks_for_grouping, count_of, number_type_named, style_named, currency_display_named};
 
+use crate::source::OptionSource;
 use std::alloc::{AllocError, Global};
 
 /// Whether a number counts things or tells a place in an order.
@@ -100,5 +101,117 @@ impl Default for FluentNumberOptions {
             minimum_significant_digits: None,
             maximum_significant_digits: None,
         }
+    }
+}
+
+impl FluentNumberOptions {
+    /// A copy. The error is that memory was refused for the text of `currency`.
+    pub fn try_clone(&self, alloc: Global) -> Result<Self, AllocError>
+        ensures { IfOk result (λ copy. options_of copy ≡ options_of self.now) }
+    {
+        Ok(FluentNumberOptions {
+            number_type: self.number_type,
+            style: self.style,
+            currency: copied(alloc, self.currency.as_deref())?,
+            currency_display: self.currency_display,
+            use_grouping: self.use_grouping,
+            minimum_integer_digits: self.minimum_integer_digits,
+            minimum_fraction_digits: self.minimum_fraction_digits,
+            maximum_fraction_digits: self.maximum_fraction_digits,
+            minimum_significant_digits: self.minimum_significant_digits,
+            maximum_significant_digits: self.maximum_significant_digits,
+        })
+    }
+
+    /// Sets each option that the source has under its key: `type`, `style`, `currency`, `currencyDisplay` and
+    /// `useGrouping` by a text, `minimumIntegerDigits`, `minimumFractionDigits`, `maximumFractionDigits`,
+    /// `minimumSignificantDigits` and `maximumSignificantDigits` by a number, of which the whole part counts.
+    ///
+    /// A key with no value or one of another kind changes nothing. The error is that memory was refused for the text of
+    /// `currency`; the options are then unchanged.
+    pub fn merge<S: OptionSource>(&mut self, alloc: Global, source: &S) -> Result<(), AllocError>
+        ensures ok { OnOk result (options_of self.new ≡ merged (S.text_under source.now) (S.number_under source.now) (options_of self.old)) }
+        ensures err { OnErr result (options_of self.new ≡ options_of self.old) }
+    {
+        // The one growth comes first, so that a refusal leaves the options as they were.
+        if let Some(currency) = copied(alloc, source.text("currency"))? {
+            self.currency = Some(currency);
+        }
+        self.merge_texts(source);
+        self.merge_counts(source);
+        Ok(())
+    }
+
+    /// Sets the options that a text sets and that take no memory.
+    fn merge_texts<S: OptionSource>(&mut self, source: &S)
+        ensures { options_of self.new ≡ with_texts (S.text_under source.now) (options_of self.old) }
+    {
+        self.number_type = number_type_or(source, self.number_type);
+        self.style = style_or(source, self.style);
+        self.currency_display = currency_display_or(source, self.currency_display);
+        self.use_grouping = use_grouping_or(source, self.use_grouping);
+    }
+
+    /// Sets the counts of digits.
+    fn merge_counts<S: OptionSource>(&mut self, source: &S)
+        ensures { options_of self.new ≡ with_counts (S.number_under source.now) (options_of self.old) }
+    {
+        merge_count(source, "minimumIntegerDigits", &mut self.minimum_integer_digits);
+        merge_count(source, "minimumFractionDigits", &mut self.minimum_fraction_digits);
+        merge_count(source, "maximumFractionDigits", &mut self.maximum_fraction_digits);
+        merge_count(source, "minimumSignificantDigits", &mut self.minimum_significant_digits);
+        merge_count(source, "maximumSignificantDigits", &mut self.maximum_significant_digits);
+    }
+}
+
+/// The type that the source names, or the one before.
+fn number_type_or<S: OptionSource>(source: &S, before: FluentNumberType) -> FluentNumberType
+    ensures { result ≡ updated number_type_named (S.text_under source.now (codes "type")) before }
+{
+    source.text("type").map_or(before, FluentNumberType::from)
+}
+
+/// The style that the source names, or the one before.
+fn style_or<S: OptionSource>(source: &S, before: FluentNumberStyle) -> FluentNumberStyle
+    ensures { result ≡ updated style_named (S.text_under source.now (codes "style")) before }
+{
+    source.text("style").map_or(before, FluentNumberStyle::from)
+}
+
+/// The currency display that the source names, or the one before.
+fn currency_display_or<S: OptionSource>(
+    source: &S,
+    before: FluentNumberCurrencyDisplayStyle,
+) -> FluentNumberCurrencyDisplayStyle
+    ensures { result ≡ updated currency_display_named (S.text_under source.now (codes "currencyDisplay")) before }
+{
+    source
+        .text("currencyDisplay")
+        .map_or(before, FluentNumberCurrencyDisplayStyle::from)
+}
+
+/// Whether the source asks for grouping, or what was asked before.
+fn use_grouping_or<S: OptionSource>(source: &S, before: bool) -> bool
+    ensures { result ≡ updated asks_for_grouping (S.text_under source.now (codes "useGrouping")) before }
+{
+    source.text("useGrouping").map_or(before, |text| text != "false")
+}
+
+/// Sets a count of digits to the whole part of the number under a key, if there is one.
+fn merge_count<S: OptionSource>(source: &S, key: &str, count: &mut Option<usize>)
+    ensures { count.new ≡ updated count_of (S.number_under source.now key.now) count.old }
+{
+    if let Some(number) = source.number(key) {
+        *count = Some(usize::from(number));
+    }
+}
+
+/// A copy of a text, if there is one.
+fn copied(alloc: Global, text: Option<&str>) -> Result<Option<String>, AllocError>
+    ensures { IfOk result (λ copy. option_map string_bytes copy ≡ option_copied text.entry) }
+{
+    match text {
+        Some(text) => Ok(Some(String::from_str(alloc, text)?)),
+        None => Ok(None),
     }
 }
