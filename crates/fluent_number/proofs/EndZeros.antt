@@ -9,7 +9,7 @@ use Rattle.std.proofs.Math.Nat.{pow-suc, one-le-pow, pow-le-pow_right}
 use Rattle.fluent_number.specs.Text.{point_and, filled_up}
 use Rattle.fluent_number.specs.Digits.{Text, last_digits, without_end_zeros}
 
-abbrev is_zero : ℕ → Bool
+abbrev pub is_zero : ℕ → Bool
 is_zero c = c == 48
 
 -- one digit after the others

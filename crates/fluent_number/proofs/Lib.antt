@@ -1,4 +1,5 @@
 pub mod EndZeros
+pub mod LastDigits
 pub mod Numerals
 pub mod Powers
 mod Rows

@@ -36,7 +36,8 @@ const POWERS_OF_TEN: [u64; 19] = [
 /// Ten to a power of at most 18.
 pub(crate) fn power_of_ten(exponent: usize) -> u64
     requires { exponent ≤ 18 }
-    ensures { result ≡ 10 ^ exponent }
+    ensures value { result ≡ 10 ^ exponent }
+    ensures positive { 0 < result }
 {
     POWERS_OF_TEN[exponent]
 }
@@ -100,6 +101,17 @@ impl Decimal {
             negative: negative && magnitude > 0,
             whole: magnitude,
             fraction: 0,
+        }
+    }
+
+    /// The same without its sign.
+    pub(crate) fn abs(self) -> Self
+        ensures { result ≡ pos (unsigned_abs self) }
+    {
+        Decimal {
+            negative: false,
+            whole: self.whole,
+            fraction: self.fraction,
         }
     }
 

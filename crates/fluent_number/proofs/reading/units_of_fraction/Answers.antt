@@ -9,5 +9,5 @@ returns-in_err-worth_of c =
 pub overflow_mul-result : goal.overflow_mul-result
 overflow_mul-result c =
     let read = c.in_ok-worth_of.ensures in
-    rw (read.1, c.power_of_ten.ensures)
+    rw (read.1, c.power_of_ten.ensures.value)
     (let small = fraction_lt c.args.digits.now read.0.0 (omega arith) in search (rules, small))
