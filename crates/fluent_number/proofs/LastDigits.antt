@@ -56,9 +56,10 @@ take-without_end_zeros ds =
 
 -- the significant digits: how many there are, and what they write
 pub significant : (fraction w t : ℕ) → last_digits w t ≡ without_end_zeros (last_digits 18 fraction) → t < 10 ^ w → (w ≡ length (without_end_zeros (last_digits 18 fraction))) × (t ≡ digits_worth (take (length (without_end_zeros (last_digits 18 fraction))) (last_digits 18 fraction)))
-significant fraction w t same small =
-    (sym (length-last_digits w t) ∙ ap length same,
-    sym (worth-last_digits w t small) ∙ ap digits_worth (same ∙ sym (take-without_end_zeros (last_digits 18 fraction))))
+significant fraction w t same small = (
+  sym (length-last_digits w t) ∙ ap length same,
+  sym (worth-last_digits w t small) ∙ ap digits_worth (same ∙ sym (take-without_end_zeros (last_digits 18 fraction))),
+)
 
 -- the operands of a number, each by what it is
 pub operands_made : (number : Number) (i v w f t : ℕ) → i ≡ whole_of number.value → last_digits w t ≡ fraction_text number.value → t < 10 ^ w → w ≤ 18 → v ≡ max w (min (unwrap_or number.options.minimum_fraction_digits 0) 18) → f ≡ fraction_of number.value / 10 ^ (18 - v) → record { n = pos (unsigned_abs number.value); i = i; v = v; w = w; f = f; t = t } ≡ operands_of number

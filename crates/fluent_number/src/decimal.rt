@@ -68,9 +68,9 @@ impl Model for Decimal {
     ghost use Rattle.fluent_number.specs.Parts.{sign_of-signed, whole_of-signed, fraction_of-signed};
 
     ghost inverse_ok = { λ d h i. record {
-        negative = sign_of-signed d.negative d.whole d.fraction h.1 i;
-        whole = whole_of-signed d.negative d.whole d.fraction h.0 i;
-        fraction = fraction_of-signed d.negative d.whole d.fraction h.0 i;
+      negative = sign_of-signed d.negative d.whole d.fraction h.1 i;
+      whole = whole_of-signed d.negative d.whole d.fraction h.0 i;
+      fraction = fraction_of-signed d.negative d.whole d.fraction h.0 i;
     } };
 }
 

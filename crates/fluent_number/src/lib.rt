@@ -21,5 +21,8 @@ pub use number::{FluentNumber, NotANumber};
 pub use options::{
     FluentNumberCurrencyDisplayStyle, FluentNumberOptions, FluentNumberStyle, FluentNumberType,
 };
-pub use source::OptionSource;
 pub use plural::{PluralCategory, PluralOperands, PluralRuleType, english_category};
+pub use source::OptionSource;
+
+#[cfg(test)]
+mod tests;

@@ -34,10 +34,7 @@ impl FluentNumber {
     pub fn try_clone(&self, alloc: Global) -> Result<Self, AllocError>
         ensures { IfOk result (λ copy. number_of copy ≡ number_of self.now) }
     {
-        Ok(FluentNumber::new(
-            self.value,
-            self.options.try_clone(alloc)?,
-        ))
+        Ok(FluentNumber::new(self.value, self.options.try_clone(alloc)?))
     }
 
     /// The text of the number: a minus if it is negative, the whole part and, where there are any, a point and the digits

@@ -156,11 +156,31 @@ impl FluentNumberOptions {
     fn merge_counts<S: OptionSource>(&mut self, source: &S)
         ensures { options_of self.new ≡ with_counts (S.number_under source.now) (options_of self.old) }
     {
-        merge_count(source, "minimumIntegerDigits", &mut self.minimum_integer_digits);
-        merge_count(source, "minimumFractionDigits", &mut self.minimum_fraction_digits);
-        merge_count(source, "maximumFractionDigits", &mut self.maximum_fraction_digits);
-        merge_count(source, "minimumSignificantDigits", &mut self.minimum_significant_digits);
-        merge_count(source, "maximumSignificantDigits", &mut self.maximum_significant_digits);
+        merge_count(
+            source,
+            "minimumIntegerDigits",
+            &mut self.minimum_integer_digits,
+        );
+        merge_count(
+            source,
+            "minimumFractionDigits",
+            &mut self.minimum_fraction_digits,
+        );
+        merge_count(
+            source,
+            "maximumFractionDigits",
+            &mut self.maximum_fraction_digits,
+        );
+        merge_count(
+            source,
+            "minimumSignificantDigits",
+            &mut self.minimum_significant_digits,
+        );
+        merge_count(
+            source,
+            "maximumSignificantDigits",
+            &mut self.maximum_significant_digits,
+        );
     }
 }
 
@@ -194,7 +214,9 @@ fn currency_display_or<S: OptionSource>(
 fn use_grouping_or<S: OptionSource>(source: &S, before: bool) -> bool
     ensures { result ≡ updated asks_for_grouping (S.text_under source.now (codes "useGrouping")) before }
 {
-    source.text("useGrouping").map_or(before, |text| text != "false")
+    source
+        .text("useGrouping")
+        .map_or(before, |text| text != "false")
 }
 
 /// Sets a count of digits to the whole part of the number under a key, if there is one.

@@ -11,7 +11,7 @@ returns-in_err-value c =
     rw (c.from_residual.ensures, ← c.as_bytes.ensures.value) (read_parted _ _ _ _ _ _ _ parts c.digits_behind.ensures c.in_err-value.ensures)
 
 pub returns : goal.returns
-returns c = 
+returns c =
     let s = c.split_sign-negative.ensures in
     let p = c.split_at_point.ensures in
     let parts : IsParted c.as_bytes.result.now c.split_sign-negative.result.0 c.split_sign-negative.result.1.now c.split_at_point.result.0.now (option_copied c.split_at_point.result.1) = record { negative_is = s.negative; unsigned_is = s.rest; whole_is = p.whole; fraction_is = p.fraction } in
