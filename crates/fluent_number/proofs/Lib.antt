@@ -4,3 +4,4 @@ pub mod Numerals
 pub mod Powers
 mod Rows
 pub mod Worth
+pub mod Zeros
