@@ -3,5 +3,6 @@ pub mod LastDigits
 pub mod Numerals
 pub mod Powers
 mod Rows
+pub mod Spelled
 pub mod Worth
 pub mod Zeros

@@ -4,7 +4,9 @@ pub mod Digits
 pub mod Options
 pub mod Number
 pub mod Reading
+pub mod Spelling
 pub mod Text
 pub mod Operands
 pub mod Plurals
 pub mod Conversion
+pub mod Laws
