@@ -3,6 +3,7 @@ pub mod LastDigits
 pub mod Numerals
 pub mod Powers
 mod Rows
+pub mod Shown
 pub mod Spelled
 pub mod Worth
 pub mod Zeros
