@@ -5,5 +5,6 @@ pub mod Powers
 mod Rows
 pub mod Shown
 pub mod Spelled
+pub mod Tidied
 pub mod Worth
 pub mod Zeros
