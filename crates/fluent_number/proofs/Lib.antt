@@ -1,3 +1,4 @@
+pub mod Agreeing
 pub mod EndZeros
 pub mod LastDigits
 pub mod Numerals

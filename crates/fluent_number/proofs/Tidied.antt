@@ -81,3 +81,68 @@ reads_again text number e =
     ∙ ap (λ b. cond b (Some (number_read numeral.fraction number.value)) None) (le-leb (length behind) 18 read.decimal.short)
     ∙ ap (λ v. Some (number_read numeral.fraction v)) value_is
     ∙ ap (λ n. Some n) (sym read.number_is)
+
+-- zeros at the front are worth nothing
+pub worth-without_front_zeros : (ds : Text) → digits_worth (without_front_zeros ds) ≡ digits_worth ds
+worth-without_front_zeros [] = refl
+worth-without_front_zeros (c ∷ cs) =
+    ⊎_elim
+    (λ (e : c ≡ 48). ap (λ b. digits_worth (cond b (without_front_zeros cs) (c ∷ cs))) (eq-eqb c 48 e) ∙ worth-without_front_zeros cs ∙ (let times : (c - 48) * 10 ^ length cs ≡ 0 * 10 ^ length cs = ap (λ d. (d - 48) * 10 ^ length cs) e in omega (arith, times)))
+    (λ (other : c ≢ 48). ap (λ b. digits_worth (cond b (without_front_zeros cs) (c ∷ cs))) (ne_eqb c 48 other))
+    (cases_eq c 48)
+
+-- what is left are digits, of which the first isn't 0
+pub record IsTrimmed (ds : Text) : Type 0 where
+  pub digits : list_all is_ascii_digit ds ≡ true
+  pub first : 0 < length ds → get_or ds 0 0 ≢ 48
+
+pub trimmed : (ds : Text) → list_all is_ascii_digit ds ≡ true → IsTrimmed (without_front_zeros ds)
+trimmed [] digits = record { digits = refl; first = λ some. absurd (omega (arith, some)) }
+trimmed (c ∷ cs) digits =
+    let parts = and_parts (is_ascii_digit c) (list_all is_ascii_digit cs) digits in
+    ⊎_elim
+    (λ (e : c ≡ 48). subst (λ b. IsTrimmed (cond b (without_front_zeros cs) (c ∷ cs))) (sym (eq-eqb c 48 e)) (trimmed cs parts.1))
+    (λ (other : c ≢ 48). subst (λ b. IsTrimmed (cond b (without_front_zeros cs) (c ∷ cs))) (sym (ne_eqb c 48 other)) (record { digits = digits; first = λ _. other }))
+    (cases_eq c 48)
+
+decimal_of_trimmed : (ds : Text) → IsTrimmed ds → digits_worth ds < 2 ^ 64 → decimal (digits_worth ds) ≡ cond (length ds == 0) (48 ∷ []) ds
+decimal_of_trimmed [] is small = decimal_digit 0 (omega arith)
+decimal_of_trimmed (c ∷ cs) is small =
+    decimal-digits_value by_places (c ∷ cs) is.digits (omega arith) (λ zero_first. absurd (is.first (omega arith) zero_first)) small
+    ∙ ap (λ b. cond b (48 ∷ []) (c ∷ cs)) (sym (ne_eqb (length (c ∷ cs)) 0 (λ e. absurd (omega (arith, e)))))
+
+-- a whole part is written without the zeros at its front
+pub decimal-worth : (ds : Text) → list_all is_ascii_digit ds ≡ true → digits_worth ds < 2 ^ 64 → decimal (digits_worth ds) ≡ tidied_whole ds
+decimal-worth ds digits small =
+    let same = worth-without_front_zeros ds in
+    ap decimal (sym same) ∙ decimal_of_trimmed (without_front_zeros ds) (trimmed ds digits) (omega (arith, same, small))
+
+-- a minus is written before what is below zero
+minus_written : (negative : Bool) (units worth : ℕ) → (0 < worth → 0 < units) → (worth ≡ 0 → units ≡ 0) → sign_text (sign_shown (signed negative units)) ≡ cond (negative && nat_lt 0 worth) (45 ∷ []) []
+minus_written false units worth some none = refl
+minus_written true zero worth some none =
+    ap (λ b. cond b (45 ∷ []) []) (sym (le-ltb 0 worth (⊎_elim (λ (low : 0 < worth). absurd (omega (arith, some low))) (λ (high : worth ≤ 0). high) (cases_lt 0 worth))))
+minus_written true (suc n) worth some none =
+    ap (λ b. cond b (45 ∷ []) []) (sym (lt-ltb 0 worth (⊎_elim (λ (low : 0 < worth). low) (λ (high : worth ≤ 0). absurd (omega (arith, none (omega (arith, high))))) (cases_lt 0 worth))))
+
+-- the text of a number that was read
+pub writes_what_was_read : (text : Text) (number : Number) → read_number text ≡ Some number → number_text number ≡ tidied text
+writes_what_was_read text number e =
+    let read = was_read text number e in
+    let numeral = numeral_of (without_sign text) in
+    let behind = unwrap_or numeral.fraction [] in
+    let negative = begins_with_minus text in
+    let value = value_of negative numeral.whole behind in
+    let value_is : number.value ≡ value = ap (λ (n : Number). n.value) read.number_is in
+    let whole_is : whole_of number.value ≡ digits_worth numeral.whole = ap whole_of value_is ∙ whole_of-read negative numeral.whole behind read.decimal in
+    let worth = digits_worth (numeral.whole ++ behind) in
+    let places = 10 ^ (18 - length behind) in
+    let minus = minus_written negative (units_of numeral.whole behind) worth
+      (λ low. omega (arith, low, le-mul_of_pos_right {m = places} worth (one-le-pow (18 - length behind) 10 (omega arith))))
+      (λ none. ap (λ n. n * places) none ∙ (let nothing : 0 * places ≡ 0 = omega arith in nothing)) in
+    number_text-spelled number
+    ∙ ap (λ v. sign_text (sign_shown v) ++ (decimal (whole_of number.value) ++ point_text (shown_fraction number))) value_is
+    ∙ ap (λ s. s ++ (decimal (whole_of number.value) ++ point_text (shown_fraction number))) minus
+    ∙ ap (λ w. cond (negative && nat_lt 0 worth) (45 ∷ []) [] ++ (decimal w ++ point_text (shown_fraction number))) whole_is
+    ∙ ap (λ w. cond (negative && nat_lt 0 worth) (45 ∷ []) [] ++ (w ++ point_text (shown_fraction number))) (decimal-worth numeral.whole read.decimal.whole_digits read.decimal.fits)
+    ∙ ap (λ f. cond (negative && nat_lt 0 worth) (45 ∷ []) [] ++ (tidied_whole numeral.whole ++ point_text f)) (shown_as_read text number read)
