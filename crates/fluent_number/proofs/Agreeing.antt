@@ -1,5 +1,5 @@
 -- The operands of a number against the digits of its text.
-use Rattle.std.proofs.Common.{◌≡◌, ℕ, ◌+◌, ◌-◌, ◌*◌, ◌^◌, ◌<◌, ◌≤◌, List, [], ◌∷◌, ◌++◌, refl, sym, ap, ◌∙◌, length, take, min, max, cond, ◌&&◌, ◌==◌, is_none, decimal, Option, Some, None, unwrap_or, ℤ, arith}
+use Rattle.std.proofs.Common.{◌≡◌, ℕ, ◌+◌, ◌-◌, ◌^◌, ◌<◌, ◌≤◌, [], ◌∷◌, ◌++◌, refl, sym, ap, ◌∙◌, length, take, min, max, cond, ◌&&◌, ◌==◌, is_none, decimal, Option, Some, None, unwrap_or, arith}
 use Rattle.std.proofs.lemmas.List.{append_assoc, length-append, length-replicate, take_at, replicate-append-replicate}
 use Rattle.std.proofs.lemmas.Bool.{ne_eqb}
 use Rattle.std.proofs.lemmas.Fmt.{digits_decimal, digits_value-decimal}
@@ -7,9 +7,8 @@ use Rattle.fluent_number.specs.Decimal.{whole_of, fraction_of}
 use Rattle.fluent_number.specs.Digits.{Text, digits_worth, last_digits, without_end_zeros}
 use Rattle.fluent_number.specs.Laws.{shown_fraction, digits_behind, AgreesWithText}
 use Rattle.fluent_number.specs.Number.{Number}
-use Rattle.fluent_number.specs.Operands.{operands_of, digits_with_zeros, digits_without_zeros}
+use Rattle.fluent_number.specs.Operands.{operands_of, digits_with_zeros}
 use Rattle.fluent_number.specs.Reading.{Numeral, numeral_of, without_sign}
-use Rattle.fluent_number.specs.Spelling.{spelled}
 use Rattle.fluent_number.specs.Text.{number_text, fraction_text, filled_up}
 use Rattle.fluent_number.proofs.LastDigits.{take-without_end_zeros}
 use Rattle.fluent_number.proofs.Numerals.{by_places}
@@ -70,9 +69,12 @@ shown_operands number behind same =
     let v_is : v ≡ min (length behind) 18 = omega (arith, long, all.0) in
     let low : length digits ≤ v = omega arith in
     let of_behind : take v behind ≡ digits ++ zeros (v - length digits) = ap (take v) behind_is ∙ take-zeros digits shown.count v low (omega (arith, v_is, counted)) in
-    let of_all : take v (last_digits 18 (fraction_of number.value)) ≡ digits ++ zeros (v - length digits) = ap (take v) all.1 ∙ take-zeros digits (18 - length digits) v low (omega (arith, v_is, all.0)) in
-    (v_is, ap length (sym significant), ap digits_worth (of_all ∙ sym of_behind),
-    ap digits_worth (take-without_end_zeros (last_digits 18 (fraction_of number.value)) ∙ sym significant))
+    let of_all : take v (last_digits 18 (fraction_of number.value)) ≡ digits ++ zeros (v - length digits) = ap (take v) all.1 ∙ take-zeros digits (18 - length digits) v low (omega (arith, v_is, all.0)) in (
+      v_is,
+      ap length (sym significant),
+      ap digits_worth (of_all ∙ sym of_behind),
+      ap digits_worth (take-without_end_zeros (last_digits 18 (fraction_of number.value)) ∙ sym significant),
+    )
 
 pub operands_agree : (number : Number) → whole_of number.value < 2 ^ 64 → AgreesWithText number
 operands_agree number small =

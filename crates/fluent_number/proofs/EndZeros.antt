@@ -1,5 +1,5 @@
 -- The last digits of a number, and zeros at the end of digits.
-use Rattle.std.proofs.Common.{◌≡◌, ◌≢◌, Bool, true, false, cond, eqb, eq-eqb, ◌&&◌, ◌⊎◌, ⊎_elim, Option, is_none, unwrap_or, replicate, ℕ, zero, suc, ◌+◌, ◌-◌, ◌*◌, ◌/◌, ◌%◌, ◌^◌, ◌<◌, ◌≤◌, List, [], ◌∷◌, ◌++◌, refl, sym, ap, ◌∙◌, subst, length, take, reverse, ◌==◌, decimal, arith, rules}
+use Rattle.std.proofs.Common.{◌≡◌, ◌≢◌, Bool, true, false, cond, eq-eqb, ◌&&◌, ◌⊎◌, ⊎_elim, Option, is_none, unwrap_or, replicate, ℕ, zero, suc, ◌+◌, ◌-◌, ◌*◌, ◌/◌, ◌%◌, ◌^◌, ◌<◌, ◌≤◌, [], ◌∷◌, ◌++◌, refl, sym, ap, ◌∙◌, subst, length, take, ◌==◌, decimal, arith}
 use Rattle.std.specs.List.{suffix_len, prefix_len}
 use Rattle.std.proofs.lemmas.List.{length-append, take_all, take-append-le, reverse-append}
 use Rattle.std.proofs.lemmas.Bool.{ne_eqb, and_from}

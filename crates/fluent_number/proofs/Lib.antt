@@ -1,5 +1,6 @@
 pub mod Agreeing
 pub mod EndZeros
+pub mod Equal
 pub mod LastDigits
 pub mod Numerals
 pub mod Powers

@@ -1,16 +1,16 @@
 -- When a numeral is a decimal, and what its fraction is worth.
-use Rattle.std.proofs.Common.{◌≡◌, Bool, true, false, cond, ◌&&◌, nat_lt, nat_le, ℕ, ◌+◌, ◌-◌, ◌*◌, ◌^◌, ◌<◌, ◌≤◌, List, [], ◌∷◌, ◌++◌, refl, sym, ap, ◌∙◌, length, Option, Some, None, IsSome, IfSome, option_map, unwrap_or, ℤ, ◌↔◌, arith, rules, tests}
+use Rattle.std.proofs.Common.{◌≡◌, Bool, true, cond, ◌&&◌, nat_lt, nat_le, ℕ, ◌+◌, ◌-◌, ◌*◌, ◌^◌, ◌<◌, ◌≤◌, [], ◌++◌, sym, ap, ◌∙◌, length, Option, Some, None, IsSome, IfSome, option_map, unwrap_or, ℤ, ◌↔◌, arith, rules}
 use Rattle.std.proofs.lemmas.Str.Parse.{IsNumeralModel, numerals_by_weight, digits_value_short}
 use Rattle.std.proofs.lemmas.List.{length-append}
 use Rattle.std.proofs.lemmas.List.Folds.{list_all-append}
-use Rattle.std.proofs.lemmas.Nat.{mul-lt, pow-add}
+use Rattle.std.proofs.lemmas.Nat.{pow-add}
 use Rattle.std.proofs.Math.Nat.{one-le-pow, mul-le-mul_right}
 use Rattle.std.proofs.lemmas.Bool.{and_from, and_parts, lt-ltb, le-leb, ltb-true, leb-true, false_from_ne_true}
 use Rattle.std.specs.Char.{is_ascii_digit}
 use Rattle.std.specs.List.{list_all}
 use Rattle.fluent_number.specs.Digits.{Text, digits_worth}
 use Rattle.fluent_number.specs.Options.{Options, options_of}
-use Rattle.fluent_number.specs.Number.{Number, number_of}
+use Rattle.fluent_number.specs.Number.{number_of}
 use Rattle.fluent_number.specs.declared.number.FluentNumber.{FluentNumber}
 use Rattle.fluent_number.specs.declared.options.FluentNumberOptions.{FluentNumberOptions}
 use Rattle.fluent_number.proofs.Worth.{worth-append}

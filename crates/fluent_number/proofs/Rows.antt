@@ -1,9 +1,8 @@
 -- The definitions at a few values, by computing.
-use Rattle.std.proofs.Common.{◌≡◌, refl, pos, negsuc, codes, Some, None, Option, true}
+use Rattle.std.proofs.Common.{◌≡◌, refl, codes, Some, None, Option}
 use Rattle.std.specs.Fmt.{digits}
-use Rattle.std.specs.Prelude.{option_map, ◌*◌, ◌^◌, ◌-◌, ℕ, ℤ, ◌+◌}
+use Rattle.std.specs.Prelude.{option_map}
 use Rattle.fluent_number.specs.Digits.{Text, last_digits}
-use Rattle.fluent_number.specs.Number.{Number}
 use Rattle.fluent_number.specs.Reading.{read_number}
 use Rattle.fluent_number.specs.Text.{number_text}
 

@@ -1,15 +1,15 @@
 -- The text of a number, read again.
-use Rattle.std.proofs.Common.{◌≡◌, Bool, true, false, cond, ◌&&◌, nat_le, ℕ, zero, suc, ◌+◌, ◌-◌, ◌*◌, ◌/◌, ◌%◌, ◌^◌, ◌<◌, ◌≤◌, List, [], ◌∷◌, ◌++◌, ◌==◌, refl, sym, ap, ◌∙◌, subst, length, take, min, max, decimal, Option, Some, None, option_map, unwrap_or, is_none, ℤ, pos, negsuc, arith, rules}
+use Rattle.std.proofs.Common.{◌≡◌, Bool, true, false, cond, ◌&&◌, nat_le, ℕ, zero, suc, ◌+◌, ◌-◌, ◌*◌, ◌/◌, ◌%◌, ◌^◌, ◌<◌, ◌≤◌, [], ◌∷◌, ◌++◌, ◌==◌, refl, sym, ap, ◌∙◌, subst, length, decimal, Some, None, option_map, unwrap_or, is_none, ℤ, pos, negsuc, arith}
 use Rattle.std.specs.Prelude.{unsigned_abs}
 use Rattle.std.specs.List.{list_all}
 use Rattle.std.specs.Char.{is_ascii_digit}
 use Rattle.std.proofs.lemmas.Fmt.{digits_decimal, digits_value-decimal, decimal_nonempty}
-use Rattle.std.proofs.lemmas.List.{append_assoc, append-nil, length-append, length-replicate, take_all}
+use Rattle.std.proofs.lemmas.List.{append-nil, length-append, length-replicate, take_all}
 use Rattle.std.proofs.lemmas.List.Folds.{list_all-append}
 use Rattle.std.proofs.lemmas.Bool.{and_parts, and_from, eqb-true, leb-true, leb-false, le-leb}
 use Rattle.std.proofs.lemmas.Nat.{pow-add}
-use Rattle.fluent_number.specs.Decimal.{signed, is_below_zero, whole_of, fraction_of, units_per_one}
-use Rattle.fluent_number.specs.Digits.{Text, digits_worth, last_digits, without_end_zeros}
+use Rattle.fluent_number.specs.Decimal.{signed, whole_of, fraction_of}
+use Rattle.fluent_number.specs.Digits.{Text, digits_worth, last_digits}
 use Rattle.fluent_number.specs.Laws.{shown_fraction, as_shown}
 use Rattle.fluent_number.specs.Number.{Number}
 use Rattle.fluent_number.specs.Reading.{read_decimal, number_read, read_number}

@@ -1,16 +1,15 @@
 -- What is spelled is read, and what is read is spelled.
-use Rattle.std.proofs.Common.{◌≡◌, ◌≢◌, ◌⊎◌, ⊎_elim, Bool, true, false, cond, not, ◌||◌, ◌&&◌, nat_lt, ℕ, zero, suc, ◌+◌, ◌-◌, ◌*◌, ◌^◌, ◌<◌, ◌≤◌, List, [], ◌∷◌, ◌++◌, ◌==◌, refl, sym, ap, ◌∙◌, subst, get_or, length, take, drop, Option, Some, None, option_map, unwrap_or, position, ℤ, arith, rules, zero-add}
-use Rattle.std.specs.Prelude.{slice_index}
-use Rattle.std.specs.List.{position_or_len, prefix_len, list_all, before_first, after_first}
+use Rattle.std.proofs.Common.{◌≡◌, ◌≢◌, ⊎_elim, Bool, true, false, cond, not, ◌||◌, nat_lt, ℕ, ◌+◌, [], ◌∷◌, ◌++◌, ◌==◌, refl, sym, ap, ◌∙◌, subst, get_or, length, take, drop, Option, Some, None, option_map, unwrap_or, position, arith, zero-add}
+use Rattle.std.specs.List.{position_or_len, list_all}
 use Rattle.std.specs.Char.{is_ascii_digit}
 use Rattle.std.proofs.lemmas.List.{append_assoc, append-nil, take_at, drop_at, length-append}
 use Rattle.std.proofs.lemmas.List.Sums.{split_at_first, prefix_len_stops}
 use Rattle.std.proofs.lemmas.Bool.{and_parts, ne_eqb, eqb-true, lt-ltb, le-ltb, ltb-true, cases_eq, not-false}
 use Rattle.std.proofs.lemmas.Option.{cond_some, none-some, same_Some}
 use Rattle.fluent_number.specs.Decimal.{signed}
-use Rattle.fluent_number.specs.Digits.{Text, digits_worth}
+use Rattle.fluent_number.specs.Digits.{Text}
 use Rattle.fluent_number.specs.Number.{Number}
-use Rattle.fluent_number.specs.Reading.{Numeral, parted, is_point, numeral_of, begins_with_minus, begins_with_sign, without_sign, read_decimal, are_decimal, units_of, number_read, read_number}
+use Rattle.fluent_number.specs.Reading.{Numeral, parted, is_point, numeral_of, begins_with_minus, without_sign, read_decimal, are_decimal, units_of, number_read, read_number}
 use Rattle.fluent_number.specs.Spelling.{Sign, no_sign, plus, minus, sign_text, is_minus, point_text, spelled, Spells}
 use Rattle.fluent_number.proofs.Numerals.{AreDecimal, are_decimal_parts, are_decimal_true}
 use Rattle.fluent_number.proofs.Zeros.{is_digit}
@@ -82,10 +81,10 @@ sign_found (c ∷ cs) =
     ⊎_elim
     (λ (e : c ≡ 45). (minus, subst (λ d. HasSign (d ∷ cs) minus) (sym e) (record { text_is = refl; minus_is = refl })))
     (λ (not_45 : c ≢ 45). ⊎_elim
-      (λ (e : c ≡ 43). (plus, subst (λ d. HasSign (d ∷ cs) plus) (sym e) (record { text_is = refl; minus_is = refl })))
-      (λ (not_43 : c ≢ 43). let parts = unsigned_parts c cs (ne_eqb c 45 not_45) (ne_eqb c 43 not_43) in
-        (no_sign, record { text_is = sym parts.1; minus_is = parts.0 }))
-      (cases_eq c 43))
+    (λ (e : c ≡ 43). (plus, subst (λ d. HasSign (d ∷ cs) plus) (sym e) (record { text_is = refl; minus_is = refl })))
+    (λ (not_43 : c ≢ 43). let parts = unsigned_parts c cs (ne_eqb c 45 not_45) (ne_eqb c 43 not_43) in
+    (no_sign, record { text_is = sym parts.1; minus_is = parts.0 }))
+    (cases_eq c 43))
     (cases_eq c 45)
 
 -- a text is what stands before the first point, and the rest

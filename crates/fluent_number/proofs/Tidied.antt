@@ -1,17 +1,17 @@
 -- What was read, written again.
-use Rattle.std.proofs.Common.{◌≡◌, ◌≢◌, ◌⊎◌, ⊎_elim, Bool, true, false, cond, ◌&&◌, nat_lt, nat_le, ℕ, zero, suc, ◌+◌, ◌-◌, ◌*◌, ◌^◌, ◌<◌, ◌≤◌, List, [], ◌∷◌, ◌++◌, ◌==◌, refl, sym, ap, ◌∙◌, subst, get_or, length, decimal, Option, Some, None, option_map, unwrap_or, is_none, ℤ, pos, negsuc, arith, rules}
+use Rattle.std.proofs.Common.{◌≡◌, ◌≢◌, ⊎_elim, Bool, true, false, cond, ◌&&◌, nat_lt, nat_le, ℕ, zero, suc, ◌+◌, ◌-◌, ◌*◌, ◌^◌, ◌<◌, ◌≤◌, [], ◌∷◌, ◌++◌, ◌==◌, refl, sym, ap, ◌∙◌, subst, get_or, length, decimal, Option, Some, None, unwrap_or, ℤ, arith}
 use Rattle.std.specs.List.{list_all}
 use Rattle.std.specs.Char.{is_ascii_digit}
 use Rattle.std.proofs.lemmas.Fmt.{decimal-digits_value, decimal_digit}
-use Rattle.std.proofs.lemmas.Bool.{and_parts, ne_eqb, eqb-true, eq-eqb, lt-ltb, le-ltb, le-leb, cases_eq, cases_lt}
+use Rattle.std.proofs.lemmas.Bool.{and_parts, ne_eqb, eq-eqb, lt-ltb, le-ltb, le-leb, cases_eq, cases_lt}
 use Rattle.std.proofs.Math.Nat.{one-le-pow, le-mul_of_pos_right}
-use Rattle.fluent_number.specs.Decimal.{signed, whole_of, fraction_of, units_per_one}
+use Rattle.fluent_number.specs.Decimal.{signed, whole_of, fraction_of}
 use Rattle.fluent_number.specs.Digits.{Text, digits_worth, last_digits, without_end_zeros}
-use Rattle.fluent_number.specs.Laws.{shown_fraction, as_shown, without_front_zeros, tidied_whole, tidied}
+use Rattle.fluent_number.specs.Laws.{shown_fraction, without_front_zeros, tidied_whole, tidied}
 use Rattle.fluent_number.specs.Number.{Number}
 use Rattle.fluent_number.specs.Parts.{whole_of-signed, fraction_of-signed}
 use Rattle.fluent_number.specs.Reading.{numeral_of, without_sign, begins_with_minus, units_of, number_read, read_number}
-use Rattle.fluent_number.specs.Spelling.{sign_text, point_text, spelled}
+use Rattle.fluent_number.specs.Spelling.{sign_text, point_text}
 use Rattle.fluent_number.specs.Text.{number_text, fraction_text, filled_up}
 use Rattle.fluent_number.proofs.Numerals.{AreDecimal, by_places, units_parted, fraction_lt}
 use Rattle.fluent_number.proofs.Shown.{sign_shown, number_text-spelled, reads_its_text}
@@ -138,8 +138,8 @@ writes_what_was_read text number e =
     let worth = digits_worth (numeral.whole ++ behind) in
     let places = 10 ^ (18 - length behind) in
     let minus = minus_written negative (units_of numeral.whole behind) worth
-      (λ low. omega (arith, low, le-mul_of_pos_right {m = places} worth (one-le-pow (18 - length behind) 10 (omega arith))))
-      (λ none. ap (λ n. n * places) none ∙ (let nothing : 0 * places ≡ 0 = omega arith in nothing)) in
+    (λ low. omega (arith, low, le-mul_of_pos_right {m = places} worth (one-le-pow (18 - length behind) 10 (omega arith))))
+    (λ none. ap (λ n. n * places) none ∙ (let nothing : 0 * places ≡ 0 = omega arith in nothing)) in
     number_text-spelled number
     ∙ ap (λ v. sign_text (sign_shown v) ++ (decimal (whole_of number.value) ++ point_text (shown_fraction number))) value_is
     ∙ ap (λ s. s ++ (decimal (whole_of number.value) ++ point_text (shown_fraction number))) minus

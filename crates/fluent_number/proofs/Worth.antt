@@ -1,5 +1,5 @@
 -- What digits are worth: one more of them, and all that are left.
-use Rattle.std.proofs.Common.{◌≡◌, true, ℕ, suc, ◌+◌, ◌-◌, ◌*◌, ◌^◌, ◌<◌, ◌≤◌, List, [], ◌∷◌, ◌++◌, refl, sym, ap, ◌∙◌, get_or, subst, ◌&&◌, length, take, drop, arith}
+use Rattle.std.proofs.Common.{◌≡◌, true, ℕ, suc, ◌+◌, ◌-◌, ◌*◌, ◌^◌, ◌<◌, ◌≤◌, [], ◌∷◌, ◌++◌, sym, ap, ◌∙◌, get_or, subst, ◌&&◌, length, take, drop, arith}
 use Rattle.std.proofs.lemmas.List.{at_drop_more, drop_more, length-append}
 use Rattle.std.proofs.lemmas.Nat.{pow-add}
 use Rattle.std.proofs.Math.Nat.{pow-suc, le-mul_of_pos_right, one-le-pow}

@@ -1,12 +1,12 @@
 -- Zeros at the end of digits, taken off and put back.
-use Rattle.std.proofs.Common.{◌≡◌, Bool, true, false, nat_le, ℕ, zero, suc, ◌+◌, ◌-◌, ◌*◌, ◌/◌, ◌%◌, ◌^◌, ◌<◌, ◌≤◌, List, [], ◌∷◌, ◌++◌, ◌==◌, refl, sym, ap, ◌∙◌, get_or, length, take, drop, reverse, replicate, arith, add-zero}
-use Rattle.std.specs.List.{suffix_len, prefix_len, list_all}
+use Rattle.std.proofs.Common.{◌≡◌, true, nat_le, ℕ, zero, suc, ◌+◌, ◌-◌, ◌*◌, ◌/◌, ◌%◌, ◌^◌, ◌<◌, ◌≤◌, [], ◌∷◌, ◌++◌, refl, sym, ap, ◌∙◌, get_or, length, take, drop, reverse, replicate, arith, add-zero}
+use Rattle.std.specs.List.{suffix_len, list_all}
 use Rattle.std.specs.Char.{is_ascii_digit}
-use Rattle.std.proofs.lemmas.List.{append_assoc, append-nil, same_lists, length-drop, length-take-le, length-replicate, length-append, length_push, get_or-drop, get_or-replicate, get_or-reverse, length-reverse, take-append-drop, take_more, take_all, replicate_more, take-append-le}
-use Rattle.std.proofs.lemmas.List.Sums.{prefix_len_passes, suffix_len-le-length, AllPass-from_list_all, list_all-from_AllPass}
+use Rattle.std.proofs.lemmas.List.{append_assoc, append-nil, same_lists, length-drop, length-take-le, length-replicate, get_or-drop, get_or-replicate, get_or-reverse, take-append-drop, take_more, take_all, replicate_more}
+use Rattle.std.proofs.lemmas.List.Sums.{prefix_len_passes, suffix_len-le-length}
 use Rattle.std.proofs.lemmas.List.Folds.{list_all-append}
 use Rattle.std.proofs.lemmas.Bool.{eqb-true, leb-true, and_parts}
-use Rattle.std.proofs.Math.Nat.{pow-suc, pow-succ'}
+use Rattle.std.proofs.Math.Nat.{pow-succ'}
 use Rattle.fluent_number.specs.Digits.{Text, digits_worth, last_digits, without_end_zeros}
 use Rattle.fluent_number.proofs.EndZeros.{is_zero, last_digits_step, last_digits_none, without_end_zeros_zero}
 use Rattle.fluent_number.proofs.Worth.{worth-append}
@@ -23,14 +23,14 @@ end_zeros ds =
     same_lists (drop (length ds - s) ds) (zeros s)
     (length-drop (length ds - s) ds ∙ omega (arith, within, length-replicate {A = ℕ} s 48))
     (λ k d low.
-        let short : k < s = omega (arith, low, length-drop (length ds - s) ds, within) in
-        let back : length ds - 1 - (s - 1 - k) ≡ length ds - s + k = omega (arith, short, within) in
-        let passes = prefix_len_passes is_zero (reverse ds) (s - 1 - k) d (omega (arith, short)) in
-        let place = get_or-reverse ds (s - 1 - k) d (omega (arith, short, within)) in
-        get_or-drop (length ds - s) ds k d
-        ∙ ap (λ j. get_or ds j d) (sym back) ∙ sym place
-        ∙ eqb-true (get_or (reverse ds) (s - 1 - k) d) 48 passes
-        ∙ sym (get_or-replicate s k 48 d short))
+    let short : k < s = omega (arith, low, length-drop (length ds - s) ds, within) in
+    let back : length ds - 1 - (s - 1 - k) ≡ length ds - s + k = omega (arith, short, within) in
+    let passes = prefix_len_passes is_zero (reverse ds) (s - 1 - k) d (omega (arith, short)) in
+    let place = get_or-reverse ds (s - 1 - k) d (omega (arith, short, within)) in
+    get_or-drop (length ds - s) ds k d
+    ∙ ap (λ j. get_or ds j d) (sym back) ∙ sym place
+    ∙ eqb-true (get_or (reverse ds) (s - 1 - k) d) 48 passes
+    ∙ sym (get_or-replicate s k 48 d short))
 
 -- digits are those without zeros at the end, and the zeros
 pub zeros_back : (ds : Text) → without_end_zeros ds ++ zeros (length ds - length (without_end_zeros ds)) ≡ ds

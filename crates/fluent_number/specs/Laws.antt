@@ -1,5 +1,5 @@
 -- The laws of numbers.
-use Rattle.std.specs.Prelude.{◌≡◌, ◌↔◌, ℕ, ◌-◌, ◌^◌, ◌<◌, min, ◌&&◌, ◌==◌, nat_lt, nat_le, if◌then◌else◌, List, [], ◌∷◌, ◌++◌, length, take, Option, Some, None, is_none, unwrap_or, option_map}
+use Rattle.std.specs.Prelude.{◌≡◌, ◌↔◌, Bool, true, ℕ, ◌^◌, ◌<◌, min, ◌&&◌, ◌==◌, nat_lt, nat_le, if◌then◌else◌, List, [], ◌∷◌, ◌++◌, length, take, Option, Some, None, is_none, unwrap_or}
 use Rattle.fluent_number.specs.Decimal.{whole_of}
 use Rattle.fluent_number.specs.Digits.{Text, digits_worth, without_end_zeros}
 use Rattle.fluent_number.specs.Number.{Number}
@@ -70,3 +70,11 @@ pub record AgreesWithText (number : Number) : Type 0 where
 
 abbrev pub OperandsAgreeWithText : Type 0
 OperandsAgreeWithText = (number : Number) → whole_of number.value < 2 ^ 64 → AgreesWithText number
+
+-- a test finds two values equal exactly where they look the same
+abbrev pub EqualWhereSeenSame : {A B : Type 0} → (A → A → Bool) → (A → B) → Type 0
+EqualWhereSeenSame {A} equal seen = (x y : A) → (equal x y ≡ true) ↔ (seen x ≡ seen y)
+
+-- what a test finds equal is fed to a hasher alike
+abbrev pub HashesEqualAlike : {A : Type 0} → (A → A → Bool) → (A → List (List ℕ)) → Type 0
+HashesEqualAlike {A} equal fed = (x y : A) → equal x y ≡ true → fed x ≡ fed y

@@ -1,5 +1,5 @@
 -- The operands of plural rules.
-use Rattle.std.specs.Prelude.{ℕ, ℤ, pos, unsigned_abs, min, max, length, take, unwrap_or}
+use Rattle.std.specs.Prelude.{ℕ, pos, unsigned_abs, min, max, length, take, unwrap_or}
 use Rattle.fluent_number.specs.Decimal.{whole_of, fraction_of}
 use Rattle.fluent_number.specs.Digits.{digits_worth, last_digits}
 use Rattle.fluent_number.specs.Number.{Number}

@@ -1,5 +1,5 @@
 -- The options of a number, and what `merge` makes of them.
-use Rattle.std.specs.Prelude.{ℕ, ◌-◌, ◌^◌, ℤ, Bool, true, not, List, Option, Some, None, option_map, unwrap_or, codes, string_bytes, bytes_eq, if◌then◌else◌}
+use Rattle.std.specs.Prelude.{ℕ, ℤ, Bool, true, not, Option, Some, None, option_map, unwrap_or, codes, string_bytes, bytes_eq, if◌then◌else◌}
 use Rattle.fluent_number.specs.Digits.{Text}
 use Rattle.fluent_number.specs.Conversion.{unsigned_of}
 use Rattle.fluent_number.specs.declared.options.FluentNumberType.{FluentNumberType}

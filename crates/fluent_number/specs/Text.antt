@@ -1,5 +1,5 @@
 -- The text of a number.
-use Rattle.std.specs.Prelude.{ℕ, ◌-◌, ℤ, List, [], ◌∷◌, ◌++◌, length, replicate, Option, is_none, unwrap_or, ◌&&◌, ◌==◌, decimal, if◌then◌else◌}
+use Rattle.std.specs.Prelude.{ℕ, ◌-◌, ℤ, [], ◌∷◌, ◌++◌, length, replicate, Option, is_none, unwrap_or, ◌&&◌, ◌==◌, decimal, if◌then◌else◌}
 use Rattle.fluent_number.specs.Decimal.{is_below_zero, whole_of, fraction_of}
 use Rattle.fluent_number.specs.Digits.{Text, last_digits, without_end_zeros}
 use Rattle.fluent_number.specs.Number.{Number}

@@ -1,4 +1,4 @@
-use Rattle.std.proofs.Common.{refl, arith, sym, subst, ◌<◌}
+use Rattle.std.proofs.Common.{refl, arith}
 use Rattle.std.proofs.Math.Nat.{one-le-pow}
 use Rattle.fluent_number.proofs.Powers.{power_at}
 use Rattle.fluent_number.proofs.decimal.power_of_ten.Goals as goal

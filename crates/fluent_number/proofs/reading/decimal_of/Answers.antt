@@ -1,4 +1,4 @@
-use Rattle.std.proofs.Common.{arith, rules, ◌≡◌, ◌<◌, ◌+◌, ◌*◌, ◌^◌, ◌-◌, length, subst}
+use Rattle.std.proofs.Common.{arith, ◌<◌, ◌+◌, length}
 use Rattle.std.proofs.lemmas.Bool.Decides.{nat_tests}
 use Rattle.fluent_number.proofs.Numerals.{decimal_read}
 use Rattle.fluent_number.proofs.reading.decimal_of.Goals as goal

@@ -1,4 +1,4 @@
-use Rattle.std.proofs.Common.{◌*◌, ◌<◌, ◌^◌, arith, rules, ap}
+use Rattle.std.proofs.Common.{arith, rules}
 use Rattle.fluent_number.proofs.Numerals.{short_worth_lt, fraction_lt}
 use Rattle.fluent_number.proofs.reading.units_of_fraction.Goals as goal
 

@@ -1,4 +1,3 @@
-use Rattle.std.proofs.Common.{arith}
 use Rattle.fluent_number.proofs.Worth.{worth_before_more, worth_before_stops, worth_before_all}
 use Rattle.fluent_number.proofs.reading.worth_of.Goals as goal
 

@@ -1,6 +1,5 @@
-use Rattle.std.proofs.Common.{◌≡◌, ◌+◌, ◌^◌, ◌<◌, ◌≤◌, ◌∷◌, ◌++◌, sym, ap, ◌∙◌, decimal, drop, length, string_bytes, arith, rules}
-use Rattle.fluent_number.specs.Digits.{last_digits}
-use Rattle.fluent_number.proofs.EndZeros.{decimal_one_and, power_le, length-last_digits}
+use Rattle.std.proofs.Common.{◌+◌, ◌^◌, ◌<◌, ap, ◌∙◌, decimal, drop, length, arith, rules}
+use Rattle.fluent_number.proofs.EndZeros.{decimal_one_and, power_le}
 use Rattle.fluent_number.proofs.writing.push_digits.Goals as goal
 
 pub overflow_add-power_of_ten : goal.overflow_add-power_of_ten

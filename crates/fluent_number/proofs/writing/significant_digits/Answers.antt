@@ -1,4 +1,4 @@
-use Rattle.std.proofs.Common.{◌≡◌, ◌≢◌, ◌<◌, ◌%◌, sym, ap, ◌∙◌, arith, rules}
+use Rattle.std.proofs.Common.{sym, ap, ◌∙◌, arith}
 use Rattle.fluent_number.specs.Digits.{last_digits, without_end_zeros}
 use Rattle.fluent_number.proofs.EndZeros.{is_cut_more, is_cut_done, no_digits}
 use Rattle.fluent_number.proofs.writing.significant_digits.Goals as goal

@@ -1,4 +1,3 @@
-use Rattle.std.proofs.Common.{ℕ}
 use Rattle.fluent_number.proofs.EndZeros.{IsCut}
 use Rattle.fluent_number.proofs.writing.significant_digits.Given as goal
 

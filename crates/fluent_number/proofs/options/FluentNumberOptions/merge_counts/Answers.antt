@@ -1,4 +1,4 @@
-use Rattle.std.proofs.Common.{option_map, string_bytes, true, false}
+use Rattle.std.proofs.Common.{option_map, string_bytes}
 use Rattle.fluent_number.proofs.options.FluentNumberOptions.merge_counts.Goals as goal
 
 pub returns : goal.returns
