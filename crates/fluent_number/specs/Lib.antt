@@ -3,6 +3,7 @@ pub mod Parts
 pub mod Digits
 pub mod Options
 pub mod Number
+pub mod Merge
 pub mod Reading
 pub mod Spelling
 pub mod Text

@@ -1,4 +1,4 @@
-ghost use Rattle.std.specs.Prelude.{◌≡◌, Some, None, MatchResult, IfOk, string_bytes};
+ghost use Rattle.std.specs.Prelude.{◌≡◌, Some, None, MatchResult, IfOk, IsNone, IsOk, string_bytes};
 ghost use Rattle.fluent_number.specs.Number.{number_of};
 ghost use Rattle.fluent_number.specs.Reading.{read_number};
 ghost use Rattle.fluent_number.specs.Text.{number_text};
@@ -32,7 +32,8 @@ impl FluentNumber {
 
     /// A copy. The error is that memory was refused for the text of the option `currency`.
     pub fn try_clone(&self, alloc: Global) -> Result<Self, AllocError>
-        ensures { IfOk result (λ copy. number_of copy ≡ number_of self.now) }
+        ensures same { IfOk result (λ copy. number_of copy ≡ number_of self.now) }
+        ensures succeeds { IsNone self.now.options.currency → IsOk result }
     {
         Ok(FluentNumber::new(self.value, self.options.try_clone(alloc)?))
     }

@@ -1,5 +1,6 @@
-ghost use Rattle.std.specs.Prelude.{◌≡◌, IfOk, OnOk, OnErr, option_map, option_copied, string_bytes, codes};
-ghost use Rattle.fluent_number.specs.Options.{options_of, default_options, merged, with_texts, with_counts, updated, asks_for_grouping, count_of, number_type_named, style_named, currency_display_named};
+ghost use Rattle.std.specs.Prelude.{◌≡◌, IfOk, OnOk, OnErr, IsNone, IsOk, option_map, option_copied, string_bytes, codes};
+ghost use Rattle.fluent_number.specs.Merge.{merged, with_texts, with_counts, updated, asks_for_grouping, count_of, number_type_named, style_named, currency_display_named};
+ghost use Rattle.fluent_number.specs.Options.{options_of, default_options};
 
 use crate::source::OptionSource;
 use std::alloc::{AllocError, Global};
@@ -7,8 +8,10 @@ use std::alloc::{AllocError, Global};
 /// Whether a number counts things or tells a place in an order.
 #[derive(Clone, Copy, Debug, Default, PartialEq, Eq, Hash)]
 pub enum FluentNumberType {
+    /// It counts things, as in "2 days".
     #[default]
     Cardinal,
+    /// It tells a place, as in "the 2nd day".
     Ordinal,
 }
 
@@ -28,9 +31,12 @@ impl From<&str> for FluentNumberType {
 /// What a number is shown as.
 #[derive(Clone, Copy, Debug, Default, PartialEq, Eq, Hash)]
 pub enum FluentNumberStyle {
+    /// A plain number.
     #[default]
     Decimal,
+    /// An amount of the option `currency`.
     Currency,
+    /// A part of a hundred.
     Percent,
 }
 
@@ -50,9 +56,12 @@ impl From<&str> for FluentNumberStyle {
 /// How a currency is named.
 #[derive(Clone, Copy, Debug, Default, PartialEq, Eq, Hash)]
 pub enum FluentNumberCurrencyDisplayStyle {
+    /// By its sign, as "€".
     #[default]
     Symbol,
+    /// By its code, as "EUR".
     Code,
+    /// By its name, as "euro".
     Name,
 }
 
@@ -70,17 +79,30 @@ impl From<&str> for FluentNumberCurrencyDisplayStyle {
 }
 
 /// How a number is to be shown.
+///
+/// Only `number_type` and `minimum_fraction_digits` have an effect in this crate; the other options are kept and compared,
+/// for formatters to look at.
 #[derive(Debug, Drop, PartialEq, Eq, Hash)]
 pub struct FluentNumberOptions {
+    /// Whether it counts or tells a place, which decides between the rules of plurals.
     pub number_type: FluentNumberType,
+    /// What it is shown as.
     pub style: FluentNumberStyle,
+    /// The currency that it is an amount of.
     pub currency: Option<String>,
+    /// How that currency is named.
     pub currency_display: FluentNumberCurrencyDisplayStyle,
+    /// Whether the digits of the whole part are grouped.
     pub use_grouping: bool,
+    /// The least count of digits before the point.
     pub minimum_integer_digits: Option<usize>,
+    /// The least count of digits behind the point; where it is set, the text of the number has a point.
     pub minimum_fraction_digits: Option<usize>,
+    /// The greatest count of digits behind the point.
     pub maximum_fraction_digits: Option<usize>,
+    /// The least count of significant digits.
     pub minimum_significant_digits: Option<usize>,
+    /// The greatest count of significant digits.
     pub maximum_significant_digits: Option<usize>,
 }
 
@@ -107,7 +129,8 @@ impl Default for FluentNumberOptions {
 impl FluentNumberOptions {
     /// A copy. The error is that memory was refused for the text of `currency`.
     pub fn try_clone(&self, alloc: Global) -> Result<Self, AllocError>
-        ensures { IfOk result (λ copy. options_of copy ≡ options_of self.now) }
+        ensures same { IfOk result (λ copy. options_of copy ≡ options_of self.now) }
+        ensures succeeds { IsNone self.now.currency → IsOk result }
     {
         Ok(FluentNumberOptions {
             number_type: self.number_type,
@@ -132,6 +155,7 @@ impl FluentNumberOptions {
     pub fn merge<S: OptionSource>(&mut self, alloc: Global, source: &S) -> Result<(), AllocError>
         ensures ok { OnOk result (options_of self.new ≡ merged (S.text_under source.now) (S.number_under source.now) (options_of self.old)) }
         ensures err { OnErr result (options_of self.new ≡ options_of self.old) }
+        ensures succeeds { IsNone (S.text_under source.now (codes "currency")) → IsOk result }
     {
         // The one growth comes first, so that a refusal leaves the options as they were.
         if let Some(currency) = copied(alloc, source.text("currency"))? {
@@ -230,7 +254,8 @@ fn merge_count<S: OptionSource>(source: &S, key: &str, count: &mut Option<usize>
 
 /// A copy of a text, if there is one.
 fn copied(alloc: Global, text: Option<&str>) -> Result<Option<String>, AllocError>
-    ensures { IfOk result (λ copy. option_map string_bytes copy ≡ option_copied text.entry) }
+    ensures same { IfOk result (λ copy. option_map string_bytes copy ≡ option_copied text.entry) }
+    ensures succeeds { IsNone text.entry → IsOk result }
 {
     match text {
         Some(text) => Ok(Some(String::from_str(alloc, text)?)),

@@ -51,25 +51,36 @@ fn shown_digits(significant: usize, minimum: Option<usize>) -> usize
     significant.max(minimum.unwrap_or(0).min(FRACTION_DIGITS))
 }
 
-/// The category of a number in a language's plural rules.
+/// The category of a number in a language's plural rules, by the names of Unicode's plural rules.
 #[derive(Clone, Copy, Debug, PartialEq, Eq, Hash)]
 pub enum PluralCategory {
+    /// `zero`.
     ZERO,
+    /// `one`.
     ONE,
+    /// `two`.
     TWO,
+    /// `few`.
     FEW,
+    /// `many`.
     MANY,
+    /// `other`, which every language has.
     OTHER,
 }
 
 /// Which rules: those for counts, as in "2 days", or those for places in an order, as in "the 2nd day".
 #[derive(Clone, Copy, Debug, PartialEq, Eq, Hash)]
 pub enum PluralRuleType {
+    /// The rules for counts.
     CARDINAL,
+    /// The rules for places in an order.
     ORDINAL,
 }
 
-/// The category of a number in English.
+/// The category of a number in English, from its operands.
+///
+/// Of counts, 1 shown without digits behind the point is `one` and all else `other`. Of places, a whole number is `one`,
+/// `two` or `few` where its last digit is 1, 2 or 3 and its last two aren't 11, 12 or 13, and all else is `other`.
 pub fn english_category(rule: PluralRuleType, operands: &PluralOperands) -> PluralCategory
     ensures { result ≡ english rule operands.now }
 {

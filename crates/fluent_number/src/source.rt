@@ -1,6 +1,6 @@
-ghost use Rattle.std.specs.Prelude.{◌≡◌, ℤ, Option, option_copied, option_map};
+ghost use Rattle.std.specs.Prelude.{◌≡◌, Option, option_copied, option_map};
 ghost use Rattle.fluent_number.specs.Digits.{Text};
-ghost use Rattle.fluent_number.specs.declared.number.FluentNumber.{FluentNumber as Number};
+ghost use Rattle.fluent_number.specs.Number.{Number, number_of};
 
 use crate::number::FluentNumber;
 
@@ -10,8 +10,8 @@ pub trait OptionSource {
     /// The text under a key, if a text stands there.
     ghost text_under: { Self → Text → Option Text };
 
-    /// The value of the number under a key, if a number stands there.
-    ghost number_under: { Self → Text → Option ℤ };
+    /// The number under a key, if a number stands there.
+    ghost number_under: { Self → Text → Option Number };
 
     /// The text under a key; `None` where there is no value or another kind of value.
     fn text(&self, key: &str) -> Option<&str>
@@ -19,5 +19,5 @@ pub trait OptionSource {
 
     /// The number under a key; `None` where there is no value or another kind of value.
     fn number(&self, key: &str) -> Option<&FluentNumber>
-        ensures { option_map (λ (number : Number). number.value) (option_copied result) ≡ number_under self.now key.now };
+        ensures { option_map number_of (option_copied result) ≡ number_under self.now key.now };
 }

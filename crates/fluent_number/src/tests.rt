@@ -1,4 +1,5 @@
 ghost use Rattle.std.specs.Prelude.{if◌then◌else◌, bytes_eq, option_copied, option_map, None};
+ghost use Rattle.fluent_number.specs.Number.{number_of};
 
 use crate::{
     Decimal, FluentNumber, FluentNumberCurrencyDisplayStyle, FluentNumberOptions,
@@ -328,7 +329,7 @@ struct One<'a> {
 impl OptionSource for One<'_> {
     ghost text_under = { λ source key. if bytes_eq key source.key.now then option_copied source.text else None };
 
-    ghost number_under = { λ source key. if bytes_eq key source.key.now then option_map (λ number. number.value) (option_copied source.number) else None };
+    ghost number_under = { λ source key. if bytes_eq key source.key.now then option_map number_of (option_copied source.number) else None };
 
     fn text(&self, key: &str) -> Option<&str> {
         if key == self.key { self.text } else { None }
