@@ -1,5 +1,5 @@
 -- The operands of a number against the digits of its text.
-use Rattle.std.proofs.Common.{◌≡◌, ℕ, ◌+◌, ◌-◌, ◌^◌, ◌<◌, ◌≤◌, [], ◌∷◌, ◌++◌, refl, sym, ap, ◌∙◌, length, take, min, max, cond, ◌&&◌, ◌==◌, is_none, decimal, Option, Some, None, unwrap_or, arith}
+use Rattle.std.proofs.Common.{◌≡◌, ℕ, ◌+◌, ◌-◌, ◌^◌, ◌<◌, ◌≤◌, [], ◌∷◌, ◌++◌, refl, sym, ap, ◌∙◌, subst, length, take, min, max, cond, ◌&&◌, ◌==◌, is_none, decimal, Option, Some, None, unwrap_or, arith}
 use Rattle.std.proofs.lemmas.List.{append_assoc, length-append, length-replicate, take_at, replicate-append-replicate}
 use Rattle.std.proofs.lemmas.Bool.{ne_eqb}
 use Rattle.std.proofs.lemmas.Fmt.{digits_decimal, digits_value-decimal}
@@ -26,14 +26,18 @@ numeral_shown number small =
     ∙ numeral_of-digits whole (shown_fraction number) digits
 
 -- so many of digits and zeros behind them
+take-parted : (ds : Text) (front back n : ℕ) → length ds + front ≡ n → take n (ds ++ zeros (front + back)) ≡ ds ++ zeros front
+take-parted ds front back n total =
+    let joined = length-append ds (zeros front) in
+    let count = length-replicate {A = ℕ} front 48 in
+    ap (λ z. take n (ds ++ z)) (sym (replicate-append-replicate front back 48))
+    ∙ ap (take n) (sym (append_assoc ds (zeros front) (zeros back)))
+    ∙ take_at (ds ++ zeros front) (zeros back) n (omega (arith, joined, count, total))
+
 take-zeros : (ds : Text) (k n : ℕ) → length ds ≤ n → n ≤ length ds + k → take n (ds ++ zeros k) ≡ ds ++ zeros (n - length ds)
 take-zeros ds k n low high =
-    let split : (n - length ds) + (length ds + k - n) ≡ k = omega (arith, low, high) in
-    let long : length (ds ++ zeros (n - length ds)) ≡ n = length-append ds (zeros (n - length ds)) ∙ ap (λ m. length ds + m) (length-replicate {A = ℕ} (n - length ds) 48) ∙ omega (arith, low) in
-    ap (λ m. take n (ds ++ zeros m)) (sym split)
-    ∙ ap (λ z. take n (ds ++ z)) (sym (replicate-append-replicate (n - length ds) (length ds + k - n) 48))
-    ∙ ap (take n) (sym (append_assoc ds (zeros (n - length ds)) (zeros (length ds + k - n))))
-    ∙ take_at (ds ++ zeros (n - length ds)) (zeros (length ds + k - n)) n long
+    let parted = take-parted ds (n - length ds) (k - (n - length ds)) n (omega (arith, low)) in
+    subst (λ m. take n (ds ++ zeros m) ≡ ds ++ zeros (n - length ds)) (omega (arith, low, high)) parted
 
 -- how many digits are shown
 filled_length : (least : ℕ) (digits : Text) → length (filled_up least digits) ≡ max (length digits) least

@@ -1,5 +1,5 @@
 -- The last digits of a number, and zeros at the end of digits.
-use Rattle.std.proofs.Common.{◌≡◌, ◌≢◌, Bool, true, false, cond, eq-eqb, ◌&&◌, ◌⊎◌, ⊎_elim, Option, is_none, unwrap_or, replicate, ℕ, zero, suc, ◌+◌, ◌-◌, ◌*◌, ◌/◌, ◌%◌, ◌^◌, ◌<◌, ◌≤◌, [], ◌∷◌, ◌++◌, refl, sym, ap, ◌∙◌, subst, length, take, ◌==◌, decimal, arith}
+use Rattle.std.proofs.Common.{◌≡◌, ◌≢◌, Bool, true, false, cond, eq-eqb, ◌&&◌, ◌⊎◌, ⊎_elim, Option, is_none, unwrap_or, replicate, ℕ, zero, suc, ◌+◌, ◌-◌, ◌*◌, ◌/◌, ◌%◌, ◌^◌, ◌<◌, ◌≤◌, [], ◌∷◌, ◌++◌, refl, sym, ap, ◌∙◌, length, take, ◌==◌, decimal, arith}
 use Rattle.std.specs.List.{suffix_len, prefix_len}
 use Rattle.std.proofs.lemmas.List.{length-append, take_all, take-append-le, reverse-append}
 use Rattle.std.proofs.lemmas.Bool.{ne_eqb, and_from}
@@ -42,32 +42,6 @@ pub without_end_zeros_other : (ds : Text) (c : ℕ) → c ≢ 48 → without_end
 without_end_zeros_other ds c other =
     let none : suffix_len is_zero (ds ++ c ∷ []) ≡ 0 = suffix_len_push ds c ∙ ap (λ b. cond b (1 + suffix_len is_zero ds) 0) (ne_eqb c 48 other) in
     take_all (length (ds ++ c ∷ []) - suffix_len is_zero (ds ++ c ∷ [])) (ds ++ c ∷ []) (omega (arith, none))
-
--- the last digits of digits that were cut: the same digits but for zeros at the end
-pub record IsCut (fraction count digits : ℕ) : Type 0 where
-  pub short : count ≤ 18
-  pub below : digits < 10 ^ count
-  pub same : without_end_zeros (last_digits count digits) ≡ without_end_zeros (last_digits 18 fraction)
-
-pub is_cut_more : (fraction count digits : ℕ) → IsCut fraction count digits → 0 < count → digits % 10 ≡ 0 → IsCut fraction (count - 1) (digits / 10)
-is_cut_more fraction zero digits cut some ends = absurd (omega (arith, some))
-is_cut_more fraction (suc k) digits cut some ends =
-    let last : last_digits (suc k) digits ≡ last_digits k (digits / 10) ++ 48 ∷ [] = last_digits_step k digits ∙ ap (λ d. last_digits k (digits / 10) ++ (48 + d) ∷ []) ends in
-    let same : without_end_zeros (last_digits k (digits / 10)) ≡ without_end_zeros (last_digits 18 fraction) = sym (without_end_zeros_zero (last_digits k (digits / 10))) ∙ ap without_end_zeros (sym last) ∙ cut.same in
-    let k_is : suc k - 1 ≡ k = omega arith in
-    let power : 10 ^ suc k ≡ 10 ^ k * 10 = pow-suc 10 k in
-    let small : digits / 10 < 10 ^ k = omega (arith, cut.below, power) in
-    subst (λ n. IsCut fraction n (digits / 10)) (sym k_is) (record { short = omega (arith, cut.short); below = small; same = same })
-
--- where nothing is left or the last digit isn't 0, no zeros are at the end
-pub is_cut_done : (fraction count digits : ℕ) → IsCut fraction count digits → (0 < count → digits % 10 ≢ 0) → last_digits count digits ≡ without_end_zeros (last_digits 18 fraction)
-is_cut_done fraction zero digits cut ends =
-    last_digits_none digits ∙ ap without_end_zeros (sym (last_digits_none digits)) ∙ cut.same
-is_cut_done fraction (suc k) digits cut ends =
-    let nonzero = ends (omega arith) in
-    let other : 48 + digits % 10 ≢ 48 = λ e. nonzero (omega (arith, e)) in
-    last_digits_step k digits ∙ sym (without_end_zeros_other (last_digits k (digits / 10)) (48 + digits % 10) other)
-    ∙ ap without_end_zeros (sym (last_digits_step k digits)) ∙ cut.same
 
 pub power_le : (count : ℕ) → count ≤ 18 → 10 ^ count ≤ 10 ^ 18
 power_le count short = pow-le-pow_right {n = 10} (omega arith) short

@@ -1,4 +1,5 @@
 pub mod Agreeing
+pub mod Cut
 pub mod EndZeros
 pub mod Equal
 pub mod LastDigits

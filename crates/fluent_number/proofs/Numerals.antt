@@ -34,9 +34,6 @@ fraction_lt s digits short =
     let below : digits_worth s + 1 ≤ 10 ^ length s = omega (arith, digits_worth_lt s digits) in
     omega (arith, mul-le-mul_right (10 ^ (18 - length s)) below, power_split (length s) short, positive)
 
-pub short_worth_lt : (s : Text) → list_all is_ascii_digit s ≡ true → length s ≤ 18 → digits_worth s < 10 ^ 18
-short_worth_lt s digits short = digits_value_short by_places s 18 digits short
-
 -- digits before and behind a point are a decimal
 pub record AreDecimal (whole behind : Text) : Type 0 where
   pub whole_digits : list_all is_ascii_digit whole ≡ true

@@ -1,8 +1,15 @@
 -- The definitions at a few values, by computing.
 use Rattle.std.proofs.Common.{◌≡◌, refl, codes, Some, None, Option}
 use Rattle.std.specs.Fmt.{digits}
-use Rattle.std.specs.Prelude.{option_map}
+use Rattle.std.specs.Prelude.{option_map, ◌*◌, ◌^◌, pos, neg_ℤ}
+use Rattle.fluent_number.specs.Conversion.{from_integer, signed_of, unsigned_of}
 use Rattle.fluent_number.specs.Digits.{Text, last_digits}
+use Rattle.fluent_number.specs.Operands.{operands_of}
+use Rattle.fluent_number.specs.Plurals.{english}
+use Rattle.fluent_number.specs.declared.plural.PluralOperands.{PluralOperands}
+use Rattle.fluent_number.specs.declared.plural.PluralCategory.{PluralCategory}
+use Rattle.fluent_number.specs.declared.plural.PluralCategory.TheVariants.{ONE, TWO, OTHER}
+use Rattle.fluent_number.specs.declared.plural.PluralRuleType.TheVariants.{CARDINAL, ORDINAL}
 use Rattle.fluent_number.specs.Reading.{read_number}
 use Rattle.fluent_number.specs.Text.{number_text}
 
@@ -72,3 +79,47 @@ two_points = refl
 sign_behind : read_number (codes "1.+5") ≡ None
 unfolding read_number
 sign_behind = refl
+
+-- the operands of a text, and its English categories
+abbrev operands_read : Text → Option PluralOperands
+operands_read text = option_map operands_of (read_number text)
+
+abbrev categories_read : Text → Option (PluralCategory × PluralCategory)
+categories_read text = option_map (λ o. (english CARDINAL o, english ORDINAL o)) (operands_read text)
+
+operands_of_minus_half : operands_read (codes "-0.50") ≡ Some (record { n = pos (5 * 10 ^ 17); i = 0; v = 2; w = 1; f = 50; t = 5 })
+unfolding read_number operands_of last_digits
+operands_of_minus_half = refl
+
+operands_of_1_230 : operands_read (codes "1.230") ≡ Some (record { n = pos (123 * 10 ^ 16); i = 1; v = 3; w = 2; f = 230; t = 23 })
+unfolding read_number operands_of last_digits
+operands_of_1_230 = refl
+
+categories_of_1_00 : categories_read (codes "1.00") ≡ Some (OTHER, ONE)
+unfolding read_number operands_of last_digits
+categories_of_1_00 = refl
+
+categories_of_22 : categories_read (codes "22") ≡ Some (OTHER, TWO)
+unfolding read_number operands_of last_digits
+categories_of_22 = refl
+
+categories_of_113 : categories_read (codes "113") ≡ Some (OTHER, OTHER)
+unfolding read_number operands_of last_digits
+categories_of_113 = refl
+
+categories_of_1_5 : categories_read (codes "1.5") ≡ Some (OTHER, OTHER)
+unfolding read_number operands_of last_digits
+categories_of_1_5 = refl
+
+-- -3.7 as an `i8`, 300 and -1 as a `u8`
+minus_three : signed_of 8 (neg_ℤ (pos (37 * 10 ^ 17))) ≡ neg_ℤ (pos 3)
+minus_three = refl
+
+greatest_byte : unsigned_of 8 (from_integer (pos 300)) ≡ 255
+greatest_byte = refl
+
+least_byte : unsigned_of 8 (from_integer (neg_ℤ (pos 1))) ≡ 0
+least_byte = refl
+
+least_signed_byte : signed_of 8 (from_integer (neg_ℤ (pos 129))) ≡ neg_ℤ (pos 128)
+least_signed_byte = refl

@@ -1,8 +1,9 @@
 -- What digits are worth: one more of them, and all that are left.
-use Rattle.std.proofs.Common.{◌≡◌, true, ℕ, suc, ◌+◌, ◌-◌, ◌*◌, ◌^◌, ◌<◌, ◌≤◌, [], ◌∷◌, ◌++◌, sym, ap, ◌∙◌, get_or, subst, ◌&&◌, length, take, drop, arith}
+use Rattle.std.proofs.Common.{◌≡◌, true, nat_le, ℕ, suc, ◌+◌, ◌-◌, ◌*◌, ◌^◌, ◌<◌, ◌≤◌, [], ◌∷◌, ◌++◌, sym, ap, ◌∙◌, get_or, subst, ◌&&◌, length, take, drop, arith}
 use Rattle.std.proofs.lemmas.List.{at_drop_more, drop_more, length-append}
 use Rattle.std.proofs.lemmas.Nat.{pow-add}
-use Rattle.std.proofs.Math.Nat.{pow-suc, le-mul_of_pos_right, one-le-pow}
+use Rattle.std.proofs.Math.Nat.{pow-suc, le-mul_of_pos_right, one-le-pow, pow-le-pow_right}
+use Rattle.std.proofs.lemmas.Bool.{and_parts, leb-true}
 use Rattle.std.proofs.lemmas.List.{drop_all, take_all}
 use Rattle.std.proofs.lemmas.List.Sums.{AllPass-from_list_all}
 use Rattle.std.proofs.lemmas.List.Folds.{list_all_more}
@@ -57,3 +58,26 @@ worth-append (c ∷ cs) b =
     let power : 10 ^ length (cs ++ b) ≡ 10 ^ length cs * 10 ^ length b = ap (λ k. 10 ^ k) (length-append cs b) ∙ pow-add 10 (length cs) (length b) in
     let times : (c - 48) * 10 ^ length (cs ++ b) ≡ (c - 48) * (10 ^ length cs * 10 ^ length b) = ap (λ p. (c - 48) * p) power in
     omega (arith, times, worth-append cs b)
+
+-- the same of digits that can't be too many
+pub record ShortWorthBefore (s : Text) (i worth : ℕ) : Type 0 where
+  pub digits : list_all is_ascii_digit (take i s) ≡ true
+  pub small : worth < 10 ^ i
+  pub total : worth * 10 ^ length (drop i s) + digits_worth (drop i s) ≡ digits_worth s
+
+-- one more digit fits into 64 bits
+pub short_fits : (i worth : ℕ) → i < 19 → worth < 10 ^ i → worth * 10 + 9 < 2 ^ 64
+short_fits i worth few small =
+    let power : 10 ^ suc i ≡ 10 ^ i * 10 = pow-suc 10 i in
+    let most = pow-le-pow_right {n = 10} (omega arith) {i = suc i} {j = 19} (omega (arith, few)) in
+    omega (arith, power, most, small)
+
+pub short_worth_before_more : (s : Text) (i worth : ℕ) → i < length s → ShortWorthBefore s i worth → is_ascii_digit (get_or s i 0) ≡ true → ShortWorthBefore s (i + 1) (worth * 10 + (get_or s i 0 - 48))
+short_worth_before_more s i worth low before digit =
+    let power : 10 ^ (i + 1) ≡ 10 ^ i * 10 = (let e : i + 1 ≡ suc i = omega arith in ap (λ k. 10 ^ k) e) ∙ pow-suc 10 i in
+    let range = leb-true (get_or s i 0) 57 (and_parts (nat_le 48 (get_or s i 0)) (nat_le (get_or s i 0) 57) digit).1 in
+    record {
+      digits = list_all_more is_ascii_digit s i 0 low ∙ ap (λ b. b && is_ascii_digit (get_or s i 0)) before.digits ∙ digit;
+      small = omega (arith, power, range, before.small);
+      total = worth_more s i worth low before.total;
+    }

@@ -2,7 +2,7 @@
 use Rattle.std.proofs.Common.{◌≡◌, true, nat_le, ℕ, zero, suc, ◌+◌, ◌-◌, ◌*◌, ◌/◌, ◌%◌, ◌^◌, ◌<◌, ◌≤◌, [], ◌∷◌, ◌++◌, refl, sym, ap, ◌∙◌, get_or, length, take, drop, reverse, replicate, arith, add-zero}
 use Rattle.std.specs.List.{suffix_len, list_all}
 use Rattle.std.specs.Char.{is_ascii_digit}
-use Rattle.std.proofs.lemmas.List.{append_assoc, append-nil, same_lists, length-drop, length-take-le, length-replicate, get_or-drop, get_or-replicate, get_or-reverse, take-append-drop, take_more, take_all, replicate_more}
+use Rattle.std.proofs.lemmas.List.{append_assoc, append-nil, same_lists, length-drop, length-take-le, length-replicate, get_or-drop, get_or-replicate, get_or-reverse, take-append-drop, take_more, take_all}
 use Rattle.std.proofs.lemmas.List.Sums.{prefix_len_passes, suffix_len-le-length}
 use Rattle.std.proofs.lemmas.List.Folds.{list_all-append}
 use Rattle.std.proofs.lemmas.Bool.{eqb-true, leb-true, and_parts}
@@ -43,12 +43,16 @@ zeros_back ds =
     ∙ ap (λ r. without_end_zeros ds ++ r) (sym (end_zeros ds))
     ∙ take-append-drop (length ds - s) ds
 
+-- one more zero at the end
+zeros_push : (k : ℕ) → zeros k ++ 48 ∷ [] ≡ zeros (suc k)
+zeros_push zero = refl
+zeros_push (suc k) = ap (λ z. 48 ∷ z) (zeros_push k)
+
 -- zeros put at the end are taken off again
 pub without_end_zeros-zeros : (ds : Text) (k : ℕ) → without_end_zeros (ds ++ zeros k) ≡ without_end_zeros ds
 without_end_zeros-zeros ds zero = ap without_end_zeros (append-nil ds)
 without_end_zeros-zeros ds (suc k) =
-    let one : zeros (suc k) ≡ zeros k ++ 48 ∷ [] = (let e : suc k ≡ k + 1 = omega arith in ap zeros e) ∙ sym (replicate_more k 48) in
-    ap (λ z. without_end_zeros (ds ++ z)) one
+    ap (λ z. without_end_zeros (ds ++ z)) (sym (zeros_push k))
     ∙ ap without_end_zeros (sym (append_assoc ds (zeros k) (48 ∷ [])))
     ∙ without_end_zeros_zero (ds ++ zeros k)
     ∙ without_end_zeros-zeros ds k
@@ -105,11 +109,10 @@ last_digits-scaled k (suc m) n =
     let times : n * 10 ^ suc m ≡ n * (10 * 10 ^ m) = ap (λ p. n * p) power in
     let quotient : n * 10 ^ suc m / 10 ≡ n * 10 ^ m = omega (arith, times) in
     let remainder : 48 + n * 10 ^ suc m % 10 ≡ 48 = omega (arith, times, quotient) in
-    let one : zeros m ++ 48 ∷ [] ≡ zeros (suc m) = replicate_more m 48 ∙ (let e : m + 1 ≡ suc m = omega arith in ap zeros e) in
-    ap (λ j. last_digits j (n * 10 ^ suc m)) count
-    ∙ last_digits_step (k + m) (n * 10 ^ suc m)
-    ∙ ap (λ q. last_digits (k + m) q ++ (48 + n * 10 ^ suc m % 10) ∷ []) quotient
-    ∙ ap (λ c. last_digits (k + m) (n * 10 ^ m) ++ c ∷ []) remainder
+    let parted : last_digits (suc (k + m)) (n * 10 ^ suc m) ≡ last_digits (k + m) (n * 10 ^ suc m / 10) ++ (48 + n * 10 ^ suc m % 10) ∷ [] = last_digits_step (k + m) (n * 10 ^ suc m) in
+    let cut : last_digits (k + m) (n * 10 ^ suc m / 10) ++ (48 + n * 10 ^ suc m % 10) ∷ [] ≡ last_digits (k + m) (n * 10 ^ m) ++ 48 ∷ [] = λ i. last_digits (k + m) (quotient i) ++ remainder i ∷ [] in
+    let step : last_digits (k + suc m) (n * 10 ^ suc m) ≡ last_digits (k + m) (n * 10 ^ m) ++ 48 ∷ [] = ap (λ j. last_digits j (n * 10 ^ suc m)) count ∙ parted ∙ cut in
+    step
     ∙ ap (λ ds. ds ++ 48 ∷ []) (last_digits-scaled k m n)
     ∙ append_assoc (last_digits k n) (zeros m) (48 ∷ [])
-    ∙ ap (λ z. last_digits k n ++ z) one
+    ∙ ap (λ z. last_digits k n ++ z) (zeros_push m)

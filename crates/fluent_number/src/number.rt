@@ -1,4 +1,4 @@
-ghost use Rattle.std.specs.Prelude.{◌≡◌, Some, None, MatchResult, IfOk, IsNone, IsOk, string_bytes};
+ghost use Rattle.std.specs.Prelude.{◌≡◌, Some, None, MatchResult, IfOk, IsNone, IsOk, string_bytes, codes};
 ghost use Rattle.fluent_number.specs.Number.{number_of};
 ghost use Rattle.fluent_number.specs.Reading.{read_number};
 ghost use Rattle.fluent_number.specs.Text.{number_text};
@@ -71,6 +71,8 @@ impl FromStr for FluentNumber {
 pub struct NotANumber;
 
 impl fmt::Display for NotANumber {
+    ghost output = { λ _. Some (codes "not a number") };
+
     fn fmt<W: fmt::Write>(&self, f: &mut fmt::Formatter<W>) -> fmt::Result {
         f.write_str("not a number")
     }

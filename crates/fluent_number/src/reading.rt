@@ -11,6 +11,9 @@ use crate::decimal::{Decimal, FRACTION_DIGITS, power_of_ten};
 use crate::number::FluentNumber;
 use crate::options::FluentNumberOptions;
 
+/// So many digits write a number that fits in any case.
+const SAFE_DIGITS: usize = 19;
+
 /// The number that a text is, if it is one.
 pub(crate) fn read(text: &str) -> Option<FluentNumber>
     ensures { option_map number_of result ≡ read_number text.now }
@@ -89,9 +92,27 @@ fn decimal_of(negative: bool, whole: &[u8], behind: &[u8]) -> Option<Decimal>
 fn worth_of(digits: &[u8]) -> Option<u64>
     ensures { SomeIff result ((list_all is_ascii_digit digits.now ≡ true) × (digits_worth digits.now < 2 ^ 64)) (digits_worth digits.now) }
 {
+    if digits.len() <= SAFE_DIGITS {
+        return short_worth_of(digits);
+    }
     let mut worth: u64 = 0;
     for &digit in digits {
         worth = followed_by(worth, digit)?;
+    }
+    Some(worth)
+}
+
+/// The number that digits write which can't be too many, if they are digits.
+fn short_worth_of(digits: &[u8]) -> Option<u64>
+    requires { length digits.now ≤ 19 }
+    ensures { SomeIff result (list_all is_ascii_digit digits.now ≡ true) (digits_worth digits.now) }
+{
+    let mut worth: u64 = 0;
+    for &digit in digits {
+        if !digit.is_ascii_digit() {
+            return None;
+        }
+        worth = worth * 10 + u64::from(digit - b'0');
     }
     Some(worth)
 }
@@ -113,5 +134,5 @@ fn units_of_fraction(digits: &[u8]) -> Option<u64>
     if digits.len() > FRACTION_DIGITS {
         return None;
     }
-    Some(worth_of(digits)? * power_of_ten(FRACTION_DIGITS - digits.len()))
+    Some(short_worth_of(digits)? * power_of_ten(FRACTION_DIGITS - digits.len()))
 }

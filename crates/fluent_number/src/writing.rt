@@ -1,5 +1,5 @@
 // Writes a number's text.
-ghost use Rattle.std.specs.Prelude.{◌≡◌, ◌+◌, ◌^◌, ◌<◌, ◌≤◌, ◌++◌, replicate, string_bytes, decimal, IfOk, OnOk};
+ghost use Rattle.std.specs.Prelude.{◌≡◌, ◌≢◌, ◌+◌, ◌%◌, ◌^◌, ◌<◌, ◌≤◌, ◌++◌, replicate, string_bytes, decimal, IfOk, OnOk};
 ghost use Rattle.fluent_number.specs.Decimal.{whole_of};
 ghost use Rattle.fluent_number.specs.Digits.{last_digits, without_end_zeros};
 ghost use Rattle.fluent_number.specs.Text.{minus_of, point_and, fraction_text};
@@ -69,13 +69,33 @@ pub(crate) fn significant_digits(fraction: u64) -> (usize, u64)
     if fraction == 0 {
         return (0, 0);
     }
-    let mut count = FRACTION_DIGITS;
-    let mut digits = fraction;
-    while count > 0 && digits % 10 == 0 {
-        digits /= 10;
-        count -= 1;
+    let (count, digits) = cut_zeros(FRACTION_DIGITS, fraction, 16);
+    let (count, digits) = cut_zeros(count, digits, 8);
+    let (count, digits) = cut_zeros(count, digits, 4);
+    let (count, digits) = cut_zeros(count, digits, 2);
+    cut_zeros(count, digits, 1)
+}
+
+/// Cuts so many zeros off the end of digits, where there are so many.
+#[inline(always)]
+fn cut_zeros(count: usize, digits: u64, zeros: usize) -> (usize, u64)
+    requires some { 0 < digits }
+    requires below { digits < 10 ^ count }
+    requires few { zeros ≤ 18 }
+    ensures same { without_end_zeros (last_digits result.0 result.1) ≡ without_end_zeros (last_digits count digits) }
+    ensures short { result.0 ≤ count }
+    ensures below { result.1 < 10 ^ result.0 }
+    ensures some { 0 < result.1 }
+
+    // Where there were not twice as many zeros, there are not as many left.
+    ensures fewer { digits % 10 ^ (zeros + zeros) ≢ 0 → result.1 % 10 ^ zeros ≢ 0 }
+{
+    let power = power_of_ten(zeros);
+    if digits % power == 0 {
+        (count - zeros, digits / power)
+    } else {
+        (count, digits)
     }
-    (count, digits)
 }
 
 /// Writes so many digits of a number, with zeros at the front where it has fewer.
