@@ -1,5 +1,5 @@
 -- Lemmas on the messages of sources, by their identifiers.
-use Rattle.std.proofs.Common.{◌≡◌, ℕ, ◌+◌, ◌<◌, Bool, true, false, cond, List, [], ◌∷◌, ◌++◌, length, take, map, get_or, Option, Some, None, option_map, refl, sym, ap, ◌∙◌, append_assoc, append-nil}
+use Rattle.std.proofs.Common.{◌≡◌, ℕ, ◌+◌, ◌<◌, true, false, cond, List, [], ◌∷◌, ◌++◌, length, take, map, get_or, Option, Some, None, refl, sym, ap, ◌∙◌, append_assoc, append-nil}
 use Rattle.std.specs.List.{filter_map, flat_map}
 use Rattle.std.specs.Str.{bytes_eq}
 use Rattle.std.proofs.lemmas.List.{map-append, take_more}
@@ -67,4 +67,4 @@ source_with id now next sources i d inside is added =
     ∙ (ap (λ o. first_of o (message_named id (messages_of (get_or sources i d).now))) is
     ∙ (sym (message_named-append id (all_messages (texts (take i sources))) (messages_of (get_or sources i d).now))
     ∙ ap (message_named id) (sym (ap (λ ss. all_messages (texts ss)) (take_more sources i d inside)
-      ∙ (ap (flat_map messages_of) (map-append (λ s. s.now) (take i sources) (get_or sources i d ∷ [])) ∙ flat_map-push messages_of (texts (take i sources)) (get_or sources i d).now)))))
+    ∙ (ap (flat_map messages_of) (map-append (λ s. s.now) (take i sources) (get_or sources i d ∷ [])) ∙ flat_map-push messages_of (texts (take i sources)) (get_or sources i d).now)))))

@@ -1,5 +1,5 @@
 -- Lemmas on the answers of the engine.
-use Rattle.std.proofs.Common.{◌≡◌, List, [], ◌∷◌, map, Option, Some, refl, sym, ap}
+use Rattle.std.proofs.Common.{◌≡◌, List, [], ◌∷◌, map, Option, Some, refl, ap}
 use Rattle.ftl.specs.Text.{Text}
 use Rattle.ftl.specs.Requests.{Request, request_of}
 use Rattle.ftl.specs.Frames.{Reply, frame_of, answer_to, answer_line, found as answer_of}

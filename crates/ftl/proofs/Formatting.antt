@@ -1,13 +1,12 @@
 -- Lemmas on the text of a message.
-use Rattle.std.proofs.Common.{◌≡◌, ℕ, zero, suc, ◌+◌, ◌-◌, ◌<◌, ◌≤◌, Bool, true, false, List, [], ◌∷◌, ◌++◌, length, drop, map, get_or, Option, Some, None, refl, sym, ap, ◌∙◌, arith, append_assoc, append-nil, add-one, drop-cons, option_copied, nat_lt}
-use Rattle.std.specs.Prelude.{◌&&◌, not, is_some}
+use Rattle.std.proofs.Common.{◌≡◌, ℕ, suc, ◌+◌, ◌-◌, ◌<◌, ◌≤◌, Bool, true, false, List, [], ◌∷◌, ◌++◌, length, drop, map, get_or, Option, Some, None, refl, sym, ap, ◌∙◌, arith, append_assoc, append-nil, add-one, drop-cons, option_copied, nat_lt}
+use Rattle.std.specs.Prelude.{◌&&◌, is_some}
 use Rattle.std.proofs.lemmas.List.{map-append, drop_all, length-map}
 use denote.Ref.{Bor}
 use Rattle.ftl.specs.Text.{Text}
 use Rattle.ftl.specs.Frames.{Reply}
 use Rattle.ftl.specs.Requests.{value_named}
-use Rattle.ftl.specs.ThinMessages.{Element}
-use Rattle.ftl.specs.ThinText.{unknown_variable, too_many_placeables, isolated, variable_text, variable_errors, and_then, elements_reply, placeable_limit, message_reply}
+use Rattle.ftl.specs.ThinText.{isolated, variable_text, variable_errors, and_then, elements_reply, placeable_limit, message_reply}
 use Rattle.ftl.specs.declared.message.Element.{Element as Part}
 use Rattle.ftl.specs.declared.message.Element.TheVariants as part
 use Rattle.ftl.specs.declared.text.ThinError.{ThinError}

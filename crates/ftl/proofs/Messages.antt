@@ -15,7 +15,7 @@ use Rattle.std.proofs.lemmas.Str.Pattern.{drop_at_char}
 use Rattle.memchr.specs.Find.{IsFirstByte}
 use denote.Ref.{Bor}
 use Rattle.ftl.specs.Text.{Text, space, open_brace, close_brace}
-use Rattle.ftl.specs.ThinMessages.{Element, text_element, variable, is_letter, is_name_byte, is_brace, is_printable, is_plain, begins, after_byte, skip_spaces, identifier_at, closed, placeable_at, text_element_at, element_behind, element_at, elements_within, elements_of, ends_in_space, message_with, message_head, message_of}
+use Rattle.ftl.specs.ThinMessages.{Element, text_element, variable, is_name_byte, is_brace, is_printable, is_plain, begins, after_byte, skip_spaces, identifier_at, closed, placeable_at, text_element_at, element_behind, element_at, elements_within, elements_of, ends_in_space, message_with, message_head, message_of}
 use Rattle.ftl.specs.declared.message.Element.{Element as Part}
 use Rattle.ftl.specs.MessageView.{element_view, elements_view}
 
@@ -67,18 +67,15 @@ unfolding identifier_at
 identifier_at-none [] empty = refl
 identifier_at-none (b ∷ bs) empty = absurd (cc)
 
-is_letter-alphabetic : (b : ℕ) → is_letter b ≡ is_ascii_alphabetic b
-is_letter-alphabetic b = grind (arith, nat_tests)
-
 pub identifier_at-no_letter : (s : Text) (b : ℕ) → Some b ≡ slice_get s 0 → false ≡ is_ascii_alphabetic b → identifier_at s ≡ None
 unfolding identifier_at
 identifier_at-no_letter [] b first other = refl
-identifier_at-no_letter (x ∷ bs) b first other = let same : b ≡ x = cc in rw (is_letter-alphabetic x, ← same, ← other) refl
+identifier_at-no_letter (x ∷ bs) b first other = let same : b ≡ x = cc in rw (← same, ← other) refl
 
 pub identifier_at-letter : (s : Text) (b : ℕ) → Some b ≡ slice_get s 0 → true ≡ is_ascii_alphabetic b → identifier_at s ≡ Some (take (prefix_len is_name_byte s) s, drop (prefix_len is_name_byte s) s)
 unfolding identifier_at
 identifier_at-letter [] b first letter = absurd (cc)
-identifier_at-letter (x ∷ bs) b first letter = let same : b ≡ x = cc in rw (is_letter-alphabetic x, ← same, ← letter) refl
+identifier_at-letter (x ∷ bs) b first letter = let same : b ≡ x = cc in rw (← same, ← letter) refl
 
 is_name_byte-ascii : (b : ℕ) → is_name_byte b ≡ true → b < 128
 is_name_byte-ascii b name = grind (arith, nat_tests)
@@ -123,7 +120,7 @@ identifier_at-shorter : (s : Text) → IfSome (identifier_at s) (λ r. length r.
 unfolding identifier_at
 identifier_at-shorter s =
     let n = prefix_len is_name_byte s in
-    elim (begins is_letter s) as (λ v. IfSome {T = Text × Text} (cond v (Some (take n s, drop n s)) None) (λ r. length r.1 ≤ length s)) [ true ↦ omega (arith, length-drop n s) | false ↦ tt ]
+    elim (begins is_ascii_alphabetic s) as (λ v. IfSome {T = Text × Text} (cond v (Some (take n s, drop n s)) None) (λ r. length r.1 ≤ length s)) [ true ↦ omega (arith, length-drop n s) | false ↦ tt ]
 
 if_some_then : {A B : Type 0} (P : A → Type 0) (Q : B → Type 0) (f : A → Option B) → ((a : A) → P a → IfSome (f a) Q) → (o : Option A) → IfSome o P → IfSome (option_and_then f o) Q
 if_some_then P Q f next None h = tt

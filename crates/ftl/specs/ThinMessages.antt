@@ -1,6 +1,7 @@
 -- Messages of one line, made of texts and variables.
 use Rattle.std.specs.Prelude.{ℕ, zero, suc, Bool, false, not, ◌&&◌, ◌||◌, ◌==◌, nat_le, if◌then◌else◌, List, [], ◌∷◌, length, take, drop, Option, Some, None, option_map, option_and_then}
 use Rattle.std.specs.List.{prefix_len, list_all, flat_map, filter_map, position_or_len, slice_split}
+use Rattle.std.specs.Char.{is_ascii_alphabetic, is_ascii_alphanumeric}
 use Rattle.ftl.specs.Text.{Text, line_feed, space, dollar, equals, open_brace, close_brace}
 
 pub data Element : Type 0 where
@@ -11,15 +12,15 @@ pub record Message : Type 0 where
   pub id : Text
   pub elements : List Element
 
-abbrev pub is_between : ℕ → ℕ → ℕ → Bool
-is_between low high b = nat_le low b && nat_le b high
+abbrev pub hyphen : ℕ
+hyphen = 45
 
-abbrev pub is_letter : ℕ → Bool
-is_letter b = is_between 65 90 b || is_between 97 122 b
+abbrev pub underscore : ℕ
+underscore = 95
 
 -- a byte that may go on an identifier: a letter, a digit, `-` or `_`
 abbrev pub is_name_byte : ℕ → Bool
-is_name_byte b = is_letter b || (is_between 48 57 b || (b == 45 || b == 95))
+is_name_byte b = is_ascii_alphanumeric b || (b == hyphen || b == underscore)
 
 abbrev pub is_brace : ℕ → Bool
 is_brace b = b == open_brace || b == close_brace
@@ -37,11 +38,11 @@ after_byte byte (b ∷ bs) = if b == byte then Some bs else None
 abbrev pub skip_spaces : Text → Text
 skip_spaces s = drop (prefix_len (λ b. b == space) s) s
 
--- the longest identifier at the front, and what follows it
+-- the longest identifier at the front, which begins with a letter, and what follows it
 unfoldable pub identifier_at : Text → Option (Text × Text)
 identifier_at s =
     let n = prefix_len is_name_byte s in
-    if begins is_letter s then Some (take n s, drop n s) else None
+    if begins is_ascii_alphabetic s then Some (take n s, drop n s) else None
 
 -- what follows a placeable's variable: blank inline and the closing brace
 abbrev pub closed : Text × Text → Option (Element × Text)
@@ -65,7 +66,7 @@ element_behind s (Some rest) = placeable_at rest
 unfoldable pub element_at : Text → Option (Element × Text)
 element_at s = element_behind s (after_byte open_brace s)
 
--- the elements of a text of at most so many bytes
+-- the elements of a text of at most so many bytes: each takes at least one
 unfoldable pub elements_within : ℕ → Text → Option (List Element)
 elements_within n [] = Some []
 elements_within zero (b ∷ bs) = None
@@ -74,15 +75,15 @@ elements_within (suc n) (b ∷ bs) = option_and_then (λ e. option_map (λ es. e
 abbrev pub elements_of : Text → Option (List Element)
 elements_of s = elements_within (length s) s
 
--- printable ASCII that does not end in a space
 abbrev pub ends_in_space : Text → Bool
 ends_in_space [] = false
 ends_in_space (b ∷ []) = b == space
 ends_in_space (b ∷ c ∷ bs) = ends_in_space (c ∷ bs)
 
 abbrev pub is_printable : ℕ → Bool
-is_printable b = is_between 32 126 b
+is_printable b = nat_le 0x20 b && nat_le b 0x7E
 
+-- printable ASCII that does not end in a space
 abbrev pub is_plain : Text → Bool
 is_plain line = list_all is_printable line && not (ends_in_space line)
 

@@ -63,3 +63,24 @@ fn add_message<'s>(messages: &mut Messages<'s>, message: Message<'s>) -> Result<
     messages.entry(message.id)?.or_insert(message.elements);
     Ok(())
 }
+
+#[cfg(test)]
+mod tests {
+    use super::*;
+    use std::test::Fail;
+
+    #[test]
+    fn the_first_message_counts(rt: HostRuntime) -> Result<(), Fail> {
+        let sources = [
+            "damaged\nhello = Hi!\nhello = Again!\n",
+            "hello = Another Hi!\nbye = Bye!",
+        ];
+        let catalog = Catalog::new(rt.alloc(), &sources)?;
+        let hello = catalog.find("hello").ok_or("no message")?;
+        assert_eq!(rt; hello, [Element::Text("Hi!")].as_slice());
+        let bye = catalog.find("bye").ok_or("no message")?;
+        assert_eq!(rt; bye, [Element::Text("Bye!")].as_slice());
+        assert!(rt; catalog.find("damaged").is_none());
+        Ok(())
+    }
+}

@@ -24,11 +24,7 @@ pub struct Thin<'s> {
 impl<'s> Thin<'s> {
     /// Answers from `sources`, in their order. Where `isolating` holds, a placeable that stands beside other elements
     /// stands between isolating marks.
-    pub fn new(
-        alloc: Global,
-        sources: &[&'s str],
-        isolating: bool,
-    ) -> Result<Thin<'s>, AllocError>
+    pub fn new(alloc: Global, sources: &[&'s str], isolating: bool) -> Result<Thin<'s>, AllocError>
         ensures { IfOk result (λ thin. (line : List ℕ) → ⟦<Thin<'s> as Engine>⟧.reply thin line ≡ thin_line (texts sources.now) isolating line) }
     {
         let catalog = Catalog::new(alloc, sources)?;
@@ -36,7 +32,11 @@ impl<'s> Thin<'s> {
     }
 
     /// What there is for a request. No message of one line has attributes.
-    fn find(&self, alloc: Global, request: &Request<'_>) -> Result<Option<Reply<'s>>, AllocError>
+    fn reply_to(
+        &self,
+        alloc: Global,
+        request: &Request<'_>,
+    ) -> Result<Option<Reply<'s>>, AllocError>
         ensures { IfOk result (λ reply. option_map reply_view reply ≡ reply_where self.now.isolating (elements_named self.now.catalog) (request_view request.now)) }
     {
         if request.attribute.is_some() {
@@ -51,14 +51,14 @@ impl<'s> Thin<'s> {
     }
 
     /// Puts what is written for `line` behind `out`. After an error a front of it may stand there.
-    fn push_reply(&self, alloc: Global, line: &[u8], out: &mut Vec<u8>) -> Result<(), AllocError>
+    fn push_answer(&self, alloc: Global, line: &[u8], out: &mut Vec<u8>) -> Result<(), AllocError>
         ensures ok { OnOk result (out.new.items ≡ out.old.items ++ thin_reply self.now line.now) }
         ensures front { IsFrontOf out.old.items out.new.items }
     {
         let Some(request) = read_request(alloc, line)? else {
             return Answer::<ThinError<'_>>::Bad.push_to(alloc, out);
         };
-        let Some(reply) = self.find(alloc, &request)? else {
+        let Some(reply) = self.reply_to(alloc, &request)? else {
             return Answer::<ThinError<'_>>::Nothing.push_to(alloc, out);
         };
         let text = reply.text.as_str();
@@ -74,10 +74,31 @@ impl Engine for Thin<'_> {
 
     fn reply(&self, alloc: Global, line: &[u8], out: &mut Vec<u8>) -> Result<(), AllocError> {
         let len = out.len();
-        let outcome = self.push_reply(alloc, line, out);
+        let outcome = self.push_answer(alloc, line, out);
         if outcome.is_err() {
             out.truncate(len);
         }
         outcome
+    }
+}
+
+#[cfg(test)]
+mod tests {
+    use super::*;
+    use std::test::Fail;
+
+    #[test]
+    fn answers_from_the_lines_that_are_whole(rt: HostRuntime) -> Result<(), Fail> {
+        let source = "a = {$x}{ $y }\nb = x } y\n a = z\na = w\n";
+        let thin = Thin::new(rt.alloc(), &[source], true)?;
+        let mut out = Vec::new(rt.alloc());
+        thin.reply(rt.alloc(), b"a\tx=1", &mut out)?;
+        thin.reply(rt.alloc(), b"b", &mut out)?;
+        thin.reply(rt.alloc(), b"a.x", &mut out)?;
+        thin.reply(rt.alloc(), b"a\tx", &mut out)?;
+        let answers =
+            "ok 17 1\n\u{2068}1\u{2069}\u{2068}{$y}\u{2069}\nUnknown variable: $y\nnone\nnone\nbad\n";
+        assert_eq!(rt; out.as_slice(), answers.as_bytes());
+        Ok(())
     }
 }

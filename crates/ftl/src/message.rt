@@ -24,7 +24,11 @@ pub struct Message<'s> {
     pub elements: Vec<Element<'s>>,
 }
 
-/// Reads a line of a source, without its line feed. `None` where it is no message of one line: see `docs/messages.md`.
+/// Reads a line of a source, without its line feed. `None` where it is no message of one line.
+///
+/// Such a message is printable ASCII that does not end in a space: an `Identifier`, `blank_inline`, `=`, `blank_inline`
+/// and one or more elements, by the productions of Fluent Syntax 1.0, where either `blank_inline` may be missing. An
+/// element is a longest text without braces, or a variable in braces, as `{ $name }`.
 pub fn read_message(alloc: Global, line: &str) -> Result<Option<Message<'_>>, AllocError>
     ensures { IfOk result (λ message. option_map message_view message ≡ message_of line.now) }
 {
@@ -153,4 +157,47 @@ fn strip_byte(text: &str, first: char) -> Option<&str>
     ensures { option_copied result ≡ after_byte first text.now }
 {
     text.strip_prefix(first)
+}
+
+#[cfg(test)]
+mod tests {
+    use super::*;
+    use std::test::Fail;
+
+    #[test]
+    fn reads_text_and_variables(rt: HostRuntime) -> Result<(), Fail> {
+        let message = read_message(rt.alloc(), "intro = Welcome, { $name }.")?.ok_or("no message")?;
+        let elements = [
+            Element::Text("Welcome, "),
+            Element::Variable("name"),
+            Element::Text("."),
+        ];
+        assert_eq!(rt; message.id, "intro");
+        assert_eq!(rt; message.elements.as_slice(), elements.as_slice());
+        Ok(())
+    }
+
+    #[test]
+    fn passes_over_other_lines(rt: HostRuntime) -> Result<(), Fail> {
+        let lines = [
+            "",
+            "a",
+            "a =",
+            "a = x ",
+            "a = x\r",
+            " a = x",
+            "1a = x",
+            "a b = x",
+            "a = x } y",
+            "a = {x}",
+            "a = {$}",
+            "a = {$x",
+            "a = {$x y}",
+            "a = \u{e9}",
+        ];
+        for line in lines {
+            assert!(rt; read_message(rt.alloc(), line)?.is_none(), "{line:?}");
+        }
+        Ok(())
+    }
 }

@@ -46,8 +46,11 @@ pub struct Reply<'s> {
     pub errors: Vec<ThinError<'s>>,
 }
 
-/// The text of a message with `arguments`: see `docs/messages.md`. Each placeable stands between isolating marks where
-/// `isolating` holds and the message has other elements.
+/// The text of a message with `arguments`, pairs of a name and a value, of which the last of a name counts.
+///
+/// A variable is written as its value, or as `{$name}` with an `UnknownVariable` where no argument names it. Where
+/// `isolating` holds and the message has other elements, U+2068 stands before it and U+2069 behind it. A variable past
+/// `PLACEABLE_LIMIT` writes nothing and ends the text with a `TooManyPlaceables`.
 pub fn format_message<'s, 'a>(
     alloc: Global,
     elements: &[Element<'s>],
@@ -108,5 +111,47 @@ fn push_variable(text: &mut String, name: &str, value: Option<&str>) -> Result<(
             text.push_str(name)?;
             text.push_str("}")
         }
+    }
+}
+
+#[cfg(test)]
+mod tests {
+    use super::*;
+    use std::test::Fail;
+
+    const INTRO: [Element<'static>; 3] = [
+        Element::Text("Welcome, "),
+        Element::Variable("name"),
+        Element::Text("."),
+    ];
+
+    #[test]
+    fn isolates_a_value(rt: HostRuntime) -> Result<(), Fail> {
+        let arguments = [("name", "Jane"), ("name", "John")];
+        let reply = format_message(rt.alloc(), &INTRO, &arguments, true)?;
+        assert_eq!(rt; reply.text.as_str(), "Welcome, \u{2068}John\u{2069}.");
+        assert!(rt; reply.errors.is_empty());
+        Ok(())
+    }
+
+    #[test]
+    fn writes_an_unknown_variable(rt: HostRuntime) -> Result<(), Fail> {
+        let reply = format_message(rt.alloc(), &INTRO, &[], false)?;
+        assert_eq!(rt; reply.text.as_str(), "Welcome, {$name}.");
+        assert_eq!(rt; reply.errors.len(), 1);
+        let error = reply.errors[0].to_string(rt.alloc())?;
+        assert_eq!(rt; error.as_str(), "Unknown variable: $name");
+        Ok(())
+    }
+
+    #[test]
+    fn stops_past_the_limit(rt: HostRuntime) -> Result<(), Fail> {
+        let elements = [Element::Variable("x"); PLACEABLE_LIMIT + 1];
+        let reply = format_message(rt.alloc(), &elements, &[("x", "a")], false)?;
+        assert_eq!(rt; reply.text.len(), PLACEABLE_LIMIT);
+        assert_eq!(rt; reply.errors.len(), 1);
+        let error = reply.errors[0].to_string(rt.alloc())?;
+        assert_eq!(rt; error.as_str(), "Too many placeables");
+        Ok(())
     }
 }

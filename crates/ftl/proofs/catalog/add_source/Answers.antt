@@ -1,4 +1,4 @@
-use Rattle.std.proofs.Common.{◌≡◌, ◌∙◌, List, ℕ, Some, None, ap, sym, lit<}
+use Rattle.std.proofs.Common.{◌∙◌, ap, lit<}
 use Rattle.std.specs.List.{filter_map}
 use Rattle.std.specs.Str.Iter.{split_text, split_has_more, split_pattern}
 use Rattle.std.proofs.lemmas.Iterator.Consumers.{YieldsList-end}
@@ -20,7 +20,7 @@ loop-line-preserved-in_default c = λ id.
 pub loop-line-preserved : goal.loop-line-preserved
 loop-line-preserved c = λ id.
     line_with id (elements_in c.args.messages.now id) (elements_in c.loop-line.messages id) (elements_in c.add_message.new.messages id) c.loop-line.yielded c.in-Some.line c.in-Some-2.message (c.loop-line.invariant id)
-      (rw c.in-Some-2.is at c.in_ok-message.ensures) (c.in_ok-add_message.ensures id)
+    (rw c.in-Some-2.is at c.in_ok-message.ensures) (c.in_ok-add_message.ensures id)
 
 pub returns : goal.returns
 returns c = λ id.

@@ -11,4 +11,4 @@ abbrev pub invariant-loop-element : goal.invariant-loop-element
 invariant-loop-element l =
     (l.isolating ≡ (l.fn.isolating && nat_lt 1 (length l.elements)))
     × (elements_reply l.isolating (arguments_view l.arguments) placeable_limit (elements_view l.elements)
-      ≡ and_then (string_bytes l.text) (map error_text l.errors.items) (elements_reply l.isolating (arguments_view l.arguments) l.left (elements_view (drop l.element-index l.elements))))
+    ≡ and_then (string_bytes l.text) (map error_text l.errors.items) (elements_reply l.isolating (arguments_view l.arguments) l.left (elements_view (drop l.element-index l.elements))))

@@ -1,10 +1,10 @@
-use Rattle.std.proofs.Common.{◌∙◌, Some, None}
+use Rattle.std.proofs.Common.{Some, None}
 use Rattle.ftl.specs.RequestView.{request_view}
 use Rattle.ftl.specs.CatalogView.{elements_named}
 use Rattle.ftl.specs.Thin.{reply_where}
 use Rattle.ftl.specs.ReplyView.{reply_view}
 use Rattle.ftl.proofs.Engines.{error_texts-thin, answer_line-request, answer_line-found}
-use Rattle.ftl.proofs.engine.Thin.push_reply.Goals as goal
+use Rattle.ftl.proofs.engine.Thin.push_answer.Goals as goal
 
 pub returns-in_default-clause-ok : goal.returns-in_default-clause-ok
 returns-in_default-clause-ok c =
