@@ -1,114 +1,286 @@
--- Worked rows.
-use Rattle.std.specs.Prelude.{ℕ, ◌≡◌, List, [], ◌∷◌, ◌++◌, codes, refl, None, Some, map, true, false}
+-- Worked sources: what the definitions give, by computing. Places are counted by hand.
+use Rattle.std.specs.Prelude.{◌≡◌, ℕ, ◌+◌, true, false, [], ◌∷◌, ◌++◌, Some, None, codes, length}
+use Rattle.std.proofs.Common.{refl}
+use Rattle.fluent_grammar.specs.Words.{Text, carriage_return, line_feed, quote, close_brace, close_bracket, close_paren, equals, space}
 use Rattle.fluent_grammar.specs.Refusal as r
+use Rattle.fluent_grammar.specs.Refusal.{Kind}
 use Rattle.fluent_grammar.specs.Tree as t
-use Rattle.fluent_grammar.specs.Tiling.{errors, tree, list, ParserError}
+use Rattle.fluent_grammar.specs.Tiling.{ParserError, errors, tree, runtime_errors, runtime_tree}
+use Rattle.fluent_grammar.specs.Escapes.{unescaped}
 use Rattle.fluent_grammar.proofs.Computing.{computing}
 
-row_broken_middle : errors (10 ∷ 107 ∷ 101 ∷ 121 ∷ 49 ∷ 32 ∷ 61 ∷ 32 ∷ 86 ∷ 97 ∷ 108 ∷ 117 ∷ 101 ∷ 32 ∷ 49 ∷ 10 ∷ 10 ∷ 103 ∷ 64 ∷ 82 ∷ 98 ∷ 64 ∷ 103 ∷ 101 ∷ 32 ∷ 61 ∷ 32 ∷ 35 ∷ 50 ∷ 121 ∷ 32 ∷ 100 ∷ 115 ∷ 10 ∷ 10 ∷ 107 ∷ 101 ∷ 121 ∷ 50 ∷ 32 ∷ 61 ∷ 32 ∷ 86 ∷ 97 ∷ 108 ∷ 117 ∷ 101 ∷ 32 ∷ 50 ∷ 10 ∷ 10 ∷ []) ≡ record { kind = r.expected_token 61; pos_start = 18; pos_end = 19; slice_start = 17; slice_end = 35 } ∷ []
-unfolding computing
-row_broken_middle = refl
+-- ---- how the rows are written
 
-row_broken_middle_list : list (10 ∷ 107 ∷ 101 ∷ 121 ∷ 49 ∷ 32 ∷ 61 ∷ 32 ∷ 86 ∷ 97 ∷ 108 ∷ 117 ∷ 101 ∷ 32 ∷ 49 ∷ 10 ∷ 10 ∷ 103 ∷ 64 ∷ 82 ∷ 98 ∷ 64 ∷ 103 ∷ 101 ∷ 32 ∷ 61 ∷ 32 ∷ 35 ∷ 50 ∷ 121 ∷ 32 ∷ 100 ∷ 115 ∷ 10 ∷ 10 ∷ 107 ∷ 101 ∷ 121 ∷ 50 ∷ 32 ∷ 61 ∷ 32 ∷ 86 ∷ 97 ∷ 108 ∷ 117 ∷ 101 ∷ 32 ∷ 50 ∷ 10 ∷ 10 ∷ []) ≡ t.message (record { id = 107 ∷ 101 ∷ 121 ∷ 49 ∷ []; value = Some (t.text (86 ∷ 97 ∷ 108 ∷ 117 ∷ 101 ∷ 32 ∷ 49 ∷ []) (t.no_elements)); attributes = []; comment = None }) ∷ t.message (record { id = 107 ∷ 101 ∷ 121 ∷ 50 ∷ []; value = Some (t.text (86 ∷ 97 ∷ 108 ∷ 117 ∷ 101 ∷ 32 ∷ 50 ∷ []) (t.no_elements)); attributes = []; comment = None }) ∷ []
-unfolding computing
-row_broken_middle_list = refl
+-- an error whose place is one byte, with the range of its junk
+error_at : Kind → ℕ → ℕ → ℕ → ParserError
+error_at kind place start end = record { kind = kind; pos_start = place; pos_end = place + 1; slice_start = start; slice_end = end }
 
-row_32a : errors (97 ∷ 32 ∷ 61 ∷ 32 ∷ 123 ∷ []) ≡ record { kind = r.expected_inline_expression; pos_start = 5; pos_end = 6; slice_start = 0; slice_end = 5 } ∷ []
-unfolding computing
-row_32a = refl
+one_text : Text → t.Elements
+one_text s = t.text s t.no_elements
 
-row_32b : errors (97 ∷ 32 ∷ 61 ∷ 32 ∷ 123 ∷ 32 ∷ 34 ∷ 120 ∷ []) ≡ record { kind = r.expected_token 34; pos_start = 8; pos_end = 9; slice_start = 0; slice_end = 8 } ∷ []
-unfolding computing
-row_32b = refl
+message_of : Text → t.Elements → t.Entry
+message_of id value = t.message (record { id = id; value = Some value; attributes = []; comment = None })
 
-row_32c : errors (32 ∷ 32 ∷ []) ≡ record { kind = r.expected_letter; pos_start = 0; pos_end = 1; slice_start = 0; slice_end = 2 } ∷ []
-unfolding computing
-row_32c = refl
+-- the source is one junk, refused at this place
+Refuses : Text → Kind → ℕ → Type 0
+Refuses s kind place = errors s ≡ error_at kind place 0 (length s) ∷ []
 
-row_33 : errors (102 ∷ 111 ∷ 111 ∷ 32 ∷ 61 ∷ 10 ∷ 98 ∷ 97 ∷ 114 ∷ 32 ∷ 61 ∷ 32 ∷ 120 ∷ 10 ∷ []) ≡ record { kind = r.expected_message_field (102 ∷ 111 ∷ 111 ∷ []); pos_start = 0; pos_end = 6; slice_start = 0; slice_end = 6 } ∷ []
-unfolding computing
-row_33 = refl
+-- ---- whole sources
 
-row_33l : list (102 ∷ 111 ∷ 111 ∷ 32 ∷ 61 ∷ 10 ∷ 98 ∷ 97 ∷ 114 ∷ 32 ∷ 61 ∷ 32 ∷ 120 ∷ 10 ∷ []) ≡ t.message (record { id = 98 ∷ 97 ∷ 114 ∷ []; value = Some (t.text (120 ∷ []) (t.no_elements)); attributes = []; comment = None }) ∷ []
+empty_text : tree [] ≡ []
 unfolding computing
-row_33l = refl
+empty_text = refl
 
-R2_1 : list (97 ∷ 32 ∷ 61 ∷ 10 ∷ 32 ∷ 32 ∷ 32 ∷ 32 ∷ 111 ∷ 110 ∷ 101 ∷ 10 ∷ 32 ∷ 32 ∷ 32 ∷ 32 ∷ 32 ∷ 32 ∷ 116 ∷ 119 ∷ 111 ∷ 10 ∷ 32 ∷ 32 ∷ 32 ∷ 32 ∷ 116 ∷ 104 ∷ 114 ∷ 101 ∷ 101 ∷ 10 ∷ []) ≡ t.message (record { id = 97 ∷ []; value = Some (t.text (111 ∷ 110 ∷ 101 ∷ 10 ∷ []) (t.text (32 ∷ 32 ∷ 116 ∷ 119 ∷ 111 ∷ 10 ∷ []) (t.text (116 ∷ 104 ∷ 114 ∷ 101 ∷ 101 ∷ []) (t.no_elements)))); attributes = []; comment = None }) ∷ []
-unfolding computing
-R2_1 = refl
+broken_middle : Text
+broken_middle = codes "\nkey1 = Value 1\n\ng@Rb@ge = #2y ds\n\nkey2 = Value 2\n\n"
 
-R2_4 : list (97 ∷ 32 ∷ 61 ∷ 13 ∷ 10 ∷ 32 ∷ 32 ∷ 32 ∷ 32 ∷ 120 ∷ 13 ∷ 10 ∷ 32 ∷ 32 ∷ 32 ∷ 32 ∷ 121 ∷ 13 ∷ 10 ∷ []) ≡ t.message (record { id = 97 ∷ []; value = Some (t.text (120 ∷ []) (t.text (10 ∷ []) (t.text (121 ∷ []) (t.no_elements)))); attributes = []; comment = None }) ∷ []
-unfolding computing
-R2_4 = refl
+broken_middle_entry_is_junk :
+    tree broken_middle ≡ message_of (codes "key1") (one_text (codes "Value 1")) ∷ t.junk (codes "g@Rb@ge = #2y ds\n\n") ∷
+    message_of (codes "key2") (one_text (codes "Value 2")) ∷ []
+unfolding computing broken_middle message_of one_text
+broken_middle_entry_is_junk = refl
 
-R2_5 : errors (97 ∷ 32 ∷ 61 ∷ 32 ∷ 98 ∷ 32 ∷ 125 ∷ 32 ∷ 99 ∷ []) ≡ record { kind = r.unbalanced_closing_brace; pos_start = 6; pos_end = 7; slice_start = 0; slice_end = 9 } ∷ []
-unfolding computing
-R2_5 = refl
+broken_middle_entry_is_refused : errors broken_middle ≡ error_at (r.expected_token equals) 18 17 35 ∷ []
+unfolding computing broken_middle error_at
+broken_middle_entry_is_refused = refl
 
-R3_1 : errors (97 ∷ 32 ∷ 61 ∷ 32 ∷ 123 ∷ 32 ∷ 102 ∷ 111 ∷ 111 ∷ 40 ∷ 41 ∷ 32 ∷ 125 ∷ []) ≡ record { kind = r.forbidden_callee; pos_start = 11; pos_end = 12; slice_start = 0; slice_end = 13 } ∷ []
-unfolding computing
-R3_1 = refl
+message_without_value_hides_no_other :
+    tree (codes "foo =\nbar = x\n") ≡ t.junk (codes "foo =\n") ∷ message_of (codes "bar") (one_text (codes "x")) ∷ []
+unfolding computing message_of one_text
+message_without_value_hides_no_other = refl
 
-R3_2 : errors (97 ∷ 32 ∷ 61 ∷ 32 ∷ 123 ∷ 32 ∷ 70 ∷ 40 ∷ 120 ∷ 58 ∷ 32 ∷ 49 ∷ 44 ∷ 32 ∷ 50 ∷ 41 ∷ 32 ∷ 125 ∷ []) ≡ record { kind = r.positional_argument_follows_named; pos_start = 15; pos_end = 16; slice_start = 0; slice_end = 18 } ∷ []
-unfolding computing
-R3_2 = refl
+spaces_alone_are_junk : Refuses (codes "  ") r.expected_letter 0
+unfolding computing Refuses error_at
+spaces_alone_are_junk = refl
 
-R3_3 : errors (97 ∷ 32 ∷ 61 ∷ 32 ∷ 123 ∷ 32 ∷ 70 ∷ 40 ∷ 120 ∷ 58 ∷ 32 ∷ 49 ∷ 44 ∷ 32 ∷ 120 ∷ 58 ∷ 32 ∷ 50 ∷ 41 ∷ 32 ∷ 125 ∷ []) ≡ record { kind = r.duplicated_named_argument (120 ∷ []); pos_start = 15; pos_end = 16; slice_start = 0; slice_end = 21 } ∷ []
-unfolding computing
-R3_3 = refl
+three_lines_lose_their_common_indent :
+    tree (codes "a =\n    one\n      two\n    three\n") ≡
+    message_of (codes "a") (t.text (codes "one\n") (t.text (codes "  two\n") (one_text (codes "three")))) ∷ []
+unfolding computing message_of one_text
+three_lines_lose_their_common_indent = refl
 
-R3_4 : errors (97 ∷ 32 ∷ 61 ∷ 32 ∷ 123 ∷ 32 ∷ 36 ∷ 110 ∷ 32 ∷ 45 ∷ 62 ∷ 10 ∷ 32 ∷ 32 ∷ 32 ∷ 32 ∷ 91 ∷ 120 ∷ 93 ∷ 32 ∷ 121 ∷ 10 ∷ 32 ∷ 125 ∷ 10 ∷ []) ≡ record { kind = r.missing_default_variant; pos_start = 23; pos_end = 24; slice_start = 0; slice_end = 25 } ∷ []
-unfolding computing
-R3_4 = refl
+crlf : Text
+crlf = carriage_return ∷ line_feed ∷ []
 
-R3_5 : errors (97 ∷ 32 ∷ 61 ∷ 32 ∷ 123 ∷ 32 ∷ 98 ∷ 32 ∷ 45 ∷ 62 ∷ 10 ∷ 32 ∷ 32 ∷ 32 ∷ 42 ∷ 91 ∷ 120 ∷ 93 ∷ 32 ∷ 121 ∷ 10 ∷ 32 ∷ 125 ∷ 10 ∷ []) ≡ record { kind = r.message_reference_as_selector; pos_start = 8; pos_end = 9; slice_start = 0; slice_end = 24 } ∷ []
-unfolding computing
-R3_5 = refl
+crlf_gives_a_line_feed_of_its_own :
+    tree (codes "a =" ++ crlf ++ codes "    x" ++ crlf ++ codes "    y" ++ crlf) ≡
+    message_of (codes "a") (t.text (codes "x") (t.text (codes "\n") (one_text (codes "y")))) ∷ []
+unfolding computing message_of one_text crlf
+crlf_gives_a_line_feed_of_its_own = refl
 
-R3_6 : errors (97 ∷ 32 ∷ 61 ∷ 32 ∷ 123 ∷ 32 ∷ 34 ∷ 120 ∷ 10 ∷ 98 ∷ 32 ∷ 61 ∷ 32 ∷ 99 ∷ 10 ∷ []) ≡ record { kind = r.unterminated_string_literal; pos_start = 8; pos_end = 9; slice_start = 0; slice_end = 9 } ∷ []
-unfolding computing
-R3_6 = refl
+placeable_at_column_zero_keeps_indents :
+    tree (codes "a =\n{\".\"}\n    four") ≡
+    message_of (codes "a") (t.placeable (t.inline (t.string_literal (codes "."))) (t.text (codes "\n") (one_text (codes "    four")))) ∷ []
+unfolding computing message_of one_text
+placeable_at_column_zero_keeps_indents = refl
 
-R3_7 : errors (97 ∷ 32 ∷ 61 ∷ 32 ∷ 123 ∷ 32 ∷ 34 ∷ 92 ∷ 117 ∷ 49 ∷ 50 ∷ 195 ∷ 169 ∷ 34 ∷ 32 ∷ 125 ∷ []) ≡ record { kind = r.invalid_unicode_escape_sequence (49 ∷ 50 ∷ 195 ∷ 169 ∷ []); pos_start = 11; pos_end = 12; slice_start = 0; slice_end = 16 } ∷ []
-unfolding computing
-R3_7 = refl
+last_text_is_trimmed_to_nothing :
+    tree (codes "a = b\n    " ++ 9 ∷ codes "\n") ≡ message_of (codes "a") (t.text (codes "b\n") (one_text [])) ∷ []
+unfolding computing message_of one_text
+last_text_is_trimmed_to_nothing = refl
 
-R3_8 : errors (35 ∷ 98 ∷ 97 ∷ 100 ∷ 10 ∷ 97 ∷ 32 ∷ 61 ∷ 32 ∷ 98 ∷ 10 ∷ []) ≡ record { kind = r.expected_token 32; pos_start = 1; pos_end = 2; slice_start = 0; slice_end = 5 } ∷ []
-unfolding computing
-R3_8 = refl
+closing_brace_at_column_zero_begins_junk : errors (codes "x = 1\n}\n    y\nb = 2\n") ≡ error_at r.expected_letter 6 6 14 ∷ []
+unfolding computing error_at
+closing_brace_at_column_zero_begins_junk = refl
 
-R9_1 : errors (120 ∷ 32 ∷ 61 ∷ 32 ∷ 49 ∷ 10 ∷ 125 ∷ 10 ∷ 32 ∷ 32 ∷ 32 ∷ 32 ∷ 121 ∷ 10 ∷ 98 ∷ 32 ∷ 61 ∷ 32 ∷ 50 ∷ 10 ∷ []) ≡ record { kind = r.expected_letter; pos_start = 6; pos_end = 7; slice_start = 6; slice_end = 14 } ∷ []
-unfolding computing
-R9_1 = refl
+failed_attribute_begins_junk : errors (codes "foo = v\n    .x = 1\n    .y\nbar = w\n") ≡ error_at r.expected_letter 19 19 26 ∷ []
+unfolding computing error_at
+failed_attribute_begins_junk = refl
 
-R9_5a : errors (97 ∷ 32 ∷ 61 ∷ 32 ∷ 123 ∷ 10 ∷ 99 ∷ 32 ∷ 61 ∷ 32 ∷ 49 ∷ 10 ∷ 100 ∷ 32 ∷ 61 ∷ 32 ∷ 50 ∷ 10 ∷ []) ≡ record { kind = r.expected_token 125; pos_start = 8; pos_end = 9; slice_start = 0; slice_end = 12 } ∷ []
-unfolding computing
-R9_5a = refl
+-- ---- comments
 
-R9_5b : errors (97 ∷ 32 ∷ 61 ∷ 32 ∷ 123 ∷ 10 ∷ 35 ∷ 32 ∷ 120 ∷ 10 ∷ 99 ∷ 32 ∷ 61 ∷ 32 ∷ 49 ∷ 10 ∷ []) ≡ record { kind = r.expected_inline_expression; pos_start = 6; pos_end = 7; slice_start = 0; slice_end = 6 } ∷ []
-unfolding computing
-R9_5b = refl
+comment_directly_above :
+    tree (codes "# c\na = b\n") ≡
+    t.message (record { id = codes "a"; value = Some (one_text (codes "b")); attributes = []; comment = Some (codes "c" ∷ []) }) ∷ []
+unfolding computing one_text
+comment_directly_above = refl
 
-R13_1 : errors (97 ∷ 32 ∷ 61 ∷ 32 ∷ 123 ∷ 123 ∷ 123 ∷ []) ≡ record { kind = r.expected_inline_expression; pos_start = 7; pos_end = 8; slice_start = 0; slice_end = 7 } ∷ []
-unfolding computing
-R13_1 = refl
+comment_behind_a_blank_line : tree (codes "# c\n\na = b\n") ≡ t.comment (codes "c" ∷ []) ∷ message_of (codes "a") (one_text (codes "b")) ∷ []
+unfolding computing message_of one_text
+comment_behind_a_blank_line = refl
 
-deep : errors (97 ∷ 32 ∷ 61 ∷ 32 ∷ 123 ∷ 123 ∷ 123 ∷ 123 ∷ 123 ∷ 123 ∷ 123 ∷ 123 ∷ 123 ∷ 123 ∷ 123 ∷ 123 ∷ 123 ∷ 123 ∷ 123 ∷ 123 ∷ 123 ∷ 123 ∷ 123 ∷ 123 ∷ 123 ∷ 123 ∷ 123 ∷ 123 ∷ 123 ∷ 123 ∷ 123 ∷ 123 ∷ 123 ∷ 123 ∷ 123 ∷ 123 ∷ 123 ∷ 123 ∷ 123 ∷ 123 ∷ 123 ∷ 123 ∷ 123 ∷ 123 ∷ []) ≡ record { kind = r.expected_inline_expression; pos_start = 44; pos_end = 45; slice_start = 0; slice_end = 44 } ∷ []
+sign_at_the_end_adds_no_line : tree (codes "## x\n##") ≡ t.group_comment (codes "x" ∷ []) ∷ []
 unfolding computing
-deep = refl
+sign_at_the_end_adds_no_line = refl
 
-row_9 : errors (102 ∷ 111 ∷ 111 ∷ 32 ∷ 61 ∷ 32 ∷ 118 ∷ 10 ∷ 32 ∷ 32 ∷ 32 ∷ 32 ∷ 46 ∷ 120 ∷ 32 ∷ 61 ∷ 32 ∷ 49 ∷ 10 ∷ 32 ∷ 32 ∷ 32 ∷ 32 ∷ 46 ∷ 121 ∷ 10 ∷ 98 ∷ 97 ∷ 114 ∷ 32 ∷ 61 ∷ 32 ∷ 119 ∷ 10 ∷ []) ≡ record { kind = r.expected_letter; pos_start = 19; pos_end = 20; slice_start = 19; slice_end = 26 } ∷ []
-unfolding computing
-row_9 = refl
+comment_without_space : errors (codes "#bad\na = b\n") ≡ error_at (r.expected_token space) 1 0 5 ∷ []
+unfolding computing error_at
+comment_without_space = refl
 
-selector_attr : errors (98 ∷ 114 ∷ 97 ∷ 110 ∷ 100 ∷ 32 ∷ 61 ∷ 32 ∷ 70 ∷ 105 ∷ 114 ∷ 101 ∷ 102 ∷ 111 ∷ 120 ∷ 10 ∷ 32 ∷ 32 ∷ 32 ∷ 32 ∷ 46 ∷ 103 ∷ 101 ∷ 110 ∷ 100 ∷ 101 ∷ 114 ∷ 32 ∷ 61 ∷ 32 ∷ 109 ∷ 97 ∷ 115 ∷ 99 ∷ 117 ∷ 108 ∷ 105 ∷ 110 ∷ 101 ∷ 10 ∷ 117 ∷ 112 ∷ 100 ∷ 32 ∷ 61 ∷ 32 ∷ 123 ∷ 32 ∷ 98 ∷ 114 ∷ 97 ∷ 110 ∷ 100 ∷ 46 ∷ 103 ∷ 101 ∷ 110 ∷ 100 ∷ 101 ∷ 114 ∷ 32 ∷ 45 ∷ 62 ∷ 10 ∷ 32 ∷ 32 ∷ 32 ∷ 32 ∷ 91 ∷ 109 ∷ 97 ∷ 115 ∷ 99 ∷ 117 ∷ 108 ∷ 105 ∷ 110 ∷ 101 ∷ 93 ∷ 32 ∷ 72 ∷ 101 ∷ 10 ∷ 32 ∷ 32 ∷ 32 ∷ 42 ∷ 91 ∷ 111 ∷ 116 ∷ 104 ∷ 101 ∷ 114 ∷ 93 ∷ 32 ∷ 73 ∷ 116 ∷ 10 ∷ 32 ∷ 125 ∷ 10 ∷ []) ≡ record { kind = r.message_attribute_as_selector; pos_start = 61; pos_end = 62; slice_start = 40; slice_end = 101 } ∷ []
-unfolding computing
-selector_attr = refl
+comment_without_space_at_runtime : runtime_tree (codes "#bad\na = b\n") ≡ message_of (codes "a") (one_text (codes "b")) ∷ []
+unfolding computing message_of one_text
+comment_without_space_at_runtime = refl
 
-comment_attached : tree (35 ∷ 32 ∷ 99 ∷ 10 ∷ 97 ∷ 32 ∷ 61 ∷ 32 ∷ 98 ∷ 10 ∷ []) ≡ t.message (record { id = 97 ∷ []; value = Some (t.text (98 ∷ []) (t.no_elements)); attributes = []; comment = Some ((99 ∷ []) ∷ []) }) ∷ []
+no_error_at_runtime : runtime_errors (codes "#bad\na = b\n") ≡ []
 unfolding computing
-comment_attached = refl
+no_error_at_runtime = refl
 
-comment_apart : tree (35 ∷ 32 ∷ 99 ∷ 10 ∷ 10 ∷ 97 ∷ 32 ∷ 61 ∷ 32 ∷ 98 ∷ 10 ∷ []) ≡ t.comment ((99 ∷ []) ∷ []) ∷ t.message (record { id = 97 ∷ []; value = Some (t.text (98 ∷ []) (t.no_elements)); attributes = []; comment = None }) ∷ []
+-- ---- expressions
+
+select_with_default :
+    tree (codes "m={$n ->\n[a]x\n*[1.0]y\n}") ≡
+    message_of (codes "m") (t.placeable (t.select (t.variable_reference (codes "n"))
+    (t.variant (t.identifier_key (codes "a")) (one_text (codes "x")) false
+    (t.variant (t.number_key (codes "1.0")) (one_text (codes "y")) true t.no_variants))) t.no_elements) ∷ []
+unfolding computing message_of one_text
+select_with_default = refl
+
+lone_mark_ends_the_variants :
+    tree (codes "m = { $n ->\n    [a] x\n  * }\n") ≡
+    message_of (codes "m") (t.placeable (t.select (t.variable_reference (codes "n"))
+    (t.variant (t.identifier_key (codes "a")) (one_text (codes "x")) false t.no_variants)) t.no_elements) ∷ []
+unfolding computing message_of one_text
+lone_mark_ends_the_variants = refl
+
+arguments_of_a_call :
+    tree (codes "m={F(b .c,-1,{-t},k : \"v\",)}") ≡
+    message_of (codes "m") (t.placeable (t.inline (t.function_reference (codes "F") (t.arguments
+    (t.positional (t.message_reference (codes "b") (Some (codes "c")))
+    (t.positional (t.number_literal (codes "-1"))
+    (t.positional (t.nested (t.inline (t.term_reference (codes "t") None t.no_arguments))) t.no_inlines)))
+    (t.named (codes "k") (t.string_literal (codes "v")) t.no_nameds)))) t.no_elements) ∷ []
+unfolding computing message_of one_text
+arguments_of_a_call = refl
+
+identifier_is_greedy : Refuses (codes "a={$n->\n*[b]c\n}") (r.expected_token close_brace) 6
+unfolding computing Refuses error_at
+identifier_is_greedy = refl
+
+-- ---- each kind of refusal, at its place
+
+expected_equals : Refuses (codes "a b") (r.expected_token equals) 2
+unfolding computing Refuses error_at
+expected_equals = refl
+
+expected_closing_brace : Refuses (codes "a={b c}") (r.expected_token close_brace) 5
+unfolding computing Refuses error_at
+expected_closing_brace = refl
+
+expected_closing_bracket : Refuses (codes "a={1->\n*[b c]d\n}") (r.expected_token close_bracket) 11
+unfolding computing Refuses error_at
+expected_closing_bracket = refl
+
+expected_closing_parenthesis : Refuses (codes "a={F(") (r.expected_token close_paren) 5
+unfolding computing Refuses error_at
+expected_closing_parenthesis = refl
+
+expected_closing_quote : Refuses (codes "a = { \"x") (r.expected_token quote) 8
+unfolding computing Refuses error_at
+expected_closing_quote = refl
+
+expected_digit : Refuses (codes "a={-") r.expected_digit 4
+unfolding computing Refuses error_at
+expected_digit = refl
+
+expected_line_end : Refuses (codes "a={1->x") r.expected_line_end 6
+unfolding computing Refuses error_at
+expected_line_end = refl
+
+-- the range is the entry's, to the place after its attributes
+expected_message_field :
+    errors (codes "foo =\nbar = x\n") ≡ record { kind = r.expected_message_field (codes "foo"); pos_start = 0; pos_end = 6; slice_start = 0; slice_end = 6 } ∷ []
 unfolding computing
-comment_apart = refl
+expected_message_field = refl
+
+-- the attribute is read first
+expected_term_field :
+    errors (codes "-a=\n .b=c\n}") ≡ record { kind = r.expected_term_field (codes "a"); pos_start = 0; pos_end = 10; slice_start = 0; slice_end = 11 } ∷ []
+unfolding computing
+expected_term_field = refl
+
+forbidden_callee : Refuses (codes "a = { foo() }") r.forbidden_callee 11
+unfolding computing Refuses error_at
+forbidden_callee = refl
+
+missing_value : Refuses (codes "a={1->\n*[b]\n}") r.missing_value 12
+unfolding computing Refuses error_at
+missing_value = refl
+
+multiple_default_variants : Refuses (codes "a={1->\n*[b]c\n*[d]e\n}") r.multiple_default_variants 14
+unfolding computing Refuses error_at
+multiple_default_variants = refl
+
+missing_default_variant : Refuses (codes "a = { $n ->\n    [x] y\n }\n") r.missing_default_variant 23
+unfolding computing Refuses error_at
+missing_default_variant = refl
+
+message_reference_as_selector : Refuses (codes "a = { b ->\n   *[x] y\n }\n") r.message_reference_as_selector 8
+unfolding computing Refuses error_at
+message_reference_as_selector = refl
+
+message_attribute_as_selector : Refuses (codes "a={b.c ->") r.message_attribute_as_selector 7
+unfolding computing Refuses error_at
+message_attribute_as_selector = refl
+
+term_reference_as_selector : Refuses (codes "a={-b() ->") r.term_reference_as_selector 8
+unfolding computing Refuses error_at
+term_reference_as_selector = refl
+
+nested_placeable_as_selector : Refuses (codes "a={{b}->") r.expected_simple_expression_as_selector 6
+unfolding computing Refuses error_at
+nested_placeable_as_selector = refl
+
+term_attribute_as_placeable : Refuses (codes "a={-b.c }") r.term_attribute_as_placeable 8
+unfolding computing Refuses error_at
+term_attribute_as_placeable = refl
+
+unterminated_string_literal : errors (codes "a = { \"x\nb = c\n") ≡ error_at r.unterminated_string_literal 8 0 9 ∷ []
+unfolding computing error_at
+unterminated_string_literal = refl
+
+unknown_escape_sequence : Refuses (codes "a={\"\\q\"}") (r.unknown_escape_sequence (codes "q")) 4
+unfolding computing Refuses error_at
+unknown_escape_sequence = refl
+
+-- the character behind the digits, whole: two bytes
+invalid_unicode_escape_sequence :
+    Refuses (codes "a = { \"\\u12" ++ 195 ∷ 169 ∷ codes "\" }") (r.invalid_unicode_escape_sequence (49 ∷ 50 ∷ 195 ∷ 169 ∷ [])) 11
+unfolding computing Refuses error_at
+invalid_unicode_escape_sequence = refl
+
+positional_argument_follows_named : Refuses (codes "a = { F(x: 1, 2) }") r.positional_argument_follows_named 15
+unfolding computing Refuses error_at
+positional_argument_follows_named = refl
+
+-- the blank behind a term reference without arguments is taken
+positional_term_follows_named : Refuses (codes "a={F(x:1,-t )}") r.positional_argument_follows_named 12
+unfolding computing Refuses error_at
+positional_term_follows_named = refl
+
+duplicated_named_argument : Refuses (codes "a = { F(x: 1, x: 2) }") (r.duplicated_named_argument (codes "x")) 15
+unfolding computing Refuses error_at
+duplicated_named_argument = refl
+
+unbalanced_closing_brace : Refuses (codes "a = b } c") r.unbalanced_closing_brace 6
+unfolding computing Refuses error_at
+unbalanced_closing_brace = refl
+
+expected_inline_expression : Refuses (codes "a = {{{") r.expected_inline_expression 7
+unfolding computing Refuses error_at
+expected_inline_expression = refl
+
+expected_literal : Refuses (codes "a={F(x:y)}") r.expected_literal 7
+unfolding computing Refuses error_at
+expected_literal = refl
+
+-- ---- escapes
+
+escapes_give_their_characters : unescaped (codes "Foo \\u5bd2 Bar\\\\\\U01F602\\\"") ≡ codes "Foo " ++ 229 ∷ 175 ∷ 146 ∷ codes " Bar\\" ++ 240 ∷ 159 ∷ 152 ∷ 130 ∷ codes "\""
+unfolding computing
+escapes_give_their_characters = refl
+
+too_few_digits : unescaped (codes "\\u00e") ≡ 239 ∷ 191 ∷ 189 ∷ []
+unfolding computing
+too_few_digits = refl
+
+count_cuts_a_character : unescaped (codes "\\u123" ++ 195 ∷ 169 ∷ codes "x") ≡ 239 ∷ 191 ∷ 189 ∷ codes "x"
+unfolding computing
+count_cuts_a_character = refl
+
+no_scalar_value : unescaped (codes "\\U110000\\uD800") ≡ 239 ∷ 191 ∷ 189 ∷ 239 ∷ 191 ∷ 189 ∷ []
+unfolding computing
+no_scalar_value = refl
+
+other_escapes : unescaped (codes "\\q\\" ++ 195 ∷ 169 ∷ codes "\\") ≡ 239 ∷ 191 ∷ 189 ∷ 239 ∷ 191 ∷ 189 ∷ 239 ∷ 191 ∷ 189 ∷ []
+unfolding computing
+other_escapes = refl

@@ -1,7 +1,16 @@
 pub mod Tree
 pub mod Words
+pub mod Lexical
 pub mod Lines
+pub mod Spelling
 pub mod Refusal
 pub mod Reading
-pub mod Spelling
 pub mod Tiling
+pub mod Ends
+pub mod Levels
+pub mod Blanks
+pub mod Recovery
+pub mod Tiles
+pub mod TilingLaws
+pub mod Escapes
+pub mod SpellingLaws

@@ -1,4 +1,4 @@
 //! Laws of the grammar: each function only carries a law, as its contract.
 
-/// Nothing yet.
-pub fn nothing() {}
+pub mod spelling;
+pub mod tiling;

@@ -1,10 +1,10 @@
 -- Lemmas on the bytes of answers.
-use Rattle.std.proofs.Common.{◌≡◌, ℕ, zero, suc, ◌+◌, ◌<◌, ◌≤◌, List, [], ◌∷◌, ◌++◌, length, drop, get_or, Option, Some, None, IfSome, refl, sym, ap, ◌∙◌, arith, append_assoc, append-nil, drop-cons, add-one, rules, codes, decimal, option_map}
+use Rattle.std.proofs.Common.{◌≡◌, ℕ, suc, ◌+◌, ◌<◌, ◌≤◌, List, [], ◌∷◌, ◌++◌, length, drop, get_or, Option, Some, None, IfSome, refl, sym, ap, ◌∙◌, append_assoc, append-nil, drop-cons, add-one, rules, codes, decimal, option_map}
 use Rattle.std.proofs.lemmas.List.{drop_all}
 use Rattle.std.specs.List.{flat_map}
 use Rattle.ftl.specs.Text.{Text}
 use Rattle.ftl.specs.Exchange.{IsFrontOf}
-use Rattle.ftl.specs.Frames.{Reply, ok, ended, frame_of}
+use Rattle.ftl.specs.Frames.{ok, ended, frame_of}
 use Rattle.ftl.specs.AnswerView.{error_texts, and_text}
 
 -- with the lines of the errors that are left, the lines of all errors stand behind the old bytes

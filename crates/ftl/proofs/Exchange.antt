@@ -1,12 +1,11 @@
 -- Lemmas on what devices exchange, and on output that waits.
-use Rattle.std.proofs.Common.{◌≡◌, ℕ, zero, suc, ◌<◌, cond, length, arith, List, [], ◌∷◌, ◌++◌, take, drop, Option, Some, None, refl, sym, ap, ◌∙◌, subst, inl, inr, append_assoc, append-nil}
+use Rattle.std.proofs.Common.{◌≡◌, ℕ, ◌<◌, cond, length, arith, [], ◌++◌, take, drop, Option, Some, None, refl, sym, ap, ◌∙◌, subst, inl, inr, append_assoc, append-nil}
 use Rattle.std.specs.Prelude.{◌==◌, ◌&&◌, nat_lt}
 use Rattle.ftl.specs.Devices.{one_more}
 use Rattle.std.specs.Io.KnownBytes.{Appends, Keeps, Consumes}
 use Rattle.std.proofs.lemmas.Bool.Decides.{eqb_tells}
 use Rattle.std.proofs.lemmas.List.{take-append-drop}
 use Rattle.ftl.specs.Text.{Text}
-use Rattle.ftl.specs.Exchange.{IsFrontOf}
 use Rattle.ftl.specs.Waiting.{Puts, PutsFront}
 
 pub appends_trans : (a b c : Option Text) (x y : Text) → Appends a b x → Appends b c y → Appends a c (x ++ y)
@@ -98,6 +97,6 @@ written_front {h} {i} {j} {bytes} {rest} p kept = record {
 -- a write that takes some bytes is no failure
 pub failures_kept : (old : ℕ) (bytes : Text) (n : ℕ) → 0 < n → cond ((n == 0) && nat_lt 0 (length bytes)) (one_more old) old ≡ old
 failures_kept old bytes n h = elim (eqb_tells n 0) [
-    | inl p ↦ absurd (omega (arith, p.1))
-    | inr p ↦ rw p.0 refl
-  ]
+  | inl p ↦ absurd (omega (arith, p.1))
+  | inr p ↦ rw p.0 refl
+]

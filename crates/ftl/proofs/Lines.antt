@@ -1,14 +1,12 @@
 -- Lemmas on the lines of a stream.
-use Rattle.std.proofs.Common.{◌≡◌, ℕ, zero, suc, ◌+◌, ◌<◌, ◌≤◌, Bool, true, false, cond, not, List, [], ◌∷◌, ◌++◌, length, take, drop, get_or, refl, sym, ap, ◌∙◌, arith, append_assoc, append-nil, Some, None, drop-cons, get_or-take}
+use Rattle.std.proofs.Common.{◌≡◌, ℕ, zero, suc, ◌<◌, Bool, true, false, cond, not, List, [], ◌∷◌, ◌++◌, length, take, drop, get_or, refl, sym, ap, ◌∙◌, arith, append-nil, Some, None, drop-cons, get_or-take}
 use Rattle.std.specs.Prelude.{◌==◌, ◌&&◌}
-use Rattle.std.specs.List.{slice_split, onto_first, list_all, position_or_len}
-use Rattle.std.proofs.lemmas.Bool.{eqb-true, eqb-false, eq-eqb}
-use Rattle.std.proofs.lemmas.List.Splits.{slice_split_first}
-use Rattle.std.proofs.lemmas.List.Sums.{position_or_len_is}
+use Rattle.std.specs.List.{onto_first, list_all}
+use Rattle.std.proofs.lemmas.Bool.{eqb-true}
 use Rattle.memchr.specs.Find.{IsFirstByte, is_byte}
 use Rattle.std.proofs.lemmas.List.{length-take, take-append-drop}
 use Rattle.ftl.specs.Text.{Text, line_feed}
-use Rattle.ftl.specs.Lines.{parts_of, all_but_last, last_part, whole_lines, unfinished, lines_of, unless_empty}
+use Rattle.ftl.specs.Lines.{parts_of, all_but_last, last_part, whole_lines, unfinished}
 use Rattle.ftl.specs.Waiting.{IsUnfinished}
 
 abbrev is_end : ℕ → Bool
@@ -118,14 +116,15 @@ drop_suc (suc n) (b ∷ bs) = drop_suc n bs
 pub at_line_feed : (s : Text) (end : ℕ) → IsFirstByte (is_byte line_feed) s (Some end) →
     IsUnfinished (take end s) × (s ≡ take end s ++ line_feed ∷ drop 1 (drop end s))
 at_line_feed s end found =
-    let within : end < length s = found.0.high in
-    (unfinished_at_no_end (take end s) (λ k h is.
-        let below : k < end = omega (arith, length-take end s) in
-        let same : get_or (take end s) k 0 ≡ get_or s k 0 = get_or-take end s k 0 below in
-        found.0.before k (omega arith) below (rw same at is)),
-     sym (take-append-drop end s) ∙ ap (λ t. take end s ++ t)
-        (drop-cons s end 0 within ∙ (ap (λ b. b ∷ drop (suc end) s) (eqb-true (get_or s end 0) line_feed found.1)
-        ∙ ap (λ t. line_feed ∷ t) (drop_suc end s))))
+    let within : end < length s = found.0.high in (
+      unfinished_at_no_end (take end s) (λ k h is.
+          let below : k < end = omega (arith, length-take end s) in
+          let same : get_or (take end s) k 0 ≡ get_or s k 0 = get_or-take end s k 0 below in
+          found.0.before k (omega arith) below (rw same at is)),
+      sym (take-append-drop end s) ∙ ap (λ t. take end s ++ t)
+          (drop-cons s end 0 within ∙ (ap (λ b. b ∷ drop (suc end) s) (eqb-true (get_or s end 0) line_feed found.1)
+          ∙ ap (λ t. line_feed ∷ t) (drop_suc end s))),
+    )
 
 -- what stands behind the last line feed is unfinished
 pub unfinished_open : (s : Text) → IsUnfinished (unfinished s)

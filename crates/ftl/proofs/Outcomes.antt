@@ -1,5 +1,5 @@
 -- What follows from how a call ended.
-use Rattle.std.proofs.Common.{◌≡◌, ℕ, ◌+◌, ◌<◌, ◌≤◌, min, Result, Ok, Err, OnOk, refl, sym, subst, ◌∙◌, arith, rules, inl, inr}
+use Rattle.std.proofs.Common.{◌≡◌, ℕ, Result, Ok, Err, OnOk, refl, arith, rules, inl, inr}
 use Rattle.std.proofs.lemmas.Bool.{cases_lt}
 use Rattle.ftl.specs.Devices.{HasFailed, one_more, greatest_count}
 use Rattle.ftl.specs.declared.serve.RunError.{RunError}
@@ -16,9 +16,9 @@ on_ok_always (Err e) p = search rules
 -- a call failed, and none before it
 pub failed_now : (old mid new : ℕ) → mid ≡ old → new ≡ one_more mid → HasFailed old new
 failed_now old mid new same more = elim (cases_lt old greatest_count) [
-    | inl below ↦ inl (omega (arith, same, more, below))
-    | inr full ↦ inr full
-  ]
+  | inl below ↦ inl (omega (arith, same, more, below))
+  | inr full ↦ inr full
+]
 
 -- which refusal it was
 pub by_error : {P : Type 0} (e : RunError) → (e ≡ Memory → P) → (e ≡ Read → P) → (e ≡ Write → P) → P

@@ -1,5 +1,5 @@
 -- Worked answers.
-use Rattle.std.specs.Prelude.{◌≡◌, List, [], ◌∷◌, ◌++◌, codes, refl, true, false}
+use Rattle.std.specs.Prelude.{◌≡◌, [], ◌∷◌, ◌++◌, codes, refl, true, false}
 use Rattle.ftl.specs.Text.{Text, tab, line_feed}
 use Rattle.ftl.specs.ThinText.{first_strong_isolate, pop_directional_isolate}
 use Rattle.ftl.specs.Thin.{thin}

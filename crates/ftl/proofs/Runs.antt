@@ -1,14 +1,14 @@
 -- How far a run has come.
-use Rattle.std.proofs.Common.{◌≡◌, ℕ, ◌+◌, ◌≤◌, ◌<◌, List, [], ◌∷◌, ◌++◌, length, take, drop, Option, refl, sym, ap, subst, ◌∙◌, arith, inl, inr, append_assoc, append-nil}
+use Rattle.std.proofs.Common.{◌≡◌, ℕ, ◌+◌, ◌≤◌, ◌<◌, List, [], ◌++◌, length, take, drop, Option, sym, ap, subst, ◌∙◌, arith, append_assoc, append-nil}
 use Rattle.std.specs.Prelude.{◌⊎◌}
-use Rattle.std.proofs.lemmas.List.{length-append, length-take, take-append-drop, take_all}
+use Rattle.std.proofs.lemmas.List.{length-append, take-append-drop, take_all}
 use Rattle.std.proofs.lemmas.Grind.{flat_map-append}
 use Rattle.std.proofs.Math.Seq.{take-append-add}
 use Rattle.std.specs.Io.KnownBytes.{Consumes, Appends, Keeps}
 use Rattle.ftl.specs.Text.{Text}
 use Rattle.ftl.specs.Lines.{whole_lines, unfinished, lines_of, unless_empty}
 use Rattle.ftl.specs.Frames.{answers_to, answers}
-use Rattle.ftl.specs.Exchange.{IsFrontOf, Devices, devices, AnswersAll, AnswersFirst, AnswersWhole, AnswersFront}
+use Rattle.ftl.specs.Exchange.{IsFrontOf, devices, AnswersAll, AnswersFirst, AnswersWhole, AnswersFront}
 use Rattle.ftl.specs.Waiting.{IsUnfinished, Puts, PutsFirst, PutsFront, ServesAll, ServesFirst, ServesWhole, ServesFront}
 use Rattle.ftl.proofs.Lines.{whole_lines-append, unfinished-append, unfinished_open}
 use Rattle.ftl.proofs.Exchange.{appends_trans, appends_nothing, consumes_trans, consumes_nothing, consumes_kept, puts_then_front}
@@ -65,7 +65,6 @@ front_longer h j x y p = record {
 
 module _ {left_before left_now held_before held_now : Option Text} {line output : Text} {answer : Text → Text} {calls : ℕ}
     (so_far : SoFar left_before left_now held_before held_now line output answer calls) where
-
   pub line_free : IsUnfinished line
   line_free = subst IsUnfinished (sym so_far.line_is) (unfinished_open so_far.taken)
 
@@ -112,7 +111,7 @@ module _ {left_before left_now held_before held_now : Option Text} {line output 
         sent = answers_to answer (whole_lines so_far.taken);
         written = so_far.written;
         split = ap (answers_to answer) (take_all (length (whole_lines so_far.taken)) (whole_lines so_far.taken) (omega arith))
-          ∙ sym (ap (λ o. answers_to answer (whole_lines so_far.taken) ++ o) (same ∙ so_far.no_output) ∙ append-nil (answers_to answer (whole_lines so_far.taken)));
+            ∙ sym (ap (λ o. answers_to answer (whole_lines so_far.taken) ++ o) (same ∙ so_far.no_output) ∙ append-nil (answers_to answer (whole_lines so_far.taken)));
       };
     };
   }
@@ -135,15 +134,15 @@ module _ {left_before left_now held_before held_now : Option Text} {line output 
         let done = whole_lines so_far.taken in
         let lines = whole_lines (line ++ block) in
         let given : answers_to answer (take (length done + first.count) (whole_lines (so_far.taken ++ block))) ≡ answers_to answer done ++ answers_to answer (take first.count lines) =
-            ap (λ ls. answers_to answer (take (length done + first.count) ls)) whole_next
-            ∙ (ap (answers_to answer) (take-append-add done lines first.count) ∙ flat_map-append answer done (take first.count lines)) in
+        ap (λ ls. answers_to answer (take (length done + first.count) ls)) whole_next
+        ∙ (ap (answers_to answer) (take-append-add done lines first.count) ∙ flat_map-append answer done (take first.count lines)) in
         record {
           taken = so_far.taken ++ block;
           read = read_next;
           puts = record {
             count = length done + first.count;
             puts = subst (λ t. Puts held_before [] held_after waiting t) (sym given)
-              (puts_behind held_before held_now held_after (answers_to answer done) (answers_to answer (take first.count lines)) output waiting so_far.written so_far.no_output first.puts);
+                (puts_behind held_before held_now held_after (answers_to answer done) (answers_to answer (take first.count lines)) output waiting so_far.written so_far.no_output first.puts);
           };
         }
 
@@ -154,9 +153,9 @@ module _ {left_before left_now held_before held_now : Option Text} {line output 
       taken = so_far.taken ++ block;
       read = read_next;
       puts = subst (λ t. PutsFront held_before [] held_after t) (sym (all_of answer (so_far.taken ++ block)))
-        (front_longer held_before held_after (answers_to answer (whole_lines (so_far.taken ++ block))) (answers_to answer (unless_empty (unfinished (so_far.taken ++ block))))
+          (front_longer held_before held_after (answers_to answer (whole_lines (so_far.taken ++ block))) (answers_to answer (unless_empty (unfinished (so_far.taken ++ block))))
           (subst (λ t. PutsFront held_before [] held_after t) (sym answers_next)
-            (front_behind held_before held_now held_after (answers_to answer (whole_lines so_far.taken)) (answers_to answer (whole_lines (line ++ block))) output so_far.written so_far.no_output cut)));
+          (front_behind held_before held_now held_after (answers_to answer (whole_lines so_far.taken)) (answers_to answer (whole_lines (line ++ block))) output so_far.written so_far.no_output cut)));
     }
 
     -- all its lines are answered, and the writer failed then
@@ -177,7 +176,7 @@ module _ {left_before left_now held_before held_now : Option Text} {line output 
           taken = so_far.taken ++ block;
           read = read_next;
           written = subst (λ t. Appends held_before held_after t) (sym answers_next)
-            (appends_trans held_before held_now held_after (answers_to answer (whole_lines so_far.taken)) given so_far.written
+              (appends_trans held_before held_now held_after (answers_to answer (whole_lines so_far.taken)) given so_far.written
               (subst (λ t. Appends held_now held_after t) sent (appends_trans held_now held_mid held_after puts.sent waiting puts.written flushed)));
           line_is = next_is ∙ (rw so_far.line_is (sym (unfinished-append block so_far.taken)));
           no_output = none;

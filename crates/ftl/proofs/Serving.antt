@@ -1,5 +1,5 @@
 -- How far a block of bytes is answered.
-use Rattle.std.proofs.Common.{◌≡◌, ℕ, List, [], ◌∷◌, ◌++◌, length, take, Option, refl, sym, ap, subst, ◌∙◌, append_assoc, append-nil}
+use Rattle.std.proofs.Common.{◌≡◌, List, [], ◌∷◌, ◌++◌, length, take, Option, refl, sym, ap, subst, ◌∙◌, append_assoc, append-nil}
 use Rattle.std.proofs.Math.Seq.{take-append_seam}
 use Rattle.std.proofs.lemmas.Grind.{flat_map-append}
 use Rattle.ftl.specs.Text.{Text, line_feed}
@@ -44,8 +44,8 @@ module _ {h i : Option Text} {u v : Text} {answer : Text → Text} {all : Text} 
   pub answered_front : {j : Option Text} → PutsFront i v j (answer (front ++ line)) → PutsFront h u j (answers_to answer (whole_lines all))
   answered_front {j} failed =
       let text : answers_to answer (whole_lines all) ≡ (answers_to answer so_far.lines ++ answer (front ++ line)) ++ answers_to answer (whole_lines behind) =
-        ap (answers_to answer) whole_next ∙ (flat_map-append answer so_far.lines ((front ++ line) ∷ whole_lines behind)
-        ∙ sym (append_assoc (answers_to answer so_far.lines) (answer (front ++ line)) (answers_to answer (whole_lines behind)))) in
+      ap (answers_to answer) whole_next ∙ (flat_map-append answer so_far.lines ((front ++ line) ∷ whole_lines behind)
+      ∙ sym (append_assoc (answers_to answer so_far.lines) (answer (front ++ line)) (answers_to answer (whole_lines behind)))) in
       subst (λ s. PutsFront h u j s) (sym text) (front_longer (answers_to answer (whole_lines behind)) (puts_then_front so_far.puts failed))
 
 module _ {h i : Option Text} {u v : Text} {answer : Text → Text} {all left : Text} (so_far : Answered h u i v answer all left) where
@@ -54,8 +54,8 @@ module _ {h i : Option Text} {u v : Text} {answer : Text → Text} {all left : T
   answered_first {j} {w} nothing = record {
     count = length so_far.lines;
     puts = subst (λ s. Puts h u j w s)
-      (append-nil (answers_to answer so_far.lines) ∙ ap (answers_to answer) (sym (ap (take (length so_far.lines)) so_far.whole ∙ take-append_seam so_far.lines (whole_lines left))))
-      (puts_then so_far.puts nothing);
+        (append-nil (answers_to answer so_far.lines) ∙ ap (answers_to answer) (sym (ap (take (length so_far.lines)) so_far.whole ∙ take-append_seam so_far.lines (whole_lines left))))
+        (puts_then so_far.puts nothing);
   }
 
   -- nothing is left but an unfinished line

@@ -1,6 +1,5 @@
 -- What the code's answers stand for.
-use Rattle.std.specs.Prelude.{ℕ, List, [], ◌∷◌, Option, Some, None, option_map}
-use denote.Ref.{Bor}
+use Rattle.std.specs.Prelude.{List, [], ◌∷◌, Option, Some, None, option_map}
 use Rattle.ftl.specs.Text.{Text}
 use Rattle.ftl.specs.Frames as frames
 use Rattle.ftl.specs.declared.answer.Answer.{Answer}

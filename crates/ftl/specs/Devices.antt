@@ -1,5 +1,5 @@
 -- What the calls of a device say of its failures.
-use Rattle.std.specs.Prelude.{◌≡◌, ◌⊎◌, ℕ, ◌+◌, ◌-◌, ◌^◌, ◌<◌, ◌≤◌, min, ◌==◌, nat_lt, ◌&&◌, if◌then◌else◌, Bool, Result, Ok, Err, List, length}
+use Rattle.std.specs.Prelude.{◌⊎◌, ℕ, ◌+◌, ◌-◌, ◌^◌, ◌<◌, ◌≤◌, min, ◌==◌, nat_lt, ◌&&◌, if◌then◌else◌, Result, Ok, Err, List, length}
 
 -- the greatest count of failures: once there, it stays there
 abbrev pub greatest_count : ℕ

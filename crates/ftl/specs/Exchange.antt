@@ -1,8 +1,8 @@
 -- What a run reads and writes.
-use Rattle.std.specs.Prelude.{◌≡◌, ◌⊎◌, ℕ, ◌^◌, ◌≤◌, List, ◌++◌, length, take, Option}
+use Rattle.std.specs.Prelude.{◌≡◌, ◌⊎◌, ℕ, ◌≤◌, ◌++◌, length, take, Option}
 use Rattle.std.specs.Io.KnownBytes.{Consumes, Appends}
 use Rattle.ftl.specs.Text.{Text}
-use Rattle.ftl.specs.Lines.{whole_lines, lines_of}
+use Rattle.ftl.specs.Lines.{whole_lines}
 use Rattle.ftl.specs.Frames.{answers_to, answers}
 
 -- one text is the other's front

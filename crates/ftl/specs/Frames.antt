@@ -1,5 +1,5 @@
 -- Answers, and the bytes that they are written as.
-use Rattle.std.specs.Prelude.{ℕ, List, [], ◌∷◌, ◌++◌, length, Option, Some, None, codes, decimal}
+use Rattle.std.specs.Prelude.{List, [], ◌∷◌, ◌++◌, length, Option, Some, None, codes, decimal}
 use Rattle.std.specs.List.{flat_map}
 use Rattle.ftl.specs.Text.{Text, line_feed}
 use Rattle.ftl.specs.Lines.{lines_of}

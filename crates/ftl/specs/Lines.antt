@@ -1,5 +1,5 @@
 -- The lines of a stream of bytes. A line ends before a line feed; a carriage return is part of its line.
-use Rattle.std.specs.Prelude.{ℕ, ◌==◌, List, [], ◌∷◌, ◌++◌}
+use Rattle.std.specs.Prelude.{◌==◌, List, [], ◌∷◌, ◌++◌}
 use Rattle.std.specs.List.{slice_split}
 use Rattle.ftl.specs.Text.{Text, line_feed}
 

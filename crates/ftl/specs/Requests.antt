@@ -1,6 +1,6 @@
 -- Request lines: an id, an optional attribute, and arguments, separated by tabs.
 -- `V` is the type of the arguments' values, and `value_of` reads one from its text.
-use Rattle.std.specs.Prelude.{ℕ, ◌==◌, if◌then◌else◌, List, [], ◌∷◌, Option, Some, None}
+use Rattle.std.specs.Prelude.{◌==◌, if◌then◌else◌, List, [], ◌∷◌, Option, Some, None}
 use Rattle.std.specs.List.{slice_split}
 use Rattle.std.specs.Str.{is_utf8, bytes_eq}
 use Rattle.ftl.specs.Text.{Text, tab, dot, equals, cut_at}

@@ -1,5 +1,5 @@
 -- The answers to a stream of request lines, from sources of messages of one line.
-use Rattle.std.specs.Prelude.{ℕ, Bool, if◌then◌else◌, List, [], ◌∷◌, Option, Some, None, option_map}
+use Rattle.std.specs.Prelude.{Bool, if◌then◌else◌, List, [], ◌∷◌, Option, Some, None, option_map}
 use Rattle.std.specs.Str.{bytes_eq}
 use Rattle.ftl.specs.Text.{Text}
 use Rattle.ftl.specs.Requests.{Request}

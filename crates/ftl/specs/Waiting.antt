@@ -1,5 +1,5 @@
 -- Output that waits in a buffer before it is written.
-use Rattle.std.specs.Prelude.{◌≡◌, ◌==◌, ℕ, Bool, true, not, List, [], ◌∷◌, ◌++◌, take, length, ◌≤◌, ◌⊎◌, Option}
+use Rattle.std.specs.Prelude.{◌≡◌, ◌==◌, ℕ, true, not, List, [], ◌++◌, take, length, ◌≤◌, ◌⊎◌, Option}
 use Rattle.std.specs.List.{list_all}
 use Rattle.std.specs.Io.KnownBytes.{Consumes, Appends}
 use Rattle.ftl.specs.Text.{Text, line_feed}

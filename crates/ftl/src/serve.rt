@@ -257,7 +257,14 @@ pub fn serve<E: Engine, R: Source, W: Sink>(
         line: Vec::new(alloc),
         output: Vec::new(alloc),
     };
-    let outcome = answer_all(alloc, engine, reader, writer, &mut waiting, block.as_mut_slice());
+    let outcome = answer_all(
+        alloc,
+        engine,
+        reader,
+        writer,
+        &mut waiting,
+        block.as_mut_slice(),
+    );
     if is_write_failure(&outcome) {
         return outcome;
     }

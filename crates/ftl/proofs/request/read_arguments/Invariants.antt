@@ -1,5 +1,5 @@
-use Rattle.std.proofs.Common.{◌≡◌, ℕ, ◌+◌, Option, Some, None, length, option_copied}
-use Rattle.ftl.specs.Text.{Text, tab}
+use Rattle.std.proofs.Common.{◌≡◌, option_copied}
+use Rattle.ftl.specs.Text.{tab}
 use Rattle.ftl.specs.Requests.{arguments_of}
 use Rattle.ftl.specs.RequestView.{arguments_view, parts_behind}
 use Rattle.ftl.proofs.Requests.{behind_arguments, text_size}

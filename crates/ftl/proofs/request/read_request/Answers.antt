@@ -1,8 +1,7 @@
 use Rattle.std.proofs.Common.{◌∙◌, sym, ap, Some, None, option_copied}
-use Rattle.ftl.specs.Text.{tab, dot, cut_at}
-use Rattle.ftl.specs.Requests.{request_with, arguments_of}
-use Rattle.ftl.specs.RequestView.{arguments_view, parts_behind}
-use Rattle.ftl.proofs.Requests.{request_of-text, request_of-no_text, request_at}
+use Rattle.ftl.specs.Requests.{request_with}
+use Rattle.ftl.specs.RequestView.{arguments_view}
+use Rattle.ftl.proofs.Requests.{request_of-no_text, request_at}
 use Rattle.ftl.proofs.request.read_request.Goals as goal
 
 pub returns-in_default : goal.returns-in_default

@@ -1,5 +1,4 @@
-use Rattle.std.proofs.Common.{[], arith, ◌∙◌, sym, refl}
-use Rattle.std.proofs.lemmas.Grind.{common_steps}
+use Rattle.std.proofs.Common.{[], ◌∙◌, sym, refl}
 use Rattle.ftl.proofs.Requests.{value_named-next}
 use Rattle.ftl.proofs.request.value_named.Goals as goal
 use Rattle.ftl.proofs.request.value_named.Goals.{then-eq, else-eq}

@@ -1,7 +1,6 @@
-use Rattle.std.proofs.Common.{◌≡◌, ◌∙◌, ◌<◌, ℕ, [], ◌++◌, length, take, refl, rules, arith, sym, ap, subst, inl, inr, Err}
+use Rattle.std.proofs.Common.{◌∙◌, refl, arith, ap, subst, inl, Err}
 use Rattle.std.proofs.lemmas.List.{length-take}
 use Rattle.std.proofs.lemmas.Result.{err_from_is_err_and}
-use Rattle.std.specs.Io.KnownBytes.{Consumes}
 use Rattle.ftl.specs.Devices.{HasFailed}
 use Rattle.ftl.proofs.Runs.{at_start, line_free, serves_whole, serves_all, serves_first, first_in_block, front_in_block, block_done, block_cut}
 use Rattle.ftl.proofs.Outcomes.{on_ok_map, on_ok_always, failed_now, by_error}
@@ -50,9 +49,9 @@ pub returns-in_err-answer_block-clause-kept : goal.returns-in_err-answer_block-c
 returns-in_err-answer_block-clause-kept g c = λ not_write.
     let p = err_from_is_err_and c.from_residual-in_err-answer_block.result c.from_residual-in_err-answer_block.ensures.1 in
     by_error c.in_err-answer_block.field-0.0
-      (λ is. c.in_err-answer_block.ensures.memory_failures (ap Err is) ∙ c.loop.invariant.writer)
-      (λ is. absurd (c.in_err-answer_block.ensures.never_read (ap Err is)))
-      (λ is. absurd (not_write (p.1 ∙ ap Err (p.2 ∙ is))))
+    (λ is. c.in_err-answer_block.ensures.memory_failures (ap Err is) ∙ c.loop.invariant.writer)
+    (λ is. absurd (c.in_err-answer_block.ensures.never_read (ap Err is)))
+    (λ is. absurd (not_write (p.1 ∙ ap Err (p.2 ∙ is))))
 
 pub returns-in_err-flush-clause-write : goal.returns-in_err-flush-clause-write
 returns-in_err-flush-clause-write g c = λ is.

@@ -1,4 +1,4 @@
-use Rattle.std.proofs.Common.{◌∙◌, refl, rules, arith, sym}
+use Rattle.std.proofs.Common.{◌∙◌, refl}
 use Rattle.std.proofs.lemmas.Result.{err_from_is_err_and}
 use Rattle.ftl.proofs.Lines.{unfinished_append}
 use Rattle.ftl.proofs.Exchange.{puts_nothing}
@@ -22,7 +22,7 @@ pub returns-in_err-answer_line-clause-write : goal.returns-in_err-answer_line-cl
 returns-in_err-answer_line-clause-write g c = λ is.
     let p = err_from_is_err_and c.from_residual.result c.from_residual.ensures.1 in
     answered_front c.loop-end.waiting.line.items c.loop-end.rest.now c.in-Some.end.now c.in-Some.behind.now c.loop-end.invariant.answered c.loop-end.invariant.line
-      c.in-Some.ensures.0 c.in-Some.ensures.1 (c.in_err-answer_line.ensures.write (rw (p.1, p.2) at is))
+    c.in-Some.ensures.0 c.in-Some.ensures.1 (c.in_err-answer_line.ensures.write (rw (p.1, p.2) at is))
 
 pub returns-in_err-extend_from_slice-clause-memory : goal.returns-in_err-extend_from_slice-clause-memory
 returns-in_err-extend_from_slice-clause-memory g c = λ is. answered_first c.loop-end.invariant.answered (puts_nothing (g.W.Sink.contents c.loop-end.writer) c.loop-end.waiting.output.items)

@@ -1,4 +1,4 @@
-use Rattle.std.proofs.Common.{◌≡◌, ◌∙◌, sym, ap, Err, subst}
+use Rattle.std.proofs.Common.{subst}
 use Rattle.ftl.proofs.Runs.{nothing_served, all_written, first_written, whole_written, all_cut, first_cut, whole_cut, front_written}
 use Rattle.ftl.proofs.Outcomes.{on_ok_map, by_outcome}
 use Rattle.std.proofs.lemmas.Bool.{false≢true}
@@ -15,9 +15,9 @@ pub returns-in_err-flush-clause-write : goal.returns-in_err-flush-clause-write
 returns-in_err-flush-clause-write g c = λ is.
     let failed = c.in_err-flush.ensures.err in
     by_outcome c.answer_all-outcome.result (λ w. false≢true (c.if-is_write_failure.ensures.1 w))
-      (λ ok. all_cut failed (rw ok at c.answer_all-outcome.ensures.ok))
-      (λ memory. first_cut failed (c.answer_all-outcome.ensures.memory memory))
-      (λ read. whole_cut failed (c.answer_all-outcome.ensures.read read))
+    (λ ok. all_cut failed (rw ok at c.answer_all-outcome.ensures.ok))
+    (λ memory. first_cut failed (c.answer_all-outcome.ensures.memory memory))
+    (λ read. whole_cut failed (c.answer_all-outcome.ensures.read read))
 
 pub returns-in_err-flush-clause-failed : goal.returns-in_err-flush-clause-failed
 returns-in_err-flush-clause-failed g c = λ is.

@@ -1,7 +1,4 @@
-use Rattle.std.proofs.Common.{◌≡◌, ◌++◌, Result, Ok, Err, OnOk, IfSome, rules}
-use Rattle.std.specs.List.{flat_map}
-use Rattle.ftl.specs.Frames.{ended}
-use Rattle.ftl.specs.AnswerView.{error_texts}
+use Rattle.std.proofs.Common.{Result, Ok, Err, OnOk, rules}
 use Rattle.ftl.proofs.Answers.{text_pushed}
 use Rattle.ftl.proofs.answer.Answer.push_to.Goals as goal
 
@@ -12,7 +9,7 @@ on_ok_map (Err e) f p = search rules
 pub returns-in_ok-extend_from_slice-in-Text-2-clause-ok : goal.returns-in_ok-extend_from_slice-in-Text-2-clause-ok
 returns-in_ok-extend_from_slice-in-Text-2-clause-ok g c =
     rw c.in-Text.is (on_ok_map c.push_errors.result
-      (text_pushed g.E.Display.output c.in-Text.errors.now c.args.out.now.items c.in-Text.text.now
-        c.push_head.new.out.items c.extend_from_slice-in-Text.new.self.items c.extend_from_slice-in-Text-2.new.self.items c.push_errors.new.out.items
-        c.in_ok-push_head-in-Text.ensures.ok (rw c.as_bytes.ensures.value at c.in_ok-extend_from_slice-in-Text.ensures.items) c.in_ok-extend_from_slice-in-Text-2.ensures.items)
-      c.push_errors.ensures.ok)
+    (text_pushed g.E.Display.output c.in-Text.errors.now c.args.out.now.items c.in-Text.text.now
+    c.push_head.new.out.items c.extend_from_slice-in-Text.new.self.items c.extend_from_slice-in-Text-2.new.self.items c.push_errors.new.out.items
+    c.in_ok-push_head-in-Text.ensures.ok (rw c.as_bytes.ensures.value at c.in_ok-extend_from_slice-in-Text.ensures.items) c.in_ok-extend_from_slice-in-Text-2.ensures.items)
+    c.push_errors.ensures.ok)
