@@ -14,3 +14,4 @@ pub mod Tiles
 pub mod TilingLaws
 pub mod Escapes
 pub mod SpellingLaws
+pub mod Written

@@ -1,0 +1,7 @@
+mod Trimmed
+mod Copied
+pub mod Views
+mod Lined
+mod Onto
+mod Laid
+mod Braces

@@ -1,0 +1,5 @@
+//! Escapes of string literals, and what texts are written to.
+
+mod write;
+
+pub use write::TextWrite;
