@@ -56,7 +56,11 @@ fn tells_each_fault(rt: HostRuntime) {
     let file = "a.ftl";
     let rows = [
         (Fault::CommandLine, 2, "ftl: bad command line\n"),
-        (Fault::FileUnreadable { file }, 3, "ftl: a.ftl: cannot read\n"),
+        (
+            Fault::FileUnreadable { file },
+            3,
+            "ftl: a.ftl: cannot read\n",
+        ),
         (Fault::FileNotUtf8 { file }, 3, "ftl: a.ftl: not UTF-8\n"),
         (Fault::Input, 3, "ftl: standard input: cannot read\n"),
         (Fault::Output, 3, "ftl: standard output: cannot write\n"),
