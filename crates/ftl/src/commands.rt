@@ -1,5 +1,5 @@
 //! The program: its words, its files and its streams.
-ghost use Rattle.std.specs.Prelude.{◌≡◌, ◌≢◌, ◌↔◌, ◌∷◌, [], ℕ, None, Contains, OnOk, IfErr, IfSome, IsErrOf};
+ghost use Rattle.std.specs.Prelude.{◌≡◌, ◌≢◌, ◌↔◌, ◌∷◌, [], None, Contains, OnOk, IfErr, IfSome, IsErrOf};
 ghost use Rattle.std.specs.Io.KnownBytes.{Appends, IsAtEnd};
 ghost use Rattle.ftl.specs.CatalogView.{texts};
 ghost use Rattle.ftl.specs.Devices.{HasFailed};
@@ -98,7 +98,7 @@ fn run_files<'words, R: Files, I: Source, O: Sink>(
     ensures exact { OnOk result (OnFiles isolating (texts files.now) (λ answer. IfSome (I.remaining reader.old) (λ input.
         Appends (O.contents writer.old) (O.contents writer.new) (answers answer input)))) }
     ensures end { OnOk result (IsAtEnd (I.remaining reader.new)) }
-    ensures words { IfErr result (λ fault. fault ≢ Fault.CommandLine) }
+    ensures not_refused { IfErr result (λ fault. fault ≢ Fault.CommandLine) }
     ensures named { IfErr result (NamesOneOf (texts files.now)) }
     ensures unread { IfErr result (λ fault. IsBeforeInput fault → reader.new ≡ reader.old) }
     ensures unwritten { IfErr result (λ fault. IsBeforeInput fault → writer.new ≡ writer.old) }

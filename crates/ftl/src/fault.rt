@@ -7,7 +7,7 @@ use crate::serve::RunError;
 use std::alloc::{AllocError, AllocFailed};
 use thiserror::Error;
 
-/// Why the program stops, as it is told on standard error.
+/// Why the program stops, as it is told on standard error: see `docs/protocol.md`.
 #[derive(Clone, Copy, Debug, PartialEq, Eq, Error)]
 pub enum Fault<'words> {
     /// The words are no command.

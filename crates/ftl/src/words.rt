@@ -1,5 +1,5 @@
 //! The words behind the program's name.
-ghost use Rattle.std.specs.Prelude.{◌≡◌, map, option_map};
+ghost use Rattle.std.specs.Prelude.{◌≡◌, option_map};
 ghost use Rattle.std.specs.List.{list_all};
 ghost use Rattle.ftl.specs.Words.{command_of, run_command, files_command, is_file};
 ghost use Rattle.ftl.specs.CatalogView.{texts};

@@ -1,5 +1,6 @@
 //! Runs of the program in a folder of their own.
-use crate::commands::program;
+use crate::commands::{program, tell};
+use crate::fault::Fault;
 use std::process::Abort;
 use std::rt::Files;
 use std::test::Fail;
@@ -47,6 +48,28 @@ fn refuses_words(rt: HostRuntime) {
     ];
     for words in refused {
         assert_run(&rt, words, b"a\n", 2, "", "ftl: bad command line\n");
+    }
+}
+
+#[test]
+fn tells_each_fault(rt: HostRuntime) {
+    let file = "a.ftl";
+    let rows = [
+        (Fault::CommandLine, 2, "ftl: bad command line\n"),
+        (
+            Fault::FileUnreadable { file },
+            3,
+            "ftl: a.ftl: cannot read\n",
+        ),
+        (Fault::FileNotUtf8 { file }, 3, "ftl: a.ftl: not UTF-8\n"),
+        (Fault::Input, 3, "ftl: standard input: cannot read\n"),
+        (Fault::Output, 3, "ftl: standard output: cannot write\n"),
+        (Fault::Memory, 4, "ftl: out of memory\n"),
+    ];
+    for (fault, status, line) in rows {
+        let mut told = Vec::new(rt.alloc());
+        assert_eq!(rt; tell(&mut told, fault), status, "{line}");
+        assert_eq!(rt; told.as_slice(), line.as_bytes(), "{line}");
     }
 }
 
