@@ -11,3 +11,7 @@ pub mod Pieces
 pub mod Steps
 pub mod Whole
 pub mod Failing
+mod Lined
+mod Onto
+mod Laid
+mod Braces

@@ -6,6 +6,7 @@ pub use Rattle.fluent_grammar.specs.Refusal
 pub use Rattle.fluent_grammar.specs.Reading
 pub use Rattle.fluent_grammar.specs.Spelling
 pub use Rattle.fluent_grammar.specs.Tiling
+pub use Rattle.fluent_grammar.specs.Written
 pub mod View
 pub mod Counted
 pub mod ErrorView
