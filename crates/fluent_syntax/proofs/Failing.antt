@@ -2,10 +2,11 @@
 use Rattle.std.proofs.Common.{◌≡◌, ℕ, suc, ◌+◌, ◌-◌, List, ◌++◌, length, take, drop, refl, sym, ap, ◌∙◌, arith, subst, add-one}
 use Rattle.std.specs.List.{prefix_len}
 use Rattle.std.proofs.lemmas.List.{drop-drop}
+use Rattle.fluent_syntax.specs.Counted.{character_or_space}
 use Rattle.fluent_grammar.specs.Words.{Text, is_hex_digit}
 use Rattle.fluent_grammar.specs.Refusal.{Kind, Reading, got, refused, refuse, mapped, ◌>>=◌}
 use Rattle.fluent_grammar.specs.Refusal as r
-use Rattle.fluent_grammar.specs.Reading.{string_content, missing_hex, character_or_space, first_char}
+use Rattle.fluent_grammar.specs.Reading.{string_content, missing_hex, first_char}
 use Rattle.fluent_syntax.specs.declared.parser.fault.Fault.{Fault}
 use Rattle.fluent_syntax.specs.declared.parser.fault.Fault.TheVariants as fault
 use Rattle.fluent_syntax.specs.Reads.{Fails, Tells}

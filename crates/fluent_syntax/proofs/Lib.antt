@@ -15,3 +15,5 @@ mod Lined
 mod Onto
 mod Laid
 mod Braces
+pub mod Cycle
+pub mod Values

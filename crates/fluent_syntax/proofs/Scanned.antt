@@ -16,7 +16,7 @@ use Rattle.fluent_grammar.specs.Words.{Text}
 use Rattle.fluent_grammar.specs.Lines.{ends_line}
 use Rattle.fluent_grammar.specs.Refusal.{Reading, got, refused, refuse, mapped, ◌>>=◌}
 use Rattle.fluent_grammar.specs.Refusal as r
-use Rattle.fluent_grammar.specs.Reading.{digits_at, fraction_at, number_at, front, text_run, string_content, before, missing_hex, character_or_space}
+use Rattle.fluent_grammar.specs.Reading.{digits_at, fraction_at, number_at, front, text_run, string_content, before, missing_hex}
 use Rattle.fluent_syntax.specs.Counted.{Cuts, is_blank_at, IsLine, IsNumber, IsText, line_feed_end}
 use Rattle.fluent_syntax.proofs.Counted.{cut_by_ascii, cut_before_ascii, cut_end, cut_none, cut_digits}
 
@@ -377,3 +377,11 @@ last_byte (c ∷ []) h = refl
 last_byte (c ∷ d ∷ ds) h =
     let e : length (c ∷ d ∷ ds) - 1 ≡ suc (length (d ∷ ds) - 1) = omega arith in
     rw e (last_byte (d ∷ ds) (omega arith))
+
+no_line_by : (b z : Bool) → b ≡ z → z ≡ false → not b ≡ false → ⊥
+no_line_by true z e f h = absurd cc
+no_line_by false z e f h = absurd cc
+
+pub no_line : (s : Text) (b : Bool) → b ≡ (length s == 0) → not b ≡ false → not b ≡ ends_line s
+no_line [] b e h = h
+no_line (c ∷ cs) b e h = absurd (no_line_by b (length (c ∷ cs) == 0) e (test_ne (length (c ∷ cs)) 0 (λ x. absurd (omega (arith, x)))) h)

@@ -188,10 +188,10 @@ nameds_more : (ns : List Named) (n : Named) (more : t.Nameds) → nameds_behind 
 nameds_more [] n more = refl
 nameds_more (x ∷ ns) n more = ap (t.named x.name x.value) (nameds_more ns n more)
 
-positional_more : (ps : List t.Inline) (ns : List Named) (e : t.Inline) (a : t.Arguments) → arguments_behind ps ns (with_argument (positional e) a) ≡ arguments_behind (ps ++ e ∷ []) ns a
+pub positional_more : (ps : List t.Inline) (ns : List Named) (e : t.Inline) (a : t.Arguments) → arguments_behind ps ns (with_argument (positional e) a) ≡ arguments_behind (ps ++ e ∷ []) ns a
 positional_more ps ns e (t.arguments es ms) = ap (λ x. t.arguments x (nameds_behind ns ms)) (sym (inlines_more ps e es))
 
-named_more : (ps : List t.Inline) (ns : List Named) (n : Named) (a : t.Arguments) → arguments_behind ps ns (with_argument (named n) a) ≡ arguments_behind ps (ns ++ n ∷ []) a
+pub named_more : (ps : List t.Inline) (ns : List Named) (n : Named) (a : t.Arguments) → arguments_behind ps ns (with_argument (named n) a) ≡ arguments_behind ps (ns ++ n ∷ []) a
 named_more ps ns n (t.arguments es ms) = ap (λ x. t.arguments (inlines_behind ps es) x) (sym (nameds_more ns n ms))
 
 -- pieces

@@ -5,7 +5,7 @@ use Rattle.std.specs.List.{prefix_len}
 use Rattle.fluent_grammar.specs.Words.{Text, begins, is_digit, is_letter, hyphen, space, line_feed, carriage_return, quote, backslash, number_sign, begins_with, after_line_end, is_hex_digit, rest_of_line}
 use Rattle.fluent_grammar.specs.Refusal.{Reading, got, refuse}
 use Rattle.fluent_grammar.specs.Refusal as r
-use Rattle.fluent_grammar.specs.Reading.{number_at, text_run, string_content, before, missing_hex, character_or_space}
+use Rattle.fluent_grammar.specs.Reading.{number_at, text_run, string_content, before, missing_hex, first_char}
 use Rattle.fluent_syntax.specs.declared.parser.words.StringEnd.{StringEnd}
 use Rattle.fluent_syntax.specs.declared.parser.words.StringEnd.TheVariants as end
 use Rattle.fluent_syntax.specs.declared.parser.words.StringStep.{StringStep}
@@ -50,6 +50,11 @@ IsLine text count = rest_of_line text ≡ (take count text, unwrap_or (after_lin
 abbrev pub char_len : Text → ℕ
 char_len [] = 0
 char_len (b ∷ bs) = suc (continuation_len b)
+
+-- what an escape that is none is told by: the character behind the backslash, or a space at the end
+abbrev pub character_or_space : Text → Text
+character_or_space [] = space ∷ []
+character_or_space (b ∷ bs) = first_char (b ∷ bs)
 
 -- where the content of a string ends, or why it doesn't
 abbrev pub IsString : Text → StringEnd → Type 0

@@ -1,6 +1,6 @@
 -- The grammar's readers of what nests or repeats, cut into the steps that the parser takes.
 use Rattle.std.specs.Prelude.{◌≡◌, ℕ, suc, ◌+◌, ◌-◌, Bool, true, false, ◌&&◌, ◌==◌, List, [], ◌∷◌, ◌++◌, length, take, drop, replicate, Option, Some, None, option_map, map, reverse, if◌then◌else◌}
-use Rattle.fluent_grammar.specs.Words.{Text, begins_with, begins_crlf, open_brace, close_brace, open_bracket, colon, close_paren, line_feed, space, spaces, skip_spaces, skip_blank, skip_separator, after_line_end, skip_blank_block}
+use Rattle.fluent_grammar.specs.Words.{Text, asterisk, begins_with, begins_crlf, open_brace, close_brace, open_bracket, colon, close_paren, line_feed, space, spaces, skip_spaces, skip_blank, skip_separator, after_line_end, skip_blank_block}
 use Rattle.fluent_grammar.specs.Refusal.{Kind, Reading, got, refused, refuse, mapped, ◌>>=◌}
 use Rattle.fluent_grammar.specs.Refusal as r
 use Rattle.fluent_grammar.specs.Tree as t
@@ -119,3 +119,15 @@ pieces_after (Some p) s = mapped (λ ps. p.0 ∷ ps) (pieces_by p.1 s)
 abbrev pub first_place : Text → Option Text → Bool × Text
 first_place s None = (false, s)
 first_place s (Some rest) = (true, skip_blank_block rest)
+
+-- the mark of the default variant, where none stood before; whether it stands here
+abbrev pub default_mark_at : Bool → Text → Reading Bool
+default_mark_at marked s =
+    if begins_with asterisk s then (if marked then refuse r.multiple_default_variants (drop 1 s) else got true (drop 1 s))
+    else got false s
+
+-- a text begins here: no brace, no CR LF, not the end
+pub record IsTextStart (s : Text) : Type 0 where
+  pub some : (length s == 0) ≡ false
+  pub brace : begins_with open_brace s ≡ false
+  pub crlf : begins_crlf s ≡ false

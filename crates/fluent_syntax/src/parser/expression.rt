@@ -24,8 +24,8 @@ pub enum Argument<S> {
 
 impl<'p, S: Drop, T: Texts<S>> Parser<'p, S, T> {
     ghost use Rattle.fluent_syntax.specs.Reads.{Gives, whole, string_or_number_at, key_in_brackets_at, argument_value_at, inline_by, IsToldAs};
-    ghost use Rattle.fluent_syntax.specs.Steps.{expression_by, placeable_by, variant_by, argument_by, names_of};
-    ghost use Rattle.fluent_syntax.specs.Arguments.{argument_view};
+    ghost use Rattle.fluent_syntax.specs.Steps.{expression_by, placeable_by, variant_by, argument_by, positional_by, names_of, default_mark_at};
+    ghost use Rattle.fluent_syntax.specs.Arguments.{argument_view, IsName};
     ghost use Rattle.fluent_syntax.specs.View.{name_of, inline_view, key_of, expression_view, variants_of, variant_view, arguments_view, named_view};
     ghost use Rattle.fluent_syntax.specs.Reading.{identifier_at, accessor_at, key_at, term_at, named_at};
     ghost use Rattle.fluent_syntax.specs.Refusal.{mapped};
@@ -90,11 +90,8 @@ impl<'p, S: Drop, T: Texts<S>> Parser<'p, S, T> {
         let mut variants = Vec::new(self.alloc);
         let mut has_default = false;
         loop {
-            let default = self.take_byte_if(b'*');
-            if default && has_default {
-                return Err(Fault::Refused(ErrorKind::MultipleDefaultVariants));
-            }
-            has_default = has_default || default;
+            let default = self.take_default_mark(has_default)?;
+            has_default |= default;
             if !self.is_current_byte(b'[') {
                 break;
             }
@@ -106,6 +103,20 @@ impl<'p, S: Drop, T: Texts<S>> Parser<'p, S, T> {
         } else {
             Err(Fault::Refused(ErrorKind::MissingDefaultVariant))
         }
+    }
+
+    /// Passes over the mark of the default variant, and says whether it stood here. A second one is refused.
+    fn take_default_mark(&mut self, has_default: bool) -> Result<bool, Fault>
+        ensures gives { Gives (λ found. found) self.new.rest.now result (default_mark_at has_default self.old.rest.now) }
+        ensures source { self.new.source.now ≡ self.old.source.now }
+        ensures text { self.new.text.now ≡ self.old.text.now }
+        ensures onward { length self.new.rest.now ≤ length self.old.rest.now }
+    {
+        let found = self.take_byte_if(b'*');
+        if found && has_default {
+            return Err(Fault::Refused(ErrorKind::MultipleDefaultVariants));
+        }
+        Ok(found)
     }
 
     /// A variant, from its opening bracket on. Production `Variant`.
@@ -230,7 +241,6 @@ impl<'p, S: Drop, T: Texts<S>> Parser<'p, S, T> {
 
     /// An argument of a call, behind these named ones. Productions `Argument` and `NamedArgument`.
     #[cycle(parser)]
-    #[tactic(auto, using(crate::proofs::Failing::handed, crate::proofs::Counted::cuts), unfolding(crate::specs::Steps::argument_by))]
     fn get_argument(&mut self, others: &[NamedArgument<S>]) -> Result<Argument<S>, Fault>
         requires { T.text self.old.source.now ≡ self.old.text.now }
         ensures less { OnOk result (length self.new.rest.now < length self.old.rest.now) }
@@ -239,13 +249,41 @@ impl<'p, S: Drop, T: Texts<S>> Parser<'p, S, T> {
         ensures text { self.new.text.now ≡ self.old.text.now }
         ensures onward { length self.new.rest.now ≤ length self.old.rest.now }
     {
-        match self.get_inline_expression()? {
-            InlineExpression::MessageReference { id, attribute: None } if self.is_current_byte(b':') => {
-                let value = self.get_argument_value(&id, others)?;
-                Ok(Argument::Named(NamedArgument { name: id, value }))
+        let argument = self.get_inline_expression()?;
+        if !self.is_current_byte(b':') {
+            return self.positional_argument(argument, others);
+        }
+        match self.name_of_argument(argument) {
+            Ok(name) => {
+                let value = self.get_argument_value(&name, others)?;
+                Ok(Argument::Named(NamedArgument { name, value }))
             }
-            argument if others.is_empty() => Ok(Argument::Positional(argument)),
-            _ => Err(Fault::Refused(ErrorKind::PositionalArgumentFollowsNamed)),
+            Err(argument) => self.positional_argument(argument, others),
+        }
+    }
+
+    /// A positional argument, which may stand behind no named one.
+    fn positional_argument(
+        &self,
+        argument: InlineExpression<S>,
+        others: &[NamedArgument<S>],
+    ) -> Result<Argument<S>, Fault>
+        ensures { Gives (argument_view S T.text) self.now.rest.now result (positional_by (names_of (map (named_view S T.text) others.now)) (inline_view S T.text argument) self.now.rest.now) }
+    {
+        if others.is_empty() {
+            Ok(Argument::Positional(argument))
+        } else {
+            Err(Fault::Refused(ErrorKind::PositionalArgumentFollowsNamed))
+        }
+    }
+
+    /// The name of an argument, or the expression back that can't be one.
+    fn name_of_argument(&self, argument: InlineExpression<S>) -> Result<Identifier<S>, InlineExpression<S>>
+        ensures { IsName S T.text (inline_view S T.text argument) result }
+    {
+        match argument {
+            InlineExpression::MessageReference { id, attribute: None } => Ok(id),
+            argument => Err(argument),
         }
     }
 

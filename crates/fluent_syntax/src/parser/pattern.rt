@@ -8,13 +8,13 @@ use crate::parser::pieces::{Piece, pattern_of};
 use crate::parser::words;
 use crate::parser::{ErrorKind, Texts};
 
-ghost use Rattle.std.specs.Prelude.{◌≡◌, ◌≤◌, ◌<◌, ◌||◌, IfOk, IfSome, Some, true, false, length, drop, map, option_map};
+ghost use Rattle.std.specs.Prelude.{◌≡◌, ◌≤◌, ◌<◌, ◌||◌, IfOk, IfSome, OnOk, Some, true, false, length, drop, map, option_map};
 ghost use Rattle.fluent_syntax.specs.Words as w;
 ghost use Rattle.fluent_syntax.specs.Lines.{in_line, pattern_ends};
 
 impl<'p, S: Drop, T: Texts<S>> Parser<'p, S, T> {
     ghost use Rattle.fluent_syntax.specs.Reads.{Gives};
-    ghost use Rattle.fluent_syntax.specs.Steps.{pattern_by, piece_by, piece_behind, indent_at, text_step, first_place};
+    ghost use Rattle.fluent_syntax.specs.Steps.{pattern_by, piece_by, piece_behind, indent_at, text_step, first_place, IsTextStart};
     ghost use Rattle.fluent_syntax.specs.View.{pattern_view};
     ghost use Rattle.fluent_syntax.specs.Pieces.{piece_view, step_view, IsPiece};
 
@@ -106,7 +106,9 @@ impl<'p, S: Drop, T: Texts<S>> Parser<'p, S, T> {
     fn get_text_piece(&mut self, at_line_start: bool, indent: usize) -> Result<Option<(Piece<S>, bool)>, Fault>
         requires tied { T.text self.old.source.now ≡ self.old.text.now }
         requires indent { indent ≡ indent_at at_line_start self.old.rest.now }
+        requires some { IsTextStart (drop indent self.old.rest.now) }
         ensures gives { Gives (option_map (step_view S T.text)) self.new.rest.now result (text_step at_line_start indent (drop indent self.old.rest.now)) }
+        ensures less { OnOk result (length self.new.rest.now < length self.old.rest.now) }
         ensures right { IfOk result (λ found. IfSome found (λ p. IsPiece S T.text p.0)) }
         ensures source { self.new.source.now ≡ self.old.source.now }
         ensures text { self.new.text.now ≡ self.old.text.now }
