@@ -1,6 +1,7 @@
 -- What each reader of expressions gives is what the grammar reads.
 use Rattle.std.proofs.Common.{◌≡◌, ◌≢◌, ℕ, zero, suc, ◌+◌, ◌-◌, ◌<◌, ◌≤◌, Bool, true, false, cond, not, ◌&&◌, ◌||◌, List, [], ◌∷◌, ◌++◌, length, take, drop, map, reverse, refl, sym, ap, ◌∙◌, arith, subst, Option, Some, None, Result, Ok, Err, append_assoc}
 use Rattle.std.specs.Prelude.{◌==◌, OnOk}
+use Rattle.std.specs.List.{list_all}
 use Rattle.std.proofs.lemmas.Bool.{false≢true}
 use Rattle.std.proofs.lemmas.List.{append-nil, map-append, reverse-append, length-map, length-reverse, length-drop, drop-drop, drop-take, take_at}
 use Rattle.fluent_grammar.specs.Words as w
@@ -301,3 +302,19 @@ unfolding g.pattern_at
 pattern_end s u rest line ps same h =
     ap (λ x. mapped value_of (mapped elements_of x)) (sym same ∙ ap (mapped (λ more. ps ++ more)) (read_piece line s rest None h))
     ∙ ap (λ z. got (value_of (elements_of z)) rest) (append-nil ps)
+
+-- references with arguments
+pub term_read : (s a b u rest id : Text) (attr : Option Text) (args : t.Arguments) → g.identifier_at s ≡ got id a → g.accessor_at a ≡ got attr b → u ≡ skip_blank b → begins_with w.open_paren u ≡ true →
+    whole.arguments [] (skip_blank (drop 1 u)) ≡ got args rest → g.term_at whole s ≡ got (t.term_reference id attr (t.with_arguments args)) rest
+unfolding g.term_at g.term_arguments_at
+term_read s a b u rest id attr args i j e p h =
+    ap (λ (x : Reading Text). x >>= (λ id. g.accessor_at id.1 >>= (λ attr. g.term_arguments_at whole id.0 attr.0 (skip_blank attr.1)))) i
+    ∙ ap (λ (x : Reading (Option Text)). x >>= (λ attr. g.term_arguments_at whole id attr.0 (skip_blank attr.1))) j
+    ∙ ap (g.term_arguments_at whole id attr) (sym e) ∙ rw p (ap (mapped (λ args. t.term_reference id attr (t.with_arguments args))) h)
+
+pub function_read : (s a u rest id : Text) (args : t.Arguments) → g.identifier_at s ≡ got id a → u ≡ skip_blank a → begins_with w.open_paren u ≡ true →
+    whole.arguments [] (skip_blank (drop 1 u)) ≡ got args rest → list_all w.is_callee_byte id ≡ true → g.named_at whole s ≡ got (t.function_reference id args) rest
+unfolding g.named_at g.called_at g.function_of
+function_read s a u rest id args i e p h k =
+    ap (λ (x : Reading Text). x >>= (λ id. g.called_at whole id.0 (skip_blank id.1))) i
+    ∙ ap (g.called_at whole id) (sym e) ∙ rw p (ap (λ (x : Reading t.Arguments). x >>= (λ args. g.function_of whole id args.0 args.1)) h ∙ rw k refl)

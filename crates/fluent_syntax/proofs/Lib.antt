@@ -17,3 +17,4 @@ mod Laid
 mod Braces
 pub mod Cycle
 pub mod Values
+pub mod Runs

@@ -378,10 +378,14 @@ last_byte (c ∷ d ∷ ds) h =
     let e : length (c ∷ d ∷ ds) - 1 ≡ suc (length (d ∷ ds) - 1) = omega arith in
     rw e (last_byte (d ∷ ds) (omega arith))
 
-no_line_by : (b z : Bool) → b ≡ z → z ≡ false → not b ≡ false → ⊥
-no_line_by true z e f h = absurd cc
-no_line_by false z e f h = absurd cc
+pub some_bytes : {X : Type 0} (s : List X) → (length s == 0) ≡ false → 0 < length s
+some_bytes [] h = absurd cc
+some_bytes (c ∷ cs) h = omega arith
 
-pub no_line : (s : Text) (b : Bool) → b ≡ (length s == 0) → not b ≡ false → not b ≡ ends_line s
-no_line [] b e h = h
-no_line (c ∷ cs) b e h = absurd (no_line_by b (length (c ∷ cs) == 0) e (test_ne (length (c ∷ cs)) 0 (λ x. absurd (omega (arith, x)))) h)
+pub no_line : (s : Text) (b : Bool) → b ≡ (length s == 0) → b ≡ true → not b ≡ ends_line s
+no_line [] b e h = ap not h
+no_line (c ∷ cs) b e h = absurd (some_not b (length (c ∷ cs) == 0) e h (test_ne (length (c ∷ cs)) 0 (λ x. absurd (omega (arith, x)))))
+  where
+    some_not : (b z : Bool) → b ≡ z → b ≡ true → z ≡ false → ⊥
+    some_not true z e h f = absurd cc
+    some_not false z e h f = absurd cc

@@ -8,7 +8,7 @@ use crate::parser::pieces::{Piece, pattern_of};
 use crate::parser::words;
 use crate::parser::{ErrorKind, Texts};
 
-ghost use Rattle.std.specs.Prelude.{◌≡◌, ◌≤◌, ◌<◌, ◌||◌, IfOk, IfSome, OnOk, Some, true, false, length, drop, map, option_map};
+ghost use Rattle.std.specs.Prelude.{◌≡◌, ◌≤◌, ◌<◌, ◌||◌, IfOk, IfSome, Some, true, false, length, drop, map, option_map};
 ghost use Rattle.fluent_syntax.specs.Words as w;
 ghost use Rattle.fluent_syntax.specs.Lines.{in_line, pattern_ends};
 
@@ -108,7 +108,7 @@ impl<'p, S: Drop, T: Texts<S>> Parser<'p, S, T> {
         requires indent { indent ≡ indent_at at_line_start self.old.rest.now }
         requires some { IsTextStart (drop indent self.old.rest.now) }
         ensures gives { Gives (option_map (step_view S T.text)) self.new.rest.now result (text_step at_line_start indent (drop indent self.old.rest.now)) }
-        ensures less { OnOk result (length self.new.rest.now < length self.old.rest.now) }
+        ensures less { IfOk result (λ found. IfSome found (λ p. length self.new.rest.now < length self.old.rest.now)) }
         ensures right { IfOk result (λ found. IfSome found (λ p. IsPiece S T.text p.0)) }
         ensures source { self.new.source.now ≡ self.old.source.now }
         ensures text { self.new.text.now ≡ self.old.text.now }
