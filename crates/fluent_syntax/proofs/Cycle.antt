@@ -318,3 +318,20 @@ unfolding g.named_at g.called_at g.function_of
 function_read s a u rest id args i e p h k =
     ap (λ (x : Reading Text). x >>= (λ id. g.called_at whole id.0 (skip_blank id.1))) i
     ∙ ap (g.called_at whole id) (sym e) ∙ rw p (ap (λ (x : Reading t.Arguments). x >>= (λ args. g.function_of whole id args.0 args.1)) h ∙ rw k refl)
+
+-- what is got of one more read
+pub pushed : {X Y : Type 0} (f : X → Y) (xs ys : List X) (x : X) → ys ≡ xs ++ x ∷ [] → map f ys ≡ map f xs ++ f x ∷ []
+pushed f xs ys x e = ap (map f) e ∙ map-append f xs (x ∷ [])
+
+pub arguments_same : (ps qs : List t.Inline) (ns ms : List Named) (s : Text) (x : Reading t.Arguments) → qs ≡ ps → ms ≡ ns → mapped (arguments_behind ps ns) (whole.arguments (names_of ns) s) ≡ x → mapped (arguments_behind qs ms) (whole.arguments (names_of ms) s) ≡ x
+arguments_same ps qs ns ms s x e f h = rw (e, f) h
+
+pub variants_same : (vs us : List Variant) (m : Bool) (s : Text) (x : Reading t.Variants) → us ≡ vs → mapped (variants_behind vs) (whole.variants m s) ≡ x → mapped (variants_behind us) (whole.variants m s) ≡ x
+variants_same vs us m s x e h = rw e h
+
+pub pieces_same : (ps qs : List Piece) (b : Bool) (s : Text) (x : Reading (List Piece)) → qs ≡ ps → mapped (λ more. ps ++ more) (pieces_by b s) ≡ x → mapped (λ more. qs ++ more) (pieces_by b s) ≡ x
+pieces_same ps qs b s x e h = rw e h
+
+pub on_ok_always : {A B P : Type 0} (r : Result A B) → P → OnOk r P
+on_ok_always (Ok x) p = p
+on_ok_always (Err x) p = tt

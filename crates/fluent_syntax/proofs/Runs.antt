@@ -2,7 +2,10 @@
 use Rattle.std.proofs.Common.{◌≡◌, ℕ, zero, suc, ◌+◌, ◌-◌, ◌<◌, ◌≤◌, Bool, true, false, cond, ◌&&◌, List, [], ◌∷◌, ◌++◌, length, take, drop, replicate, refl, sym, ap, ◌∙◌, arith, subst, add-one, Option, Some, None}
 use Rattle.std.specs.Prelude.{◌==◌}
 use Rattle.std.specs.Bool.{then_some}
-use Rattle.std.specs.List.{prefix_len}
+use Rattle.std.specs.Prelude.{IfSome}
+use Rattle.std.specs.List.{prefix_len, All}
+use Rattle.std.proofs.lemmas.List.Elements.{All-cons, All-nil}
+use Rattle.fluent_syntax.specs.declared.parser.pieces.Piece.{Piece as PieceOf}
 use Rattle.std.proofs.lemmas.List.{drop-drop, length-drop, length-append, length-replicate}
 use Rattle.std.proofs.Math.Seq.{take-add}
 use Rattle.fluent_grammar.specs.Words as w
@@ -64,6 +67,14 @@ module _ (S : Type 0) (text_of : S → Text) where
       let l : length (text_of x) ≡ length (replicate n space ++ take k (drop n s)) = ap length i in
       rw h (i ∙ ap (λ (z : Text). replicate n space ++ z) (sym b), omega (arith, l, length-append (replicate n space) (take k (drop n s)), length-replicate n space))
   piece_right s x false n k o e f h = rw h tt
+
+-- a piece that was taken
+module _ (S : Type 0) (text_of : S → Text) where
+  pub one_right : (o : Option (PieceOf S × Bool)) (p : PieceOf S) (b : Bool) → o ≡ Some (p, b) → IfSome o (λ q. IsPiece S text_of q.0) → All (IsPiece S text_of) (p ∷ [])
+  one_right None p b e h = absurd cc
+  one_right (Some q) p b e h =
+      let r : IsPiece S text_of p = subst (λ (o : Option (PieceOf S × Bool)). IfSome o (λ q. IsPiece S text_of q.0)) e h in
+      All-cons (IsPiece S text_of) p [] r (All-nil (IsPiece S text_of))
 
 pub text_read : (s u rest : Text) (line : Bool) (n k : ℕ) (p : Piece) (b : Bool) → u ≡ drop n s → text_run u ≡ got (take k u) (drop k u) → p ≡ text_piece line n (take k (drop n s)) → b ≡ ends_line (take k u) → rest ≡ drop (n + k) s →
     text_step line n (drop n s) ≡ got (Some (p, b)) rest
