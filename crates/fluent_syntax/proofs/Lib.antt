@@ -10,3 +10,5 @@ pub mod Pieces
 pub mod Steps
 pub mod Whole
 pub mod Failing
+pub mod Escapes
+pub mod Unescaped

@@ -6,7 +6,7 @@ mod fault;
 mod helper;
 mod pieces;
 mod slice;
-mod words;
+pub(crate) mod words;
 
 use crate::ast::Resource;
 pub use errors::{ErrorKind, ParserError};
