@@ -1,3 +1,5 @@
+pub mod Escapes
+pub mod Unescaped
 mod Trimmed
 mod Copied
 pub mod Views
@@ -10,5 +12,3 @@ pub mod Pieces
 pub mod Steps
 pub mod Whole
 pub mod Failing
-pub mod Escapes
-pub mod Unescaped
