@@ -1,6 +1,6 @@
 //! The text that the raw text of a string literal stands for.
 
-ghost use Rattle.std.specs.Prelude.{◌≡◌, ◌++◌, ◌↔◌, false, OnOk, OnErr, IfOk, IsOk};
+ghost use Rattle.std.specs.Prelude.{◌≡◌, ◌++◌, ◌↔◌, false, OnOk, OnErr, IfOk, IsOk, string_bytes};
 ghost use Rattle.std.specs.Cow.{cow_str_bytes, IsBorrowedStr};
 ghost use Rattle.fluent_grammar.specs.Escapes.{unescaped};
 ghost use Rattle.fluent_syntax.specs.Unescaped.{TookFront, has_backslash};
@@ -52,6 +52,35 @@ mod tests {
     use super::*;
     use std::process::Abort;
     use std::test::Fail;
+
+    /// A writer with room for so many pieces.
+    #[derive(Drop)]
+    struct Limited {
+        taken: String,
+        room: usize,
+    }
+
+    impl TextWrite for Limited {
+        ghost text = { λ s. string_bytes s.taken };
+
+        fn write_str(&mut self, piece: &str) -> fmt::Result {
+            if self.room == 0 {
+                return Err(fmt::Error);
+            }
+            self.taken.push_str(piece)?;
+            self.room -= 1;
+            Ok(())
+        }
+    }
+
+    #[test]
+    fn pieces_before_a_refused_one_stand(rt: HostRuntime) -> Result<(), Fail> {
+        let taken = String::new(rt.alloc());
+        let mut writer = Limited { taken, room: 3 };
+        assert!(rt; unescape_unicode(&mut writer, "a\\\\b\\u0063").is_err());
+        assert_eq!(rt; writer.taken.as_str(), "a\\b");
+        Ok(())
+    }
 
     /// What both calls give for a text, which they agree on.
     fn unescaped(rt: &impl Abort, alloc: Global, text: &str) -> Result<String, Fail> {
