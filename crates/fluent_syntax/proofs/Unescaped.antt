@@ -6,7 +6,7 @@ use Rattle.std.proofs.Math.Seq.{take-length, drop-length}
 use Rattle.memchr.specs.Find.{Nowhere, Passes, IsFirstByte, is_byte}
 use Rattle.fluent_grammar.specs.Words.{Text, backslash}
 use Rattle.fluent_grammar.specs.Escapes.{unescaped, unescaped_behind, escape_at}
-use Rattle.fluent_syntax.specs.Unescaped.{TookFront, has_backslash}
+use Rattle.fluent_syntax.specs.Unescaped.{TookPrefix, has_backslash}
 
 -- an escape that was read is passed over
 behind_is : (n : ℕ) (s : Text) → unescaped_behind n s ≡ unescaped (drop n s)
@@ -63,27 +63,24 @@ no_backslash (c ∷ cs) none =
     let first : (c == backslash) ≡ false = false_of (c == backslash) (none 0 (omega arith) (omega arith)) in
     rw first (no_backslash cs (λ j l m. none (suc j) (omega arith) (omega arith)))
 
--- a writer that took a front of a whole, of which this is left
+-- a writer that took a prefix of a whole, of which this is left
 pub record Took (held now whole left : Text) : Type 0 where
   pub taken : Text
   pub holds : now ≡ held ++ taken
-  pub front : whole ≡ taken ++ left
-
-pub took_none : (held whole : Text) → Took held held whole whole
-took_none held whole = record { taken = []; holds = sym (append-nil held); front = refl }
+  pub split : whole ≡ taken ++ left
 
 pub took_piece : (held now next whole piece left : Text) → Took held now whole (piece ++ left) → next ≡ now ++ piece → Took held next whole left
 took_piece held now next whole piece left t e = record {
   taken = t.taken ++ piece;
   holds = e ∙ ap (λ z. z ++ piece) t.holds ∙ append_assoc held t.taken piece;
-  front = t.front ∙ sym (append_assoc t.taken piece left);
+  split = t.split ∙ sym (append_assoc t.taken piece left);
 }
 
-pub took_front : (held now next whole left : Text) → Took held now whole left → next ≡ now → TookFront held next whole
-took_front held now next whole left t e = record { taken = t.taken; left = left; holds = e ∙ t.holds; front = t.front }
+pub took_prefix : (held now next whole left : Text) → Took held now whole left → next ≡ now → TookPrefix held next whole
+took_prefix held now next whole left t e = record { taken = t.taken; left = left; holds = e ∙ t.holds; split = t.split }
 
 pub took_all : (held now next whole left : Text) → Took held now whole left → next ≡ now ++ left → next ≡ held ++ whole
-took_all held now next whole left t e = e ∙ ap (λ z. z ++ left) t.holds ∙ append_assoc held t.taken left ∙ ap (λ z. held ++ z) (sym t.front)
+took_all held now next whole left t e = e ∙ ap (λ z. z ++ left) t.holds ∙ append_assoc held t.taken left ∙ ap (λ z. held ++ z) (sym t.split)
 
 -- behind the text before a backslash
 pub took_plain : (held now next whole s plain : Text) (k : ℕ) → IsFirstByte (is_byte backslash) s (Some k) → Took held now whole (unescaped s) → plain ≡ take k s → next ≡ now ++ plain

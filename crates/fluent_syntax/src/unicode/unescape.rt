@@ -3,7 +3,7 @@
 ghost use Rattle.std.specs.Prelude.{◌≡◌, ◌++◌, ◌↔◌, false, OnOk, OnErr, IfOk, IsOk, string_bytes};
 ghost use Rattle.std.specs.Cow.{cow_str_bytes, IsBorrowedStr};
 ghost use Rattle.fluent_grammar.specs.Escapes.{unescaped};
-ghost use Rattle.fluent_syntax.specs.Unescaped.{TookFront, has_backslash};
+ghost use Rattle.fluent_syntax.specs.Unescaped.{TookPrefix, has_backslash};
 
 use super::escape::escape_at;
 use super::write::TextWrite;
@@ -17,7 +17,7 @@ use std::fmt;
 /// The escapes are those of production `StringLiteral`; `\u` takes four hex digits and `\U` six.
 pub fn unescape_unicode<W: TextWrite>(w: &mut W, text: &str) -> fmt::Result
     ensures taken { OnOk result (W.text w.new ≡ W.text w.old ++ unescaped text.now) }
-    ensures refused { OnErr result (TookFront (W.text w.old) (W.text w.new) (unescaped text.now)) }
+    ensures refused { OnErr result (TookPrefix (W.text w.old) (W.text w.new) (unescaped text.now)) }
 {
     let mut rest = text;
     while let Some(place) = memchr(b'\\', rest.as_bytes()) {

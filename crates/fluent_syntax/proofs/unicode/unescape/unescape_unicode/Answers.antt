@@ -4,7 +4,7 @@ use Rattle.std.proofs.lemmas.Grind.{common_steps}
 use Rattle.memchr.specs.Find.{IsFirstByte, is_byte}
 use Rattle.fluent_grammar.specs.Escapes.{unescaped, escape_at}
 use Rattle.fluent_syntax.proofs.Scanned.{test_of}
-use Rattle.fluent_syntax.proofs.Unescaped.{Took, took_plain, took_character, took_front, took_all, no_escape, on_err, on_ok}
+use Rattle.fluent_syntax.proofs.Unescaped.{Took, took_plain, took_character, took_prefix, took_all, no_escape, on_err, on_ok}
 use Rattle.fluent_syntax.proofs.unicode.unescape.unescape_unicode.Goals as goal
 
 pub range_from-escaped-requires : goal.range_from-escaped-requires
@@ -22,7 +22,7 @@ returns-in_err-write_str-2-clause-refused g c =
     let whole = unescaped c.args.text.now in
     let front : c.range.result.now ≡ take c.in-Some.place s = grind (arith, common_steps, c.range.ensures.value) in
     let plain = took_plain (text c.args.w.now) (text c.loop-place.w) (text c.write_str.new.self) whole s c.range.result.now c.in-Some.place found c.loop-place.invariant.1 front c.in_ok-write_str.ensures.taken in
-    on_err _ _ (took_front (text c.args.w.now) (text c.write_str.new.self) (text c.write_str-in-Some.new.self) whole _ plain c.in_err-write_str-2.ensures.refused)
+    on_err _ _ (took_prefix (text c.args.w.now) (text c.write_str.new.self) (text c.write_str-in-Some.new.self) whole _ plain c.in_err-write_str-2.ensures.refused)
 
 pub loop-place-preserved : goal.loop-place-preserved
 loop-place-preserved g c =
