@@ -1,3 +1,5 @@
+pub mod Escapes
+pub mod Unescaped
 mod Trimmed
 mod Copied
 pub mod Views

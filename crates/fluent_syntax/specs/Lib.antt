@@ -11,6 +11,7 @@ pub mod View
 pub mod Counted
 pub mod ErrorView
 pub mod Reads
+pub mod Unescaped
 pub mod Steps
 pub mod Pieces
 pub mod Arguments

@@ -7,7 +7,7 @@ mod helper;
 mod pattern;
 mod pieces;
 mod slice;
-mod words;
+pub(crate) mod words;
 
 use crate::ast::Resource;
 pub use errors::{ErrorKind, ParserError};
