@@ -44,6 +44,6 @@ string_missing s rest behind start stop e h t b f g =
     let n : stop - start ≡ prefix_len is_hex_digit (drop start s) = omega arith in
     let m = missing_is {A = Text} (drop start s) (stop - start) n in
     tells_fails e behind (drop (stop - start) (drop start s)) _ (string_content s) (f ∙ m) (b ∙ ap (λ (z : Text). drop (stop - start) z) h)
-      (subst (λ (z : Text). Tells e (r.invalid_unicode_escape_sequence (take (stop - start) z ++ first_char (drop (stop - start) z)))) h t)
+    (subst (λ (z : Text). Tells e (r.invalid_unicode_escape_sequence (take (stop - start) z ++ first_char (drop (stop - start) z)))) h t)
 
 pub ruleset handed = (fails_bind, fails_mapped, fails_same, tells_fails)

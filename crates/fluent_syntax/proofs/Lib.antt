@@ -7,3 +7,5 @@ pub mod Strings
 pub mod Chars
 pub mod Whole
 pub mod Failing
+pub mod Comments
+pub mod Entries

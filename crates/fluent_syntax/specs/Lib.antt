@@ -10,3 +10,7 @@ pub mod View
 pub mod Counted
 pub mod ErrorView
 pub mod Reads
+pub mod Entries
+pub mod Heads
+pub mod Places
+pub mod Parts

@@ -1,17 +1,16 @@
 //! Expressions.
 #![tactic(auto, using(crate::proofs::Failing::handed))]
 
-use crate::ast::{Identifier, InlineExpression, NamedArgument, VariantKey};
-use crate::parser::fault::Fault;
-use crate::parser::helper::Parser;
-use crate::parser::words;
-use crate::parser::{ErrorKind, Texts};
-
 ghost use Rattle.std.specs.Prelude.{◌≡◌, ◌≤◌, ◌||◌, true, length, drop, map, option_map, if◌then◌else◌, is_some, string_bytes};
 ghost use Rattle.std.specs.List.{list_all};
 ghost use Rattle.fluent_syntax.specs.Words as w;
 ghost use Rattle.fluent_syntax.specs.Refusal as r;
 ghost use Rattle.fluent_syntax.specs.Reading.{is_term_attribute, selector_fault};
+
+use crate::ast::{Identifier, InlineExpression, NamedArgument, VariantKey};
+use crate::parser::fault::Fault;
+use crate::parser::helper::Parser;
+use crate::parser::{ErrorKind, Texts, words};
 
 impl<'p, S: Drop, T: Texts<S>> Parser<'p, S, T> {
     ghost use Rattle.fluent_syntax.specs.Reads.{Gives, string_or_number_at, key_in_brackets_at, argument_value_at};
@@ -116,9 +115,15 @@ impl<'p, S: Drop, T: Texts<S>> Parser<'p, S, T> {
 /// Why an expression can't be a selector.
 fn selector_fault<S>(selector: &InlineExpression<S>) -> Option<ErrorKind> {
     match selector {
-        InlineExpression::MessageReference { attribute: None, .. } => Some(ErrorKind::MessageReferenceAsSelector),
+        InlineExpression::MessageReference {
+            attribute: None,
+            ..
+        } => Some(ErrorKind::MessageReferenceAsSelector),
         InlineExpression::MessageReference { .. } => Some(ErrorKind::MessageAttributeAsSelector),
-        InlineExpression::TermReference { attribute: None, .. } => Some(ErrorKind::TermReferenceAsSelector),
+        InlineExpression::TermReference {
+            attribute: None,
+            ..
+        } => Some(ErrorKind::TermReferenceAsSelector),
         InlineExpression::Placeable { .. } => Some(ErrorKind::ExpectedSimpleExpressionAsSelector),
         _ => None,
     }

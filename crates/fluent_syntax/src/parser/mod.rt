@@ -1,9 +1,14 @@
 //! Reading a source into its tree.
 
+mod comment;
+mod entry;
 pub mod errors;
 mod expression;
 mod fault;
 mod helper;
+mod part;
+mod pattern;
+mod recovery;
 mod slice;
 mod words;
 

@@ -1,0 +1,2 @@
+-- The steps of reading an entry.
+use Rattle.std.proofs.Common.{◌≡◌}
