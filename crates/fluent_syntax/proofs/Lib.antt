@@ -9,3 +9,4 @@ pub mod Whole
 pub mod Failing
 pub mod Comments
 pub mod Entries
+pub mod Recovery
