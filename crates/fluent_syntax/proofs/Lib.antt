@@ -10,3 +10,4 @@ pub mod Failing
 pub mod Comments
 pub mod Entries
 pub mod Recovery
+pub mod Parts

@@ -6,7 +6,7 @@ use Rattle.fluent_grammar.specs.Tree as t
 use Rattle.fluent_grammar.specs.Reading.{entry_at}
 use Rattle.fluent_grammar.specs.Tiling.{Piece, entry, junk, error_of, behind_junk}
 use Rattle.fluent_syntax.specs.View.{entry_view}
-use Rattle.fluent_syntax.specs.ErrorView.{error_view, error_told}
+use Rattle.fluent_syntax.specs.ErrorView.{ErrorView, error_view, error_told}
 use Rattle.fluent_syntax.specs.declared.parser.part.Part.{Part}
 use Rattle.fluent_syntax.specs.declared.parser.part.Part.TheVariants as of
 
@@ -20,9 +20,17 @@ abbrev pub behind_piece : Text → Reading t.Entry → Text
 behind_piece s (got e rest) = rest
 behind_piece s (refused fault) = behind_junk s fault.at
 
+-- a piece is junk with this error
+abbrev pub IsJunk : Text → ErrorView → Piece → Type 0
+IsJunk content told (entry apart x) = ⊥
+IsJunk content told (junk s error) = (content ≡ s) × (told ≡ error_told error)
+
+-- a piece is this entry
+abbrev pub IsEntry : t.Entry → Piece → Type 0
+IsEntry e (entry apart x) = e ≡ x
+IsEntry e (junk s error) = ⊥
+
 -- a part shows a piece
 abbrev pub Shows : (S : Type 0) → (S → Text) → Part S → Piece → Type 0
-Shows S text_of (of.Part.Entry e) (entry apart x) = entry_view S text_of e ≡ x
-Shows S text_of (of.Part.Entry e) (junk s error) = ⊥
-Shows S text_of (of.Part.Junk content told) (entry apart x) = ⊥
-Shows S text_of (of.Part.Junk content told) (junk s error) = (text_of content ≡ s) × (error_view told ≡ error_told error)
+Shows S text_of (of.Entry e) p = IsEntry (entry_view S text_of e) p
+Shows S text_of (of.Junk content told) p = IsJunk (text_of content) (error_view told) p
