@@ -61,7 +61,7 @@ char_cuts (c ∷ cs) e =
     let n = encoded_len c (encodes cs) in
     rw n (record {
       within = omega (arith, length-append (encode c) (encodes cs));
-      boundary = λ u. IsCharBoundary-at_seam (encode c ++ encodes cs) (encode c) (encodes cs) refl (utf8_tail c cs e)
+      boundary = λ u. IsCharBoundary-at_seam (encode c ++ encodes cs) (encode c) (encodes cs) refl (utf8_tail c cs e);
     })
 
 -- a text may be cut behind its first character

@@ -46,7 +46,7 @@ string_missing s rest behind start stop e h t b f g =
     let n : stop - start ≡ prefix_len is_hex_digit (drop start s) = omega arith in
     let m = missing_is {A = Text} (drop start s) (stop - start) n in
     tells_fails e behind (drop (stop - start) (drop start s)) _ (string_content s) (f ∙ m) (b ∙ ap (λ (z : Text). drop (stop - start) z) h)
-      (subst (λ (z : Text). Tells e (r.invalid_unicode_escape_sequence (take (stop - start) z ++ first_char (drop (stop - start) z)))) h t)
+    (subst (λ (z : Text). Tells e (r.invalid_unicode_escape_sequence (take (stop - start) z ++ first_char (drop (stop - start) z)))) h t)
 
 -- a refusal that `?` hands on
 pub handed_on : {X Y : Type 0} (view : X → Y) (rest : Text) (result : Result X Fault) (e : Fault) (read : Reading Y) → IsErrAnd result (λ y. y ≡ e) → Fails e rest read → Gives view rest result read

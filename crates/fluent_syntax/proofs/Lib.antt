@@ -20,3 +20,7 @@ mod Braces
 pub mod Cycle
 pub mod Values
 pub mod Runs
+pub mod Comments
+pub mod Entries
+pub mod Recovery
+pub mod Parts

@@ -23,9 +23,9 @@ use Rattle.fluent_syntax.proofs.Counted.{cut_by_ascii, cut_before_ascii, cut_end
 -- behind one cut another
 pub cut_more : (text : Text) (a b n : ℕ) → n ≡ a + b → Cuts text a → Cuts (drop a text) b → Cuts text n
 cut_more text a b n e p q = rw e (record {
-    within = omega (arith, p.within, q.within, length-drop a text);
-    boundary = λ u. IsCharBoundary-from_rest text a b p.within (q.boundary (IsUtf8-drop text a u (p.boundary u)))
-  })
+  within = omega (arith, p.within, q.within, length-drop a text);
+  boundary = λ u. IsCharBoundary-from_rest text a b p.within (q.boundary (IsUtf8-drop text a u (p.boundary u)));
+})
 
 chosen_either : {A : Type 0} (p q : Bool) (x y : A) → (p || q) ≡ true → x ≡ cond p x (cond q x y)
 chosen_either true q x y h = refl
@@ -328,10 +328,10 @@ nowhere_ne b text k f j h = λ e. f j (omega arith) h (test_eq _ b e)
 
 pub nowhere_plain : (text : Text) (k : ℕ) → Nowhere (Passes (is_byte3 123 125 10) text) 0 k → Plain text k
 nowhere_plain text k f = record {
-    brace = λ j h e. f j (omega arith) h (grind (arith, nat_tests));
-    close = λ j h e. f j (omega arith) h (grind (arith, nat_tests));
-    line = λ j h e. f j (omega arith) h (grind (arith, nat_tests));
-  }
+  brace = λ j h e. f j (omega arith) h (grind (arith, nat_tests));
+  close = λ j h e. f j (omega arith) h (grind (arith, nat_tests));
+  line = λ j h e. f j (omega arith) h (grind (arith, nat_tests));
+}
 
 pub line_is : (text : Text) (k : ℕ) → k < length text → get_or text k 0 ≡ 10 → Nowhere (Passes (is_byte 10) text) 0 k → (0 < k → get_or text (k - 1) 0 ≢ 13) → IsLine text k
 line_is text k h e f g =

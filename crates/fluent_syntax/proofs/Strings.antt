@@ -124,9 +124,11 @@ pub ends_in_quote : (s : Text) (end : ℕ) → end ≤ length s → string_conte
     → (string_content s ≡ got (take end s) (drop (suc end) s)) × (w.begins_with w.quote (drop end s) ≡ true) × Cuts s end
 ends_in_quote s end h e q =
     let b = begins_at s end w.quote h q in
-    let n : end + 1 ≡ suc end = omega arith in
-    (e ∙ ap (before (take end s)) (content_quote (drop end s) q) ∙ ap (λ (z : Text). got z (drop 1 (drop end s))) (append-nil (take end s)) ∙ ap (got (take end s)) (drop-drop 1 end s ∙ ap (λ (k : ℕ). drop k s) n),
-      q, cut_before_ascii s end b.0 (rw b.1 (omega arith)))
+    let n : end + 1 ≡ suc end = omega arith in (
+      e ∙ ap (before (take end s)) (content_quote (drop end s) q) ∙ ap (λ (z : Text). got z (drop 1 (drop end s))) (append-nil (take end s)) ∙ ap (got (take end s)) (drop-drop 1 end s ∙ ap (λ (k : ℕ). drop k s) n),
+      q,
+      cut_before_ascii s end b.0 (rw b.1 (omega arith)),
+    )
 
 pub ends_in_line_feed : (s : Text) (end : ℕ) → end ≤ length s → string_content s ≡ before (take end s) (string_content (drop end s)) → w.begins_with w.line_feed (drop end s) ≡ true
     → (string_content s ≡ refuse r.unterminated_string_literal (drop end s)) × Cuts s end
@@ -145,9 +147,11 @@ pub ends_in_escape : (s : Text) (end : ℕ) → end ≤ length s → string_cont
     → (string_content s ≡ refuse (r.unknown_escape_sequence (character_or_space (drop (suc end) s))) (drop end s)) × (w.begins_with w.backslash (drop end s) ≡ true) × Cuts s end
 ends_in_escape s end h e q =
     let b = begins_at s end w.backslash h q.0 in
-    let n : end + 1 ≡ suc end = omega arith in
-    (e ∙ ap (before (take end s)) q.1 ∙ ap (λ (z : Text). refuse (r.unknown_escape_sequence (character_or_space z)) (drop end s)) (drop-drop 1 end s ∙ ap (λ (k : ℕ). drop k s) n),
-      q.0, cut_before_ascii s end b.0 (rw b.1 (omega arith)))
+    let n : end + 1 ≡ suc end = omega arith in (
+      e ∙ ap (before (take end s)) q.1 ∙ ap (λ (z : Text). refuse (r.unknown_escape_sequence (character_or_space z)) (drop end s)) (drop-drop 1 end s ∙ ap (λ (k : ℕ). drop k s) n),
+      q.0,
+      cut_before_ascii s end b.0 (rw b.1 (omega arith)),
+    )
 
 before_missing : (a s : Text) → before a (missing_hex s) ≡ missing_hex s
 unfolding missing_hex
@@ -157,7 +161,8 @@ pub ends_in_hex : (s : Text) (end count : ℕ) → end ≤ length s → string_c
     → (string_content s ≡ missing_hex (drop (end + 2) s)) × (end + 2 + prefix_len w.is_hex_digit (drop (end + 2) s) ≡ end + 2 + count) × Cuts s (end + 2)
 ends_in_hex s end count h e q =
     let l : end + 2 ≤ length s = omega (arith, q.1, length-drop end s) in
-    let n : end + 2 - 1 ≡ end + 1 = omega arith in
-    (e ∙ ap (before (take end s)) q.3 ∙ before_missing (take end s) (drop 2 (drop end s)) ∙ ap (λ (z : Text). missing_hex {A = Text} z) (drop-drop 2 end s),
+    let n : end + 2 - 1 ≡ end + 1 = omega arith in (
+      e ∙ ap (before (take end s)) q.3 ∙ before_missing (take end s) (drop 2 (drop end s)) ∙ ap (λ (z : Text). missing_hex {A = Text} z) (drop-drop 2 end s),
       ap (λ (k : ℕ). end + 2 + k) (ap (λ (z : Text). prefix_len w.is_hex_digit z) (sym (drop-drop 2 end s)) ∙ sym q.4),
-      cut_by_ascii s (end + 2) l (λ _. rw n (rw (get_or-drop end s 1 0) at q.2)))
+      cut_by_ascii s (end + 2) l (λ _. rw n (rw (get_or-drop end s 1 0) at q.2)),
+    )

@@ -11,12 +11,12 @@ use Rattle.fluent_syntax.specs.Reads.{whole}
 agree : (n : ℕ) (w : Text) → length w < n → Agree w (readers n) whole
 unfolding whole
 agree n w h = record {
-    inline = λ {s} e. let l = end-le e in record { same = (levels_are_enough n (suc (length s)) s (omega (arith, l)) (omega arith)).inline };
-    arguments = λ names {s} e. let l = end-le e in record { same = (levels_are_enough n (suc (length s)) s (omega (arith, l)) (omega arith)).arguments names };
-    variants = λ marked {s} e. let l = end-le e in record { same = (levels_are_enough n (suc (length s)) s (omega (arith, l)) (omega arith)).variants marked };
-    line = λ {s} e. let l = end-le e in record { same = (levels_are_enough n (suc (length s)) s (omega (arith, l)) (omega arith)).line };
-    pieces = λ {s} e. let l = end-le e in record { same = (levels_are_enough n (suc (length s)) s (omega (arith, l)) (omega arith)).pieces };
-  }
+  inline = λ {s} e. let l = end-le e in record { same = (levels_are_enough n (suc (length s)) s (omega (arith, l)) (omega arith)).inline };
+  arguments = λ names {s} e. let l = end-le e in record { same = (levels_are_enough n (suc (length s)) s (omega (arith, l)) (omega arith)).arguments names };
+  variants = λ marked {s} e. let l = end-le e in record { same = (levels_are_enough n (suc (length s)) s (omega (arith, l)) (omega arith)).variants marked };
+  line = λ {s} e. let l = end-le e in record { same = (levels_are_enough n (suc (length s)) s (omega (arith, l)) (omega arith)).line };
+  pieces = λ {s} e. let l = end-le e in record { same = (levels_are_enough n (suc (length s)) s (omega (arith, l)) (omega arith)).pieces };
+}
 
 pub whole-inline : (s : Text) → whole.inline s ≡ g.inline_at whole s
 unfolding whole g.inline_at

@@ -1,13 +1,6 @@
 //! The parser's place in its source, and the words that it reads there.
 #![tactic(auto, using(crate::proofs::Counted::cuts))]
 
-use crate::ast::Identifier;
-use crate::parser::fault::Fault;
-use crate::parser::words;
-use crate::parser::words::StringEnd;
-use crate::parser::{ErrorKind, Texts};
-use std::alloc::{AllocError, Global};
-
 ghost use Rattle.std.specs.Prelude.{◌≡◌, ℕ, ◌+◌, ◌-◌, ◌++◌, ◌<◌, ◌≤◌, ◌&&◌, not, true, ◌==◌, is_some, unwrap_or, if◌then◌else◌, length, drop, take, codes, IfOk, option_map, string_bytes};
 ghost use Rattle.std.specs.List.{prefix_len};
 ghost use Rattle.std.specs.Str.{IsUtf8, IsCharBoundary};
@@ -15,6 +8,12 @@ ghost use Rattle.fluent_syntax.specs.Counted.{Cuts, IsLineEnd, character_or_spac
 ghost use Rattle.fluent_syntax.specs.Words as w;
 ghost use Rattle.fluent_syntax.specs.Refusal as r;
 ghost use Rattle.fluent_syntax.specs.Reading.{first_char};
+
+use crate::ast::Identifier;
+use crate::parser::fault::Fault;
+use crate::parser::words::StringEnd;
+use crate::parser::{ErrorKind, Texts, words};
+use std::alloc::{AllocError, Global};
 
 /// A parser of a source, which stands before `rest`.
 #[derive(Drop)]
@@ -83,6 +82,23 @@ impl<'p, S: Drop, T: Texts<S>> Parser<'p, S, T> {
         self.rest.as_bytes()
     }
 
+    /// What is left to read, to come back to by `set_rest`.
+    pub fn rest(&self) -> &'p str
+        ensures { result.now ≡ self.now.rest.now }
+    {
+        self.rest
+    }
+
+    /// Goes back to what was left to read before.
+    pub fn set_rest(&mut self, rest: &'p str)
+        requires { rest.now ≡ drop (length self.old.text.now - length rest.now) self.old.text.now }
+        ensures rest { self.new.rest.now ≡ rest.now }
+        ensures source { self.new.source.now ≡ self.old.source.now }
+        ensures text { self.new.text.now ≡ self.old.text.now }
+    {
+        self.rest = rest;
+    }
+
     /// The offset in the source.
     pub fn place(&self) -> usize
         ensures value { result ≡ length self.now.text.now - length self.now.rest.now }
@@ -114,7 +130,9 @@ impl<'p, S: Drop, T: Texts<S>> Parser<'p, S, T> {
     {
         let rest = self.bytes();
         let start = self.text.len() - rest.len();
-        let part = self.texts.slice(self.source, self.alloc, start..start + count);
+        let part = self
+            .texts
+            .slice(self.source, self.alloc, start..start + count);
         self.advance(count);
         part
     }

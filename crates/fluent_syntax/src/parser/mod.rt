@@ -1,11 +1,15 @@
 //! Reading a source into its tree.
 
+mod comment;
+mod entry;
 pub mod errors;
 mod expression;
 mod fault;
 mod helper;
+mod part;
 mod pattern;
 mod pieces;
+mod recovery;
 mod slice;
 pub(crate) mod words;
 

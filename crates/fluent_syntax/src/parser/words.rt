@@ -114,16 +114,18 @@ pub fn identifier_len(text: &[u8]) -> usize
     ensures value { result ≡ w.name_len text.now }
     ensures cuts { Cuts text.now result }
 {
-    if begins_with_letter(text) { name_bytes_len(text) } else { 0 }
+    if begins_with_letter(text) {
+        name_bytes_len(text)
+    } else {
+        0
+    }
 }
 
 /// How many bytes of identifiers stand at the front.
 fn name_bytes_len(text: &[u8]) -> usize
     ensures { result ≡ prefix_len w.is_name_byte text.now }
 {
-    text.iter()
-        .take_while(|byte| is_name_byte(**byte))
-        .count()
+    text.iter().take_while(|byte| is_name_byte(**byte)).count()
 }
 
 /// Whether a byte may stand behind the first one of an identifier.
@@ -228,7 +230,11 @@ fn line_feed_end(text: &[u8], end: usize) -> usize
     requires { end < length text.now }
     ensures { result ≡ line_feed_end text.now end }
 {
-    if end > 0 && text[end - 1] == b'\r' { end - 1 } else { end + 1 }
+    if end > 0 && text[end - 1] == b'\r' {
+        end - 1
+    } else {
+        end + 1
+    }
 }
 
 /// How many bytes the line at the front has without its line end.
@@ -239,7 +245,11 @@ pub fn line_len(text: &[u8]) -> usize
     let Some(end) = memchr(b'\n', text) else {
         return text.len();
     };
-    if end > 0 && text[end - 1] == b'\r' { end - 1 } else { end }
+    if end > 0 && text[end - 1] == b'\r' {
+        end - 1
+    } else {
+        end
+    }
 }
 
 /// How many signs of a comment stand at the front, at most three.
@@ -289,7 +299,10 @@ pub fn string_end(text: &[u8]) -> StringEnd
             StringStep::Quote => return StringEnd::Quote(end),
             StringStep::LineFeed => return StringEnd::LineFeed(end),
             StringStep::UnknownEscape => return StringEnd::UnknownEscape(end),
-            StringStep::MissingDigit(count) => return StringEnd::MissingDigit(end + 2, end + 2 + count),
+            StringStep::MissingDigit(count) => return StringEnd::MissingDigit(
+                end + 2,
+                end + 2 + count,
+            ),
         }
     }
     StringEnd::TextEnd(end)
@@ -346,7 +359,11 @@ fn hex_step(digits: &[u8], wanted: usize) -> StringStep
     ensures { IsHexStep wanted (prefix_len w.is_hex_digit digits.now) result }
 {
     let count = hex_digits_len(digits);
-    if count < wanted { StringStep::MissingDigit(count) } else { StringStep::Part(2) }
+    if count < wanted {
+        StringStep::MissingDigit(count)
+    } else {
+        StringStep::Part(2)
+    }
 }
 
 /// How many hex digits stand at the front.

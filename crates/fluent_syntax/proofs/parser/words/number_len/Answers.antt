@@ -36,9 +36,10 @@ returns-then-end-point c =
     let p = rw (take_rest k s) at c.begins_with-2.ensures in
     let f : c.digits_len-2.result ≡ prefix_len w.is_digit (drop (k + 1) s) = rw (take_rest (k + 1) s) at c.digits_len-2.ensures in
     let q : w.begins_with w.dot (drop k s) ≡ true = sym p ∙ c.if-not-begins_with.false in
-    let cut = cut_more s sign c.digits_len.result _ refl (sign_cuts s sign e) (cut_digits _ _ d) in
-    (number_no_fraction s sign c.digits_len.result (k + 1) c.digits_len-2.result e d (omega arith) refl q f (omega arith),
-      cut_more s (k + 1) c.digits_len-2.result _ refl (point_cuts s k cut.within q) (cut_digits _ _ f))
+    let cut = cut_more s sign c.digits_len.result _ refl (sign_cuts s sign e) (cut_digits _ _ d) in (
+      number_no_fraction s sign c.digits_len.result (k + 1) c.digits_len-2.result e d (omega arith) refl q f (omega arith),
+      cut_more s (k + 1) c.digits_len-2.result _ refl (point_cuts s k cut.within q) (cut_digits _ _ f),
+    )
 
 pub returns-else-end-point : goal.returns-else-end-point
 returns-else-end-point c =
