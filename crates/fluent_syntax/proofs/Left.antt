@@ -55,26 +55,26 @@ pub nothing_left_at_runtime : (total : ℕ) (s u : Text) → u ≡ skip_blank_bl
 unfolding runtime_left runtime_pieces_from
 nothing_left_at_runtime total s u e z =
     ap (λ (b : Bool). cond b [] (cond (begins_with number_sign (skip_blank_block s))
-      (runtime_pieces_from (length s) (total - length s + (length s - length (skip_blank_block s)) + (length (skip_blank_block s) - length (rest_of_line (skip_blank_block s)).1)) (rest_of_line (skip_blank_block s)).1)
-      (and_pieces (runtime_pieces_from (length s)) (total - length s + (length s - length (skip_blank_block s))) false (skip_blank_block s) (entry_at (skip_blank_block s))))) (empty (length (skip_blank_block s)) (omega (arith, ap length e)))
+    (runtime_pieces_from (length s) (total - length s + (length s - length (skip_blank_block s)) + (length (skip_blank_block s) - length (rest_of_line (skip_blank_block s)).1)) (rest_of_line (skip_blank_block s)).1)
+    (and_pieces (runtime_pieces_from (length s)) (total - length s + (length s - length (skip_blank_block s))) false (skip_blank_block s) (entry_at (skip_blank_block s))))) (empty (length (skip_blank_block s)) (omega (arith, ap length e)))
 
 runtime_some : (total : ℕ) (s u : Text) → length s ≤ total → u ≡ skip_blank_block s → 0 < length u →
     runtime_left total s ≡ cond (begins_with number_sign u)
-      (runtime_pieces_from (length s) (total - length u + (length u - length (rest_of_line u).1)) (rest_of_line u).1)
-      (and_pieces (runtime_pieces_from (length s)) (total - length u) false u (entry_at u))
+    (runtime_pieces_from (length s) (total - length u + (length u - length (rest_of_line u).1)) (rest_of_line u).1)
+    (and_pieces (runtime_pieces_from (length s)) (total - length u) false u (entry_at u))
 unfolding runtime_left runtime_pieces_from
 runtime_some total s u h e z =
     let le = blank_le s u e in
     let here : total - length s + (length s - length u) ≡ total - length u = omega arith in
     ap (λ (v : Text). cond (length v == 0) [] (cond (begins_with number_sign v)
-      (runtime_pieces_from (length s) (total - length s + (length s - length v) + (length v - length (rest_of_line v).1)) (rest_of_line v).1)
-      (and_pieces (runtime_pieces_from (length s)) (total - length s + (length s - length v)) false v (entry_at v)))) (sym e)
+    (runtime_pieces_from (length s) (total - length s + (length s - length v) + (length v - length (rest_of_line v).1)) (rest_of_line v).1)
+    (and_pieces (runtime_pieces_from (length s)) (total - length s + (length s - length v)) false v (entry_at v)))) (sym e)
     ∙ ap (λ (n : ℕ). cond (length u == 0) [] (cond (begins_with number_sign u)
-      (runtime_pieces_from (length s) (n + (length u - length (rest_of_line u).1)) (rest_of_line u).1)
-      (and_pieces (runtime_pieces_from (length s)) n false u (entry_at u)))) here
+    (runtime_pieces_from (length s) (n + (length u - length (rest_of_line u).1)) (rest_of_line u).1)
+    (and_pieces (runtime_pieces_from (length s)) n false u (entry_at u)))) here
     ∙ ap (λ (b : Bool). cond b [] (cond (begins_with number_sign u)
-      (runtime_pieces_from (length s) (total - length u + (length u - length (rest_of_line u).1)) (rest_of_line u).1)
-      (and_pieces (runtime_pieces_from (length s)) (total - length u) false u (entry_at u)))) (some (length u) z)
+    (runtime_pieces_from (length s) (total - length u + (length u - length (rest_of_line u).1)) (rest_of_line u).1)
+    (and_pieces (runtime_pieces_from (length s)) (total - length u) false u (entry_at u)))) (some (length u) z)
 
 enough_at_runtime : (total : ℕ) (s rest : Text) → length rest < length s → runtime_pieces_from (length s) (total - length rest) rest ≡ runtime_left total rest
 unfolding runtime_left

@@ -1,11 +1,6 @@
 //! What the parts of a source make: its tree and its errors.
 #![tactic(auto)]
 
-use crate::ast::{Comment, Entry, Message, Resource, Term};
-use crate::parser::part::Part;
-use crate::parser::{Error, ParserError};
-use std::alloc::{AllocError, Global};
-
 ghost use Rattle.std.specs.Prelude.{◌≡◌, ◌++◌, ◌∷◌, [], ℕ, List, None, IfOk, map, option_map};
 ghost use Rattle.fluent_syntax.specs.Tree as t;
 ghost use Rattle.fluent_syntax.specs.Tiling.{Piece, entry, entries_of, errors_of, waiting, attached, left_alone};
@@ -13,6 +8,11 @@ ghost use Rattle.fluent_syntax.specs.View.{entry_view, comment_view, message_vie
 ghost use Rattle.fluent_syntax.specs.ErrorView.{error_told};
 ghost use Rattle.fluent_syntax.specs.Parts.{Shows};
 ghost use Rattle.fluent_syntax.specs.Collected.{body_of, held_by, entries_with, errors_with, HasTree, HasErrors};
+
+use crate::ast::{Comment, Entry, Message, Resource, Term};
+use crate::parser::part::Part;
+use crate::parser::{Error, ParserError};
+use std::alloc::{AllocError, Global};
 
 /// The entries and the errors of the parts that were read so far.
 #[derive(Drop)]
@@ -86,7 +86,8 @@ impl<S: Drop> Collected<S> {
         ensures errors { IfOk result (λ u. self.new.errors.items ≡ self.old.errors.items) }
     {
         let comment = self.take_comment(apart)?;
-        self.body.push(Entry::Message(Message { comment, ..message }))?;
+        self.body
+            .push(Entry::Message(Message { comment, ..message }))?;
         Ok(())
     }
 

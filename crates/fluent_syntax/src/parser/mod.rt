@@ -12,7 +12,14 @@ mod pattern;
 mod recovery;
 mod resource;
 mod slice;
+#[cfg(test)]
+mod tests;
 mod words;
+
+ghost use Rattle.std.specs.Prelude.{map};
+ghost use Rattle.fluent_syntax.specs.Tiling.{tree, errors, runtime_tree, runtime_errors};
+ghost use Rattle.fluent_syntax.specs.ErrorView.{error_told};
+ghost use Rattle.fluent_syntax.specs.Collected.{HasTree, HasErrors};
 
 use crate::ast::Resource;
 pub use errors::{ErrorKind, ParserError};
@@ -20,11 +27,6 @@ use helper::Parser;
 pub use slice::Slice;
 pub(crate) use slice::{Slices, Texts};
 use std::alloc::Global;
-
-ghost use Rattle.std.specs.Prelude.{map};
-ghost use Rattle.fluent_syntax.specs.Tiling.{tree, errors, runtime_tree, runtime_errors};
-ghost use Rattle.fluent_syntax.specs.ErrorView.{error_told};
-ghost use Rattle.fluent_syntax.specs.Collected.{HasTree, HasErrors};
 
 /// Why a source isn't read whole.
 #[derive(Debug, PartialEq, Eq, Drop)]

@@ -1,14 +1,13 @@
 //! The parts of a whole source.
 #![tactic(auto)]
 
-use crate::parser::Texts;
-use crate::parser::collected::Collected;
-use crate::parser::helper::Parser;
-use crate::parser::words;
-use std::alloc::AllocError;
-
 ghost use Rattle.std.specs.Prelude.{◌≡◌, ◌-◌, ◌≤◌, [], None, IfOk, length, map};
 ghost use Rattle.fluent_syntax.specs.Words as w;
+
+use crate::parser::collected::Collected;
+use crate::parser::helper::Parser;
+use crate::parser::{Texts, words};
+use std::alloc::AllocError;
 
 impl<'p, S: Drop, T: Texts<S>> Parser<'p, S, T> {
     ghost use Rattle.fluent_syntax.specs.Collected.{entries_with, errors_with};

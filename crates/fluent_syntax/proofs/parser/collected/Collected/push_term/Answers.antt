@@ -13,8 +13,8 @@ returns-clause-entries g c = λ text_of pieces.
     let held = option_map (comment_view g.row.S.Denot text_of) c.args.self.now.comment in
     let read = term_view g.row.S.Denot text_of c.args.term in
     let items : map view c.push.new.self.items ≡ (old ++ left_alone held c.args.apart) ++ t.term (record read { comment = attached held c.args.apart }) ∷ [] =
-      ap (map view) c.in_ok-push.ensures.items ∙ map-append view _ _
-      ∙ ap (λ (l : List t.Entry). l ++ t.term (record read { comment = option_map (comment_view g.row.S.Denot text_of) c.in_ok-comment.comment }) ∷ []) (c.in_ok-comment.ensures.body text_of)
-      ∙ ap (λ (k : Option (List (List ℕ))). (old ++ left_alone held c.args.apart) ++ t.term (record read { comment = k }) ∷ []) (c.in_ok-comment.ensures.taken text_of) in
+    ap (map view) c.in_ok-push.ensures.items ∙ map-append view _ _
+    ∙ ap (λ (l : List t.Entry). l ++ t.term (record read { comment = option_map (comment_view g.row.S.Denot text_of) c.in_ok-comment.comment }) ∷ []) (c.in_ok-comment.ensures.body text_of)
+    ∙ ap (λ (k : Option (List (List ℕ))). (old ++ left_alone held c.args.apart) ++ t.term (record read { comment = k }) ∷ []) (c.in_ok-comment.ensures.taken text_of) in
     ap (λ k. map view c.push.new.self.items ++ entries_of (option_map (comment_view g.row.S.Denot text_of) k) pieces) c.in_ok-comment.ensures.comment
     ∙ put old (left_alone held c.args.apart) (map view c.push.new.self.items) _ (entries_of None pieces) items

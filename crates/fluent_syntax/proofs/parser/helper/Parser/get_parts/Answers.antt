@@ -34,16 +34,16 @@ parts-preserved g c =
     let z : (length u == 0) ≡ false = search rules in
     let less : length rest < length u = c.in_ok-part.ensures.onward in
     let step : pieces_left total s ≡ piece_of (total - length u) apart u (entry_at u) ∷ pieces_left total rest =
-      piece_left total s u rest c.parts.invariant.within c.skip_blank_block-apart.ensures.rest (test_some (length u) z) c.in_ok-part.ensures.rest less
-      ∙ ap (λ (b : Bool). piece_of (total - length u) b u (entry_at u) ∷ pieces_left total rest) (sym c.skip_blank_block-apart.ensures.value) in
+    piece_left total s u rest c.parts.invariant.within c.skip_blank_block-apart.ensures.rest (test_some (length u) z) c.in_ok-part.ensures.rest less
+    ∙ ap (λ (b : Bool). piece_of (total - length u) b u (entry_at u) ∷ pieces_left total rest) (sym c.skip_blank_block-apart.ensures.value) in
     let shows : Shows g.row.S.Denot g.T.Texts.text c.in_ok-part.part apart (piece_of (total - length u) apart u (entry_at u)) =
-      subst (λ (n : ℕ). Shows g.row.S.Denot g.T.Texts.text c.in_ok-part.part apart (piece_of (n - length u) apart u (entry_at u))) (ap length (c.skip_blank_block-apart.ensures.text ∙ c.parts.invariant.text)) (c.in_ok-part.ensures.part apart) in
+    subst (λ (n : ℕ). Shows g.row.S.Denot g.T.Texts.text c.in_ok-part.part apart (piece_of (n - length u) apart u (entry_at u))) (ap length (c.skip_blank_block-apart.ensures.text ∙ c.parts.invariant.text)) (c.in_ok-part.ensures.part apart) in
     record {
       source = c.get_part.ensures.source ∙ c.skip_blank_block-apart.ensures.source ∙ c.parts.invariant.source;
       text = c.get_part.ensures.text ∙ c.skip_blank_block-apart.ensures.text ∙ c.parts.invariant.text;
       within = omega (arith, less, c.skip_blank_block-apart.ensures.onward, c.parts.invariant.within);
       entries = c.in_ok-push.ensures.entries g.T.Texts.text (piece_of (total - length u) apart u (entry_at u)) (pieces_left total rest) shows
-        ∙ ap (λ (ps : List Piece). entries_with g.row.S.Denot g.T.Texts.text c.parts.collected ps) (sym step) ∙ c.parts.invariant.entries;
+          ∙ ap (λ (ps : List Piece). entries_with g.row.S.Denot g.T.Texts.text c.parts.collected ps) (sym step) ∙ c.parts.invariant.entries;
       errors = c.in_ok-push.ensures.errors g.T.Texts.text (piece_of (total - length u) apart u (entry_at u)) (pieces_left total rest) shows
-        ∙ ap (λ (ps : List Piece). errors_with g.row.S.Denot c.parts.collected ps) (sym step) ∙ c.parts.invariant.errors;
+          ∙ ap (λ (ps : List Piece). errors_with g.row.S.Denot c.parts.collected ps) (sym step) ∙ c.parts.invariant.errors;
     }

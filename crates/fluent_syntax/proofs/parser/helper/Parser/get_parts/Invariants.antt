@@ -7,12 +7,12 @@ use Rattle.fluent_syntax.proofs.parser.helper.Parser.get_parts.Given as goal
 
 abbrev pub invariant-parts : goal.invariant-parts
 invariant-parts g l = record {
-    source : l.self.source.now ≡ l.fn.self.source.now;
-    text : l.self.text.now ≡ l.fn.self.text.now;
-    within : length l.self.rest.now ≤ length l.fn.self.text.now;
-    entries : entries_with g.row.S.Denot g.T.Texts.text l.collected (pieces_left (length l.fn.self.text.now) l.self.rest.now) ≡ entries_of None (pieces_left (length l.fn.self.text.now) l.fn.self.rest.now);
-    errors : errors_with g.row.S.Denot l.collected (pieces_left (length l.fn.self.text.now) l.self.rest.now) ≡ map error_told (errors_of (pieces_left (length l.fn.self.text.now) l.fn.self.rest.now));
-  }
+  source : l.self.source.now ≡ l.fn.self.source.now;
+  text : l.self.text.now ≡ l.fn.self.text.now;
+  within : length l.self.rest.now ≤ length l.fn.self.text.now;
+  entries : entries_with g.row.S.Denot g.T.Texts.text l.collected (pieces_left (length l.fn.self.text.now) l.self.rest.now) ≡ entries_of None (pieces_left (length l.fn.self.text.now) l.fn.self.rest.now);
+  errors : errors_with g.row.S.Denot l.collected (pieces_left (length l.fn.self.text.now) l.self.rest.now) ≡ map error_told (errors_of (pieces_left (length l.fn.self.text.now) l.fn.self.rest.now));
+}
 
 abbrev pub decreases-parts : goal.decreases-parts
 decreases-parts g l = length l.self.rest.now

@@ -40,7 +40,7 @@ parts-preserved-then-is_current_byte g c =
     let z : (length u == 0) ≡ false = search rules in
     let less : length rest < length u = line_less u rest (test_some (length u) z) c.skip_line.ensures.rest in
     let step : runtime_left total s ≡ runtime_left total rest =
-      line_passed total s u rest c.parts.invariant.within c.skip_blank_block.ensures.rest (test_some (length u) z) (sym c.is_current_byte.ensures ∙ c.if-is_current_byte.true) c.skip_line.ensures.rest less in
+    line_passed total s u rest c.parts.invariant.within c.skip_blank_block.ensures.rest (test_some (length u) z) (sym c.is_current_byte.ensures ∙ c.if-is_current_byte.true) c.skip_line.ensures.rest less in
     record {
       source = c.skip_line.ensures.source ∙ c.skip_blank_block.ensures.source ∙ c.parts.invariant.source;
       text = c.skip_line.ensures.text ∙ c.skip_blank_block.ensures.text ∙ c.parts.invariant.text;
@@ -58,15 +58,15 @@ parts-preserved g c =
     let z : (length u == 0) ≡ false = search rules in
     let less : length rest < length u = c.in_ok-part.ensures.onward in
     let step : runtime_left total s ≡ piece_of (total - length u) false u (entry_at u) ∷ runtime_left total rest =
-      piece_left_at_runtime total s u rest c.parts.invariant.within c.skip_blank_block.ensures.rest (test_some (length u) z) (sym c.is_current_byte.ensures ∙ c.if-is_current_byte.false) c.in_ok-part.ensures.rest less in
+    piece_left_at_runtime total s u rest c.parts.invariant.within c.skip_blank_block.ensures.rest (test_some (length u) z) (sym c.is_current_byte.ensures ∙ c.if-is_current_byte.false) c.in_ok-part.ensures.rest less in
     let shows : Shows g.row.S.Denot g.T.Texts.text c.in_ok-part.part false (piece_of (total - length u) false u (entry_at u)) =
-      subst (λ (n : ℕ). Shows g.row.S.Denot g.T.Texts.text c.in_ok-part.part false (piece_of (n - length u) false u (entry_at u))) (ap length (c.skip_blank_block.ensures.text ∙ c.parts.invariant.text)) (c.in_ok-part.ensures.part false) in
+    subst (λ (n : ℕ). Shows g.row.S.Denot g.T.Texts.text c.in_ok-part.part false (piece_of (n - length u) false u (entry_at u))) (ap length (c.skip_blank_block.ensures.text ∙ c.parts.invariant.text)) (c.in_ok-part.ensures.part false) in
     record {
       source = c.get_part.ensures.source ∙ c.skip_blank_block.ensures.source ∙ c.parts.invariant.source;
       text = c.get_part.ensures.text ∙ c.skip_blank_block.ensures.text ∙ c.parts.invariant.text;
       within = omega (arith, less, c.skip_blank_block.ensures.onward, c.parts.invariant.within);
       entries = c.in_ok-push.ensures.entries g.T.Texts.text (piece_of (total - length u) false u (entry_at u)) (runtime_left total rest) shows
-        ∙ ap (λ (ps : List Piece). entries_with g.row.S.Denot g.T.Texts.text c.parts.collected ps) (sym step) ∙ c.parts.invariant.entries;
+          ∙ ap (λ (ps : List Piece). entries_with g.row.S.Denot g.T.Texts.text c.parts.collected ps) (sym step) ∙ c.parts.invariant.entries;
       errors = c.in_ok-push.ensures.errors g.T.Texts.text (piece_of (total - length u) false u (entry_at u)) (runtime_left total rest) shows
-        ∙ ap (λ (ps : List Piece). errors_with g.row.S.Denot c.parts.collected ps) (sym step) ∙ c.parts.invariant.errors;
+          ∙ ap (λ (ps : List Piece). errors_with g.row.S.Denot c.parts.collected ps) (sym step) ∙ c.parts.invariant.errors;
     }
