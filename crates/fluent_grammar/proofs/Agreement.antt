@@ -1,13 +1,11 @@
 -- Reading and spelling agree, and so a text begins with at most one node of a kind.
-use Rattle.std.proofs.Common.{◌≡◌, ℕ, zero, suc, ◌<◌, ◌≤◌, Bool, true, false, List, [], ◌∷◌, length, refl, sym, ap, ◌∙◌, arith}
-use Rattle.std.specs.Prelude.{◌↔◌}
-use Rattle.fluent_grammar.specs.Words.{Text, begins, begins_with, is_letter, hyphen, number_sign, open_brace, dot, skip_spaces}
+use Rattle.std.proofs.Common.{◌≡◌, ℕ, ◌≤◌, List, length, sym, ap, ◌∙◌, arith}
+use Rattle.fluent_grammar.specs.Words.{Text}
 use Rattle.fluent_grammar.specs.Refusal.{Reading, got}
 use Rattle.fluent_grammar.specs.Tree as t
-use Rattle.fluent_grammar.specs.Lines.{Piece}
-use Rattle.fluent_grammar.specs.Reading.{readers, inline_at, placeable_at, arguments_at, variants_at, line_at, pieces_at, pattern_at, attribute_at, attributes_at, message_at, term_entry_at, comment_at, entry_at}
-use Rattle.fluent_grammar.specs.Spelling.{SpellsInline, SpellsArguments, SpellsPlaceable, SpellsVariants, SpellsPattern, SpellsPieces, SpellsLine, SpellsAttribute, SpellsAttributes, SpellsEntry}
-use Rattle.fluent_grammar.specs.SpellingLaws.{Agree, AgreeWhere, Unique, NamesAgree, NumbersAgree, StringsAgree, AccessorsAgree, KeysAgree, LiteralsAgree, TextPiecesAgree, ExpressionsAgree, PlaceablesAgree, ArgumentsAgree, VariantsAgree, PatternsAgree, LinesAgree, PiecesAgree, AttributesAgree, RunsOfAttributesAgree, MessagesAgree, TermsAgree, CommentsAgree, EntriesAgree, ExpressionsAreUnique, PlaceablesAreUnique, ArgumentsAreUnique, VariantsAreUnique, PatternsAreUnique, LinesAreUnique, PiecesAreUnique, AttributesAreUnique, RunsOfAttributesAreUnique, EntriesAreUnique}
+use Rattle.fluent_grammar.specs.Reading.{readers, attributes_at}
+use Rattle.fluent_grammar.specs.Spelling.{SpellsAttributes}
+use Rattle.fluent_grammar.specs.SpellingLaws.{NamesAgree, NumbersAgree, StringsAgree, AccessorsAgree, KeysAgree, LiteralsAgree, TextPiecesAgree, ExpressionsAgree, PlaceablesAgree, ArgumentsAgree, VariantsAgree, PatternsAgree, LinesAgree, PiecesAgree, AttributesAgree, RunsOfAttributesAgree, MessagesAgree, TermsAgree, CommentsAgree, EntriesAgree, ExpressionsAreUnique, PlaceablesAreUnique, ArgumentsAreUnique, VariantsAreUnique, PatternsAreUnique, LinesAreUnique, PiecesAreUnique, AttributesAreUnique, RunsOfAttributesAreUnique, EntriesAreUnique}
 use Rattle.fluent_grammar.proofs.Got.{got_node}
 use Rattle.fluent_grammar.proofs.Words.{name_sound, name_complete, number_sound, number_complete, accessor_sound, accessor_complete, key_sound, key_complete, literal_sound, literal_complete}
 use Rattle.fluent_grammar.proofs.Strings.{string_sound, string_complete, text_sound, text_complete}

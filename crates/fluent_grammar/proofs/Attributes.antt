@@ -1,13 +1,13 @@
 -- Heads and attributes: reading gives what is spelled, and what is spelled is read.
 use Rattle.std.proofs.Common.{◌≡◌, ℕ, zero, suc, ◌<◌, ◌≤◌, Bool, true, false, cond, List, [], ◌∷◌, length, drop, refl, sym, ap, ◌∙◌, arith, inl, inr}
-use Rattle.std.specs.Prelude.{◌⊎◌, ◌≢◌}
+use Rattle.std.specs.Prelude.{◌≢◌}
 use Rattle.fluent_grammar.specs.Words.{Text, begins_with, dot, equals, skip_spaces}
 use Rattle.fluent_grammar.specs.Refusal as r
 use Rattle.fluent_grammar.specs.Refusal.{Refusal, Reading, got, refused, refuse, mapped, ◌>>=◌}
 use Rattle.fluent_grammar.specs.Tree as t
 use Rattle.fluent_grammar.specs.Lexical.{SpellsName}
-use Rattle.fluent_grammar.specs.Spelling.{SpellsHead, a_head, SpellsAttribute, an_attribute, SpellsAttributes, no_further, one_more, SpellsPattern}
-use Rattle.fluent_grammar.specs.Reading.{identifier_at, pattern_at, readers, head_at, attribute_of, attribute_at, more_attributes, attributes_at}
+use Rattle.fluent_grammar.specs.Spelling.{SpellsHead, a_head, SpellsAttribute, an_attribute, SpellsAttributes, no_more_attributes, one_more_attribute, SpellsPattern}
+use Rattle.fluent_grammar.specs.Reading.{pattern_at, readers, head_at, attribute_of, attribute_at, more_attributes, attributes_at}
 use Rattle.fluent_grammar.proofs.Got.{bind_got, mapped_got, got_node, which, begins_is}
 use Rattle.fluent_grammar.proofs.Words.{name_sound, name_complete}
 use Rattle.fluent_grammar.proofs.Sound.{pattern_sound, readers_sound}
@@ -27,7 +27,7 @@ value_complete u v value rest e p = rw e (pattern_complete p (suc (length (equal
 
 equals_sound : (s id u : Text) (x : Text × t.Elements) (rest : Text) → SpellsName id s u →
     cond (begins_with equals (skip_spaces u)) (mapped (λ value. (id, value)) (pattern_at (readers (suc (length (skip_spaces u)))) (drop 1 (skip_spaces u))))
-      (refuse (r.expected_token equals) (skip_spaces u)) ≡ got x rest → SpellsHead x.0 x.1 s rest
+    (refuse (r.expected_token equals) (skip_spaces u)) ≡ got x rest → SpellsHead x.0 x.1 s rest
 equals_sound s id u x rest n h =
     elim (which (begins_with equals (skip_spaces u)) _ _ _ h) [
       | inl p ↦ let m = mapped_got _ _ _ _ p.1 in rw (← m.2) (value_sound s id u m.0 rest n p.0 m.1)
@@ -71,7 +71,7 @@ attribute_value_sound s id u a rest d n e h =
 
 attribute_equals_sound : (s id u : Text) (a : t.Attribute) (rest : Text) → begins_with dot (skip_spaces s) ≡ true → SpellsName id (drop 1 (skip_spaces s)) u →
     cond (begins_with equals (skip_spaces u)) (pattern_at (readers (suc (length (skip_spaces u)))) (drop 1 (skip_spaces u)) >>= (λ value. attribute_of id value.0 value.1))
-      (refuse (r.expected_token equals) (skip_spaces u)) ≡ got a rest → SpellsAttribute a s rest
+    (refuse (r.expected_token equals) (skip_spaces u)) ≡ got a rest → SpellsAttribute a s rest
 attribute_equals_sound s id u a rest d n h =
     elim (which (begins_with equals (skip_spaces u)) _ _ _ h) [
       | inl p ↦ attribute_value_sound s id u a rest d n p.0 p.1
@@ -113,19 +113,19 @@ AttributesSound left n = (s : Text) → length s ≤ n → SpellsAttributes (lef
 
 more_sound : (left : Text → List t.Attribute × Text) (n : ℕ) (s : Text) (x : Reading t.Attribute) → attribute_at s ≡ x → length s ≤ suc n → begins_with dot (skip_spaces s) ≡ true →
     AttributesSound left n → SpellsAttributes (more_attributes left s x).0 s (more_attributes left s x).1
-more_sound left n s (refused fault) e le d more = no_further (refused-more s fault e)
+more_sound left n s (refused fault) e le d more = no_more_attributes (refused-more s fault e)
 more_sound left n s (got a rest) e le d more =
     let here : SpellsAttribute a s rest = attribute_sound s a rest d e in
-    one_more here (more rest (omega (arith, attribute-shorter here)))
+    one_more_attribute here (more rest (omega (arith, attribute-shorter here)))
 
 chosen_sound : (left : Text → List t.Attribute × Text) (n : ℕ) (s : Text) (b : Bool) → begins_with dot (skip_spaces s) ≡ b → length s ≤ suc n → AttributesSound left n →
     SpellsAttributes (cond b (more_attributes left s (attribute_at s)) ([], s)).0 s (cond b (more_attributes left s (attribute_at s)) ([], s)).1
 chosen_sound left n s true d le more = more_sound left n s (attribute_at s) refl le d more
-chosen_sound left n s false d le more = no_further (none-more s d)
+chosen_sound left n s false d le more = no_more_attributes (none-more s d)
 
 pub attributes_sound : (n : ℕ) → AttributesSound (attributes_at n) n
 unfolding attributes_at
-attributes_sound zero [] le = no_further (none-more [] refl)
+attributes_sound zero [] le = no_more_attributes (none-more [] refl)
 attributes_sound zero (c ∷ cs) le = absurd (omega arith)
 attributes_sound (suc n) s le = chosen_sound (attributes_at n) n s (begins_with dot (skip_spaces s)) refl le (attributes_sound n)
 
@@ -146,7 +146,7 @@ unfolding attributes_at
 one_complete n s u a others rest d h = rw (attribute-begins d, attribute_complete d, h) refl
 
 pub attributes_complete : {others : List t.Attribute} {s rest : Text} → SpellsAttributes others s rest → (n : ℕ) → length s ≤ n → attributes_at n s ≡ (others, rest)
-attributes_complete (no_further {s} none) n le = none_complete n s none
-attributes_complete (one_more {s} {u} {rest} {a} {others} d more) zero le = absurd (omega (arith, attribute-shorter d))
-attributes_complete (one_more {s} {u} {rest} {a} {others} d more) (suc n) le =
+attributes_complete (no_more_attributes {s} none) n le = none_complete n s none
+attributes_complete (one_more_attribute {s} {u} {rest} {a} {others} d more) zero le = absurd (omega (arith, attribute-shorter d))
+attributes_complete (one_more_attribute {s} {u} {rest} {a} {others} d more) (suc n) le =
     one_complete n s u a others rest d (attributes_complete more n (omega (arith, attribute-shorter d)))

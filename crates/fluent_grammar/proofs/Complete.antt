@@ -1,20 +1,19 @@
 -- What is spelled is read, by every level above the length of the text.
-use Rattle.std.proofs.Common.{◌≡◌, ℕ, zero, suc, ◌+◌, ◌<◌, ◌≤◌, Bool, true, false, cond, not, ◌&&◌, ◌||◌, List, [], ◌∷◌, ◌++◌, length, drop, Option, Some, None, refl, sym, ap, subst, ◌∙◌, arith, inl, inr}
-use Rattle.std.specs.Prelude.{◌⊎◌, ◌==◌, ◌≢◌}
+use Rattle.std.proofs.Common.{◌≡◌, ℕ, zero, suc, ◌<◌, ◌≤◌, Bool, true, false, List, [], ◌∷◌, length, drop, Option, Some, None, refl, ap, ◌∙◌, arith}
+use Rattle.std.specs.Prelude.{◌==◌, ◌≢◌}
 use Rattle.std.specs.List.{list_all}
 use Rattle.std.proofs.lemmas.Bool.Decides.{nat_tests}
-use Rattle.fluent_grammar.specs.Words.{Text, quote, dollar, hyphen, greater, colon, asterisk, open_paren, close_paren, open_bracket, close_bracket, open_brace, close_brace, line_feed, carriage_return, skip_blank, skip_spaces, spaces, skip_blank_block, skip_separator, begins, begins_with, begins_arrow, begins_crlf, after_line_end, is_letter, is_digit, is_callee_byte, is_among}
-use Rattle.fluent_grammar.specs.Refusal.{Kind, Refusal, Reading, got, refused, refuse, mapped, ◌>>=◌}
-use Rattle.fluent_grammar.specs.Refusal as r
+use Rattle.fluent_grammar.specs.Words.{Text, quote, dollar, hyphen, greater, colon, asterisk, open_paren, close_paren, open_bracket, close_bracket, open_brace, close_brace, line_feed, skip_blank, skip_spaces, spaces, skip_blank_block, skip_separator, begins, begins_with, begins_arrow, begins_crlf, after_line_end, is_letter, is_digit, is_callee_byte, is_among}
+use Rattle.fluent_grammar.specs.Refusal.{got, mapped}
 use Rattle.fluent_grammar.specs.Tree as t
 use Rattle.fluent_grammar.specs.Lines.{Piece, at_line_start, in_line, placed, elements_of, ends_line, pattern_ends}
-use Rattle.fluent_grammar.specs.Lexical.{SpellsName, SpellsNumber, unsigned, negative, SpellsString, SpellsAccessor, SpellsKey, SpellsLiteral, SpellsText}
-use Rattle.fluent_grammar.specs.Spelling.{may_stand_alone, may_be_selector, IsPositional, BeginsText, SpellsInline, a_string, a_number, a_variable, a_term, a_message, a_function, a_placeable, SpellsMaybeArguments, no_call, a_call, SpellsArguments, no_more, positional, named, SpellsPlaceable, in_braces, SpellsExpression, an_inline, a_select, SpellsVariants, all_read, lone_mark, a_variant, the_default, SpellsVariant, keyed, SpellsPattern, on_the_line, on_the_next, SpellsPieces, nothing_left, crlf_piece, text_piece, placeable_piece, SpellsLine, only_spaces_left, pattern_over, line_of_text, line_of_placeable, line_of_crlf, SpellsBehindText, next_line, same_line}
-use Rattle.fluent_grammar.specs.Reading.{identifier_at, accessor_at, number_at, literal_at, string_content, text_run, key_at, selector_fault, is_term_attribute, name_of_argument, with_positional, with_named, Readers, step, readers, no_readers, variants_after, select_at, select_or_inline_at, closing_at, placeable_at, term_arguments_at, term_at, function_of, called_at, named_at, inline_at, positional_at, named_value_at, argument_at, arguments_at, after_text_at, placeable_piece_at, text_piece_at, pieces_at, line_at, first_pieces_at, pattern_at, variants_behind, variant_value_at, variant_at, variant_or_end_at, variants_at}
-use Rattle.fluent_grammar.proofs.Got.{begins_is, same}
-use Rattle.fluent_grammar.proofs.Words.{name_complete, number_complete, accessor_complete, key_complete, literal_complete, number-begins, number-no_quote, letter-no_number, unsigned-digit, digit-no_hyphen}
+use Rattle.fluent_grammar.specs.Lexical.{SpellsName, SpellsNumber, unsigned, negative, SpellsAccessor, SpellsKey, SpellsLiteral, SpellsText}
+use Rattle.fluent_grammar.specs.Spelling.{may_stand_alone, may_be_selector, IsPositional, BeginsText, SpellsInline, a_string_literal, a_number_literal, a_variable_reference, a_term_reference, a_message_reference, a_function_reference, a_placeable, SpellsMaybeArguments, no_call, a_call, SpellsArguments, no_more, positional, named, SpellsPlaceable, in_braces, SpellsExpression, an_inline, a_select, SpellsVariants, all_read, lone_mark, a_variant, the_default, SpellsVariant, keyed, SpellsPattern, on_the_line, on_the_next, SpellsPieces, nothing_left, crlf_piece, text_piece, placeable_piece, SpellsLine, only_spaces_left, pattern_over, line_of_text, line_of_placeable, line_of_crlf, SpellsBehindText, next_line, same_line}
+use Rattle.fluent_grammar.specs.Reading.{identifier_at, accessor_at, number_at, string_content, selector_fault, is_term_attribute, name_of_argument, with_positional, with_named, Readers, readers, variants_after, select_at, select_or_inline_at, closing_at, placeable_at, term_arguments_at, term_at, function_of, called_at, named_at, inline_at, positional_at, named_value_at, argument_at, arguments_at, after_text_at, placeable_piece_at, text_piece_at, pieces_at, line_at, first_pieces_at, pattern_at, variants_behind, variant_value_at, variant_at, variant_or_end_at, variants_at}
+use Rattle.fluent_grammar.proofs.Got.{begins_is}
+use Rattle.fluent_grammar.proofs.Words.{name_complete, number_complete, accessor_complete, key_complete, literal_complete, unsigned-digit}
 use Rattle.fluent_grammar.proofs.Strings.{string_complete, text_complete}
-use Rattle.fluent_grammar.proofs.Lengths.{skip_blank-le, skip_spaces-le, skip_blank_block-le, skip_separator-le, crlf-two, line_end-lt, name-shorter, accessor-no_longer, key-shorter, literal-shorter, text-shorter, inline-shorter, placeable-shorter, expression-shorter, variant-shorter, pattern-no_longer}
+use Rattle.fluent_grammar.proofs.Lengths.{skip_blank-le, skip_spaces-le, skip_blank_block-le, skip_separator-le, crlf-two, line_end-lt, name-shorter, accessor-no_longer, key-shorter, literal-shorter, text-shorter, inline-shorter, placeable-shorter, variant-shorter}
 
 -- ---- tests
 
@@ -72,7 +71,6 @@ crlf-begun (c ∷ cs) h = grind arith
 -- ---- each construct, computed
 
 module _ (inside : Readers) where
-
   string-read : (u raw rest : Text) → string_content u ≡ got raw rest → inline_at inside (quote ∷ u) ≡ got (t.string_literal raw) rest
   unfolding inline_at
   string-read u raw rest h = rw h refl
@@ -359,14 +357,14 @@ placeable-begins (in_braces b d c) = rw b refl
 
 mutual
   pub inline_complete : {e : t.Inline} {s rest : Text} → SpellsInline e s rest → InlineRead e s rest
-  inline_complete (a_string {raw} {s} {u} {rest} b d) m le = rw b (string-read (readers m) u raw rest (string_complete d))
-  inline_complete (a_number d) m le = number-read (readers m) d
-  inline_complete (a_variable {name} {s} {u} {rest} b d) m le = rw b (variable-read (readers m) u name rest (name_complete d))
-  inline_complete (a_term {name} {s} {u} {v} {w} {rest} {attribute} {arguments = args} b n a c) m le =
+  inline_complete (a_string_literal {raw} {s} {u} {rest} b d) m le = rw b (string-read (readers m) u raw rest (string_complete d))
+  inline_complete (a_number_literal d) m le = number-read (readers m) d
+  inline_complete (a_variable_reference {name} {s} {u} {rest} b d) m le = rw b (variable-read (readers m) u name rest (name_complete d))
+  inline_complete (a_term_reference {name} {s} {u} {v} {w} {rest} {attribute} {arguments = args} b n a c) m le =
       let k : length (skip_blank w) ≤ m = omega (arith, ap length b, name-shorter n, accessor-no_longer a, skip_blank-le w) in
       rw b (term-read (readers m) u name v attribute w args rest n a (maybe_complete c name attribute m k))
-  inline_complete (a_message {name} {s} {u} {rest} {attribute} n o a) m le = letter-read (readers m) s name u n ∙ message-read (readers m) name u attribute rest o a
-  inline_complete (a_function {name} {s} {u} {v} {rest} {arguments = args} n c p a) m le =
+  inline_complete (a_message_reference {name} {s} {u} {rest} {attribute} n o a) m le = letter-read (readers m) s name u n ∙ message-read (readers m) name u attribute rest o a
+  inline_complete (a_function_reference {name} {s} {u} {v} {rest} {arguments = args} n c p a) m le =
       let k : length (skip_blank v) < m = omega (arith, name-shorter n, skip_blank-le u, ap length p, skip_blank-le v) in
       letter-read (readers m) s name u n ∙ function-read (readers m) name u v args rest c p (up-arguments [] args (skip_blank v) rest (arguments_complete a) m k)
   inline_complete (a_placeable {s} {rest} {e} d) m le =
@@ -400,9 +398,12 @@ mutual
   pub expression_complete : {e : t.Expression} {s rest : Text} → SpellsExpression e s rest → ExpressionRead e s rest
   expression_complete (an_inline {s} {u} {e} d a h) m lt = (e, u, up-inline e s u (inline_complete d) m lt, alone-read (readers m) e (skip_blank u) a h)
   expression_complete (a_select {s} {u} {v} {w} {rest} {e} {vs} d a h n vd) m lt =
-      let k : length (skip_blank w) < m = omega (arith, inline-shorter d, skip_blank-le u, ap length a, skip_spaces-le v, line_end-lt (skip_spaces v) w n, skip_blank-le w) in
-      (e, u, up-inline e s u (inline_complete d) m lt,
-        rw a (select-read (readers m) e v w vs rest h n (up-variants false vs (skip_blank w) rest (variants_complete vd) m k)))
+      let k : length (skip_blank w) < m = omega (arith, inline-shorter d, skip_blank-le u, ap length a, skip_spaces-le v, line_end-lt (skip_spaces v) w n, skip_blank-le w) in (
+        e,
+        u,
+        up-inline e s u (inline_complete d) m lt,
+        rw a (select-read (readers m) e v w vs rest h n (up-variants false vs (skip_blank w) rest (variants_complete vd) m k)),
+      )
 
   pub variants_complete : {marked : Bool} {vs : t.Variants} {s rest : Text} → SpellsVariants marked vs s rest → VariantsRead marked vs s rest
   variants_complete (all_read {s} a b) m le = all-read (readers m) s a b
@@ -437,18 +438,18 @@ mutual
       pieces-of_text (readers m) s (in_line piece ∷ ps) rest b (text-read (readers m) in_line s piece u ps rest x (behind_text_complete d m (omega (arith, text-shorter x b))))
   pieces_complete (placeable_piece {s} {u} {rest} {e} {ps} p d) m le =
       pieces-of_placeable (readers m) s (placed false e ∷ ps) rest (placeable-begins p)
-        (placed-read (readers m) false s e u ps rest (placeable_complete p m le) (up-pieces ps u rest (pieces_complete d) m (omega (arith, placeable-shorter p))))
+      (placed-read (readers m) false s e u ps rest (placeable_complete p m le) (up-pieces ps u rest (pieces_complete d) m (omega (arith, placeable-shorter p))))
 
   pub line_complete : {ps : List Piece} {s rest : Text} → SpellsLine ps s rest → LineRead ps s rest
   line_complete (only_spaces_left {s} h) m le = spaces_left-read (readers m) s h
   line_complete (pattern_over {s} h k) m le = over-read (readers m) s h k
   line_complete (line_of_text {piece} {s} {u} {rest} {ps} k b x d) m le =
       line-of_text (readers m) s (at_line_start (spaces s) piece ∷ ps) rest k b
-        (text-read (readers m) (at_line_start (spaces s)) (skip_spaces s) piece u ps rest x (behind_text_complete d m (omega (arith, text-shorter x b, skip_spaces-le s))))
+      (text-read (readers m) (at_line_start (spaces s)) (skip_spaces s) piece u ps rest x (behind_text_complete d m (omega (arith, text-shorter x b, skip_spaces-le s))))
   line_complete (line_of_placeable {s} {u} {rest} {e} {ps} k p d) m le =
       line-of_placeable (readers m) s (placed (spaces s == 0) e ∷ ps) rest k (placeable-begins p)
-        (placed-read (readers m) (spaces s == 0) (skip_spaces s) e u ps rest (placeable_complete p m (omega (arith, skip_spaces-le s)))
-          (up-pieces ps u rest (pieces_complete d) m (omega (arith, placeable-shorter p, skip_spaces-le s))))
+      (placed-read (readers m) (spaces s == 0) (skip_spaces s) e u ps rest (placeable_complete p m (omega (arith, skip_spaces-le s)))
+      (up-pieces ps u rest (pieces_complete d) m (omega (arith, placeable-shorter p, skip_spaces-le s))))
   line_complete (line_of_crlf {s} {rest} {ps} k c d) m le = line-of_crlf (readers m) s ps rest k c (pieces_complete d m (omega (arith, skip_spaces-le s)))
 
   pub behind_text_complete : {ends : Bool} {ps : List Piece} {s rest : Text} → SpellsBehindText ends ps s rest → BehindTextRead ends ps s rest

@@ -1,13 +1,13 @@
 -- Entries: reading gives what is spelled, and what is spelled is read.
-use Rattle.std.proofs.Common.{◌≡◌, ℕ, zero, suc, ◌<◌, ◌≤◌, Bool, true, false, cond, List, [], ◌∷◌, length, drop, Option, Some, None, refl, sym, ap, ◌∙◌, arith, inl, inr}
-use Rattle.std.specs.Prelude.{◌⊎◌, ◌==◌, ◌≢◌}
+use Rattle.std.proofs.Common.{◌≡◌, ℕ, zero, suc, ◌≤◌, true, false, List, [], ◌∷◌, length, None, refl, arith, inl, inr}
+use Rattle.std.specs.Prelude.{◌⊎◌, ◌≢◌}
 use Rattle.std.proofs.lemmas.Bool.Decides.{nat_tests}
 use Rattle.fluent_grammar.specs.Words.{Text, begins, begins_with, is_letter, hyphen, number_sign, skip_blank_block}
-use Rattle.fluent_grammar.specs.Refusal.{Reading, got, refused, refuse, mapped, ◌>>=◌}
+use Rattle.fluent_grammar.specs.Refusal.{got}
 use Rattle.fluent_grammar.specs.Tree as t
 use Rattle.fluent_grammar.specs.Lines.{value_of}
 use Rattle.fluent_grammar.specs.Spelling.{SpellsHead, a_head, SpellsAttributes, SpellsComment, SpellsEntry, a_message, a_term, a_comment, a_group_comment, a_resource_comment}
-use Rattle.fluent_grammar.specs.Reading.{head_at, attributes_at, message_of, term_of, message_at, term_entry_at, comment_of, comment_at, entry_at}
+use Rattle.fluent_grammar.specs.Reading.{attributes_at, message_of, term_of, message_at, term_entry_at, comment_of, comment_at, entry_at}
 use Rattle.fluent_grammar.proofs.Got.{bind_got, got_node, which, begins_is}
 use Rattle.fluent_grammar.proofs.Attributes.{head_sound, head_complete, attributes_sound, attributes_complete}
 use Rattle.fluent_grammar.proofs.Comments.{comment_sound, comment_complete, level-up_to_three}
@@ -23,7 +23,7 @@ message_of_sound id (t.placeable x es) attributes s e rest h = let g = got_node 
 
 message_of_complete : (id : Text) (value : t.Elements) (attributes : List t.Attribute) (s : Text) → (value ≢ t.no_elements) ⊎ (attributes ≢ []) →
     message_of id (value_of value) attributes s ≡ got (t.message (record { id = id; value = value_of value; attributes = attributes; comment = None })) s
-message_of_complete id t.no_elements [] s h = elim h [ | inl k ↦ absurd (k refl) | inr k ↦ absurd (k refl) ]
+message_of_complete id t.no_elements [] s h = elim h [ inl k ↦ absurd (k refl) | inr k ↦ absurd (k refl) ]
 message_of_complete id t.no_elements (a ∷ more) s h = refl
 message_of_complete id (t.text x es) attributes s h = refl
 message_of_complete id (t.placeable x es) attributes s h = refl

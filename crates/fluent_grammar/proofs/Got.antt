@@ -1,7 +1,7 @@
 -- Readings that got something: how they came about.
-use Rattle.std.proofs.Common.{◌≡◌, ℕ, Bool, true, false, cond, List, [], ◌∷◌, drop, length, refl, sym, ap, arith, inl, inr}
+use Rattle.std.proofs.Common.{◌≡◌, ℕ, Bool, true, false, cond, [], ◌∷◌, drop, length, refl, arith, inl, inr}
 use Rattle.std.specs.Prelude.{◌⊎◌, ◌==◌, ◌||◌, ◌≢◌}
-use Rattle.fluent_grammar.specs.Words.{Text, begins, begins_with}
+use Rattle.fluent_grammar.specs.Words.{Text, begins_with}
 use Rattle.fluent_grammar.specs.Refusal.{Reading, got, refused, mapped, ◌>>=◌}
 
 pub bind_got : {A B : Type 0} (x : Reading A) (f : A × Text → Reading B) (b : B) (rest : Text) → (x >>= f) ≡ got b rest → (a : A) × (u : Text) × (x ≡ got a u) × (f (a, u) ≡ got b rest)

@@ -1,13 +1,13 @@
 -- The laws of what readers leave, from the lemmas that carry more than they say.
-use Rattle.std.proofs.Common.{◌≡◌, ℕ, zero, suc, ◌<◌, ◌≤◌, List, [], ◌∷◌, length, drop, arith}
+use Rattle.std.proofs.Common.{ℕ, zero, suc, List, [], ◌∷◌, arith}
 use Rattle.fluent_grammar.specs.Words.{Text}
 use Rattle.fluent_grammar.specs.Refusal.{Reading, got, refused}
 use Rattle.fluent_grammar.specs.Reading as g
 use Rattle.fluent_grammar.specs.Reading.{Readers, readers, entry_at, attributes_at}
-use Rattle.fluent_grammar.specs.Ends.{EndsIn, Within, Took}
-use Rattle.fluent_grammar.specs.TilingLaws.{EntriesTakeSome, ReadersStayWithin, EntriesStayWithin, AttributesStayWithin, ReadersTakeSome}
-use Rattle.fluent_grammar.proofs.Within.{Fair, FairReaders, readers-fair, placeable-fair, pattern-fair, entry-fair, attributes-end, end-same, end-le}
-use Rattle.fluent_grammar.proofs.Taken.{Leaves, inline-leaves, argument_list-leaves, entry-leaves}
+use Rattle.fluent_grammar.specs.Ends.{Within, Took}
+use Rattle.fluent_grammar.specs.TilingLaws.{NamesTakeSome, NumbersTakeSome, AttributesTakeSome, EntriesTakeSome, ReadersStayWithin, EntriesStayWithin, AttributesStayWithin, ReadersTakeSome}
+use Rattle.fluent_grammar.proofs.Within.{Fair, FairReaders, readers-fair, placeable-fair, pattern-fair, entry-fair, attributes-end, end-same, end-le, end-drop_one, end-spaces}
+use Rattle.fluent_grammar.proofs.Taken.{Leaves, identifier-leaves, number-leaves, attribute-leaves, placeable-leaves, inline-leaves, argument_list-leaves, entry-leaves}
 
 within : {A : Type 0} (x : Reading A) (s : Text) → Fair x s → Within x s
 within (got a rest) s h = h.parts
@@ -51,11 +51,33 @@ unfolding g.entry_at g.message_at g.head_at g.identifier_at
 entry-took [] = tt
 entry-took (c ∷ cs) = took _ c cs (entry-leaves (c ∷ cs) (end-same cs))
 
+placeable-took : (n : ℕ) (s : Text) → Took (g.placeable_at (readers n) s) s
+unfolding g.placeable_at g.inline_at
+placeable-took zero [] = tt
+placeable-took (suc n) [] = tt
+placeable-took n (c ∷ cs) = took _ c cs (placeable-leaves (readers n) (readers-fair n) (c ∷ cs) (end-same cs))
+
+pub names_take_some : NamesTakeSome
+unfolding g.identifier_at
+names_take_some [] = tt
+names_take_some (c ∷ cs) = took _ c cs (identifier-leaves (c ∷ cs) (end-same cs))
+
+pub numbers_take_some : NumbersTakeSome
+unfolding g.number_at g.digits_at
+numbers_take_some [] = tt
+numbers_take_some (c ∷ cs) = took _ c cs (number-leaves (c ∷ cs) (end-same cs))
+
+pub attributes_take_some : AttributesTakeSome
+unfolding g.attribute_at g.identifier_at
+attributes_take_some [] = tt
+attributes_take_some (c ∷ cs) = took _ c cs (attribute-leaves (c ∷ cs) (end-drop_one (end-spaces (end-same (c ∷ cs)))))
+
 pub readers_take_some : ReadersTakeSome
-readers_take_some zero s = record { inline = tt; arguments = λ names. tt }
+readers_take_some zero s = record { inline = tt; arguments = λ names. tt; placeable = placeable-took zero s }
 readers_take_some (suc n) s = record {
   inline = inline-took (readers n) s (readers-fair n);
   arguments = λ names. arguments-took (readers n) names s (readers-fair n);
+  placeable = placeable-took (suc n) s;
 }
 
 pub entries_take_some : EntriesTakeSome

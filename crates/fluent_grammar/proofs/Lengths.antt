@@ -1,14 +1,11 @@
 -- What is spelled leaves a shorter rest, or one that is no longer.
-use Rattle.std.proofs.Common.{◌≡◌, ℕ, zero, suc, ◌+◌, ◌-◌, ◌<◌, ◌≤◌, Bool, true, false, cond, List, [], ◌∷◌, ◌++◌, length, take, drop, Option, Some, None, refl, sym, ap, ◌∙◌, arith, inl, inr, length-append, length-drop}
-use Rattle.std.specs.Prelude.{◌⊎◌, ◌==◌}
-use Rattle.fluent_grammar.specs.Words.{Text, begins, begins_with, begins_crlf, is_letter, is_digit, is_name_byte, line_feed, carriage_return, comma, space, spaces, skip_spaces, after_line_end, skip_blank, skip_blank_block, blank_lines, skip_separator}
+use Rattle.std.proofs.Common.{◌≡◌, ℕ, ◌<◌, ◌≤◌, Bool, true, false, cond, List, [], ◌∷◌, length, drop, Option, Some, refl, ap, arith, inl, inr, length-append, length-drop}
+use Rattle.fluent_grammar.specs.Words.{Text, begins, begins_with, begins_crlf, is_letter, is_name_byte, line_feed, comma, spaces, skip_spaces, after_line_end, skip_blank, skip_blank_block, blank_lines, skip_separator}
 use Rattle.fluent_grammar.specs.Lexical.{IsLongestRun, SpellsName, SpellsDigits, SpellsUnsigned, whole, decimal, SpellsNumber, unsigned, negative, SpellsString, closing_quote, plain_byte, escaped_backslash, escaped_quote, four_digits, six_digits, SpellsAccessor, no_accessor, an_accessor, SpellsKey, number_key, identifier_key, SpellsLiteral, a_string, a_number, SpellsText, to_line_feed, to_brace, to_crlf, to_end, text_byte}
-use Rattle.fluent_grammar.specs.Lexical as l
-use Rattle.fluent_grammar.specs.Spelling as g
-use Rattle.fluent_grammar.specs.Spelling.{BeginsText, SpellsInline, a_variable, a_term, a_message, a_function, a_placeable, SpellsMaybeArguments, no_call, a_call, SpellsArguments, no_more, positional, named, SpellsPlaceable, in_braces, SpellsExpression, an_inline, a_select, SpellsVariants, all_read, lone_mark, a_variant, the_default, SpellsVariant, keyed, SpellsPattern, on_the_line, on_the_next, SpellsPieces, nothing_left, crlf_piece, text_piece, placeable_piece, SpellsLine, only_spaces_left, pattern_over, line_of_text, line_of_placeable, line_of_crlf, SpellsBehindText, next_line, same_line}
+use Rattle.fluent_grammar.specs.Spelling.{BeginsText, SpellsInline, a_string_literal, a_number_literal, a_variable_reference, a_term_reference, a_message_reference, a_function_reference, a_placeable, SpellsMaybeArguments, no_call, a_call, SpellsArguments, no_more, positional, named, SpellsPlaceable, in_braces, SpellsExpression, an_inline, a_select, SpellsVariants, all_read, lone_mark, a_variant, the_default, SpellsVariant, keyed, SpellsPattern, on_the_line, on_the_next, SpellsPieces, nothing_left, crlf_piece, text_piece, placeable_piece, SpellsLine, only_spaces_left, pattern_over, line_of_text, line_of_placeable, line_of_crlf, SpellsBehindText, next_line, same_line}
 use Rattle.fluent_grammar.specs.Tree as t
 use Rattle.fluent_grammar.specs.Lines.{Piece}
-use Rattle.fluent_grammar.proofs.Got.{which, decide}
+use Rattle.fluent_grammar.proofs.Got.{which}
 
 -- ---- blanks
 
@@ -115,12 +112,12 @@ text-shorter (text_byte h k d) b = omega (arith, text-no_longer d)
 
 mutual
   pub inline-shorter : {e : t.Inline} {s rest : Text} → SpellsInline e s rest → length rest < length s
-  inline-shorter (g.a_string b d) = omega (arith, ap length b, string-shorter d)
-  inline-shorter (g.a_number d) = number-shorter d
-  inline-shorter (a_variable b d) = omega (arith, ap length b, name-shorter d)
-  inline-shorter (a_term {w = w} b d a c) = omega (arith, ap length b, name-shorter d, accessor-no_longer a, skip_blank-le w, maybe-no_longer c)
-  inline-shorter (a_message {u = u} d o a) = omega (arith, name-shorter d, skip_blank-le u, accessor-no_longer a)
-  inline-shorter (a_function {u = u} {v = v} d c p a) = omega (arith, name-shorter d, skip_blank-le u, ap length p, skip_blank-le v, arguments-shorter a)
+  inline-shorter (a_string_literal b d) = omega (arith, ap length b, string-shorter d)
+  inline-shorter (a_number_literal d) = number-shorter d
+  inline-shorter (a_variable_reference b d) = omega (arith, ap length b, name-shorter d)
+  inline-shorter (a_term_reference {w = w} b d a c) = omega (arith, ap length b, name-shorter d, accessor-no_longer a, skip_blank-le w, maybe-no_longer c)
+  inline-shorter (a_message_reference {u = u} d o a) = omega (arith, name-shorter d, skip_blank-le u, accessor-no_longer a)
+  inline-shorter (a_function_reference {u = u} {v = v} d c p a) = omega (arith, name-shorter d, skip_blank-le u, ap length p, skip_blank-le v, arguments-shorter a)
   inline-shorter (a_placeable d) = placeable-shorter d
 
   pub maybe-no_longer : {c : t.MaybeArguments} {s rest : Text} → SpellsMaybeArguments c s rest → length rest ≤ length s

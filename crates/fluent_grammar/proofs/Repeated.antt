@@ -1,15 +1,14 @@
 -- Attributes and the lines of a comment: as many steps as a text has bytes are enough.
-use Rattle.std.proofs.Common.{◌≡◌, ℕ, zero, suc, ◌+◌, ◌<◌, ◌≤◌, Bool, true, false, cond, ◌&&◌, List, [], ◌∷◌, ◌++◌, length, drop, Option, Some, None, refl, sym, ap, ◌∙◌, arith}
+use Rattle.std.proofs.Common.{◌≡◌, ℕ, zero, suc, ◌<◌, ◌≤◌, Bool, true, false, cond, ◌&&◌, List, [], ◌∷◌, ◌++◌, length, drop, refl, sym, ap, ◌∙◌, arith}
 use Rattle.std.specs.Prelude.{◌==◌}
-use Rattle.fluent_grammar.specs.Words.{Text, dot, line_feed, carriage_return, space, begins, begins_with, skip_spaces, comment_level, rest_of_line, after_line_end}
+use Rattle.fluent_grammar.specs.Words.{Text, dot, line_feed, carriage_return, begins_with, skip_spaces, comment_level, rest_of_line}
 use Rattle.fluent_grammar.specs.Refusal.{Reading, got, refused}
-use Rattle.fluent_grammar.specs.Refusal as r
 use Rattle.fluent_grammar.specs.Tree as t
 use Rattle.fluent_grammar.specs.Ends.{EndsIn}
-use Rattle.fluent_grammar.specs.Reading.{attribute_at, attributes_at, more_attributes, comment_line_at, comment_lines, more_lines}
+use Rattle.fluent_grammar.specs.Reading.{attributes_at, more_attributes, comment_line_at, comment_lines, more_lines}
 use Rattle.fluent_grammar.specs.TilingLaws.{AttributesNeedNoMoreSteps, CommentsNeedNoMoreSteps}
-use Rattle.fluent_grammar.proofs.Within.{end-same, end-le, end-drop, end-drop_one, end-spaces, rest_of_line-end, ends, end-if_pair}
-use Rattle.fluent_grammar.proofs.Taken.{Leaves, leaves, leaves-fair, attribute-leaves}
+use Rattle.fluent_grammar.proofs.Within.{end-same, end-le, end-drop, end-drop_one, end-spaces, rest_of_line-end, end-if_pair}
+use Rattle.fluent_grammar.proofs.Taken.{Leaves, leaves, attribute-leaves}
 
 pub begins-some : (c : ℕ) (s : Text) → begins_with c s ≡ true → length (drop 1 s) < length s
 begins-some c [] e = absurd cc
@@ -40,8 +39,8 @@ attributes_need_no_more_steps (suc m) zero s p q = rw (nothing-left s q) (attrib
 attributes_need_no_more_steps (suc m) (suc n) s p q = if-same (begins_with dot (skip_spaces s)) _ _ _ (λ e.
     more_attributes-same _ _ s _ (drop 1 (skip_spaces s)) (attribute-leaves s (end-same _)) (λ u h.
     attributes_need_no_more_steps m n u
-      (omega (arith, end-le h, begins-some dot (skip_spaces s) e, end-le (end-spaces (end-same s))))
-      (omega (arith, end-le h, begins-some dot (skip_spaces s) e, end-le (end-spaces (end-same s))))))
+    (omega (arith, end-le h, begins-some dot (skip_spaces s) e, end-le (end-spaces (end-same s))))
+    (omega (arith, end-le h, begins-some dot (skip_spaces s) e, end-le (end-spaces (end-same s))))))
 
 more_lines-same : (left other : Text → List Text × Text) (s : Text) (x : Reading (List Text)) (w : Text) → Leaves x w →
     ((u : Text) → EndsIn u w → left u ≡ other u) → more_lines left s x ≡ more_lines other s x

@@ -1,11 +1,11 @@
 -- Worked sources: what the definitions give, by computing. Places are counted by hand.
-use Rattle.std.specs.Prelude.{◌≡◌, ℕ, ◌+◌, Bool, true, false, List, [], ◌∷◌, ◌++◌, Option, Some, None, codes, length}
+use Rattle.std.specs.Prelude.{◌≡◌, ℕ, ◌+◌, true, false, [], ◌∷◌, ◌++◌, Some, None, codes, length}
 use Rattle.std.proofs.Common.{refl}
 use Rattle.fluent_grammar.specs.Words.{Text, carriage_return, line_feed, quote, close_brace, close_bracket, close_paren, equals, space}
 use Rattle.fluent_grammar.specs.Refusal as r
 use Rattle.fluent_grammar.specs.Refusal.{Kind}
 use Rattle.fluent_grammar.specs.Tree as t
-use Rattle.fluent_grammar.specs.Tiling.{ParserError, errors, tree, list, runtime_errors, runtime_tree}
+use Rattle.fluent_grammar.specs.Tiling.{ParserError, errors, tree, runtime_errors, runtime_tree}
 use Rattle.fluent_grammar.specs.Escapes.{unescaped}
 use Rattle.fluent_grammar.proofs.Computing.{computing}
 
@@ -36,7 +36,7 @@ broken_middle = codes "\nkey1 = Value 1\n\ng@Rb@ge = #2y ds\n\nkey2 = Value 2\n\
 
 broken_middle_entry_is_junk :
     tree broken_middle ≡ message_of (codes "key1") (one_text (codes "Value 1")) ∷ t.junk (codes "g@Rb@ge = #2y ds\n\n") ∷
-      message_of (codes "key2") (one_text (codes "Value 2")) ∷ []
+    message_of (codes "key2") (one_text (codes "Value 2")) ∷ []
 unfolding computing broken_middle message_of one_text
 broken_middle_entry_is_junk = refl
 
@@ -55,7 +55,7 @@ spaces_alone_are_junk = refl
 
 three_lines_lose_their_common_indent :
     tree (codes "a =\n    one\n      two\n    three\n") ≡
-      message_of (codes "a") (t.text (codes "one\n") (t.text (codes "  two\n") (one_text (codes "three")))) ∷ []
+    message_of (codes "a") (t.text (codes "one\n") (t.text (codes "  two\n") (one_text (codes "three")))) ∷ []
 unfolding computing message_of one_text
 three_lines_lose_their_common_indent = refl
 
@@ -64,13 +64,13 @@ crlf = carriage_return ∷ line_feed ∷ []
 
 crlf_gives_a_line_feed_of_its_own :
     tree (codes "a =" ++ crlf ++ codes "    x" ++ crlf ++ codes "    y" ++ crlf) ≡
-      message_of (codes "a") (t.text (codes "x") (t.text (codes "\n") (one_text (codes "y")))) ∷ []
+    message_of (codes "a") (t.text (codes "x") (t.text (codes "\n") (one_text (codes "y")))) ∷ []
 unfolding computing message_of one_text crlf
 crlf_gives_a_line_feed_of_its_own = refl
 
 placeable_at_column_zero_keeps_indents :
     tree (codes "a =\n{\".\"}\n    four") ≡
-      message_of (codes "a") (t.placeable (t.inline (t.string_literal (codes "."))) (t.text (codes "\n") (one_text (codes "    four")))) ∷ []
+    message_of (codes "a") (t.placeable (t.inline (t.string_literal (codes "."))) (t.text (codes "\n") (one_text (codes "    four")))) ∷ []
 unfolding computing message_of one_text
 placeable_at_column_zero_keeps_indents = refl
 
@@ -91,7 +91,7 @@ failed_attribute_begins_junk = refl
 
 comment_directly_above :
     tree (codes "# c\na = b\n") ≡
-      t.message (record { id = codes "a"; value = Some (one_text (codes "b")); attributes = []; comment = Some (codes "c" ∷ []) }) ∷ []
+    t.message (record { id = codes "a"; value = Some (one_text (codes "b")); attributes = []; comment = Some (codes "c" ∷ []) }) ∷ []
 unfolding computing one_text
 comment_directly_above = refl
 
@@ -119,26 +119,26 @@ no_error_at_runtime = refl
 
 select_with_default :
     tree (codes "m={$n ->\n[a]x\n*[1.0]y\n}") ≡
-      message_of (codes "m") (t.placeable (t.select (t.variable_reference (codes "n"))
-        (t.variant (t.identifier_key (codes "a")) (one_text (codes "x")) false
-        (t.variant (t.number_key (codes "1.0")) (one_text (codes "y")) true t.no_variants))) t.no_elements) ∷ []
+    message_of (codes "m") (t.placeable (t.select (t.variable_reference (codes "n"))
+    (t.variant (t.identifier_key (codes "a")) (one_text (codes "x")) false
+    (t.variant (t.number_key (codes "1.0")) (one_text (codes "y")) true t.no_variants))) t.no_elements) ∷ []
 unfolding computing message_of one_text
 select_with_default = refl
 
 lone_mark_ends_the_variants :
     tree (codes "m = { $n ->\n    [a] x\n  * }\n") ≡
-      message_of (codes "m") (t.placeable (t.select (t.variable_reference (codes "n"))
-        (t.variant (t.identifier_key (codes "a")) (one_text (codes "x")) false t.no_variants)) t.no_elements) ∷ []
+    message_of (codes "m") (t.placeable (t.select (t.variable_reference (codes "n"))
+    (t.variant (t.identifier_key (codes "a")) (one_text (codes "x")) false t.no_variants)) t.no_elements) ∷ []
 unfolding computing message_of one_text
 lone_mark_ends_the_variants = refl
 
 arguments_of_a_call :
     tree (codes "m={F(b .c,-1,{-t},k : \"v\",)}") ≡
-      message_of (codes "m") (t.placeable (t.inline (t.function_reference (codes "F") (t.arguments
-        (t.positional (t.message_reference (codes "b") (Some (codes "c")))
-        (t.positional (t.number_literal (codes "-1"))
-        (t.positional (t.nested (t.inline (t.term_reference (codes "t") None t.no_arguments))) t.no_inlines)))
-        (t.named (codes "k") (t.string_literal (codes "v")) t.no_nameds)))) t.no_elements) ∷ []
+    message_of (codes "m") (t.placeable (t.inline (t.function_reference (codes "F") (t.arguments
+    (t.positional (t.message_reference (codes "b") (Some (codes "c")))
+    (t.positional (t.number_literal (codes "-1"))
+    (t.positional (t.nested (t.inline (t.term_reference (codes "t") None t.no_arguments))) t.no_inlines)))
+    (t.named (codes "k") (t.string_literal (codes "v")) t.no_nameds)))) t.no_elements) ∷ []
 unfolding computing message_of one_text
 arguments_of_a_call = refl
 
@@ -262,6 +262,87 @@ expected_inline_expression = refl
 expected_literal : Refuses (codes "a={F(x:y)}") r.expected_literal 7
 unfolding computing Refuses error_at
 expected_literal = refl
+
+-- ---- where the rules leave a choice, and where two failures meet at one place
+
+-- a pattern that isn't there takes its blank
+absent_pattern_takes_its_blank :
+    errors (codes "a = ") ≡ record { kind = r.expected_message_field (codes "a"); pos_start = 0; pos_end = 4; slice_start = 0; slice_end = 4 } ∷ []
+unfolding computing
+absent_pattern_takes_its_blank = refl
+
+value_is_missing_at_the_end : Refuses (codes "a={F(x:") r.expected_literal 7
+unfolding computing Refuses error_at
+value_is_missing_at_the_end = refl
+
+term_attribute_at_the_end : Refuses (codes "a={-b.c") r.term_attribute_as_placeable 7
+unfolding computing Refuses error_at
+term_attribute_at_the_end = refl
+
+escape_before_line_feed_is_met_first : Refuses (codes "a={\"\\\n") (r.unknown_escape_sequence (codes "\n")) 4
+unfolding computing Refuses error_at
+escape_before_line_feed_is_met_first = refl
+
+escape_before_the_end_is_met_first : Refuses (codes "a={\"\\") (r.unknown_escape_sequence (codes " ")) 4
+unfolding computing Refuses error_at
+escape_before_the_end_is_met_first = refl
+
+digits_are_missing_at_the_end : Refuses (codes "a={\"\\u1") (r.invalid_unicode_escape_sequence (codes "1")) 7
+unfolding computing Refuses error_at
+digits_are_missing_at_the_end = refl
+
+minus_begins_a_number_as_value : Refuses (codes "a={F(x:-t") r.expected_digit 8
+unfolding computing Refuses error_at
+minus_begins_a_number_as_value = refl
+
+no_blank_before_the_attribute_of_a_term : Refuses (codes "a={-b .c}") (r.expected_token close_brace) 6
+unfolding computing Refuses error_at
+no_blank_before_the_attribute_of_a_term = refl
+
+four_escapes_alone : Refuses (codes "a={\"\\{\"}") (r.unknown_escape_sequence (codes "{")) 4
+unfolding computing Refuses error_at
+four_escapes_alone = refl
+
+call_is_refused_behind_its_arguments : Refuses (codes "a={f(x:1,x:2)}") (r.duplicated_named_argument (codes "x")) 10
+unfolding computing Refuses error_at
+call_is_refused_behind_its_arguments = refl
+
+four_signs_are_three_and_no_space : Refuses (codes "#### a") (r.expected_token space) 3
+unfolding computing Refuses error_at
+four_signs_are_three_and_no_space = refl
+
+lone_mark_before_a_line_end :
+    tree (codes "a={1->\n*\n}") ≡ message_of (codes "a") (t.placeable (t.select (t.number_literal (codes "1")) t.no_variants) t.no_elements) ∷ []
+unfolding computing message_of
+lone_mark_before_a_line_end = refl
+
+junk_ends_behind_the_place_of_the_refusal :
+    errors (codes "a = {\nc = 1\nd = 2\n") ≡ error_at (r.expected_token close_brace) 8 0 12 ∷ []
+unfolding computing error_at
+junk_ends_behind_the_place_of_the_refusal = refl
+
+junk_ends_before_a_comment :
+    errors (codes "a = {\n# x\nc = 1\n") ≡ error_at r.expected_inline_expression 6 0 6 ∷ []
+unfolding computing error_at
+junk_ends_before_a_comment = refl
+
+tab_at_the_end_is_trimmed : tree (codes "a = b\t") ≡ message_of (codes "a") (one_text (codes "b")) ∷ []
+unfolding computing message_of one_text
+tab_at_the_end_is_trimmed = refl
+
+tab_alone_is_an_empty_text : tree (codes "a = \t") ≡ message_of (codes "a") (one_text []) ∷ []
+unfolding computing message_of one_text
+tab_alone_is_an_empty_text = refl
+
+-- a line of spaces within a pattern keeps those beyond the common indent
+blank_line_keeps_its_spaces :
+    tree (codes "a=\n b\n  \n c") ≡ message_of (codes "a") (t.text (codes "b\n") (t.text (codes " \n") (one_text (codes "c")))) ∷ []
+unfolding computing message_of one_text
+blank_line_keeps_its_spaces = refl
+
+blank_block_behind_a_line_that_is_passed_over : runtime_tree (codes "#a\n \nb = c") ≡ message_of (codes "b") (one_text (codes "c")) ∷ []
+unfolding computing message_of one_text
+blank_block_behind_a_line_that_is_passed_over = refl
 
 -- ---- escapes
 

@@ -1,16 +1,16 @@
 -- What is read is spelled so: each construct, where the readers of what stands inside it read what is spelled.
-use Rattle.std.proofs.Common.{◌≡◌, ℕ, zero, suc, Bool, true, false, cond, not, ◌&&◌, ◌||◌, List, [], ◌∷◌, ◌++◌, length, drop, Option, Some, None, refl, sym, ap, subst, ◌∙◌, arith, rules, inl, inr}
-use Rattle.std.specs.Prelude.{◌⊎◌, ◌==◌, ◌≢◌}
+use Rattle.std.proofs.Common.{◌≡◌, ℕ, zero, suc, Bool, true, false, cond, List, [], ◌∷◌, length, drop, Option, Some, None, refl, sym, ap, ◌∙◌, arith, inl, inr}
+use Rattle.std.specs.Prelude.{◌==◌, ◌≢◌}
 use Rattle.std.specs.List.{list_all}
-use Rattle.fluent_grammar.specs.Words.{Text, quote, dollar, hyphen, greater, colon, asterisk, open_paren, close_paren, open_bracket, close_bracket, open_brace, close_brace, line_feed, skip_blank, skip_spaces, spaces, skip_blank_block, skip_separator, begins, begins_with, begins_arrow, begins_crlf, after_line_end, is_letter, is_digit, is_callee_byte, is_among}
+use Rattle.fluent_grammar.specs.Words.{Text, quote, dollar, hyphen, greater, colon, asterisk, open_paren, close_paren, open_bracket, close_bracket, open_brace, close_brace, skip_blank, skip_spaces, spaces, skip_separator, begins, begins_with, begins_arrow, begins_crlf, after_line_end, is_letter, is_digit, is_callee_byte, is_among}
 use Rattle.fluent_grammar.specs.Refusal.{Kind, Refusal, Reading, got, refused, refuse, mapped, ◌>>=◌}
 use Rattle.fluent_grammar.specs.Refusal as r
 use Rattle.fluent_grammar.specs.Tree as t
 use Rattle.fluent_grammar.specs.Lines.{Piece, at_line_start, in_line, placed, elements_of, ends_line, pattern_ends}
-use Rattle.fluent_grammar.specs.Lexical.{SpellsName, SpellsNumber, SpellsString, SpellsAccessor, no_accessor, an_accessor, SpellsKey, SpellsLiteral, SpellsText}
-use Rattle.fluent_grammar.specs.Spelling.{may_stand_alone, may_be_selector, IsPositional, BeginsText, SpellsInline, a_string, a_number, a_variable, a_term, a_message, a_function, a_placeable, SpellsMaybeArguments, no_call, a_call, SpellsArguments, no_more, positional, named, SpellsPlaceable, in_braces, SpellsExpression, an_inline, a_select, SpellsVariants, all_read, lone_mark, a_variant, the_default, SpellsVariant, keyed, SpellsPattern, on_the_line, on_the_next, SpellsPieces, nothing_left, crlf_piece, text_piece, placeable_piece, SpellsLine, only_spaces_left, pattern_over, line_of_text, line_of_placeable, line_of_crlf, SpellsBehindText, next_line, same_line}
-use Rattle.fluent_grammar.specs.Reading.{identifier_at, accessor_at, number_at, literal_at, string_content, text_run, key_at, selector_fault, is_term_attribute, name_of_argument, with_positional, with_named, Readers, step, readers, no_readers, variants_after, select_at, select_or_inline_at, closing_at, placeable_at, term_arguments_at, term_at, function_of, called_at, named_at, inline_at, positional_at, named_value_at, argument_at, arguments_at, after_text_at, placeable_piece_at, text_piece_at, pieces_at, line_at, first_pieces_at, pattern_at, variants_behind, variant_value_at, variant_at, variant_or_end_at, variants_at}
-use Rattle.fluent_grammar.proofs.Got.{bind_got, mapped_got, got_node, which, decide, either, same, begins_is, no_text, not_end}
+use Rattle.fluent_grammar.specs.Lexical.{SpellsName, SpellsAccessor, no_accessor, an_accessor, SpellsLiteral, SpellsText}
+use Rattle.fluent_grammar.specs.Spelling.{may_stand_alone, may_be_selector, IsPositional, SpellsInline, a_string_literal, a_number_literal, a_variable_reference, a_term_reference, a_message_reference, a_function_reference, a_placeable, SpellsMaybeArguments, no_call, a_call, SpellsArguments, no_more, positional, named, SpellsPlaceable, in_braces, SpellsExpression, an_inline, a_select, SpellsVariants, all_read, lone_mark, a_variant, the_default, SpellsVariant, keyed, SpellsPattern, on_the_line, on_the_next, SpellsPieces, nothing_left, crlf_piece, text_piece, placeable_piece, SpellsLine, only_spaces_left, pattern_over, line_of_text, line_of_placeable, line_of_crlf, SpellsBehindText, next_line, same_line}
+use Rattle.fluent_grammar.specs.Reading.{number_at, selector_fault, is_term_attribute, name_of_argument, with_positional, with_named, Readers, step, readers, no_readers, variants_after, select_at, select_or_inline_at, closing_at, placeable_at, term_arguments_at, term_at, function_of, called_at, named_at, inline_at, positional_at, named_value_at, argument_at, arguments_at, after_text_at, placeable_piece_at, text_piece_at, pieces_at, line_at, first_pieces_at, pattern_at, variants_behind, variant_value_at, variant_at, variant_or_end_at, variants_at}
+use Rattle.fluent_grammar.proofs.Got.{bind_got, mapped_got, got_node, which, same, begins_is, no_text, not_end}
 use Rattle.fluent_grammar.proofs.Words.{name_sound, number_sound, accessor_sound, key_sound, literal_sound}
 use Rattle.fluent_grammar.proofs.Strings.{string_sound, text_sound}
 
@@ -58,15 +58,15 @@ none-accessor (an_accessor d) e = absurd cc
 
 -- a message reference without attribute is an identifier, with the blank behind it
 name-parts : {e : t.Inline} {s u : Text} (name : Text) → SpellsInline e s u → e ≡ t.message_reference name None → (w : Text) × SpellsName name s w × (skip_blank w ≡ u)
-name-parts name (a_string b d) e = absurd cc
-name-parts name (a_number d) e = absurd cc
-name-parts name (a_variable b d) e = absurd cc
-name-parts name (a_term b d a c) e = absurd cc
-name-parts name (a_message {name = id} {s} {u} {rest} {attribute} d o a) e =
+name-parts name (a_string_literal b d) e = absurd cc
+name-parts name (a_number_literal d) e = absurd cc
+name-parts name (a_variable_reference b d) e = absurd cc
+name-parts name (a_term_reference b d a c) e = absurd cc
+name-parts name (a_message_reference {name = id} {s} {u} {rest} {attribute} d o a) e =
     let same_name : id ≡ name = cc in
     let no_attribute : attribute ≡ None = cc in
     (u, rw (← same_name) d, none-accessor a no_attribute)
-name-parts name (a_function d c b a) e = absurd cc
+name-parts name (a_function_reference d c b a) e = absurd cc
 name-parts name (a_placeable d) e = absurd cc
 
 is-name : (e : t.Inline) (name : Text) → name_of_argument e ≡ Some name → e ≡ t.message_reference name None
@@ -101,7 +101,6 @@ then-named : (names : List Text) (name : Text) (e : t.Inline) (a : t.Arguments) 
 then-named names name e (t.arguments ps ns) s w v x rest d c fresh l more = named d c fresh l more
 
 module _ (inside : Readers) (reads : SoundReaders inside) where
-
   -- ---- placeables
 
   closing_sound : (x : t.Expression) (s : Text) (e : t.Expression) (rest : Text) → closing_at inside x s ≡ got e rest → (x ≡ e) × (s ≡ close_brace ∷ rest)
@@ -163,7 +162,7 @@ module _ (inside : Readers) (reads : SoundReaders inside) where
       let id = bind_got _ _ _ _ h in
       let attr = bind_got _ _ _ _ id.3 in
       let args = term_arguments_sound _ _ _ _ _ attr.3 in
-      rw args.1 (a_term (begins_is hyphen s b) (name_sound _ _ _ id.2) (accessor_sound _ _ _ attr.2) args.2)
+      rw args.1 (a_term_reference (begins_is hyphen s b) (name_sound _ _ _ id.2) (accessor_sound _ _ _ attr.2) args.2)
 
   function_sound : (id : Text) (a : t.Arguments) (s : Text) (e : t.Inline) (rest : Text) → function_of inside id a s ≡ got e rest →
       (list_all is_callee_byte id ≡ true) × (t.function_reference id a ≡ e) × (s ≡ rest)
@@ -181,8 +180,8 @@ module _ (inside : Readers) (reads : SoundReaders inside) where
         | inl p ↦ let a = bind_got _ _ _ _ p.1 in
             let f = function_sound _ _ _ _ _ a.3 in
             let args : SpellsArguments [] a.0 (skip_blank (drop 1 (skip_blank u))) rest = rw f.2 at (reads.arguments _ _ _ _ a.2) in
-            rw (← f.1) (a_function name f.0 (begins_is open_paren (skip_blank u) p.0) args)
-        | inr p ↦ let m = mapped_got _ _ _ _ p.1 in rw (← m.2) (a_message name p.0 (accessor_sound _ _ _ m.1))
+            rw (← f.1) (a_function_reference name f.0 (begins_is open_paren (skip_blank u) p.0) args)
+        | inr p ↦ let m = mapped_got _ _ _ _ p.1 in rw (← m.2) (a_message_reference name p.0 (accessor_sound _ _ _ m.1))
       ]
 
   named_sound : (s : Text) (e : t.Inline) (rest : Text) → named_at inside s ≡ got e rest → SpellsInline e s rest
@@ -190,13 +189,13 @@ module _ (inside : Readers) (reads : SoundReaders inside) where
   named_sound s e rest h = let id = bind_got _ _ _ _ h in called_sound _ _ _ _ _ (name_sound _ _ _ id.2) id.3
 
   number-sound : (s : Text) (e : t.Inline) (rest : Text) → mapped t.number_literal (number_at s) ≡ got e rest → SpellsInline e s rest
-  number-sound s e rest h = let m = mapped_got _ _ _ _ h in rw (← m.2) (a_number (number_sound _ _ _ m.1))
+  number-sound s e rest h = let m = mapped_got _ _ _ _ h in rw (← m.2) (a_number_literal (number_sound _ _ _ m.1))
 
   pub inline_sound : (s : Text) (e : t.Inline) (rest : Text) → inline_at inside s ≡ got e rest → SpellsInline e s rest
   unfolding inline_at
   inline_sound s e rest h =
       elim (which (begins_with quote s) _ _ _ h) [
-        | inl p ↦ let m = mapped_got _ _ _ _ p.1 in rw (← m.2) (a_string (begins_is quote s p.0) (string_sound _ _ _ m.1))
+        | inl p ↦ let m = mapped_got _ _ _ _ p.1 in rw (← m.2) (a_string_literal (begins_is quote s p.0) (string_sound _ _ _ m.1))
         | inr p ↦ elim (which (begins is_digit s) _ _ _ p.1) [
           | inl q ↦ number-sound s e rest q.1
           | inr q ↦ elim (which (begins_with hyphen s) _ _ _ q.1) [
@@ -205,7 +204,7 @@ module _ (inside : Readers) (reads : SoundReaders inside) where
               | inr l ↦ number-sound s e rest l.1
             ]
             | inr m ↦ elim (which (begins_with dollar s) _ _ _ m.1) [
-              | inl v ↦ let n = mapped_got _ _ _ _ v.1 in rw (← n.2) (a_variable (begins_is dollar s v.0) (name_sound _ _ _ n.1))
+              | inl v ↦ let n = mapped_got _ _ _ _ v.1 in rw (← n.2) (a_variable_reference (begins_is dollar s v.0) (name_sound _ _ _ n.1))
               | inr v ↦ elim (which (begins is_letter s) _ _ _ v.1) [
                 | inl l ↦ named_sound s e rest l.1
                 | inr l ↦ elim (which (begins_with open_brace s) _ _ _ l.1) [
@@ -339,7 +338,7 @@ module _ (inside : Readers) (reads : SoundReaders inside) where
   variant_value_sound : (default : Bool) (key : t.VariantKey) (marked : Bool) (s : Text) (vs : t.Variants) (rest : Text) →
       variant_value_at inside default key marked s ≡ got vs rest →
       (value : t.Elements) × (u : Text) × (others : t.Variants) × (s ≡ close_bracket ∷ drop 1 s) × SpellsPattern value (drop 1 s) u × (value ≢ t.no_elements) ×
-        (t.variant key value default others ≡ vs) × SpellsVariants marked others (skip_blank u) rest
+      (t.variant key value default others ≡ vs) × SpellsVariants marked others (skip_blank u) rest
   unfolding variant_value_at
   variant_value_sound default key marked s vs rest h =
       elim (which (begins_with close_bracket s) _ _ _ h) [
@@ -351,7 +350,7 @@ module _ (inside : Readers) (reads : SoundReaders inside) where
 
   variant_sound : (default marked : Bool) (s : Text) (vs : t.Variants) (rest : Text) → begins_with open_bracket s ≡ true → variant_at inside default marked s ≡ got vs rest →
       (key : t.VariantKey) × (value : t.Elements) × (u : Text) × (others : t.Variants) × SpellsVariant key value s u × (t.variant key value default others ≡ vs) ×
-        SpellsVariants marked others (skip_blank u) rest
+      SpellsVariants marked others (skip_blank u) rest
   unfolding variant_at
   variant_sound default marked s vs rest b h =
       let k = bind_got _ _ _ _ h in

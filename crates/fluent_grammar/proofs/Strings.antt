@@ -1,8 +1,8 @@
 -- String literals and text pieces: reading gives what is spelled, and what is spelled is read.
-use Rattle.std.proofs.Common.{◌≡◌, ℕ, Bool, true, false, cond, not, ◌&&◌, ◌||◌, List, [], ◌∷◌, ◌++◌, take, drop, refl, sym, ap, ◌∙◌, arith, inl, inr}
-use Rattle.std.specs.Prelude.{◌⊎◌, ◌==◌}
-use Rattle.fluent_grammar.specs.Words.{Text, begins, begins_with, begins_crlf, quote, line_feed, carriage_return, backslash, small_u, capital_u, open_brace, close_brace, hex_digits}
-use Rattle.fluent_grammar.specs.Refusal.{Reading, got, refused, refuse, mapped}
+use Rattle.std.proofs.Common.{◌≡◌, ℕ, true, false, ◌||◌, [], ◌∷◌, refl, ap, ◌∙◌, arith, inl, inr}
+use Rattle.std.specs.Prelude.{◌==◌}
+use Rattle.fluent_grammar.specs.Words.{Text, begins_with, begins_crlf, quote, line_feed, carriage_return, backslash, small_u, capital_u, open_brace, close_brace, hex_digits}
+use Rattle.fluent_grammar.specs.Refusal.{got}
 use Rattle.fluent_grammar.specs.Lexical.{SpellsString, closing_quote, plain_byte, escaped_backslash, escaped_quote, four_digits, six_digits, is_plain, SpellsText, to_line_feed, to_brace, to_crlf, to_end, text_byte, is_text_byte}
 use Rattle.fluent_grammar.specs.Reading.{string_content, missing_hex, before, text_run}
 use Rattle.fluent_grammar.proofs.Got.{mapped_got, got_node, which, either, same}
@@ -78,7 +78,7 @@ one-sound c raw rest e =
       | inl q ↦ closed c [] raw rest q.0 q.1
       | inr q ↦ elim (which (c == line_feed) _ _ _ q.1) [
         | inl f ↦ absurd cc
-        | inr f ↦ elim (which (c == backslash) _ _ _ f.1) [ | inl b ↦ absurd cc | inr b ↦ absurd cc ]
+        | inr f ↦ elim (which (c == backslash) _ _ _ f.1) [ inl b ↦ absurd cc | inr b ↦ absurd cc ]
       ]
     ]
 

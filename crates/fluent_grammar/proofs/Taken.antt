@@ -1,14 +1,11 @@
 -- Readers that take at least one byte where they give a node: what is left behind the node is an end of the text behind
 -- its first byte.
-use Rattle.std.proofs.Common.{◌≡◌, ℕ, zero, suc, ◌+◌, ◌-◌, ◌<◌, ◌≤◌, Bool, true, false, cond, not, ◌&&◌, ◌||◌, List, [], ◌∷◌, ◌++◌, length, take, drop, Option, Some, None, refl, sym, ap, arith}
+use Rattle.std.proofs.Common.{◌≡◌, ℕ, suc, ◌+◌, Bool, true, false, cond, ◌&&◌, List, [], ◌∷◌, length, drop, refl, arith}
 use Rattle.std.specs.Prelude.{◌==◌, nat_le}
 use Rattle.std.specs.List.{prefix_len}
-use Rattle.fluent_grammar.specs.Words.{Text, line_feed, carriage_return, quote, dollar, hyphen, dot, equals, open_paren, open_brace, close_brace, number_sign, begins, begins_with, begins_crlf, is_letter, is_digit, is_name_byte, name_len, skip_blank, skip_spaces, comment_level}
+use Rattle.fluent_grammar.specs.Words.{Text, line_feed, carriage_return, hyphen, open_brace, close_brace, number_sign, begins, begins_with, begins_crlf, is_letter, is_digit, is_name_byte, name_len, skip_spaces, comment_level}
 use Rattle.fluent_grammar.specs.Refusal.{Kind, Reading, got, refused, refuse, mapped, ◌>>=◌}
-use Rattle.fluent_grammar.specs.Refusal as r
-use Rattle.fluent_grammar.specs.Tree as t
-use Rattle.fluent_grammar.specs.Lines.{Piece}
-use Rattle.fluent_grammar.specs.Ends.{EndsIn, Took}
+use Rattle.fluent_grammar.specs.Ends.{EndsIn}
 use Rattle.fluent_grammar.specs.Reading as g
 use Rattle.fluent_grammar.specs.Reading.{Readers, identifier_at, digits_at, number_at, text_run}
 use Rattle.fluent_grammar.proofs.Within.{Fair, FairReaders, ends, end-same, end-trans, end-drop, end-cons, end-tail, end-le, fairs, identifier-fair, digits-fair, fraction-fair, number-fair, string-fair, literal-fair, accessor-fair, called-fair, inline-fair, placeable-fair, term-fair, select_or_inline-fair, closing-fair, argument-fair, read_pattern-fair, attribute_of-fair, message_of-fair, attributes-end, term_of-fair, head-fair, comment_line-fair, comment_lines-end, text_run-fair}
@@ -45,7 +42,7 @@ leaves-fair (refused fault) w p = record { parts = tt }
 
 pub ruleset leaves = (leaves-got, leaves-refuse, leaves-if, leaves-bind, leaves-mapped, ends)
 
-one-plus : (n : ℕ) → 1 + n ≡ suc n
+pub one-plus : (n : ℕ) → 1 + n ≡ suc n
 one-plus n = omega arith
 
 pub name-end : (s : Text) {w : Text} → begins is_letter s ≡ true → EndsIn (drop 1 s) w → EndsIn (drop (name_len s) s) w

@@ -1,20 +1,20 @@
 -- Each text has exactly one tiling, and its pieces are those that `Tiling` computes.
-use Rattle.std.proofs.Common.{◌≡◌, ℕ, zero, suc, ◌+◌, ◌-◌, ◌<◌, ◌≤◌, Bool, true, false, cond, not, List, [], ◌∷◌, ◌++◌, length, take, drop, refl, sym, ap, ◌∙◌, arith}
-use Rattle.std.specs.Prelude.{◌==◌}
-use Rattle.std.proofs.lemmas.List.{length-append, length-take, take-append-le}
+use Rattle.std.proofs.Common.{◌≡◌, ℕ, zero, suc, ◌+◌, ◌-◌, ◌<◌, ◌≤◌, Bool, true, false, cond, List, [], ◌∷◌, ◌++◌, length, refl, sym, ap, ◌∙◌, arith}
+use Rattle.std.proofs.lemmas.List.{length-append}
 use Rattle.std.proofs.Math.Seq.{take-append_seam}
-use Rattle.fluent_grammar.specs.Words.{Text, begins_with, number_sign, skip_blank_block, rest_of_line}
-use Rattle.fluent_grammar.specs.Refusal.{Kind, Refusal, Reading, got, refused}
+use Rattle.fluent_grammar.specs.Words.{Text, skip_blank_block, rest_of_line}
+use Rattle.fluent_grammar.specs.Refusal.{Refusal, Reading, got, refused}
 use Rattle.fluent_grammar.specs.Tree as t
 use Rattle.fluent_grammar.specs.Ends.{EndsIn}
 use Rattle.fluent_grammar.specs.Reading.{entry_at, front}
-use Rattle.fluent_grammar.specs.Tiling as p
-use Rattle.fluent_grammar.specs.Tiling.{behind_junk, is_field_kind, error_of, pieces_from, runtime_pieces_from, and_pieces}
+use Rattle.fluent_grammar.specs.Tiling.{behind_junk}
+use Rattle.fluent_grammar.specs.Blanks.{BlankBlock, Line}
 use Rattle.fluent_grammar.specs.Recovery.{EndsJunk}
-use Rattle.fluent_grammar.specs.Tiles.{Mode, full, runtime, passes_over, Part, blank_block, entry, junk, passed_over, Tiles, begins_blank, TilesItems, source_ends, an_entry, some_junk, a_line, text_of, error_of_junk, lies_apart, pieces_of}
-use Rattle.fluent_grammar.proofs.Within.{end-same, end-le, end-cons, end-blank_block, Fair, entry-fair}
+use Rattle.fluent_grammar.specs.Tiles.{Mode, full, runtime, passes_over, Part, blank_block, entry, junk, passed_over, Tiles, blank_first, TilesItems, source_ends, an_entry, some_junk, a_line}
+use Rattle.fluent_grammar.proofs.Within.{end-same, end-le, end-cons, end-blank_block}
+use Rattle.fluent_grammar.proofs.Blanks.{block-at, block-skipped, line-at, line-rest}
 use Rattle.fluent_grammar.proofs.LawsOfDepth.{entry-took}
-use Rattle.fluent_grammar.proofs.Taken.{Leaves, entry-leaves}
+use Rattle.fluent_grammar.proofs.Taken.{entry-leaves}
 use Rattle.fluent_grammar.proofs.Agreement.{entries_agree}
 use Rattle.fluent_grammar.proofs.TilesRecovery.{junk-ended, junk-end-once}
 use Rattle.fluent_grammar.proofs.TilesJunk.{junk-end, place-end}
@@ -45,6 +45,15 @@ front-append f a =
 pub front-whole : {a b : Text} → EndsIn a b → b ≡ front b a ++ a
 front-whole {a} {b} h = h.whole ∙ ap (λ f. f ++ a) (sym (front-append h.front a)) ∙ ap (λ z. front z a ++ a) (sym h.whole)
 
+pub front-is : (s a f : Text) → s ≡ f ++ a → front s a ≡ f
+front-is s a f e = ap (λ z. front z a) e ∙ front-append f a
+
+pub front-blank : (s : Text) → BlankBlock (front s (skip_blank_block s)) s (skip_blank_block s)
+front-blank s = let found = block-at s in rw (front-is s (skip_blank_block s) found.0 found.1.split) found.1
+
+pub front-line : (s : Text) → Line (front s (rest_of_line s).1) s (rest_of_line s).1
+front-line s = let found = line-at s in rw (front-is s (rest_of_line s).1 found.0 found.1.split) found.1
+
 if-any : {A : Type 0} (P : A → Type 0) (b : Bool) {x y : A} → (b ≡ true → P x) → (b ≡ false → P y) → P (cond b x y)
 if-any P true p q = p refl
 if-any P false p q = q refl
@@ -61,7 +70,7 @@ item-tiled mode left c cs tiled (refused fault) read p =
 items-tiled : (mode : Mode) (left : Text → List Part) (s : Text) → ((u : Text) → length u < length s → Tiles mode (left u) u) → TilesItems mode (items mode left s) s
 items-tiled mode left [] tiled = source_ends
 items-tiled mode left (c ∷ cs) tiled = if-any (λ ps. TilesItems mode ps (c ∷ cs)) (passes_over mode (c ∷ cs))
-    (λ p. let h : EndsIn (rest_of_line (c ∷ cs)).1 cs = rest_of_line-tail (c ∷ cs) (end-same cs) in a_line p refl (front-whole (end-cons c h)) (tiled _ (omega (arith, end-le h))))
+    (λ p. let h : EndsIn (rest_of_line (c ∷ cs)).1 cs = rest_of_line-tail (c ∷ cs) (end-same cs) in a_line p (front-line (c ∷ cs)) (tiled _ (omega (arith, end-le h))))
     (λ p. item-tiled mode left c cs (λ u h. tiled u (omega (arith, end-le h))) (entry_at (c ∷ cs)) refl p)
 
 pub parts-tiled : (mode : Mode) (n : ℕ) (s : Text) → length s < n → Tiles mode (parts mode n s) s
@@ -69,16 +78,13 @@ unfolding parts
 parts-tiled mode zero s h = absurd (omega arith)
 parts-tiled mode (suc n) s h =
     let e : EndsIn (skip_blank_block s) s = end-blank_block (end-same s) in
-    begins_blank (front-whole e) refl (items-tiled mode (parts mode n) (skip_blank_block s) (λ u k. parts-tiled mode n u (omega (arith, end-le e, k, h))))
+    blank_first (front-blank s) (items-tiled mode (parts mode n) (skip_blank_block s) (λ u k. parts-tiled mode n u (omega (arith, end-le e, k, h))))
 
 -- the rest behind junk is the one that is computed
 pub junk-rest : (s : Text) (fault : Refusal) (rest : Text) → entry_at s ≡ refused fault → EndsJunk s fault.at rest → behind_junk s fault.at ≡ rest
 junk-rest s fault rest read ends = junk-end-once s fault.at _ rest (junk-ended s fault.at (place-end s fault read)) ends
 
 -- a tiling is the one that is computed
-front-is : (s a f : Text) → s ≡ f ++ a → front s a ≡ f
-front-is s a f e = ap (λ z. front z a) e ∙ front-append f a
-
 longer : (s a f : Text) → s ≡ f ++ a → length a ≤ length s
 longer s a f e = rw e (omega (arith, length-append f a))
 
@@ -115,10 +121,10 @@ line-unique mode n (c ∷ cs) f rest ps h p l e unique =
 
 mutual
   pub tiles-unique : (mode : Mode) {ps : List Part} {s : Text} → Tiles mode ps s → (n : ℕ) → length s < n → ps ≡ parts mode n s
-  tiles-unique mode (begins_blank {text} {blanks} {rest} {parts} e b d) n h = blank-unique mode n text blanks rest parts h e b (λ k l. items-unique mode d k l)
+  tiles-unique mode (blank_first {text} {blanks} {rest} {parts} b d) n h = blank-unique mode n text blanks rest parts h b.split (block-skipped blanks text rest b) (λ k l. items-unique mode d k l)
 
   items-unique : (mode : Mode) {ps : List Part} {s : Text} → TilesItems mode ps s → (n : ℕ) → length s ≤ n → ps ≡ items mode (parts mode n) s
   items-unique mode source_ends n h = refl
   items-unique mode (an_entry {text} {front} {rest} {e} {parts} p spelled w d) n h = entry-unique mode n text front rest e parts h p ((entries_agree text e rest).1 spelled) w (λ k l. tiles-unique mode d k l)
   items-unique mode (some_junk {text} {front} {rest} {fault} {place} {parts} p some read at ends w d) n h = junk-unique mode n text front rest fault place parts h p some read (junk-rest text fault rest read ends) w at (λ k l. tiles-unique mode d k l)
-  items-unique mode (a_line {text} {front} {rest} {parts} p l w d) n h = line-unique mode n text front rest parts h p l w (λ k m. tiles-unique mode d k m)
+  items-unique mode (a_line {text} {front} {rest} {parts} p l d) n h = line-unique mode n text front rest parts h p (line-rest front text rest l) l.split (λ k m. tiles-unique mode d k m)

@@ -1,21 +1,21 @@
 -- Errors and junk: as many, in one order, each where the other is.
-use Rattle.std.proofs.Common.{◌≡◌, ℕ, zero, suc, ◌+◌, ◌-◌, ◌<◌, ◌≤◌, Bool, true, false, cond, not, ◌||◌, List, [], ◌∷◌, ◌++◌, length, take, drop, map, Option, Some, None, refl, sym, ap, ◌∙◌, append_assoc, arith, inl, inr}
+use Rattle.std.proofs.Common.{◌≡◌, ℕ, ◌+◌, ◌-◌, ◌<◌, ◌≤◌, Bool, true, false, cond, List, [], ◌∷◌, ◌++◌, length, drop, map, Option, Some, None, refl, sym, ap, ◌∙◌, append_assoc, arith, inl, inr}
 use Rattle.std.specs.Prelude.{◌==◌, All, ◌⊎◌}
 use Rattle.std.proofs.lemmas.List.{length-append, drop_at}
 use Rattle.std.proofs.lemmas.List.Elements.{All-cons}
-use Rattle.std.proofs.Math.Seq.{drop-append_seam, take-append_seam, drop-append-add}
+use Rattle.std.proofs.Math.Seq.{take-append_seam, drop-append-add}
 use Rattle.fluent_grammar.specs.Words.{Text}
 use Rattle.fluent_grammar.specs.Refusal.{Kind, Refusal, Reading, got, refused, refuse, mapped, ◌>>=◌}
 use Rattle.fluent_grammar.specs.Refusal as r
 use Rattle.fluent_grammar.specs.Tree as t
-use Rattle.fluent_grammar.specs.Ends.{EndsIn, Told}
+use Rattle.fluent_grammar.specs.Ends.{Told}
 use Rattle.fluent_grammar.specs.Reading as g
 use Rattle.fluent_grammar.specs.Reading.{entry_at}
 use Rattle.fluent_grammar.specs.Tiling as p
 use Rattle.fluent_grammar.specs.Tiling.{ParserError, is_field_kind, entries_of, errors_of, waiting, left_alone, attached}
-use Rattle.fluent_grammar.specs.Tiles.{Mode, full, runtime, Part, blank_block, entry, junk, passed_over, Tiles, begins_blank, TilesItems, source_ends, an_entry, some_junk, a_line, text_of, error_of_junk, lies_apart, pieces_of, tree_of, errors_in}
-use Rattle.fluent_grammar.specs.TilingLaws.{junk_of, sliced, Ascend, StartsInSlice, JunkIsSliced, SlicesAscend, PlacesStartInSlices, ErrorsAreTold, tree_for, errors_for}
-use Rattle.fluent_grammar.proofs.Within.{Fair, entry-fair, end-same, end-le, end-cons}
+use Rattle.fluent_grammar.specs.Tiles.{Mode, Part, blank_block, entry, junk, passed_over, Tiles, blank_first, TilesItems, source_ends, an_entry, some_junk, a_line, text_of, error_of_junk, pieces_of}
+use Rattle.fluent_grammar.specs.TilingLaws.{junk_of, sliced, Ascend, StartsInSlice, JunkIsSliced, SlicesAscend, PlacesStartInSlices, ErrorsAreTrue}
+use Rattle.fluent_grammar.proofs.Within.{entry-fair, end-same, end-le}
 use Rattle.fluent_grammar.proofs.TilesJunk.{junk-end, place-end, resume-end}
 use Rattle.fluent_grammar.proofs.Agreement.{entries_agree}
 use Rattle.fluent_grammar.proofs.Tiles.{junk-rest}
@@ -106,14 +106,14 @@ junk-sound (c ∷ cs) front rest fault place some read b w at =
 
 mutual
   tiles-sound : (mode : Mode) {ps : List Part} {s : Text} → Tiles mode ps s → Sound ps
-  tiles-sound mode (begins_blank e b d) = items-sound mode d
+  tiles-sound mode (blank_first b d) = items-sound mode d
 
   items-sound : (mode : Mode) {ps : List Part} {s : Text} → TilesItems mode ps s → Sound ps
   items-sound mode source_ends = tt
   items-sound mode (an_entry {text} {rest} {e} p spelled w d) = ((rw ((entries_agree text e rest).1 spelled) at (entry-proper text)).parts, tiles-sound mode d)
   items-sound mode (some_junk {text} {front} {rest} {fault} {place} p some read at ends w d) =
       (rw (tiles-text mode d) (junk-sound text front rest fault place some read (junk-rest text fault rest read ends) w at), tiles-sound mode d)
-  items-sound mode (a_line p l w d) = tiles-sound mode d
+  items-sound mode (a_line p l d) = tiles-sound mode d
 
 -- what the error of junk says
 record Describes (at : ℕ) (text : Text) (kind : Kind) (place : ℕ) (error : ParserError) : Type 0 where
@@ -127,7 +127,7 @@ error-described at text kind place = by_kind (is_field_kind kind) refl
   where
     by_kind : (b : Bool) → is_field_kind kind ≡ b → Describes at text kind place
         (cond b (record { kind = kind; pos_start = at; pos_end = at + place; slice_start = at; slice_end = at + length text })
-          (record { kind = kind; pos_start = at + place; pos_end = at + place + 1; slice_start = at; slice_end = at + length text }))
+        (record { kind = kind; pos_start = at + place; pos_end = at + place + 1; slice_start = at; slice_end = at + length text }))
     by_kind true e = record { told = refl; start = refl; end = refl; starts = inl (refl, e) }
     by_kind false e = record { told = refl; start = refl; end = refl; starts = inr refl }
 
@@ -137,9 +137,11 @@ errors-ascend mode from at end apart (blank_block text ∷ ps) sound h e = error
 errors-ascend mode from at end apart (entry text x ∷ ps) sound h e = errors-ascend mode from (at + length text) end _ ps sound.1 (omega arith) (omega (arith, e, length-append text (text_of ps)))
 errors-ascend mode from at end apart (passed_over text ∷ ps) sound h e = errors-ascend mode from (at + length text) end _ ps sound (omega arith) (omega (arith, e, length-append text (text_of ps)))
 errors-ascend mode from at end apart (junk text kind place ∷ ps) sound h e =
-    let d = error-described at text kind place in
-    (omega (arith, d.start, h), omega (arith, d.start, d.end, sound.0.some),
-      errors-ascend mode (error_of_junk at text kind place).slice_end (at + length text) end false ps sound.1 (omega (arith, d.end)) (omega (arith, e, length-append text (text_of ps))))
+    let d = error-described at text kind place in (
+      omega (arith, d.start, h),
+      omega (arith, d.start, d.end, sound.0.some),
+      errors-ascend mode (error_of_junk at text kind place).slice_end (at + length text) end false ps sound.1 (omega (arith, d.end)) (omega (arith, e, length-append text (text_of ps))),
+    )
 
 all-none : {X : Type 0} (P : X → Type 0) → All P []
 all-none P k d h = absurd (omega arith)
@@ -152,8 +154,8 @@ errors-start mode at apart (passed_over text ∷ ps) sound = errors-start mode _
 errors-start mode at apart (junk text kind place ∷ ps) sound =
     let d = error-described at text kind place in
     All-cons StartsInSlice _ _
-      (elim d.starts [ inl q ↦ (omega (arith, d.start, q.0), omega (arith, d.end, q.0)) | inr q ↦ (omega (arith, d.start, q), omega (arith, d.end, q, sound.0.inside)) ])
-      (errors-start mode (at + length text) false ps sound.1)
+    (elim d.starts [ inl q ↦ (omega (arith, d.start, q.0), omega (arith, d.end, q.0)) | inr q ↦ (omega (arith, d.start, q), omega (arith, d.end, q, sound.0.inside)) ])
+    (errors-start mode (at + length text) false ps sound.1)
 
 field-told : (kind : Kind) (at : Text) → is_field_kind kind ≡ true → Told kind at
 field-told (r.expected_message_field id) at e = tt
@@ -169,11 +171,12 @@ errors-told mode source before at apart (passed_over text ∷ ps) sound h e = er
 errors-told mode source before at apart (junk text kind place ∷ ps) sound h e =
     let d = error-described at text kind place in
     All-cons (λ error. Told error.kind (drop error.pos_start source)) _ _
-      (rw d.told (elim d.starts [
-        | inl q ↦ field-told kind _ q.1
-        | inr q ↦ let there : drop (at + place) source ≡ drop place (text ++ text_of ps) = ap (drop (at + place)) e ∙ ap (λ n. drop (n + place) (before ++ (text ++ text_of ps))) (sym h) ∙ drop-append-add before (text ++ text_of ps) place in
-            rw (q, there) sound.0.told ]))
-      (errors-told mode source (before ++ text) _ false ps sound.1 (omega (arith, length-append before text, h)) (e ∙ sym (append_assoc before text (text_of ps))))
+    (rw d.told (elim d.starts [
+      | inl q ↦ field-told kind _ q.1
+      | inr q ↦ let there : drop (at + place) source ≡ drop place (text ++ text_of ps) = ap (drop (at + place)) e ∙ ap (λ n. drop (n + place) (before ++ (text ++ text_of ps))) (sym h) ∙ drop-append-add before (text ++ text_of ps) place in
+          rw (q, there) sound.0.told
+    ]))
+    (errors-told mode source (before ++ text) _ false ps sound.1 (omega (arith, length-append before text, h)) (e ∙ sym (append_assoc before text (text_of ps))))
 
 -- the texts of junk
 junk_texts : List Part → List Text
@@ -235,7 +238,7 @@ places_start_in_slices mode source =
     let d = each_text_has_a_tiling mode source in
     rw (← (tiling_gives_tree_and_errors mode source d.0 d.1).1) (errors-start mode 0 false d.0 (tiles-sound mode d.1))
 
-pub errors_are_told : ErrorsAreTold
-errors_are_told mode source =
+pub errors_are_true : ErrorsAreTrue
+errors_are_true mode source =
     let d = each_text_has_a_tiling mode source in
     rw (← (tiling_gives_tree_and_errors mode source d.0 d.1).1) (errors-told mode source [] 0 false d.0 (tiles-sound mode d.1) refl (sym (tiles-text mode d.1)))

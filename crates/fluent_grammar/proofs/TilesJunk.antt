@@ -1,15 +1,15 @@
 -- Where junk ends: behind its first byte.
-use Rattle.std.proofs.Common.{◌≡◌, ℕ, zero, suc, ◌+◌, ◌<◌, ◌≤◌, Bool, true, false, cond, ◌&&◌, ◌||◌, List, [], ◌∷◌, ◌++◌, length, drop, refl, sym, ap, ◌∙◌, arith, inl, inr}
+use Rattle.std.proofs.Common.{◌≡◌, ℕ, ◌<◌, Bool, true, false, ◌&&◌, ◌||◌, [], ◌∷◌, ◌++◌, length, drop, refl, sym, inl, inr, arith}
 use Rattle.std.specs.Prelude.{◌==◌, ◌⊎◌}
-use Rattle.fluent_grammar.specs.Words.{Text, line_feed, hyphen, number_sign, begins, begins_with, begins_entry, is_letter, name_len, skip_spaces, comment_level}
-use Rattle.fluent_grammar.specs.Refusal.{Kind, Refusal, Reading, got, refused, refuse, mapped, ◌>>=◌}
-use Rattle.fluent_grammar.specs.Refusal as r
+use Rattle.fluent_grammar.specs.Words.{Text, line_feed, hyphen, number_sign, begins, begins_with, begins_entry, is_letter}
+use Rattle.fluent_grammar.specs.Refusal.{Refusal, got, refused}
 use Rattle.fluent_grammar.specs.Tree as t
 use Rattle.fluent_grammar.specs.Ends.{EndsIn}
 use Rattle.fluent_grammar.specs.Reading as g
 use Rattle.fluent_grammar.specs.Reading.{identifier_at, entry_at}
-use Rattle.fluent_grammar.specs.Tiling.{resume, at_column_zero, behind_junk}
-use Rattle.fluent_grammar.proofs.Within.{Fair, fairs, fair-if, fair-got, ends, end-same, end-trans, end-drop, end-cons, end-tail, end-if, read_pattern-fair, head-fair, term_of-fair, message_of-fair, attributes-end, comment_line-fair, comment_lines-end, entry-fair}
+use Rattle.fluent_grammar.specs.Tiling.{resume, behind_junk}
+use Rattle.fluent_grammar.proofs.Within.{Fair, fairs, fair-if, fair-got, end-same, end-le, end-tail, end-if, read_pattern-fair, head-fair, term_of-fair, message_of-fair, attributes-end, comment_line-fair, comment_lines-end, entry-fair}
+use Rattle.fluent_grammar.proofs.LawsOfDepth.{entry-took}
 use Rattle.fluent_grammar.proofs.Taken.{name-end, level-end}
 
 identifier-inside : (s : Text) {w : Text} → begins is_letter s ≡ true → EndsIn (drop 1 s) w → Fair (identifier_at s) w
@@ -68,8 +68,17 @@ junk-end c cs fault e = by_first (begins_entry c) refl
     by_first true first = resume-end _ _ (rw e at (entry-inside (c ∷ cs) first (end-same cs))).parts.0
     by_first false first = elim (end-cases fault.at c cs (rw e at (entry-fair (end-same (c ∷ cs)))).parts.0) [
       | inl whole ↦ rw whole (resume-tail _ c cs first (end-same cs))
-      | inr inside ↦ resume-end _ _ inside ]
+      | inr inside ↦ resume-end _ _ inside
+    ]
 
 -- the place of a refusal is an end of the text
 pub place-end : (s : Text) (fault : Refusal) → entry_at s ≡ refused fault → EndsIn fault.at s
 place-end s fault e = (rw e at (entry-fair (end-same s))).parts.0
+
+-- what is left behind an entry, and behind junk, is shorter
+pub entry_is_shorter : (s : Text) (e : t.Entry) (rest : Text) → entry_at s ≡ got e rest → length rest < length s
+entry_is_shorter s e rest read = rw read at (entry-took s)
+
+pub junk_is_shorter : (s : Text) (fault : Refusal) → 0 < length s → entry_at s ≡ refused fault → length (behind_junk s fault.at) < length s
+junk_is_shorter [] fault some read = absurd (omega arith)
+junk_is_shorter (c ∷ cs) fault some read = omega (arith, end-le (junk-end c cs fault read))

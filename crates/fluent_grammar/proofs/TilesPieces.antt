@@ -1,28 +1,28 @@
 -- The parts of a tiling, put together, are the text; and they give the pieces, the tree and the errors.
-use Rattle.std.proofs.Common.{◌≡◌, ℕ, zero, suc, ◌+◌, ◌-◌, ◌<◌, ◌≤◌, Bool, true, false, cond, not, List, [], ◌∷◌, ◌++◌, length, take, drop, refl, sym, ap, ◌∙◌, arith, None}
+use Rattle.std.proofs.Common.{◌≡◌, ℕ, zero, suc, ◌+◌, ◌-◌, ◌<◌, ◌≤◌, Bool, true, false, cond, not, List, [], ◌∷◌, ◌++◌, length, refl, sym, ap, ◌∙◌, arith, None}
 use Rattle.std.specs.Prelude.{◌==◌}
-use Rattle.std.proofs.lemmas.List.{length-append, length-take}
+use Rattle.std.proofs.lemmas.List.{length-take}
 use Rattle.fluent_grammar.specs.Words.{Text, begins_with, number_sign, skip_blank_block, rest_of_line}
-use Rattle.fluent_grammar.specs.Refusal.{Kind, Refusal, Reading, got, refused}
+use Rattle.fluent_grammar.specs.Refusal.{Refusal, Reading, got, refused}
 use Rattle.fluent_grammar.specs.Tree as t
 use Rattle.fluent_grammar.specs.Ends.{EndsIn}
 use Rattle.fluent_grammar.specs.Reading.{entry_at, front}
 use Rattle.fluent_grammar.specs.Tiling as p
 use Rattle.fluent_grammar.specs.Tiling.{behind_junk, is_field_kind, error_of, pieces_from, runtime_pieces_from, and_pieces, tree, errors, runtime_tree, runtime_errors, entries_of, errors_of}
-use Rattle.fluent_grammar.specs.Tiles.{Mode, full, runtime, passes_over, Part, blank_block, entry, junk, passed_over, Tiles, begins_blank, TilesItems, source_ends, an_entry, some_junk, a_line, text_of, error_of_junk, lies_apart, pieces_of, tree_of, errors_in}
-use Rattle.fluent_grammar.proofs.Within.{end-same, end-le, end-cons, end-blank_block}
-use Rattle.fluent_grammar.proofs.Tiles.{parts, items, item, line, front-append, front-whole, parts-tiled, tiles-unique}
+use Rattle.fluent_grammar.specs.Tiles.{Mode, full, runtime, Part, blank_block, Tiles, blank_first, TilesItems, source_ends, an_entry, some_junk, a_line, text_of, error_of_junk, pieces_of}
+use Rattle.fluent_grammar.proofs.Within.{end-same, end-le, end-blank_block}
+use Rattle.fluent_grammar.proofs.Tiles.{parts, items, item, line, parts-tiled, tiles-unique}
 use Rattle.fluent_grammar.specs.TilingLaws.{EachTextHasATiling, NoTextHasTwoTilings, PartsAreTheText, PiecesNeedNoMoreSteps, TilingGivesTreeAndErrors}
 
 mutual
   pub tiles-text : (mode : Mode) {ps : List Part} {s : Text} → Tiles mode ps s → text_of ps ≡ s
-  tiles-text mode (begins_blank {blanks} e b d) = ap (λ z. blanks ++ z) (items-text mode d) ∙ sym e
+  tiles-text mode (blank_first {blanks} b d) = ap (λ z. blanks ++ z) (items-text mode d) ∙ sym b.split
 
   items-text : (mode : Mode) {ps : List Part} {s : Text} → TilesItems mode ps s → text_of ps ≡ s
   items-text mode source_ends = refl
   items-text mode (an_entry {front} p read w d) = ap (λ z. front ++ z) (tiles-text mode d) ∙ sym w
   items-text mode (some_junk {front} p some read at ends w d) = ap (λ z. front ++ z) (tiles-text mode d) ∙ sym w
-  items-text mode (a_line {front} p l w d) = ap (λ z. front ++ z) (tiles-text mode d) ∙ sym w
+  items-text mode (a_line {front} p l d) = ap (λ z. front ++ z) (tiles-text mode d) ∙ sym l.split
 
 length-front : (s a : Text) → length (front s a) ≡ length s - length a
 length-front s a = omega (arith, length-take (length s - length a) s)
@@ -107,6 +107,7 @@ parts-enough : (mode : Mode) (m n : ℕ) (s : Text) → length s < m → length 
 parts-enough mode m n s p q = tiles-unique mode (parts-tiled mode m s p) n q
 
 pub pieces_need_no_more_steps : PiecesNeedNoMoreSteps
-pieces_need_no_more_steps m n at s p q =
-    (sym (full-pieces m at false s) ∙ ap (pieces_of full at false) (parts-enough full m n s p q) ∙ full-pieces n at false s,
-      sym (runtime-pieces m at s) ∙ ap (pieces_of runtime at false) (parts-enough runtime m n s p q) ∙ runtime-pieces n at s)
+pieces_need_no_more_steps m n at s p q = (
+  sym (full-pieces m at false s) ∙ ap (pieces_of full at false) (parts-enough full m n s p q) ∙ full-pieces n at false s,
+  sym (runtime-pieces m at s) ∙ ap (pieces_of runtime at false) (parts-enough runtime m n s p q) ∙ runtime-pieces n at s,
+)

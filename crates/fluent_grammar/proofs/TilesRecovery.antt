@@ -1,12 +1,14 @@
 -- What is looked for behind a refusal is the first place that an entry may begin at.
-use Rattle.std.proofs.Common.{◌≡◌, ℕ, zero, suc, ◌+◌, ◌-◌, ◌<◌, ◌≤◌, Bool, true, false, cond, ◌&&◌, ◌||◌, List, [], ◌∷◌, ◌++◌, length, drop, get_or, refl, sym, ap, ◌∙◌, append_assoc, arith, inl, inr, eqb-true, eq-eqb}
+use Rattle.std.proofs.Common.{◌≡◌, ℕ, suc, ◌-◌, ◌≤◌, Bool, true, false, cond, ◌&&◌, [], ◌∷◌, ◌++◌, length, drop, get_or, refl, sym, ap, ◌∙◌, append_assoc, arith, inl, inr, eqb-true, eq-eqb}
 use Rattle.std.specs.Prelude.{◌==◌, ◌⊎◌}
 use Rattle.std.proofs.lemmas.List.{length-append, append_cancel_right, drop_at}
 use Rattle.std.proofs.Math.Seq.{get_or-append_seam}
-use Rattle.fluent_grammar.specs.Words.{Text, line_feed, begins, begins_entry}
+use Rattle.fluent_grammar.specs.Words.{Text, line_feed, begins_entry}
 use Rattle.fluent_grammar.specs.Ends.{EndsIn}
 use Rattle.fluent_grammar.specs.Recovery.{IsColumnZero, MayBegin, EndsJunk}
 use Rattle.fluent_grammar.specs.Tiling.{resume, at_column_zero, behind_junk}
+use Rattle.fluent_grammar.specs.TilingLaws.{RecoveryFindsTheEnd}
+use Rattle.fluent_grammar.proofs.Cases.{and-left, and-right}
 use Rattle.fluent_grammar.proofs.Within.{end-same, end-le, end-cons}
 use Rattle.fluent_grammar.proofs.TilesJunk.{end-cases}
 
@@ -21,13 +23,13 @@ last-byte front line c d e =
 
 snoc-reflects : (front : Text) (c : ℕ) → Reflects (c == line_feed) (front ++ (c ∷ []))
 unfolding Reflects
-snoc-reflects front c = (λ e. inr (front, ap (λ z. front ++ (z ∷ [])) (eqb-true c line_feed e)), elim [
-  | inl e ↦ absurd (omega (arith, ap length e, length-append front (c ∷ [])))
-  | inr e ↦ eq-eqb c line_feed (last-byte front e.0 c line_feed e.1) ])
-
-and-both : (a b : Bool) → (a && b) ≡ true → (a ≡ true) × (b ≡ true)
-and-both true b e = (refl, e)
-and-both false b e = absurd cc
+snoc-reflects front c = (
+  λ e. inr (front, ap (λ z. front ++ (z ∷ [])) (eqb-true c line_feed e)),
+  elim [
+    | inl e ↦ absurd (omega (arith, ap length e, length-append front (c ∷ [])))
+    | inr e ↦ eq-eqb c line_feed (last-byte front e.0 c line_feed e.1)
+  ],
+)
 
 both-and : (a b : Bool) → a ≡ true → b ≡ true → (a && b) ≡ false → ⊥
 both-and true b e h k = absurd cc
@@ -42,7 +44,8 @@ further b front c cs rest column e junk =
       stops = k.stops;
       first = λ other h m. elim (end-cases other c cs h) [
         | inl same ↦ absurd (here other same m)
-        | inr inside ↦ k.first other inside m ];
+        | inr inside ↦ k.first other inside m
+      ];
     }
   where
     here : (other : Text) → other ≡ c ∷ cs → MayBegin (front ++ (c ∷ cs)) other → ⊥
@@ -58,7 +61,7 @@ resume-ends b front (c ∷ cs) column = by_first (b && begins_entry c) refl (res
     by_first : (d : Bool) → (b && begins_entry c) ≡ d → EndsJunk ((front ++ (c ∷ [])) ++ cs) cs (resume (c == line_feed) cs) → EndsJunk (front ++ (c ∷ cs)) (c ∷ cs) (cond d (c ∷ cs) (resume (c == line_feed) cs))
     by_first true e junk = record {
       behind = end-same (c ∷ cs);
-      stops = inr (record { front = front; whole = refl; column_zero = column.0 (and-both b _ e).0; first_byte = (and-both b _ e).1 });
+      stops = inr (record { front = front; whole = refl; column_zero = column.0 (and-left b _ e); first_byte = and-right b _ e });
       first = λ other h m. end-le h;
     }
     by_first false e junk = further b front c cs _ column e junk
@@ -67,7 +70,8 @@ snoc-view : (front : Text) → (front ≡ []) ⊎ ((init : Text) × (c : ℕ) ×
 snoc-view [] = inl refl
 snoc-view (d ∷ ds) = elim (snoc-view ds) [
   | inl e ↦ inr ([], d, ap (λ z. d ∷ z) e)
-  | inr e ↦ inr (d ∷ e.0, e.1, ap (λ z. d ∷ z) e.2) ]
+  | inr e ↦ inr (d ∷ e.0, e.1, ap (λ z. d ∷ z) e.2)
+]
 
 column-start : (place : Text) → at_column_zero place place ≡ true
 column-start place = let none : length place - length place ≡ 0 = omega arith in rw none refl
@@ -90,7 +94,9 @@ reflects-start = ((λ e. inl refl), (λ e. refl))
 start-reflects : (front place : Text) → Reflects (at_column_zero (front ++ place) place) front
 start-reflects front place = elim (snoc-view front) [
   | inl e ↦ rw (e, column-start place) reflects-start
-  | inr e ↦ rw (e.2, column-snoc e.0 e.1 place) (snoc-reflects e.0 e.1) ]
+  | inr e ↦ rw (e.2, column-snoc e.0 e.1 place) (snoc-reflects e.0 e.1)
+]
+
 -- what is looked for is the end of the junk
 pub junk-ended : (text place : Text) → EndsIn place text → EndsJunk text place (behind_junk text place)
 junk-ended text place h = rw h.whole (resume-ends (at_column_zero (h.front ++ place) place) h.front place (start-reflects h.front place))
@@ -106,3 +112,6 @@ no-later text place a b h k = elim h.stops [ inl e ↦ rw e (omega arith) | inr 
 -- junk has one end
 pub junk-end-once : (text place a b : Text) → EndsJunk text place a → EndsJunk text place b → a ≡ b
 junk-end-once text place a b h k = same-end a b place h.behind k.behind (omega (arith, no-later text place a b h k, no-later text place b a k h))
+
+pub recovery_finds_the_end : RecoveryFindsTheEnd
+recovery_finds_the_end text place rest h = ((λ k. junk-end-once text place _ rest (junk-ended text place h) k), (λ e. rw (← e) (junk-ended text place h)))

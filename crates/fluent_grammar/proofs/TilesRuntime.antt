@@ -1,33 +1,28 @@
 -- The tiling for runtime use has the messages and terms of the full one.
-use Rattle.std.proofs.Common.{◌≡◌, ℕ, zero, suc, ◌+◌, ◌-◌, ◌<◌, ◌≤◌, Bool, true, false, cond, not, ◌&&◌, ◌||◌, List, [], ◌∷◌, ◌++◌, length, take, drop, get_or, Option, Some, None, refl, sym, ap, ◌∙◌, arith, inl, inr, eqb-true}
-use Rattle.std.specs.Prelude.{◌==◌, ◌⊎◌, is_some, nat_le}
+use Rattle.std.proofs.Common.{◌≡◌, ℕ, zero, suc, ◌+◌, ◌-◌, ◌≤◌, Bool, true, false, cond, ◌&&◌, ◌||◌, List, [], ◌∷◌, ◌++◌, length, drop, get_or, Option, Some, None, refl, sym, ap, ◌∙◌, arith, eqb-true}
+use Rattle.std.specs.Prelude.{◌==◌, is_some, nat_le}
 use Rattle.std.specs.List.{prefix_len}
-use Rattle.std.proofs.lemmas.List.{length-append, length-drop}
+use Rattle.std.proofs.lemmas.List.{length-drop}
 use Rattle.std.proofs.lemmas.List.Sums.{prefix_len_passes, prefix_len-le-length}
-use Rattle.fluent_grammar.specs.Words.{Text, line_feed, carriage_return, space, hyphen, number_sign, begins, begins_with, begins_entry, is_letter, blank_lines, skip_blank_block, rest_of_line, comment_level, after_line_end}
+use Rattle.fluent_grammar.specs.Words.{Text, line_feed, carriage_return, space, hyphen, number_sign, begins_with, begins_entry, is_letter, blank_lines, skip_blank_block, rest_of_line, comment_level, after_line_end}
 use Rattle.fluent_grammar.specs.Refusal.{Kind, Refusal, Reading, got, refused, refuse, mapped, ◌>>=◌}
 use Rattle.fluent_grammar.specs.Refusal as r
 use Rattle.fluent_grammar.specs.Tree as t
-use Rattle.fluent_grammar.specs.Ends.{EndsIn}
 use Rattle.fluent_grammar.specs.Reading as g
 use Rattle.fluent_grammar.specs.Reading.{entry_at, comment_at, comment_line_at, comment_lines, more_lines}
-use Rattle.fluent_grammar.specs.Tiling as p
-use Rattle.fluent_grammar.specs.Tiling.{resume, behind_junk, at_column_zero, entries_of, errors_of, waiting, left_alone, listed, list, tree, errors, runtime_tree, runtime_errors}
-use Rattle.fluent_grammar.specs.Tiles.{Mode, full, runtime, passes_over, Part, blank_block, entry, junk, passed_over, Tiles, begins_blank, TilesItems, source_ends, an_entry, some_junk, a_line, text_of, error_of_junk, lies_apart, pieces_of}
+use Rattle.fluent_grammar.specs.Tiling.{resume, behind_junk, at_column_zero, entries_of, errors_of, waiting, left_alone, listed}
+use Rattle.fluent_grammar.specs.Tiles.{Mode, full, runtime, Part, blank_block, entry, junk, passed_over, Tiles, blank_first, TilesItems, source_ends, an_entry, some_junk, a_line, lies_apart, pieces_of}
 use Rattle.fluent_grammar.specs.TilingLaws.{RuntimeHasTheSameList, RuntimeAddsNoJunk}
-use Rattle.fluent_grammar.proofs.Within.{end-same, end-le, end-cons, end-blank_block, rest_of_line-end}
+use Rattle.fluent_grammar.proofs.Within.{end-same}
 use Rattle.fluent_grammar.specs.Spelling.{SpellsEntry}
 use Rattle.fluent_grammar.specs.Recovery.{EndsJunk}
+use Rattle.fluent_grammar.proofs.Cases.{cases, and-left, and-right, or-left, or-right}
 use Rattle.fluent_grammar.proofs.Agreement.{entries_agree}
 use Rattle.fluent_grammar.proofs.TilesRecovery.{junk-ended}
-use Rattle.fluent_grammar.proofs.Tiles.{front-whole, junk-rest}
+use Rattle.fluent_grammar.proofs.Tiles.{front-whole, front-blank, front-line, junk-rest}
+use Rattle.fluent_grammar.proofs.Blanks.{block-skipped}
 use Rattle.fluent_grammar.proofs.TilesJunk.{resume-end}
 use Rattle.fluent_grammar.proofs.TilesPieces.{each_text_has_a_tiling, tiling_gives_tree_and_errors}
-use Rattle.fluent_grammar.proofs.Repeated.{rest_of_line-tail}
-
-cases : {P : Type 0} (b : Bool) → (b ≡ true → P) → (b ≡ false → P) → P
-cases true p q = p refl
-cases false p q = q refl
 
 -- no entry begins with a byte of a blank line
 line_feed-begins-none : (c : ℕ) → (c == line_feed) ≡ true → begins_entry c ≡ false
@@ -43,10 +38,6 @@ resume-past : (b : Bool) (c : ℕ) (cs : Text) → begins_entry c ≡ false → 
 resume-past true c cs e = rw e refl
 resume-past false c cs e = refl
 
-and-left : (a b : Bool) → (a && b) ≡ true → a ≡ true
-and-left true b e = refl
-and-left false b e = e
-
 -- a byte of a blank line, the line feed aside
 spaced-begins-none : (c : ℕ) (b : Bool) → (c == space || (c == carriage_return && b)) ≡ true → begins_entry c ≡ false
 spaced-begins-none c b e = cases (c == space) (λ h. space-begins-none c h) (λ h. return-begins-none c (and-left (c == carriage_return) b (rw h at e)))
@@ -57,8 +48,8 @@ blank_lines-resume b line [] e = refl
 blank_lines-resume b line (c ∷ cs) e = cases (c == line_feed)
     (λ h. rw h (e ∙ resume-past b c cs (line_feed-begins-none c h) ∙ ap (λ z. resume z cs) h ∙ blank_lines-resume true cs cs refl))
     (λ h. cases (c == space || (c == carriage_return && begins_with line_feed cs))
-      (λ k. rw (h, k) (blank_lines-resume false line cs (e ∙ resume-past b c cs (spaced-begins-none c _ k) ∙ ap (λ z. resume z cs) h)))
-      (λ k. rw (h, k) refl))
+    (λ k. rw (h, k) (blank_lines-resume false line cs (e ∙ resume-past b c cs (spaced-begins-none c _ k) ∙ ap (λ z. resume z cs) h)))
+    (λ k. rw (h, k) refl))
 
 -- a blank block is as long as it can be
 blank_lines-done : (line s : Text) → ((start : Text) → blank_lines start line ≡ blank_lines start s) → skip_blank_block (blank_lines line s) ≡ blank_lines line s
@@ -66,8 +57,8 @@ blank_lines-done line [] e = e line
 blank_lines-done line (c ∷ cs) e = cases (c == line_feed)
     (λ h. rw h (blank_lines-done cs cs (λ start. refl)))
     (λ h. cases (c == space || (c == carriage_return && begins_with line_feed cs))
-      (λ k. rw (h, k) (blank_lines-done line cs (λ start. e start ∙ rw (h, k) refl)))
-      (λ k. rw (h, k) (e line ∙ rw (h, k) refl)))
+    (λ k. rw (h, k) (blank_lines-done line cs (λ start. e start ∙ rw (h, k) refl)))
+    (λ k. rw (h, k) (e line ∙ rw (h, k) refl)))
 
 skip_blank_block-done : (s : Text) → skip_blank_block (skip_blank_block s) ≡ skip_blank_block s
 skip_blank_block-done s = blank_lines-done s s (λ start. refl)
@@ -76,18 +67,6 @@ skip_blank_block-done s = blank_lines-done s s (λ start. refl)
 sign-no_blank : (s : Text) → begins_with number_sign s ≡ true → skip_blank_block s ≡ s
 sign-no_blank [] e = refl
 sign-no_blank (c ∷ cs) e = rw (eqb-true c number_sign e) refl
-
-or-left : (a b : Bool) → (a || b) ≡ false → a ≡ false
-or-left true b e = e
-or-left false b e = refl
-
-or-right : (a b : Bool) → (a || b) ≡ false → b ≡ false
-or-right true b e = absurd cc
-or-right false b e = e
-
-and-right : (a b : Bool) → (a && b) ≡ true → b ≡ true
-and-right true b e = e
-and-right false b e = absurd cc
 
 line_feed-resume : (s : Text) → begins_with line_feed s ≡ true → resume false s ≡ resume true (drop 1 s)
 line_feed-resume [] e = absurd cc
@@ -99,8 +78,8 @@ resume-line [] = refl
 resume-line (c ∷ cs) = cases (c == line_feed)
     (λ h. rw h refl)
     (λ h. cases (c == carriage_return && begins_with line_feed cs)
-      (λ k. rw (h, k) (line_feed-resume cs (and-right (c == carriage_return) _ k)))
-      (λ k. rw (h, k) (resume-line cs)))
+    (λ k. rw (h, k) (line_feed-resume cs (and-right (c == carriage_return) _ k)))
+    (λ k. rw (h, k) (resume-line cs)))
 
 -- signs at the front of a line don't change where it ends
 signs-rest : (k : ℕ) (s : Text) → k ≤ prefix_len (λ c. c == number_sign) s → (rest_of_line s).1 ≡ (rest_of_line (drop k s)).1
@@ -191,7 +170,7 @@ record FollowsItems (s : Text) (ps : List Part) : Type 0 where
 pass-line : (s : Text) (ps : List Part) → begins_with number_sign s ≡ true → Follows (rest_of_line s).1 ps → FollowsItems s ps
 pass-line s ps e f = record {
   parts = passed_over (g.front s (rest_of_line s).1) ∷ f.parts;
-  tiled = a_line e refl (front-whole (rest_of_line-end s (end-same s))) f.tiled;
+  tiled = a_line e (front-line s) f.tiled;
   same = f.same;
   clean = f.clean;
 }
@@ -199,7 +178,7 @@ pass-line s ps e f = record {
 after-blank : (s : Text) (ps : List Part) → FollowsItems (skip_blank_block s) ps → Follows s ps
 after-blank s ps f = record {
   parts = blank_block (g.front s (skip_blank_block s)) ∷ f.parts;
-  tiled = begins_blank (front-whole (end-blank_block (end-same s))) refl f.tiled;
+  tiled = blank_first (front-blank s) f.tiled;
   same = f.same;
   clean = f.clean;
 }
@@ -208,7 +187,7 @@ without-blank : (s : Text) (ps : List Part) → skip_blank_block s ≡ s → Fol
 without-blank s ps done f = by_parts f.tiled f.same f.clean
   where
     by_parts : {qs : List Part} → Tiles runtime qs s → listed_parts qs ≡ listed_parts ps → (NoJunk ps → NoJunk qs) → FollowsItems s ps
-    by_parts (begins_blank {blanks} {rest} {parts} e b d) same clean = record { parts = parts; tiled = rw (sym done ∙ b) d; same = same; clean = clean }
+    by_parts (blank_first {text} {blanks} {rest} {parts} b d) same clean = record { parts = parts; tiled = rw (sym done ∙ block-skipped blanks text rest b) d; same = same; clean = clean }
 
 comment_line-follows : (s : Text) (level : ℕ) (rest : Text) (ps : List Part) → 1 ≤ level → comment_level s ≡ level → rest ≡ (rest_of_line (drop level s)).1 → Follows rest ps → FollowsItems s ps
 comment_line-follows s level rest ps h e left f =
@@ -277,7 +256,7 @@ items-in-junk [] ps qs done f same dirty =
     record { parts = k.parts; tiled = k.tiled; same = k.same ∙ sym same; clean = λ n. absurd (dirty n) }
 items-in-junk (c ∷ cs) ps qs done f same dirty = cases (begins_entry c)
     (λ e. let k = without-blank (c ∷ cs) ps done (rw e at f) in
-      record { parts = k.parts; tiled = k.tiled; same = k.same ∙ sym same; clean = λ n. absurd (dirty n) })
+    record { parts = k.parts; tiled = k.tiled; same = k.same ∙ sym same; clean = λ n. absurd (dirty n) })
     (λ e. record {
       parts = junk (g.front (c ∷ cs) (resume true (c ∷ cs))) r.expected_letter 0 ∷ f.parts;
       tiled = some_junk {place = 0} (or-right (c == hyphen) _ (or-right (is_letter c) _ e)) (λ z. absurd cc) (none-begins c cs e) (omega arith) (rw (behind-itself (c ∷ cs)) at (junk-ended (c ∷ cs) (c ∷ cs) (end-same (c ∷ cs)))) (front-whole (resume-end true (c ∷ cs) (end-same (c ∷ cs)))) f.tiled;
@@ -319,7 +298,7 @@ comment-in-junk : (s front : Text) (fault : Refusal) (place : ℕ) (rest : Text)
 comment-in-junk s front fault place rest ps sign read b f =
     let v = drop (comment_level s) s in
     let behind : rest ≡ resume true (rest_of_line s).1 =
-        sym b ∙ ap (λ z. behind_junk s z) (comment-refused s fault read) ∙ ap (λ z. resume z v) (signs-column s sign) ∙ resume-line v ∙ ap (resume true) (sym (signs-rest (comment_level s) s (level-signs s))) in
+    sym b ∙ ap (λ z. behind_junk s z) (comment-refused s fault read) ∙ ap (λ z. resume z v) (signs-column s sign) ∙ resume-line v ∙ ap (resume true) (sym (signs-rest (comment_level s) s (level-signs s))) in
     pass-line s (junk front fault.kind place ∷ ps) sign (line-in-junk (rest_of_line s).1 ps (junk front fault.kind place ∷ ps) (rw behind at f) refl (λ n. n))
 
 got-comment : (s : Text) (e : t.Entry) (rest : Text) → begins_with number_sign s ≡ true → entry_at s ≡ got e rest → comment_at s ≡ got e rest
@@ -350,15 +329,15 @@ junk-follows s front fault place rest ps some read at ends w f = cases (begins_w
 
 mutual
   tiles-follow : {ps : List Part} {s : Text} → Tiles full ps s → Follows s ps
-  tiles-follow (begins_blank {text} {blanks} {rest} {parts} e b d) =
-      let k = after-blank text parts (rw (← b) at (items-follow d)) in
+  tiles-follow (blank_first {text} {blanks} {rest} {parts} b d) =
+      let k = after-blank text parts (rw (← block-skipped blanks text rest b) at (items-follow d)) in
       record { parts = k.parts; tiled = k.tiled; same = k.same; clean = k.clean }
 
   items-follow : {ps : List Part} {s : Text} → TilesItems full ps s → FollowsItems s ps
   items-follow source_ends = record { parts = []; tiled = source_ends; same = refl; clean = λ n. n }
   items-follow (an_entry {text} {front} {rest} {e} {parts} p spelled w d) = entry-follows text front e rest parts spelled w (tiles-follow d)
   items-follow (some_junk {text} {front} {rest} {fault} {place} {parts} p some read at ends w d) = junk-follows text front fault place rest parts some read at ends w (tiles-follow d)
-  items-follow (a_line p l w d) = absurd cc
+  items-follow (a_line p l d) = absurd cc
 
 -- the list of a tree is that of its parts
 listed-waiting : (held : Option (List Text)) (es : List t.Entry) → listed (waiting held ++ es) ≡ listed es

@@ -1,14 +1,12 @@
 -- What is left behind a construct, or at a refusal, is an end of the text; and what a refusal says of its place is so.
-use Rattle.std.proofs.Common.{◌≡◌, ℕ, zero, suc, ◌+◌, ◌-◌, ◌<◌, ◌≤◌, Bool, true, false, cond, not, ◌&&◌, ◌||◌, List, [], ◌∷◌, ◌++◌, length, take, drop, Option, Some, None, refl, sym, ap, subst, ◌∙◌, append_assoc, append-nil, arith, rules, inl, inr}
+use Rattle.std.proofs.Common.{◌≡◌, ℕ, zero, suc, ◌≤◌, Bool, true, false, cond, ◌&&◌, List, [], ◌∷◌, ◌++◌, length, take, drop, Option, Some, None, refl, sym, ap, ◌∙◌, append_assoc, append-nil, arith}
 use Rattle.std.specs.Prelude.{◌==◌}
-use Rattle.std.specs.List.{prefix_len}
-use Rattle.std.proofs.lemmas.List.{length-drop, length-take, take-append-drop, length-append}
-use Rattle.fluent_grammar.specs.Words.{Text, line_feed, carriage_return, quote, space, dollar, hyphen, comma, colon, dot, equals, asterisk, backslash, small_u, capital_u, open_paren, close_paren, open_brace, close_brace, open_bracket, close_bracket, number_sign, skip_blank, skip_spaces, skip_separator, skip_blank_block, blank_lines, spaces, after_line_end, begins_crlf, begins, begins_with, begins_arrow, is_letter, is_digit, is_name_byte, is_callee_byte, name_len, rest_of_line, comment_level}
-use Rattle.fluent_grammar.specs.Refusal.{Kind, Refusal, Reading, got, refused, refuse, mapped, ◌>>=◌}
-use Rattle.fluent_grammar.specs.Refusal as r
+use Rattle.std.proofs.lemmas.List.{take-append-drop, length-append}
+use Rattle.fluent_grammar.specs.Words.{Text, line_feed, carriage_return, dot, skip_blank, skip_spaces, skip_separator, skip_blank_block, blank_lines, spaces, after_line_end, begins_crlf, begins_with, rest_of_line, comment_level}
+use Rattle.fluent_grammar.specs.Refusal.{Kind, Reading, got, refused, refuse, mapped, ◌>>=◌}
 use Rattle.fluent_grammar.specs.Tree as t
-use Rattle.fluent_grammar.specs.Lines.{Piece, at_line_start, in_line, ends_line, pattern_ends}
-use Rattle.fluent_grammar.specs.Ends.{EndsIn, Within, Took, Told}
+use Rattle.fluent_grammar.specs.Lines.{Piece}
+use Rattle.fluent_grammar.specs.Ends.{EndsIn, Told}
 use Rattle.fluent_grammar.specs.Reading as g
 use Rattle.fluent_grammar.specs.Reading.{Readers, readers, no_readers, step, identifier_at, digits_at, fraction_at, number_at, front, missing_hex, before, string_content, text_run, is_term_attribute, selector_fault, accessor_at, key_at, literal_at, name_of_argument}
 
@@ -106,6 +104,7 @@ fair-mapped f (got a rest) s p = record { parts = p.parts }
 fair-mapped f (refused fault) s p = record { parts = p.parts }
 
 pub ruleset ends = (end-same, end-drop, end-none, end-if, end-blank, end-spaces, end-separator, end-blank_block)
+
 pub ruleset fairs = (fair-got, fair-refuse, fair-if, fair-bind, fair-mapped, ends)
 
 pub identifier-fair : {s whole : Text} → EndsIn s whole → Fair (identifier_at s) whole
@@ -333,7 +332,8 @@ unfolding g.attributes_at
 attributes-end zero h = h
 attributes-end (suc n) {s} {whole} h = elim (begins_with dot (skip_spaces s)) as (λ b. EndsIn (cond b (g.more_attributes (g.attributes_at n) s (g.attribute_at s)) ([], s)).1 whole) [
   | true ↦ more_attributes-end _ _ _ _ (λ u k. attributes-end n k) h (attribute-fair h)
-  | false ↦ h ]
+  | false ↦ h
+]
 
 pub head-fair : {s whole : Text} → EndsIn s whole → Fair (g.head_at s) whole
 unfolding g.head_at
@@ -380,7 +380,8 @@ unfolding g.comment_lines
 comment_lines-end zero level h = h
 comment_lines-end (suc n) level {s} {whole} h = elim (comment_level s == level) as (λ b. EndsIn (cond b (g.more_lines (g.comment_lines n level) s (g.comment_line_at (drop level s))) ([], s)).1 whole) [
   | true ↦ more_lines-end _ _ _ _ (λ u k. comment_lines-end n level k) h (comment_line-fair (end-drop level h))
-  | false ↦ h ]
+  | false ↦ h
+]
 
 pub comment-fair : {s whole : Text} → EndsIn s whole → Fair (g.comment_at s) whole
 unfolding g.comment_at

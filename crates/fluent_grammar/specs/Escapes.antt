@@ -1,5 +1,5 @@
 -- What a string literal's raw text stands for. Texts are bytes of UTF-8, and so is the result.
-use Rattle.std.specs.Prelude.{ℕ, zero, suc, ◌+◌, ◌-◌, ◌*◌, min, Bool, ◌&&◌, ◌||◌, ◌==◌, nat_lt, nat_le, if◌then◌else◌, List, [], ◌∷◌, ◌++◌, length, take, drop, encode_utf8}
+use Rattle.std.specs.Prelude.{ℕ, zero, suc, ◌+◌, ◌-◌, ◌*◌, min, Bool, ◌&&◌, ◌||◌, ◌==◌, nat_lt, nat_le, if◌then◌else◌, [], ◌∷◌, ◌++◌, length, take, drop, encode_utf8}
 use Rattle.std.specs.List.{prefix_len, list_all}
 use Rattle.std.specs.Str.{continuation_len}
 use Rattle.fluent_grammar.specs.Words.{Text, quote, backslash, small_u, capital_u, is_digit, is_capital, is_between, is_hex_digit}

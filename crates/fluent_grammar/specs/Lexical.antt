@@ -1,8 +1,8 @@
 -- The words of the grammar as relations: a text begins with the word, and the rest is what follows it. Each word is
 -- taken greedily. Nothing here reads: a word is told by its bytes, and by what does not go on it.
-use Rattle.std.specs.Prelude.{◌≡◌, ℕ, Bool, true, false, not, ◌||◌, ◌==◌, List, [], ◌∷◌, ◌++◌, Option, Some, None}
+use Rattle.std.specs.Prelude.{◌≡◌, ℕ, Bool, true, false, not, ◌||◌, ◌==◌, [], ◌∷◌, ◌++◌, Option, Some, None}
 use Rattle.std.specs.List.{list_all}
-use Rattle.fluent_grammar.specs.Words.{Text, line_feed, quote, hyphen, dot, backslash, open_brace, close_brace, small_u, capital_u, is_letter, is_digit, is_name_byte, begins, begins_with, begins_crlf, hex_digits}
+use Rattle.fluent_grammar.specs.Words.{Text, line_feed, carriage_return, space, quote, hyphen, dot, backslash, open_brace, close_brace, small_u, capital_u, is_letter, is_digit, is_name_byte, begins, begins_with, begins_crlf, hex_digits}
 use Rattle.fluent_grammar.specs.Tree as t
 
 -- The longest run of bytes that pass a test, at the front of a text.
@@ -10,6 +10,36 @@ pub record IsLongestRun (passes : ℕ → Bool) (run text rest : Text) : Type 0 
   pub split : text ≡ run ++ rest
   pub passing : list_all passes run ≡ true
   pub longest : begins passes rest ≡ false
+
+-- Blank inline: spaces, as many as there are. A tab is none.
+abbrev pub SpellsBlankInline : Text → Text → Text → Type 0
+SpellsBlankInline blank text rest = IsLongestRun (λ c. c == space) blank text rest
+
+-- A line end: LF or CR LF. A carriage return alone is none.
+pub data SpellsLineEnd : Text → Text → Type 0 where
+  lf : {rest : Text} → SpellsLineEnd (line_feed ∷ rest) rest
+  crlf : {rest : Text} → SpellsLineEnd (carriage_return ∷ line_feed ∷ rest) rest
+
+-- Texts that are blank: spaces and line ends.
+pub data IsBlank : Text → Type 0 where
+  no_blank : IsBlank []
+  then_space : {more : Text} → IsBlank more → IsBlank (space ∷ more)
+  then_lf : {more : Text} → IsBlank more → IsBlank (line_feed ∷ more)
+  then_crlf : {more : Text} → IsBlank more → IsBlank (carriage_return ∷ line_feed ∷ more)
+
+-- Blank: as much as there is. Neither a space nor a line end follows.
+pub record SpellsBlank (blank text rest : Text) : Type 0 where
+  pub split : text ≡ blank ++ rest
+  pub is_blank : IsBlank blank
+  pub no_space : begins_with space rest ≡ false
+  pub no_line_end : (more : Text) → SpellsLineEnd rest more → ⊥
+
+-- The rest of a line: bytes up to a line end, which is taken, or up to the end of the text. A carriage return that isn't
+-- part of a line end is one of the bytes.
+pub data SpellsRestOfLine : Text → Text → Text → Type 0 where
+  line_ends : {s rest : Text} → SpellsLineEnd s rest → SpellsRestOfLine [] s rest
+  text_ends : SpellsRestOfLine [] [] []
+  line_byte : {c : ℕ} {line s rest : Text} → ((more : Text) → SpellsLineEnd (c ∷ s) more → ⊥) → SpellsRestOfLine line s rest → SpellsRestOfLine (c ∷ line) (c ∷ s) rest
 
 -- Identifier: an ASCII letter, then letters, digits, `-` and `_`.
 pub record SpellsName (name text rest : Text) : Type 0 where

@@ -8,8 +8,11 @@ pub mod Reading
 pub mod Tiling
 pub mod Ends
 pub mod Levels
+pub mod Blanks
 pub mod Recovery
 pub mod Tiles
 pub mod TilingLaws
 pub mod Escapes
 pub mod SpellingLaws
+pub mod Written
+pub mod LineLaws

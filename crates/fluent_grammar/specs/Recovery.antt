@@ -1,9 +1,9 @@
 -- Where junk ends: at the first place that an entry may begin at.
-use Rattle.std.specs.Prelude.{◌≡◌, ◌≤◌, ◌⊎◌, true, List, [], ◌∷◌, ◌++◌, length}
+use Rattle.std.specs.Prelude.{◌≡◌, ◌≤◌, ◌⊎◌, true, [], ◌∷◌, ◌++◌, length}
 use Rattle.fluent_grammar.specs.Words.{Text, line_feed, begins, begins_entry}
 use Rattle.fluent_grammar.specs.Ends.{EndsIn}
 
--- Column 0, by what stands before it in the entry: nothing, or a line feed and anything before that.
+-- Column 0, by what stands before it in an entry, which begins at column 0: nothing, or a text that ends in a line feed.
 abbrev pub IsColumnZero : Text → Type 0
 IsColumnZero front = (front ≡ []) ⊎ ((line : Text) × (front ≡ line ++ (line_feed ∷ [])))
 

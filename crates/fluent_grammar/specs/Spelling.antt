@@ -3,8 +3,8 @@
 -- things, how deep it may go and what it refuses are not said here: see `Reading`. The words are in `Lexical`.
 use Rattle.std.specs.Prelude.{◌≡◌, ◌≢◌, ◌⊎◌, ℕ, Bool, true, false, ◌==◌, List, [], ◌∷◌, ◌++◌, drop, Option, Some, None}
 use Rattle.std.specs.List.{list_all}
-use Rattle.fluent_grammar.specs.Words.{Text, line_feed, quote, number_sign, dollar, open_paren, close_paren, asterisk, hyphen, dot, colon, equals, greater, space, open_bracket, close_bracket, open_brace, close_brace, is_callee_byte, begins_with, spaces, skip_spaces, begins_crlf, after_line_end, skip_blank, skip_blank_block, begins_arrow, skip_separator, is_among, rest_of_line, comment_level}
-use Rattle.fluent_grammar.specs.Lexical.{SpellsName, SpellsNumber, SpellsString, SpellsAccessor, SpellsKey, SpellsLiteral, SpellsText}
+use Rattle.fluent_grammar.specs.Words.{Text, line_feed, quote, dollar, open_paren, close_paren, asterisk, hyphen, dot, colon, equals, greater, space, open_bracket, close_bracket, open_brace, close_brace, is_callee_byte, begins_with, spaces, skip_spaces, begins_crlf, after_line_end, skip_blank, skip_blank_block, begins_arrow, skip_separator, is_among, comment_level}
+use Rattle.fluent_grammar.specs.Lexical.{SpellsLineEnd, SpellsRestOfLine, SpellsName, SpellsNumber, SpellsString, SpellsAccessor, SpellsKey, SpellsLiteral, SpellsText}
 use Rattle.fluent_grammar.specs.Lines.{Piece, at_line_start, in_line, placed, elements_of, ends_line, pattern_ends, value_of}
 use Rattle.fluent_grammar.specs.Tree as t
 
@@ -39,19 +39,19 @@ mutual
   -- InlineExpression
   pub data SpellsInline : t.Inline → Text → Text → Type 0 where
     -- StringLiteral
-    a_string : {raw s u rest : Text} → s ≡ quote ∷ u → SpellsString raw u rest → SpellsInline (t.string_literal raw) s rest
+    a_string_literal : {raw s u rest : Text} → s ≡ quote ∷ u → SpellsString raw u rest → SpellsInline (t.string_literal raw) s rest
     -- NumberLiteral
-    a_number : {number s rest : Text} → SpellsNumber number s rest → SpellsInline (t.number_literal number) s rest
+    a_number_literal : {number s rest : Text} → SpellsNumber number s rest → SpellsInline (t.number_literal number) s rest
     -- VariableReference
-    a_variable : {name s u rest : Text} → s ≡ dollar ∷ u → SpellsName name u rest → SpellsInline (t.variable_reference name) s rest
+    a_variable_reference : {name s u rest : Text} → s ≡ dollar ∷ u → SpellsName name u rest → SpellsInline (t.variable_reference name) s rest
     -- TermReference: the attribute stands directly behind the name.
-    a_term : {name s u v w rest : Text} {attribute : Option Text} {arguments : t.MaybeArguments} → s ≡ hyphen ∷ u → SpellsName name u v →
+    a_term_reference : {name s u v w rest : Text} {attribute : Option Text} {arguments : t.MaybeArguments} → s ≡ hyphen ∷ u → SpellsName name u v →
         SpellsAccessor attribute v w → SpellsMaybeArguments arguments (skip_blank w) rest → SpellsInline (t.term_reference name attribute arguments) s rest
     -- MessageReference: blank may stand before the dot, and is taken where no dot follows, too.
-    a_message : {name s u rest : Text} {attribute : Option Text} → SpellsName name s u → begins_with open_paren (skip_blank u) ≡ false →
+    a_message_reference : {name s u rest : Text} {attribute : Option Text} → SpellsName name s u → begins_with open_paren (skip_blank u) ≡ false →
         SpellsAccessor attribute (skip_blank u) rest → SpellsInline (t.message_reference name attribute) s rest
     -- FunctionReference: the name has no small letter.
-    a_function : {name s u v rest : Text} {arguments : t.Arguments} → SpellsName name s u → list_all is_callee_byte name ≡ true →
+    a_function_reference : {name s u v rest : Text} {arguments : t.Arguments} → SpellsName name s u → list_all is_callee_byte name ≡ true →
         skip_blank u ≡ open_paren ∷ v → SpellsArguments [] arguments (skip_blank v) rest → SpellsInline (t.function_reference name arguments) s rest
     -- InlinePlaceable
     a_placeable : {s rest : Text} {e : t.Expression} → SpellsPlaceable e s rest → SpellsInline (t.nested e) s rest
@@ -151,16 +151,16 @@ pub data SpellsAttribute : t.Attribute → Text → Text → Type 0 where
 
 -- Attributes, one directly behind the other, as many as can be read.
 pub data SpellsAttributes : List t.Attribute → Text → Text → Type 0 where
-  no_further : {s : Text} → ((a : t.Attribute) (rest : Text) → SpellsAttribute a s rest → ⊥) → SpellsAttributes [] s s
-  one_more : {s u rest : Text} {a : t.Attribute} {others : List t.Attribute} → SpellsAttribute a s u → SpellsAttributes others u rest →
+  no_more_attributes : {s : Text} → ((a : t.Attribute) (rest : Text) → SpellsAttribute a s rest → ⊥) → SpellsAttributes [] s s
+  one_more_attribute : {s u rest : Text} {a : t.Attribute} {others : List t.Attribute} → SpellsAttribute a s u → SpellsAttributes others u rest →
       SpellsAttributes (a ∷ others) s rest
 
 -- CommentLine behind its sign: a line end, or a space and the rest of the line. Nothing, at the end of the text, adds no
 -- line.
 pub data SpellsCommentText : List Text → Text → Text → Type 0 where
   at_end : SpellsCommentText [] [] []
-  empty_line : {s rest : Text} → after_line_end s ≡ Some rest → SpellsCommentText ([] ∷ []) s rest
-  some_line : {s : Text} → SpellsCommentText ((rest_of_line s).0 ∷ []) (space ∷ s) (rest_of_line s).1
+  empty_line : {s rest : Text} → SpellsLineEnd s rest → SpellsCommentText ([] ∷ []) s rest
+  some_line : {line s rest : Text} → SpellsRestOfLine line s rest → SpellsCommentText (line ∷ []) (space ∷ s) rest
 
 -- CommentLine of a level: one sign, `#`, `##` or `###`.
 pub record SpellsCommentLine (level : ℕ) (lines : List Text) (text rest : Text) : Type 0 where
@@ -169,13 +169,13 @@ pub record SpellsCommentLine (level : ℕ) (lines : List Text) (text rest : Text
 
 -- More lines of a comment of a level, as many as can be read.
 pub data SpellsCommentLines : ℕ → List Text → Text → Text → Type 0 where
-  no_further : {level : ℕ} {s : Text} → ((lines : List Text) (rest : Text) → SpellsCommentLine level lines s rest → ⊥) → SpellsCommentLines level [] s s
-  one_more : {level : ℕ} {s u rest : Text} {line others : List Text} → SpellsCommentLine level line s u → SpellsCommentLines level others u rest →
+  no_more_lines : {level : ℕ} {s : Text} → ((lines : List Text) (rest : Text) → SpellsCommentLine level lines s rest → ⊥) → SpellsCommentLines level [] s s
+  one_more_line : {level : ℕ} {s u rest : Text} {line others : List Text} → SpellsCommentLine level line s u → SpellsCommentLines level others u rest →
       SpellsCommentLines level (line ++ others) s rest
 
 -- A comment of a level: a line, and more of them.
 pub data SpellsComment : ℕ → List Text → Text → Text → Type 0 where
-  a_comment : {level : ℕ} {s u rest : Text} {line others : List Text} → SpellsCommentLine level line s u → SpellsCommentLines level others u rest →
+  some_lines : {level : ℕ} {s u rest : Text} {line others : List Text} → SpellsCommentLine level line s u → SpellsCommentLines level others u rest →
       SpellsComment level (line ++ others) s rest
 
 -- Entry, at column 0. The comment that stands above a message or a term is an entry of its own here: `Tiling` sets it.

@@ -1,8 +1,8 @@
 -- Laws of spelling and reading, as statements: reading gives a node and a rest exactly where the node is spelled up to
 -- that rest; so a text begins with at most one node of a kind.
-use Rattle.std.specs.Prelude.{◌≡◌, ◌↔◌, ◌<◌, ◌≤◌, ℕ, Bool, true, List, length}
-use Rattle.fluent_grammar.specs.Words.{Text, begins, begins_with, is_letter, hyphen, number_sign, open_brace, dot, skip_spaces}
-use Rattle.fluent_grammar.specs.Lexical.{SpellsName, SpellsNumber, SpellsString, SpellsAccessor, SpellsKey, SpellsLiteral, SpellsText}
+use Rattle.std.specs.Prelude.{◌≡◌, ◌↔◌, ◌<◌, ◌≤◌, ℕ, Bool, true, List, length, Some}
+use Rattle.fluent_grammar.specs.Words.{Text, begins, begins_with, is_letter, hyphen, number_sign, open_brace, dot, skip_spaces, after_line_end, skip_blank, rest_of_line}
+use Rattle.fluent_grammar.specs.Lexical.{SpellsBlankInline, SpellsLineEnd, SpellsBlank, SpellsRestOfLine, SpellsName, SpellsNumber, SpellsString, SpellsAccessor, SpellsKey, SpellsLiteral, SpellsText}
 use Rattle.fluent_grammar.specs.Refusal.{Reading, got}
 use Rattle.fluent_grammar.specs.Reading.{identifier_at, number_at, string_content, accessor_at, key_at, literal_at, text_run, readers, placeable_at, pattern_at, attribute_at, attributes_at, message_at, term_entry_at, comment_at, entry_at}
 use Rattle.fluent_grammar.specs.Spelling.{SpellsInline, SpellsArguments, SpellsPlaceable, SpellsVariants, SpellsPattern, SpellsPieces, SpellsLine, SpellsAttribute, SpellsAttributes, SpellsEntry}
@@ -21,6 +21,19 @@ abbrev pub Unique : {A : Type 0} → (A → Text → Text → Type 0) → Type 0
 Unique {A} Spells = (s : Text) (one other : A) (rest end : Text) → Spells one s rest → Spells other s end → (one ≡ other) × (rest ≡ end)
 
 -- ---- words
+
+-- what is skipped as blank inline, as a line end or as blank is spelled so, and the other way round
+abbrev pub BlankInlineAgrees : Type 0
+BlankInlineAgrees = (s rest : Text) → (skip_spaces s ≡ rest) ↔ ((blank : Text) × SpellsBlankInline blank s rest)
+
+abbrev pub LineEndsAgree : Type 0
+LineEndsAgree = (s rest : Text) → (after_line_end s ≡ Some rest) ↔ SpellsLineEnd s rest
+
+abbrev pub BlankAgrees : Type 0
+BlankAgrees = (s rest : Text) → (skip_blank s ≡ rest) ↔ ((blank : Text) × SpellsBlank blank s rest)
+
+abbrev pub RestsOfLinesAgree : Type 0
+RestsOfLinesAgree = (s line rest : Text) → (rest_of_line s ≡ (line, rest)) ↔ SpellsRestOfLine line s rest
 
 abbrev pub NamesAgree : Type 0
 NamesAgree = Agree identifier_at SpellsName

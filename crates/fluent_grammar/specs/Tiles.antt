@@ -1,11 +1,12 @@
 -- The tiling of a source: blank blocks, and between them entries and junk. It is a relation: nothing here bounds a depth,
 -- and no place is counted from the source's start.
 use Rattle.std.specs.Prelude.{◌≡◌, ◌≢◌, ℕ, ◌+◌, Bool, true, false, not, ◌==◌, if◌then◌else◌, List, [], ◌∷◌, ◌++◌, length, None}
-use Rattle.fluent_grammar.specs.Words.{Text, number_sign, begins_with, skip_blank_block, rest_of_line}
+use Rattle.fluent_grammar.specs.Words.{Text, number_sign, begins_with}
 use Rattle.fluent_grammar.specs.Refusal.{Kind, Refusal, refused}
 use Rattle.fluent_grammar.specs.Tree as t
 use Rattle.fluent_grammar.specs.Spelling.{SpellsEntry}
 use Rattle.fluent_grammar.specs.Reading.{entry_at}
+use Rattle.fluent_grammar.specs.Blanks.{BlankBlock, Line}
 use Rattle.fluent_grammar.specs.Recovery.{EndsJunk}
 use Rattle.fluent_grammar.specs.Tiling as p
 use Rattle.fluent_grammar.specs.Tiling.{ParserError, is_field_kind, entries_of, errors_of}
@@ -31,8 +32,8 @@ pub data Part : Type 0 where
 mutual
   -- a blank block, as long as it can be, and what follows it
   pub data Tiles (mode : Mode) : List Part → Text → Type 0 where
-    begins_blank : {text blanks rest : Text} {parts : List Part} → text ≡ blanks ++ rest → skip_blank_block text ≡ rest →
-        TilesItems mode parts rest → Tiles mode (blank_block blanks ∷ parts) text
+    blank_first : {text blanks rest : Text} {parts : List Part} → BlankBlock blanks text rest → TilesItems mode parts rest →
+        Tiles mode (blank_block blanks ∷ parts) text
 
   -- the end, or an entry, junk or a line that is passed over, and what follows it
   pub data TilesItems (mode : Mode) : List Part → Text → Type 0 where
@@ -42,8 +43,8 @@ mutual
     some_junk : {text front rest : Text} {fault : Refusal} {place : ℕ} {parts : List Part} → passes_over mode text ≡ false → text ≢ [] →
         entry_at text ≡ refused fault → place + length fault.at ≡ length text → EndsJunk text fault.at rest → text ≡ front ++ rest →
         Tiles mode parts rest → TilesItems mode (junk front fault.kind place ∷ parts) text
-    a_line : {text front rest : Text} {parts : List Part} → passes_over mode text ≡ true → (rest_of_line text).1 ≡ rest →
-        text ≡ front ++ rest → Tiles mode parts rest → TilesItems mode (passed_over front ∷ parts) text
+    a_line : {text front rest : Text} {parts : List Part} → passes_over mode text ≡ true → Line front text rest →
+        Tiles mode parts rest → TilesItems mode (passed_over front ∷ parts) text
 
 -- the text of a part, and of parts put together
 abbrev pub text_of_part : Part → Text

@@ -1,12 +1,12 @@
 -- A source as blank blocks, entries and junk.
-use Rattle.std.specs.Prelude.{ℕ, zero, suc, ◌+◌, ◌-◌, Bool, true, false, not, ◌&&◌, ◌||◌, ◌==◌, if◌then◌else◌, List, [], ◌∷◌, ◌++◌, length, take, drop, slice_index, Option, Some, None}
+use Rattle.std.specs.Prelude.{ℕ, zero, suc, ◌+◌, ◌-◌, Bool, true, false, not, ◌&&◌, ◌||◌, ◌==◌, if◌then◌else◌, List, [], ◌∷◌, ◌++◌, length, take, slice_index, Option, Some, None}
 use Rattle.fluent_grammar.specs.Words.{Text, line_feed, number_sign, begins_with, begins_entry, skip_blank_block, rest_of_line}
 use Rattle.fluent_grammar.specs.Refusal.{Kind, Refusal, Reading, got, refused}
 use Rattle.fluent_grammar.specs.Refusal as r
 use Rattle.fluent_grammar.specs.Tree as t
 use Rattle.fluent_grammar.specs.Reading.{entry_at}
 
--- the first place that is at column 0 and begins an entry; whether the text stands at column 0
+-- the first place, from here on, that is at column 0 and holds a byte that begins an entry; else the end of the text
 abbrev pub resume : Bool → Text → Text
 resume column_zero [] = []
 resume column_zero (c ∷ cs) = if column_zero && begins_entry c then c ∷ cs else resume (c == line_feed) cs
@@ -15,7 +15,7 @@ resume column_zero (c ∷ cs) = if column_zero && begins_entry c then c ∷ cs e
 abbrev pub at_column_zero : Text → Text → Bool
 at_column_zero s place = let p = length s - length place in p == 0 || slice_index s (p - 1) == line_feed
 
--- what follows the junk of an entry that was refused
+-- What follows the junk of an entry that was refused: it ends at the first such place at or behind the place where reading stopped.
 abbrev pub behind_junk : Text → Text → Text
 behind_junk s place = resume (at_column_zero s place) place
 
@@ -58,6 +58,8 @@ pub data Piece : Type 0 where
   entry : Bool → t.Entry → Piece
   junk : Text → ParserError → Piece
 
+-- The error of an entry that begins at this offset. Its `pos` is one byte at the place of the refusal, but for the two field
+-- kinds: there it is the entry's range. Its slice is the junk's range.
 abbrev pub error_of : ℕ → Text → Refusal → ParserError
 error_of at s fault =
     let p = at + (length s - length fault.at) in
@@ -82,9 +84,11 @@ pieces_from (suc n) at s =
     let here = at + (length s - length u) in
     if length u == 0 then [] else and_pieces (pieces_from n) here (not (length u == length s)) u (entry_at u)
 
+-- the pieces of a source: blank blocks, with entries and junk between them
 abbrev pub pieces : Text → List Piece
 pieces source = pieces_from (suc (length source)) 0 source
 
+-- the errors of some pieces
 abbrev pub errors_of : List Piece → List ParserError
 errors_of [] = []
 errors_of (entry apart e ∷ ps) = errors_of ps
@@ -146,12 +150,14 @@ runtime_pieces_from (suc n) at s =
     else if begins_with number_sign u then (let rest = (rest_of_line u).1 in runtime_pieces_from n (here + (length u - length rest)) rest)
     else and_pieces (runtime_pieces_from n) here false u (entry_at u)
 
+-- the pieces of a source for runtime use
 abbrev pub runtime_pieces : Text → List Piece
 runtime_pieces source = runtime_pieces_from (suc (length source)) 0 source
 
--- the tree and the errors of a source for runtime use
+-- the tree of a source for runtime use, which has no comments
 abbrev pub runtime_tree : Text → List t.Entry
 runtime_tree source = entries_of None (runtime_pieces source)
 
+-- the errors of a source for runtime use
 abbrev pub runtime_errors : Text → List ParserError
 runtime_errors source = errors_of (runtime_pieces source)

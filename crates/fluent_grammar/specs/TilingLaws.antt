@@ -1,16 +1,17 @@
 -- The laws of reading and tiling, as statements.
-use Rattle.std.specs.Prelude.{◌≡◌, ℕ, ◌+◌, ◌-◌, ◌<◌, ◌≤◌, Bool, List, [], ◌∷◌, length, take, drop, map, Some, All}
-use Rattle.fluent_grammar.specs.Words.{Text}
-use Rattle.fluent_grammar.specs.Refusal.{Reading}
+use Rattle.std.specs.Prelude.{◌≡◌, ◌≢◌, ℕ, ◌-◌, ◌<◌, ◌≤◌, Bool, List, [], ◌∷◌, ◌++◌, length, take, drop, map, None, All, ◌↔◌}
+use Rattle.fluent_grammar.specs.Words.{Text, skip_blank_block, rest_of_line}
 use Rattle.fluent_grammar.specs.Tree as t
-use Rattle.fluent_grammar.specs.Lines.{Piece}
-use Rattle.fluent_grammar.specs.Reading.{Readers, readers, identifier_at, number_at, literal_at, key_at, placeable_at, pattern_at, attribute_at, attributes_at, head_at, comment_lines, comment_at, message_at, term_entry_at, entry_at}
-use Rattle.fluent_grammar.specs.Tiling.{ParserError, pieces_from, runtime_pieces_from, tree, errors, runtime_tree, runtime_errors, listed, list}
-use Rattle.fluent_grammar.specs.Tiles.{Mode, full, runtime, Part, Tiles, text_of, tree_of, errors_in}
+use Rattle.fluent_grammar.specs.Reading.{Readers, readers, identifier_at, number_at, attribute_at, placeable_at, pattern_at, attributes_at, comment_lines, entry_at}
+use Rattle.fluent_grammar.specs.Tiling.{ParserError, behind_junk, pieces_from, runtime_pieces_from, tree, errors, runtime_tree, runtime_errors, listed, list}
+use Rattle.fluent_grammar.specs.Blanks.{BlankBlock, Line}
+use Rattle.fluent_grammar.specs.Recovery.{IsColumnZero, EndsJunk}
+use Rattle.fluent_grammar.specs.Tiles.{Mode, full, runtime, Part, Tiles, text_of_part, text_of, tree_of, errors_in}
 use Rattle.fluent_grammar.specs.Ends.{EndsIn, Within, Took, Told}
 use Rattle.fluent_grammar.specs.Levels.{levels}
 
--- What each reader leaves, and the place of its refusal, is an end of the text that it was given.
+-- What a reader leaves, and the place of its refusal, is an end of the text that it was given. So it is for each reader,
+-- for placeables and patterns, for entries and for what attributes leave.
 pub record StaysWithin (inside : Readers) (text : Text) : Type 0 where
   pub inline : Within (inside.inline text) text
   pub arguments : (names : List Text) → Within (inside.arguments names text) text
@@ -29,13 +30,24 @@ EntriesStayWithin = (text : Text) → Within (entry_at text) text
 abbrev pub AttributesStayWithin : Type 0
 AttributesStayWithin = (n : ℕ) (text : Text) → EndsIn (attributes_at n text).1 text
 
--- An expression, what is left of call arguments (their closing parenthesis, at least) and an entry have a byte or more.
+-- An expression, what is left of call arguments (their closing parenthesis, at least) and a placeable have a byte or more.
 pub record TakesSome (inside : Readers) (text : Text) : Type 0 where
   pub inline : Took (inside.inline text) text
   pub arguments : (names : List Text) → Took (inside.arguments names text) text
+  pub placeable : Took (placeable_at inside text) text
 
 abbrev pub ReadersTakeSome : Type 0
 ReadersTakeSome = (n : ℕ) (text : Text) → TakesSome (readers n) text
+
+-- So have an identifier, a number literal, an attribute and an entry.
+abbrev pub NamesTakeSome : Type 0
+NamesTakeSome = (text : Text) → Took (identifier_at text) text
+
+abbrev pub NumbersTakeSome : Type 0
+NumbersTakeSome = (text : Text) → Took (number_at text) text
+
+abbrev pub AttributesTakeSome : Type 0
+AttributesTakeSome = (text : Text) → Took (attribute_at text) text
 
 abbrev pub EntriesTakeSome : Type 0
 EntriesTakeSome = (text : Text) → Took (entry_at text) text
@@ -56,9 +68,12 @@ LevelsAreEnough = (m n : ℕ) (text : Text) → length text < m → length text 
 abbrev pub BottomIsNeverAsked : Type 0
 BottomIsNeverAsked = (bottom : Readers) (m n : ℕ) (text : Text) → length text < m → length text < n → ReadAlike (readers m) (levels bottom n) text
 
--- A pattern asks its readers of shorter texts alone, but for its own first piece.
+-- As many levels as a text has bytes are enough for a pattern, which asks its readers of shorter texts alone.
 abbrev pub PatternsNeedNoMoreLevels : Type 0
 PatternsNeedNoMoreLevels = (m n : ℕ) (text : Text) → length text ≤ m → length text ≤ n → pattern_at (readers m) text ≡ pattern_at (readers n) text
+
+abbrev pub PatternsNeverAskTheBottom : Type 0
+PatternsNeverAskTheBottom = (bottom : Readers) (m n : ℕ) (text : Text) → length text ≤ m → length text ≤ n → pattern_at (readers m) text ≡ pattern_at (levels bottom n) text
 
 -- as many steps as a text has bytes are enough for its attributes
 abbrev pub AttributesNeedNoMoreSteps : Type 0
@@ -123,8 +138,8 @@ abbrev pub PlacesStartInSlices : Type 0
 PlacesStartInSlices = (mode : Mode) (source : Text) → All StartsInSlice (errors_for mode source)
 
 -- What an error tells of the byte at its place is so.
-abbrev pub ErrorsAreTold : Type 0
-ErrorsAreTold = (mode : Mode) (source : Text) → All (λ error. Told error.kind (drop error.pos_start source)) (errors_for mode source)
+abbrev pub ErrorsAreTrue : Type 0
+ErrorsAreTrue = (mode : Mode) (source : Text) → All (λ error. Told error.kind (drop error.pos_start source)) (errors_for mode source)
 
 -- The messages and terms for runtime use are those of the full reading, comments set aside.
 abbrev pub RuntimeHasTheSameList : Type 0
@@ -138,3 +153,31 @@ RuntimeAddsNoJunk = (source : Text) → errors source ≡ [] → runtime_errors 
 abbrev pub PiecesNeedNoMoreSteps : Type 0
 PiecesNeedNoMoreSteps = (m n at : ℕ) (text : Text) → length text < m → length text < n →
     (pieces_from m at text ≡ pieces_from n at text) × (runtime_pieces_from m at text ≡ runtime_pieces_from n at text)
+
+-- What is looked for behind a refusal is where the junk ends, and junk has one end.
+abbrev pub RecoveryFindsTheEnd : Type 0
+RecoveryFindsTheEnd = (text place rest : Text) → EndsIn place text → (EndsJunk text place rest ↔ (behind_junk text place ≡ rest))
+
+-- an entry that is no comment and has none
+abbrev pub HasNoComment : t.Entry → Type 0
+HasNoComment (t.message m) = m.comment ≡ None
+HasNoComment (t.term m) = m.comment ≡ None
+HasNoComment (t.junk content) = Unit {0}
+HasNoComment _ = ⊥
+
+-- The tree for runtime use has no comments.
+abbrev pub RuntimeHasNoComments : Type 0
+RuntimeHasNoComments = (source : Text) → All HasNoComment (runtime_tree source)
+
+-- What is skipped for a blank block is one, and there is no other.
+abbrev pub BlankBlocksAreSkipped : Type 0
+BlankBlocksAreSkipped = (text rest : Text) → ((blanks : Text) × BlankBlock blanks text rest) ↔ (skip_blank_block text ≡ rest)
+
+-- What is left behind a line is what stands behind its line feed.
+abbrev pub LinesAreLeft : Type 0
+LinesAreLeft = (text rest : Text) → ((line : Text) × Line line text rest) ↔ ((rest_of_line text).1 ≡ rest)
+
+-- Each part of a tiling that isn't empty begins at column 0.
+abbrev pub PartsBeginAtColumnZero : Type 0
+PartsBeginAtColumnZero = (mode : Mode) (source : Text) (before : List Part) (part : Part) (behind : List Part) →
+    Tiles mode (before ++ part ∷ behind) source → text_of_part part ≢ [] → IsColumnZero (text_of before)

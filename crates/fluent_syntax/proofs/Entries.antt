@@ -11,7 +11,8 @@ use Rattle.fluent_grammar.proofs.Within.{end-same, end-le, end-spaces}
 use Rattle.fluent_grammar.proofs.Taken.{Leaves, attribute-leaves}
 use Rattle.fluent_grammar.proofs.Repeated.{attributes_need_no_more_steps, begins-some}
 use Rattle.fluent_syntax.specs.Reads.{whole, byte_at, Refuses, Fails}
-use Rattle.fluent_syntax.specs.Entries.{Head, pattern_by, head_by, attribute_with, attribute_by, attribute_or_none, next_attribute_by, attributes_left, attributes_by, message_by, term_by}
+use Rattle.fluent_syntax.specs.Steps.{pattern_by}
+use Rattle.fluent_syntax.specs.Entries.{Head, head_by, attribute_with, attribute_by, attribute_or_none, next_attribute_by, attributes_left, attributes_by, message_by, term_by}
 use Rattle.fluent_syntax.specs.declared.parser.fault.Fault.{Fault}
 use Rattle.fluent_syntax.specs.declared.parser.fault.Fault.TheVariants as fault
 use Rattle.fluent_syntax.specs.declared.parser.errors.ErrorKind.{ErrorKind}

@@ -1,14 +1,16 @@
 -- How refusals are handed on.
-use Rattle.std.proofs.Common.{◌≡◌, ℕ, suc, ◌+◌, ◌-◌, List, ◌++◌, length, take, drop, refl, sym, ap, ◌∙◌, arith, subst, add-one}
+use Rattle.std.proofs.Common.{◌≡◌, ℕ, suc, ◌+◌, ◌-◌, List, ◌++◌, length, take, drop, refl, sym, ap, ◌∙◌, arith, subst, add-one, Result, Ok, Err}
+use Rattle.std.specs.Prelude.{IsErrAnd}
 use Rattle.std.specs.List.{prefix_len}
 use Rattle.std.proofs.lemmas.List.{drop-drop}
+use Rattle.fluent_syntax.specs.Counted.{character_or_space}
 use Rattle.fluent_grammar.specs.Words.{Text, is_hex_digit}
 use Rattle.fluent_grammar.specs.Refusal.{Kind, Reading, got, refused, refuse, mapped, ◌>>=◌}
 use Rattle.fluent_grammar.specs.Refusal as r
-use Rattle.fluent_grammar.specs.Reading.{string_content, missing_hex, character_or_space, first_char}
+use Rattle.fluent_grammar.specs.Reading.{string_content, missing_hex, first_char}
 use Rattle.fluent_syntax.specs.declared.parser.fault.Fault.{Fault}
 use Rattle.fluent_syntax.specs.declared.parser.fault.Fault.TheVariants as fault
-use Rattle.fluent_syntax.specs.Reads.{Fails, Tells}
+use Rattle.fluent_syntax.specs.Reads.{Fails, Gives, Tells}
 
 pub tells_fails : {A : Type 0} (e : Fault) (rest at : Text) (k : Kind) (read : Reading A) → read ≡ refuse k at → rest ≡ at → Tells e k → Fails e rest read
 tells_fails fault.Memory rest at k read f g t = tt
@@ -45,5 +47,10 @@ string_missing s rest behind start stop e h t b f g =
     let m = missing_is {A = Text} (drop start s) (stop - start) n in
     tells_fails e behind (drop (stop - start) (drop start s)) _ (string_content s) (f ∙ m) (b ∙ ap (λ (z : Text). drop (stop - start) z) h)
     (subst (λ (z : Text). Tells e (r.invalid_unicode_escape_sequence (take (stop - start) z ++ first_char (drop (stop - start) z)))) h t)
+
+-- a refusal that `?` hands on
+pub handed_on : {X Y : Type 0} (view : X → Y) (rest : Text) (result : Result X Fault) (e : Fault) (read : Reading Y) → IsErrAnd result (λ y. y ≡ e) → Fails e rest read → Gives view rest result read
+handed_on view rest (Ok x) e read h f = absurd h
+handed_on view rest (Err y) e read h f = subst (λ z. Fails z rest read) (sym h) f
 
 pub ruleset handed = (fails_bind, fails_mapped, fails_same, tells_fails)

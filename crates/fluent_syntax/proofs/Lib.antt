@@ -1,3 +1,5 @@
+pub mod Escapes
+pub mod Unescaped
 mod Trimmed
 mod Copied
 pub mod Views
@@ -5,8 +7,19 @@ pub mod Counted
 pub mod Scanned
 pub mod Strings
 pub mod Chars
+pub mod Names
+pub mod PieceViews
+pub mod Pieces
+pub mod Steps
 pub mod Whole
 pub mod Failing
+mod Lined
+mod Onto
+mod Laid
+mod Braces
+pub mod Cycle
+pub mod Values
+pub mod Runs
 pub mod Comments
 pub mod Entries
 pub mod Recovery

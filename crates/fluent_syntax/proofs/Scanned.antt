@@ -13,9 +13,10 @@ use Rattle.std.proofs.lemmas.List.Sums.{prefix_len-le-length, prefix_len_passes}
 use Rattle.memchr.specs.Find.{Nowhere, Passes, is_byte, is_byte3}
 use Rattle.fluent_grammar.specs.Words as w
 use Rattle.fluent_grammar.specs.Words.{Text}
+use Rattle.fluent_grammar.specs.Lines.{ends_line}
 use Rattle.fluent_grammar.specs.Refusal.{Reading, got, refused, refuse, mapped, ◌>>=◌}
 use Rattle.fluent_grammar.specs.Refusal as r
-use Rattle.fluent_grammar.specs.Reading.{digits_at, fraction_at, number_at, front, text_run, string_content, before, missing_hex, character_or_space}
+use Rattle.fluent_grammar.specs.Reading.{digits_at, fraction_at, number_at, front, text_run, string_content, before, missing_hex}
 use Rattle.fluent_syntax.specs.Counted.{Cuts, is_blank_at, IsLine, IsNumber, IsText, line_feed_end}
 use Rattle.fluent_syntax.proofs.Counted.{cut_by_ascii, cut_before_ascii, cut_end, cut_none, cut_digits}
 
@@ -366,3 +367,25 @@ text_ends_by s k r false f g e h at p =
 
 pub text_ends : (s : Text) (k r : ℕ) → r ≡ line_feed_end s k → k < length s → get_or s k 0 ≡ 10 → Plain s k → (text_run s ≡ got (take r s) (drop r s)) × Cuts s r
 text_ends s k r e h at p = text_ends_by s k r (nat_lt 0 k && get_or s (k - 1) 0 == 13) (λ z x. grind (arith, nat_tests)) (λ b. grind (arith, nat_tests)) e h at p
+
+last_by : (c d : ℕ) (ds : Text) → ends_line (c ∷ d ∷ ds) ≡ ends_line (d ∷ ds)
+last_by c d ds = refl
+
+pub last_byte : (s : Text) → 0 < length s → ends_line s ≡ (get_or s (length s - 1) 0 == w.line_feed)
+last_byte [] h = absurd (omega arith)
+last_byte (c ∷ []) h = refl
+last_byte (c ∷ d ∷ ds) h =
+    let e : length (c ∷ d ∷ ds) - 1 ≡ suc (length (d ∷ ds) - 1) = omega arith in
+    rw e (last_byte (d ∷ ds) (omega arith))
+
+pub some_bytes : {X : Type 0} (s : List X) → (length s == 0) ≡ false → 0 < length s
+some_bytes [] h = absurd cc
+some_bytes (c ∷ cs) h = omega arith
+
+pub no_line : (s : Text) (b : Bool) → b ≡ (length s == 0) → b ≡ true → not b ≡ ends_line s
+no_line [] b e h = ap not h
+no_line (c ∷ cs) b e h = absurd (some_not b (length (c ∷ cs) == 0) e h (test_ne (length (c ∷ cs)) 0 (λ x. absurd (omega (arith, x)))))
+  where
+    some_not : (b z : Bool) → b ≡ z → b ≡ true → z ≡ false → ⊥
+    some_not true z e h f = absurd cc
+    some_not false z e h f = absurd cc

@@ -6,10 +6,11 @@ use Rattle.std.proofs.Math.Seq.{take-add, take-length, drop-length}
 use Rattle.std.proofs.lemmas.Bool.Decides.{nat_tests}
 use Rattle.std.proofs.lemmas.List.{length-drop, drop_more, drop-drop, get_or-drop, append-nil}
 use Rattle.fluent_grammar.specs.Words as w
+use Rattle.fluent_syntax.specs.Counted.{character_or_space}
 use Rattle.fluent_grammar.specs.Words.{Text, hex_digits}
 use Rattle.fluent_grammar.specs.Refusal.{Kind, Reading, got, refused, refuse, mapped, ◌>>=◌}
 use Rattle.fluent_grammar.specs.Refusal as r
-use Rattle.fluent_grammar.specs.Reading.{string_content, before, missing_hex, character_or_space}
+use Rattle.fluent_grammar.specs.Reading.{string_content, before, missing_hex}
 use Rattle.fluent_syntax.specs.declared.parser.words.StringStep.{StringStep}
 use Rattle.fluent_syntax.specs.declared.parser.words.StringStep.TheVariants as step
 use Rattle.fluent_syntax.specs.Counted.{IsStringStep, IsHexStep, Cuts, IsString}

@@ -1,11 +1,11 @@
 -- What the counts of bytes say that the words of the grammar have.
-use Rattle.std.specs.Prelude.{◌≡◌, ℕ, zero, suc, ◌+◌, ◌-◌, ◌<◌, ◌≤◌, Bool, true, false, ◌&&◌, ◌||◌, ◌==◌, nat_lt, List, [], ◌∷◌, length, take, drop, slice_index, Option, Some, None, is_some, Result, Ok, Err, unwrap_or, if◌then◌else◌}
+use Rattle.std.specs.Prelude.{◌≡◌, ℕ, zero, suc, ◌+◌, ◌-◌, ◌<◌, ◌≤◌, Bool, true, false, not, ◌&&◌, ◌||◌, ◌==◌, nat_lt, List, [], ◌∷◌, length, take, drop, slice_index, Option, Some, None, is_some, Result, Ok, Err, unwrap_or, if◌then◌else◌}
 use Rattle.std.specs.Str.{IsUtf8, IsCharBoundary, continuation_len}
 use Rattle.std.specs.List.{prefix_len}
-use Rattle.fluent_grammar.specs.Words.{Text, space, line_feed, carriage_return, quote, backslash, number_sign, begins_with, after_line_end, is_hex_digit, rest_of_line}
+use Rattle.fluent_grammar.specs.Words.{Text, begins, is_digit, is_letter, hyphen, space, line_feed, carriage_return, quote, backslash, number_sign, begins_with, after_line_end, is_hex_digit, rest_of_line}
 use Rattle.fluent_grammar.specs.Refusal.{Reading, got, refuse}
 use Rattle.fluent_grammar.specs.Refusal as r
-use Rattle.fluent_grammar.specs.Reading.{number_at, text_run, string_content, before, missing_hex, character_or_space}
+use Rattle.fluent_grammar.specs.Reading.{number_at, text_run, string_content, before, missing_hex, first_char}
 use Rattle.fluent_syntax.specs.declared.parser.words.StringEnd.{StringEnd}
 use Rattle.fluent_syntax.specs.declared.parser.words.StringEnd.TheVariants as end
 use Rattle.fluent_syntax.specs.declared.parser.words.StringStep.{StringStep}
@@ -51,6 +51,11 @@ abbrev pub char_len : Text → ℕ
 char_len [] = 0
 char_len (b ∷ bs) = suc (continuation_len b)
 
+-- what an escape that is none is told by: the character behind the backslash, or a space at the end
+abbrev pub character_or_space : Text → Text
+character_or_space [] = space ∷ []
+character_or_space (b ∷ bs) = first_char (b ∷ bs)
+
 -- where the content of a string ends, or why it doesn't
 abbrev pub IsString : Text → StringEnd → Type 0
 IsString text (end.Quote count) = (string_content text ≡ got (take count text) (drop (suc count) text)) × (begins_with quote (drop count text) ≡ true) × Cuts text count
@@ -74,3 +79,11 @@ IsHexStep wanted digits step.Quote = ⊥
 IsHexStep wanted digits step.LineFeed = ⊥
 IsHexStep wanted digits step.UnknownEscape = ⊥
 IsHexStep wanted digits (step.MissingDigit count) = (digits < wanted) × (count ≡ digits)
+
+-- a quote, a digit, or a minus that no letter follows
+abbrev pub begins_literal : Text → Bool
+begins_literal s = (begins_with quote s || begins is_digit s) || (begins_with hyphen s && not (begins is_letter (drop 1 s)))
+
+-- a quote, a digit or a minus
+abbrev pub begins_value : Text → Bool
+begins_value s = begins_with quote s || (begins is_digit s || begins_with hyphen s)

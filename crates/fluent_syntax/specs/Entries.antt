@@ -4,16 +4,12 @@ use Rattle.fluent_grammar.specs.Words.{Text, begins_with, dot, equals, skip_spac
 use Rattle.fluent_grammar.specs.Refusal.{Kind, Reading, got, refused, refuse, mapped, ◌>>=◌}
 use Rattle.fluent_grammar.specs.Refusal as r
 use Rattle.fluent_grammar.specs.Tree as t
-use Rattle.fluent_grammar.specs.Lines.{value_of}
-use Rattle.fluent_grammar.specs.Reading.{identifier_at, pattern_at, attribute_at, attributes_at, message_of, term_of, comment_line_at, comment_lines}
-use Rattle.fluent_syntax.specs.Reads.{whole, byte_at}
+use Rattle.fluent_grammar.specs.Reading.{identifier_at, attribute_at, attributes_at, message_of, term_of, comment_line_at, comment_lines}
+use Rattle.fluent_syntax.specs.Reads.{byte_at}
+use Rattle.fluent_syntax.specs.Steps.{pattern_by}
 use Rattle.fluent_syntax.specs.View.{name_of, pattern_view}
 use Rattle.fluent_syntax.specs.declared.ast.Identifier.{Identifier}
 use Rattle.fluent_syntax.specs.declared.ast.Pattern.{Pattern}
-
--- what may be a pattern
-abbrev pub pattern_by : Text → Reading (Option t.Elements)
-pattern_by s = mapped value_of (pattern_at whole s)
 
 -- the line that stands behind a comment's sign, if one does
 abbrev pub line_of : {S : Type 0} → (S → Text) → Option S → List Text

@@ -1,10 +1,10 @@
 -- What a reader of the code gives, beside the reading of the definitions.
-use Rattle.std.specs.Prelude.{◌≡◌, ℕ, suc, ◌-◌, ◌≤◌, List, length, drop, Result, Ok, Err, if◌then◌else◌}
+use Rattle.std.specs.Prelude.{◌≡◌, ℕ, suc, ◌-◌, ◌≤◌, List, length, drop, Result, Ok, Err, Option, Some, None, if◌then◌else◌}
 use Rattle.fluent_grammar.specs.Words.{Text, begins_with, quote, close_bracket, skip_blank, is_among}
 use Rattle.fluent_grammar.specs.Tree as t
 use Rattle.fluent_grammar.specs.Refusal as r
 use Rattle.fluent_grammar.specs.Refusal.{Kind, Reading, got, refused, refuse, mapped, ◌>>=◌}
-use Rattle.fluent_grammar.specs.Reading.{Readers, readers, string_content, number_at, key_at, literal_at}
+use Rattle.fluent_grammar.specs.Reading.{Readers, readers, string_content, number_at, key_at, literal_at, is_term_attribute}
 use Rattle.fluent_syntax.specs.ErrorView.{kind_view, told, expected_char_range}
 use Rattle.fluent_syntax.specs.declared.parser.fault.Fault.{Fault}
 use Rattle.fluent_syntax.specs.declared.parser.fault.Fault.TheVariants as fault
@@ -25,7 +25,7 @@ Gives view rest (Ok x) read = read ≡ got (view x) rest
 Gives view rest (Err e) read = Fails e rest read
 
 -- readers of as many levels as a text has bytes, and more
-abbrev pub whole : Readers
+unfoldable pub whole : Readers
 whole = record {
   inline = λ s. (readers (suc (length s))).inline s;
   arguments = λ names s. (readers (suc (length s))).arguments names s;
@@ -59,3 +59,14 @@ key_in_brackets_at s = key_at (skip_blank s) >>= (λ key. byte_at close_bracket 
 -- the value of an argument of this name behind others, from the colon on
 abbrev pub argument_value_at : List Text → Text → Text → Reading t.Inline
 argument_value_at names name s = if is_among name names then refuse (r.duplicated_named_argument name) s else literal_at (skip_blank (drop 1 s))
+
+-- an expression that no arrow follows
+abbrev pub inline_by : t.Inline → Text → Reading t.Expression
+inline_by e s = if is_term_attribute e then refuse r.term_attribute_as_placeable s else got (t.inline e) s
+
+-- a kind tells of another, if there is any
+abbrev pub IsToldAs : Option ErrorKind → Option Kind → Type 0
+IsToldAs None None = Unit {0}
+IsToldAs None (Some k) = ⊥
+IsToldAs (Some e) None = ⊥
+IsToldAs (Some e) (Some k) = kind_view e ≡ told k

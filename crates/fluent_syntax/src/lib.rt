@@ -7,4 +7,5 @@
 
 pub mod ast;
 pub mod parser;
+pub mod serializer;
 pub mod unicode;

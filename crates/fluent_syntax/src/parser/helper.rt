@@ -4,10 +4,10 @@
 ghost use Rattle.std.specs.Prelude.{◌≡◌, ℕ, ◌+◌, ◌-◌, ◌++◌, ◌<◌, ◌≤◌, ◌&&◌, not, true, ◌==◌, is_some, unwrap_or, if◌then◌else◌, length, drop, take, codes, IfOk, option_map, string_bytes};
 ghost use Rattle.std.specs.List.{prefix_len};
 ghost use Rattle.std.specs.Str.{IsUtf8, IsCharBoundary};
-ghost use Rattle.fluent_syntax.specs.Counted.{Cuts, IsLineEnd};
+ghost use Rattle.fluent_syntax.specs.Counted.{Cuts, IsLineEnd, character_or_space};
 ghost use Rattle.fluent_syntax.specs.Words as w;
 ghost use Rattle.fluent_syntax.specs.Refusal as r;
-ghost use Rattle.fluent_syntax.specs.Reading.{character_or_space, first_char};
+ghost use Rattle.fluent_syntax.specs.Reading.{first_char};
 
 use crate::ast::Identifier;
 use crate::parser::fault::Fault;

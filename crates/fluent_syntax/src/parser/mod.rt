@@ -9,12 +9,13 @@ mod fault;
 mod helper;
 mod part;
 mod pattern;
+mod pieces;
 mod recovery;
 mod resource;
 mod slice;
 #[cfg(test)]
 mod tests;
-mod words;
+pub(crate) mod words;
 
 ghost use Rattle.std.specs.Prelude.{map};
 ghost use Rattle.fluent_syntax.specs.Tiling.{tree, errors, runtime_tree, runtime_errors};

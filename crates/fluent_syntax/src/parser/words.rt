@@ -3,8 +3,9 @@
 
 ghost use Rattle.std.specs.Prelude.{◌≡◌, ℕ, ◌+◌, ◌-◌, ◌<◌, ◌≤◌, ◌||◌, length, drop, take, slice_index};
 ghost use Rattle.std.specs.List.{prefix_len};
+ghost use Rattle.fluent_syntax.specs.Lines.{pattern_ends, ends_line};
 ghost use Rattle.fluent_syntax.specs.Words as w;
-ghost use Rattle.fluent_syntax.specs.Counted.{Cuts, is_blank_at, is_comment_line, IsLineEnd, IsNumber, IsText, IsLine, IsString, IsStringStep, IsHexStep, is_sign, char_len, line_feed_end};
+ghost use Rattle.fluent_syntax.specs.Counted.{Cuts, is_blank_at, is_comment_line, IsLineEnd, IsNumber, IsText, IsLine, IsString, IsStringStep, IsHexStep, is_sign, char_len, line_feed_end, begins_literal, begins_value};
 
 use memchr::{memchr, memchr3};
 
@@ -30,6 +31,75 @@ pub fn begins_number(text: &[u8]) -> bool
     ensures { result ≡ (w.begins w.is_digit text.now || w.begins_with w.hyphen text.now) }
 {
     matches!(text, [b'-' | b'0'..=b'9', ..])
+}
+
+/// Whether a text begins with CR LF.
+pub fn begins_crlf(text: &[u8]) -> bool
+    ensures { result ≡ w.begins_crlf text.now }
+{
+    matches!(text, [b'\r', b'\n', ..])
+}
+
+/// Whether a text begins with the arrow of a select.
+pub fn begins_arrow(text: &[u8]) -> bool
+    ensures { result ≡ w.begins_arrow text.now }
+{
+    matches!(text, [b'-', b'>', ..])
+}
+
+/// Whether a pattern ends at the line start here.
+pub fn pattern_ends(text: &[u8]) -> bool
+    ensures { result ≡ pattern_ends text.now }
+{
+    let indent = blank_inline_len(text);
+    let behind = from(text, indent);
+    if indent == 0 {
+        !matches!(behind, [b'{' | b'\r' | b'\n', ..])
+    } else {
+        matches!(behind, [b'}' | b'.' | b'[' | b'*', ..])
+    }
+}
+
+/// A text behind so many bytes.
+pub fn from(text: &[u8], count: usize) -> &[u8]
+    requires { count ≤ length text.now }
+    ensures { result.now ≡ drop count text.now }
+{
+    &text[count..]
+}
+
+/// The first bytes of a text.
+pub fn front(text: &[u8], count: usize) -> &[u8]
+    requires { count ≤ length text.now }
+    ensures { result.now ≡ take count text.now }
+{
+    &text[..count]
+}
+
+/// Whether a text ends in a line feed.
+pub fn ends_line(text: &[u8]) -> bool
+    ensures { result ≡ ends_line text.now }
+{
+    !text.is_empty() && text[text.len() - 1] == b'\n'
+}
+
+/// Whether a text begins with a quote, a digit or a minus.
+pub fn begins_value(text: &[u8]) -> bool
+    ensures { result ≡ begins_value text.now }
+{
+    matches!(text, [b'"' | b'-' | b'0'..=b'9', ..])
+}
+
+/// Whether a text begins with a quote, a digit, or a minus that no letter follows.
+pub fn begins_literal(text: &[u8]) -> bool
+    ensures { result ≡ begins_literal text.now }
+{
+    match text {
+        [b'"' | b'0'..=b'9', ..] => true,
+        [b'-', b'a'..=b'z' | b'A'..=b'Z', ..] => false,
+        [b'-', ..] => true,
+        _ => false,
+    }
 }
 
 /// How many spaces stand at the front: production `blank_inline`, which may be empty here.

@@ -1,0 +1,13 @@
+pub mod Decimal
+pub mod Parts
+pub mod Digits
+pub mod Options
+pub mod Number
+pub mod Merge
+pub mod Reading
+pub mod Spelling
+pub mod Text
+pub mod Operands
+pub mod Plurals
+pub mod Conversion
+pub mod Laws

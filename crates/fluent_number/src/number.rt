@@ -1,0 +1,81 @@
+ghost use Rattle.std.specs.Prelude.{◌≡◌, Some, None, MatchResult, IfOk, IsNone, IsOk, string_bytes, codes};
+ghost use Rattle.fluent_number.specs.Number.{number_of};
+ghost use Rattle.fluent_number.specs.Reading.{read_number};
+ghost use Rattle.fluent_number.specs.Text.{number_text};
+
+use crate::decimal::Decimal;
+use crate::options::FluentNumberOptions;
+use crate::reading::read;
+use crate::writing::text_of;
+use std::alloc::{AllocError, Global};
+use std::error::Error;
+use std::fmt;
+use std::str::FromStr;
+
+/// A number: its value, and how it is to be shown.
+#[derive(Debug, Drop, PartialEq, Eq, Hash)]
+pub struct FluentNumber {
+    /// The value.
+    pub value: Decimal,
+    /// How it is to be shown.
+    pub options: FluentNumberOptions,
+}
+
+impl FluentNumber {
+    /// The number of this value and these options.
+    pub fn new(value: Decimal, options: FluentNumberOptions) -> Self
+        ensures value { result.value ≡ value }
+        ensures options { result.options ≡ options }
+    {
+        FluentNumber { value, options }
+    }
+
+    /// A copy. The error is that memory was refused for the text of the option `currency`.
+    pub fn try_clone(&self, alloc: Global) -> Result<Self, AllocError>
+        ensures same { IfOk result (λ copy. number_of copy ≡ number_of self.now) }
+        ensures succeeds { IsNone self.now.options.currency → IsOk result }
+    {
+        Ok(FluentNumber::new(self.value, self.options.try_clone(alloc)?))
+    }
+
+    /// The text of the number: a minus if it is negative, the whole part and, where there are any, a point and the digits
+    /// behind it without zeros at the end.
+    ///
+    /// Where `minimum_fraction_digits` is set a point is always written, and zeros are added until so many digits
+    /// stand behind it. The error is that memory was refused; a count that no memory holds is refused at once.
+    #[tactic(auto, unfolding(crate::specs::Text::number_text))]
+    pub fn as_string(&self, alloc: Global) -> Result<String, AllocError>
+        ensures { IfOk result (λ text. string_bytes text ≡ number_text (number_of self.now)) }
+    {
+        text_of(alloc, self.value, self.options.minimum_fraction_digits)
+    }
+}
+
+/// Reads a number: an optional sign, and digits with at most one point among them.
+///
+/// At least one digit is needed, at most 18 may stand behind the point, and the whole part has to be below
+/// 2<sup>64</sup>. Where there is a point, `minimum_fraction_digits` is the count of digits behind it; all other options
+/// have their defaults. Every other text is [`NotANumber`].
+impl FromStr for FluentNumber {
+    type Err = NotANumber;
+
+    ghost from_str_gives = { λ text read. MatchResult read (λ number. read_number text ≡ Some (number_of number)) (λ _. read_number text ≡ None) };
+
+    fn from_str(text: &str) -> Result<Self, NotANumber> {
+        read(text).ok_or(NotANumber)
+    }
+}
+
+/// A text that is no number.
+#[derive(Clone, Copy, Debug, PartialEq, Eq)]
+pub struct NotANumber;
+
+impl fmt::Display for NotANumber {
+    ghost output = { λ _. Some (codes "not a number") };
+
+    fn fmt<W: fmt::Write>(&self, f: &mut fmt::Formatter<W>) -> fmt::Result {
+        f.write_str("not a number")
+    }
+}
+
+impl Error for NotANumber {}

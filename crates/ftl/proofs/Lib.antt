@@ -1,0 +1,18 @@
+mod Computing
+mod Rows
+mod CommandRows
+pub mod Requests
+pub mod Answers
+pub mod Exchange
+pub mod Lines
+pub mod Serving
+pub mod Runs
+pub mod Outcomes
+pub mod SameAnswers
+pub mod Messages
+pub mod Formatting
+pub mod Catalogs
+pub mod Engines
+pub mod FilesOfCommands
+pub mod FaultLemmas
+pub mod RunLemmas

@@ -1,0 +1,49 @@
+-- The program's faults, and the status that it ends with.
+use Rattle.std.specs.Prelude.{ℕ, List, Contains}
+use Rattle.ftl.specs.Text.{Text}
+use Rattle.ftl.specs.declared.fault.Fault.{Fault}
+use Rattle.ftl.specs.declared.fault.Fault.TheVariants.{CommandLine, FileUnreadable, FileNotUtf8, Input, Output, Memory}
+use Rattle.ftl.specs.declared.serve.RunError.{RunError}
+use Rattle.ftl.specs.declared.serve.RunError.TheVariants.{Memory as RunMemory, Read as RunRead, Write as RunWrite}
+
+-- bad words are 2, what cannot be read or written is 3, and want of memory is 4
+abbrev pub status_of : Fault → ℕ
+status_of CommandLine = 2
+status_of (FileUnreadable file) = 3
+status_of (FileNotUtf8 file) = 3
+status_of Input = 3
+status_of Output = 3
+status_of Memory = 4
+
+-- a file that the fault names is one of these
+abbrev pub NamesOneOf : List Text → Fault → Type 0
+NamesOneOf names CommandLine = Unit {0}
+NamesOneOf names (FileUnreadable file) = Contains names file.now
+NamesOneOf names (FileNotUtf8 file) = Contains names file.now
+NamesOneOf names Input = Unit {0}
+NamesOneOf names Output = Unit {0}
+NamesOneOf names Memory = Unit {0}
+
+-- a fault that comes while files are read
+abbrev pub IsOfFiles : Fault → Type 0
+IsOfFiles CommandLine = ⊥
+IsOfFiles (FileUnreadable file) = Unit {0}
+IsOfFiles (FileNotUtf8 file) = Unit {0}
+IsOfFiles Input = ⊥
+IsOfFiles Output = ⊥
+IsOfFiles Memory = Unit {0}
+
+-- the words or a file are at fault
+abbrev pub IsBeforeInput : Fault → Type 0
+IsBeforeInput CommandLine = Unit {0}
+IsBeforeInput (FileUnreadable file) = Unit {0}
+IsBeforeInput (FileNotUtf8 file) = Unit {0}
+IsBeforeInput Input = ⊥
+IsBeforeInput Output = ⊥
+IsBeforeInput Memory = ⊥
+
+-- what a run's end is told as: its reader is standard input, and its writer standard output
+abbrev pub run_fault : RunError → Fault
+run_fault RunMemory = Memory
+run_fault RunRead = Input
+run_fault RunWrite = Output

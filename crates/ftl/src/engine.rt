@@ -1,0 +1,104 @@
+//! Answers request lines from sources of messages of one line.
+ghost use Rattle.std.specs.Prelude.{◌≡◌, ◌++◌, ℕ, List, IfOk, OnOk, option_map, option_copied};
+ghost use Rattle.ftl.specs.Exchange.{IsFrontOf};
+ghost use Rattle.ftl.specs.RequestView.{request_view};
+ghost use Rattle.ftl.specs.CatalogView.{texts, elements_named};
+ghost use Rattle.ftl.specs.Thin.{reply_where, thin_line};
+ghost use Rattle.ftl.specs.ReplyView.{reply_view};
+ghost use Rattle.ftl.specs.EngineView.{thin_reply};
+
+use crate::answer::Answer;
+use crate::catalog::Catalog;
+use crate::request::{Request, read_request};
+use crate::serve::Engine;
+use crate::text::{Reply, ThinError, format_message};
+use std::alloc::{AllocError, Global};
+
+/// Answers request lines from the messages of one line of its sources.
+#[derive(Drop)]
+pub struct Thin<'s> {
+    catalog: Catalog<'s>,
+    isolating: bool,
+}
+
+impl<'s> Thin<'s> {
+    /// Answers from `sources`, in their order. Where `isolating` holds, a placeable that stands beside other elements
+    /// stands between isolating marks.
+    pub fn new(alloc: Global, sources: &[&'s str], isolating: bool) -> Result<Thin<'s>, AllocError>
+        ensures { IfOk result (λ thin. (line : List ℕ) → ⟦<Thin<'s> as Engine>⟧.reply thin line ≡ thin_line (texts sources.now) isolating line) }
+    {
+        let catalog = Catalog::new(alloc, sources)?;
+        Ok(Thin { catalog, isolating })
+    }
+
+    /// What there is for a request. No message of one line has attributes.
+    fn reply_to(
+        &self,
+        alloc: Global,
+        request: &Request<'_>,
+    ) -> Result<Option<Reply<'s>>, AllocError>
+        ensures { IfOk result (λ reply. option_map reply_view reply ≡ reply_where self.now.isolating (elements_named self.now.catalog) (request_view request.now)) }
+    {
+        if request.attribute.is_some() {
+            return Ok(None);
+        }
+        let Some(elements) = self.catalog.find(request.id) else {
+            return Ok(None);
+        };
+        let arguments = request.arguments.as_slice();
+        let reply = format_message(alloc, elements, arguments, self.isolating)?;
+        Ok(Some(reply))
+    }
+
+    /// Puts what is written for `line` behind `out`. After an error a front of it may stand there.
+    fn push_answer(&self, alloc: Global, line: &[u8], out: &mut Vec<u8>) -> Result<(), AllocError>
+        ensures ok { OnOk result (out.new.items ≡ out.old.items ++ thin_reply self.now line.now) }
+        ensures front { IsFrontOf out.old.items out.new.items }
+    {
+        let Some(request) = read_request(alloc, line)? else {
+            return Answer::<ThinError<'_>>::Bad.push_to(alloc, out);
+        };
+        let Some(reply) = self.reply_to(alloc, &request)? else {
+            return Answer::<ThinError<'_>>::Nothing.push_to(alloc, out);
+        };
+        let text = reply.text.as_str();
+        let errors = reply.errors.as_slice();
+        Answer::Text { text, errors }.push_to(alloc, out)
+    }
+}
+
+impl Engine for Thin<'_> {
+    ghost use Rattle.ftl.specs.EngineView.{thin_reply as reply_of_thin};
+
+    ghost reply = { reply_of_thin };
+
+    fn reply(&self, alloc: Global, line: &[u8], out: &mut Vec<u8>) -> Result<(), AllocError> {
+        let len = out.len();
+        let outcome = self.push_answer(alloc, line, out);
+        if outcome.is_err() {
+            out.truncate(len);
+        }
+        outcome
+    }
+}
+
+#[cfg(test)]
+mod tests {
+    use super::*;
+    use std::test::Fail;
+
+    #[test]
+    fn answers_from_the_lines_that_are_whole(rt: HostRuntime) -> Result<(), Fail> {
+        let source = "a = {$x}{ $y }\nb = x } y\n a = z\na = w\n";
+        let thin = Thin::new(rt.alloc(), &[source], true)?;
+        let mut out = Vec::new(rt.alloc());
+        thin.reply(rt.alloc(), b"a\tx=1", &mut out)?;
+        thin.reply(rt.alloc(), b"b", &mut out)?;
+        thin.reply(rt.alloc(), b"a.x", &mut out)?;
+        thin.reply(rt.alloc(), b"a\tx", &mut out)?;
+        let answers =
+            "ok 17 1\n\u{2068}1\u{2069}\u{2068}{$y}\u{2069}\nUnknown variable: $y\nnone\nnone\nbad\n";
+        assert_eq!(rt; out.as_slice(), answers.as_bytes());
+        Ok(())
+    }
+}

@@ -1,0 +1,4 @@
+# Texts of a mail program.
+hello-world = Hello, world!
+welcome = Welcome, { $name }.
+inbox = You have { $count } new messages, { $name }.

@@ -1,0 +1,39 @@
+#!/bin/sh
+# Runs the proved program `ftl` on these words, in the caller's folder and on its streams, and ends with its status.
+# Proves and builds it first where it is not there or its sources changed. Ends with 126 where that fails.
+set -eu
+
+root=$(dirname -- "$(readlink -f -- "$0")")
+crate=$root/crates/ftl
+program=$crate/out/ftl
+built=$crate/out/ftl.built # as old as the sources that the program was built from
+
+# Whether nothing that the program is made of is younger than the last build.
+is_built() {
+    [ -x "$program" ] && [ -e "$built" ] &&
+        [ -z "$(find "$root/crates.txt" "$root"/crates/*/src "$root"/crates/*/specs "$root"/crates/*/proofs \
+            -newer "$built" 2>/dev/null)" ]
+}
+
+# Proves and builds the program, and tries it on the run that is stored beside it.
+build() (
+    cd "$crate" && mkdir -p out && : >"$built.new" &&
+        rt run -- run data/hello.ftl <stdin && mv -f "$built.new" "$built"
+)
+
+if ! is_built; then
+    if [ -t 2 ]; then
+        echo 'ftl: proving and building the program, once' >&2
+    fi
+    log=$(mktemp)
+    trap 'rm -f "$log"' EXIT
+    if ! build >"$log" 2>&1; then
+        cat "$log" >&2
+        echo 'ftl: the program was not built' >&2
+        exit 126
+    fi
+    rm -f "$log"
+    trap - EXIT
+fi
+
+exec "$program" "$@"
