@@ -1,6 +1,5 @@
 -- Equality of whole trees is equality of plain trees.
-use Rattle.std.proofs.Common.{◌≡◌, ℕ, Bool, true, false, List, [], ◌∷◌, Option, None, Some, option_map, map, refl, ap, sym, ◌∙◌, nat_eq, Decides}
-use Rattle.std.specs.Prelude.{◌&&◌}
+use Rattle.std.proofs.Common.{◌≡◌, ℕ, Bool, List, [], ◌∷◌, Option, None, Some, option_map, map, refl, ap, sym, ◌∙◌, nat_eq, Decides}
 use Rattle.std.specs.Cmp.Lexicographic.{pointwise}
 use Rattle.std.proofs.lemmas.Bool.Decides.{Decides-and, same_from_decides}
 use Rattle.std.specs.Cmp.{IsEquivalence}

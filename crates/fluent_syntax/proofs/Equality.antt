@@ -1,7 +1,7 @@
 -- Equality of trees, as it is derived, is equality of plain trees.
 use Rattle.std.proofs.Common.{◌≡◌, ℕ, Bool, true, false, List, [], ◌∷◌, Option, None, Some, option_map, map, refl, ap, sym, subst, ◌∙◌, nat_eq, inl, inr, Decides, Vec, Box, Global}
 use Rattle.std.specs.Prelude.{◌&&◌}
-use Rattle.std.specs.Cmp.Lexicographic.{pointwise, same_text, other_text}
+use Rattle.std.specs.Cmp.Lexicographic.{pointwise, same_text}
 use Rattle.std.proofs.lemmas.Bool.{false≢true}
 use Rattle.std.proofs.lemmas.Bool.Decides.{Decides-and}
 use Rattle.std.specs.declared.cmp.PartialEq
@@ -21,9 +21,9 @@ use Rattle.fluent_syntax.specs.declared.ast.InlineExpression.TheVariants.{String
 use Rattle.fluent_syntax.specs.declared.ast.PatternElement.{PatternElement, roll-PatternElement, map-PatternElement}
 use Rattle.fluent_syntax.specs.declared.ast.PatternElement.TheVariants.{TextElement, Placeable, rolls-TextElement, rolls-Placeable}
 use Rattle.fluent_syntax.specs.declared.ast.CallArguments.{CallArguments, out-CallArguments, roll-CallArguments, out-roll-CallArguments, map-CallArguments}
-use Rattle.fluent_syntax.specs.declared.ast.NamedArgument.{NamedArgument, out-NamedArgument, roll-NamedArgument, out-roll-NamedArgument, map-NamedArgument}
-use Rattle.fluent_syntax.specs.declared.ast.Pattern.{Pattern, out-Pattern, roll-Pattern, out-roll-Pattern, map-Pattern, ind-Pattern}
-use Rattle.fluent_syntax.specs.declared.ast.Variant.{Variant, out-Variant, roll-Variant, out-roll-Variant, map-Variant}
+use Rattle.fluent_syntax.specs.declared.ast.NamedArgument.{NamedArgument, out-NamedArgument, roll-NamedArgument, map-NamedArgument}
+use Rattle.fluent_syntax.specs.declared.ast.Pattern.{Pattern, out-Pattern, roll-Pattern, map-Pattern, ind-Pattern}
+use Rattle.fluent_syntax.specs.declared.ast.Variant.{Variant, out-Variant, roll-Variant, map-Variant}
 use Rattle.fluent_syntax.specs.declared.ast.Identifier.{Identifier}
 use Rattle.fluent_syntax.specs.contracts.ast.Identifier as identifier
 use Rattle.fluent_syntax.specs.contracts.ast.IdentifierPartialEq.TheImpl as identifier_impl
