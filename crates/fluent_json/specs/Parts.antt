@@ -1,5 +1,5 @@
 -- The JSON values of the parts of a tree whose texts are `String`s.
-use Rattle.std.specs.Prelude.{List, map, String, string_bytes}
+use Rattle.std.specs.Prelude.{List, Option, option_map, map, String, string_bytes}
 use Rattle.std.specs.declared.alloc.Global.{Global}
 use Rattle.serde_json.specs.Data.{Data, string, Items}
 use Rattle.fluent_syntax.specs.Tree as t
@@ -19,7 +19,7 @@ use Rattle.fluent_syntax.specs.declared.ast.Pattern.{Pattern}
 use Rattle.fluent_syntax.specs.declared.ast.Variant.{Variant}
 use Rattle.fluent_syntax.specs.declared.ast.CallArguments.{CallArguments}
 use Rattle.fluent_syntax.specs.declared.ast.NamedArgument.{NamedArgument}
-use Rattle.fluent_json.specs.Json.{each, json_key, json_expression, json_inline, json_arguments, json_pattern, json_attribute, json_comment, json_entry, json_elements, json_variants, json_positional, json_named, identifier, text_element, placeable, variant, named_argument}
+use Rattle.fluent_json.specs.Json.{each, or_null, json_maybe_arguments, json_key, json_expression, json_inline, json_arguments, json_pattern, json_attribute, json_comment, json_entry, json_elements, json_variants, json_positional, json_named, identifier, text_element, placeable, variant, named_argument}
 
 abbrev Text : Type 0
 Text = String Global
@@ -101,3 +101,17 @@ positional_json es = json_positional (v.inlines_of (map (v.inline_view Text stri
 
 abbrev pub nameds_json : List (NamedArgument Text) → Items
 nameds_json ns = json_named (v.nameds_of (map (v.named_view Text string_bytes) ns))
+
+-- of what may be absent
+
+abbrev pub accessor_json : Option (Identifier Text) → Data
+accessor_json id = or_null identifier (option_map (v.name_of Text string_bytes) id)
+
+abbrev pub maybe_arguments_json : Option (CallArguments Text) → Data
+maybe_arguments_json call = json_maybe_arguments (v.maybe_arguments (option_map (v.arguments_view Text string_bytes) call))
+
+abbrev pub maybe_pattern_json : Option (Pattern Text) → Data
+maybe_pattern_json p = or_null json_pattern (option_map (v.pattern_view Text string_bytes) p)
+
+abbrev pub maybe_comment_json : Option (Comment Text) → Data
+maybe_comment_json c = or_null json_comment (option_map (v.comment_view Text string_bytes) c)

@@ -2,8 +2,8 @@
 
 ghost use Rattle.std.specs.Prelude.{◌≡◌, IfOk};
 ghost use Rattle.serde_json.specs.View.{view, items_view};
-ghost use Rattle.fluent_json.specs.Json.{json, or_null};
-ghost use Rattle.fluent_json.specs.Parts.{plain, lines_json, identifier_json, key_json, pattern_json, element_json, expression_json, inline_json, variant_json, variants_json, arguments_json, positional_json, named_json, nameds_json, attributes_json, comment_json, message_json, term_json, entry_json};
+ghost use Rattle.fluent_json.specs.Json.{json};
+ghost use Rattle.fluent_json.specs.Parts.{plain, accessor_json, maybe_comment_json, lines_json, identifier_json, key_json, pattern_json, element_json, expression_json, inline_json, variant_json, variants_json, arguments_json, positional_json, named_json, nameds_json, attributes_json, comment_json, message_json, term_json, entry_json};
 
 use crate::objects;
 use fluent_syntax::ast::{
@@ -82,7 +82,7 @@ fn attribute_values(
 }
 
 fn comment_or_null(alloc: Global, comment: &Option<Comment<String>>) -> Result<Value, AllocError>
-    ensures { IfOk result (λ value. view value ≡ or_null comment_json comment.now) }
+    ensures { IfOk result (λ value. view value ≡ maybe_comment_json comment.now) }
 {
     match comment {
         Some(comment) => comment_value(alloc, comment),
@@ -114,7 +114,7 @@ fn identifier_value(alloc: Global, id: &Identifier<String>) -> Result<Value, All
 }
 
 fn identifier_or_null(alloc: Global, id: &Option<Identifier<String>>) -> Result<Value, AllocError>
-    ensures { IfOk result (λ value. view value ≡ or_null identifier_json id.now) }
+    ensures { IfOk result (λ value. view value ≡ accessor_json id.now) }
 {
     match id {
         Some(id) => identifier_value(alloc, id),
