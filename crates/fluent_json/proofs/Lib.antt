@@ -1,0 +1,4 @@
+mod Rows
+mod Lists
+mod Same
+mod NoTree
