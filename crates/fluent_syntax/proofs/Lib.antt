@@ -5,5 +5,5 @@ mod Lined
 mod Onto
 mod Laid
 mod Braces
-mod Equality
-mod EqualTrees
+pub mod Equality
+pub mod EqualTrees
