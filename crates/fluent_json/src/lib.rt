@@ -3,6 +3,7 @@
 //! The JSON value of a Fluent tree, and the tree of a JSON value.
 
 mod error;
+pub mod laws;
 mod members;
 mod objects;
 mod parts;
