@@ -1,8 +1,9 @@
 -- Signs laid out behind a text, one list of them after another.
-use Rattle.std.proofs.Common.{◌≡◌, ℕ, zero, suc, ◌+◌, ◌-◌, ◌*◌, Bool, true, false, cond, List, [], ◌∷◌, ◌++◌, replicate, refl, sym, ap, ◌∙◌, append_assoc, append-nil}
+use Rattle.std.proofs.Common.{◌≡◌, ℕ, zero, suc, ◌+◌, ◌-◌, ◌*◌, Bool, true, false, cond, List, [], ◌∷◌, ◌++◌, replicate, refl, sym, ap, ◌∙◌, append_assoc, append-nil, ◌<◌, length, get_or, arith}
+use Rattle.std.proofs.lemmas.List.{replicate-append-replicate}
 use Rattle.std.specs.Prelude.{not, ◌&&◌, ◌==◌}
 use Rattle.fluent_grammar.specs.Words.{Text, line_feed, space, asterisk}
-use Rattle.fluent_grammar.specs.Written.{Sign, sign, default_mark, ends_line, indent_before, laid_out, onto}
+use Rattle.fluent_grammar.specs.Written.{Sign, sign, default_mark, ends_line, indent, indent_before, laid_out, onto}
 
 pub ends_line-append : (before : Bool) (s more : Text) → ends_line before (s ++ more) ≡ ends_line (ends_line before s) more
 ends_line-append before [] more = refl
@@ -23,7 +24,7 @@ ends_line-cond before true n c cs = ends_line-behind_spaces before n c cs
 ends_line-cond before false n c cs = refl
 
 ends_line-piece : (before at : Bool) (level : ℕ) (s more : Text) → ends_line before (indent_before at level s ++ (s ++ more)) ≡ ends_line (ends_line before s) more
-ends_line-piece before at level [] more = refl
+ends_line-piece before at level [] more = elim at as (λ b. ends_line before (cond (b && false) (indent level) [] ++ more) ≡ ends_line before more) [ true ↦ refl | false ↦ refl ]
 ends_line-piece before at level (c ∷ cs) more =
     ends_line-cond before (at && not (c == line_feed)) (4 * level) c (cs ++ more) ∙ ends_line-append (c == line_feed) cs more
 
@@ -59,6 +60,32 @@ onto-nil before = append-nil before
 pub onto-empty : (signs : List Sign) → onto [] signs ≡ laid_out false signs
 unfolding onto
 onto-empty signs = refl
+
+-- whether a text ends in a line feed is told by its last byte
+ends_line-at : (before : Bool) (s : Text) (i last d : ℕ) → suc i ≡ length s → last ≡ get_or s i d → ends_line before s ≡ (last == line_feed)
+ends_line-at before [] i last d long is = absurd (omega arith)
+ends_line-at before (c ∷ []) zero last d long is = ap (λ x. x == line_feed) (sym is)
+ends_line-at before (c ∷ []) (suc i) last d long is = absurd (omega arith)
+ends_line-at before (c ∷ c' ∷ cs) zero last d long is = absurd (omega arith)
+ends_line-at before (c ∷ c' ∷ cs) (suc i) last d long is = ends_line-at (c == line_feed) (c' ∷ cs) i last d (omega (arith, long)) is
+
+pub ends_line-last : (before : Bool) (s : Text) (last d : ℕ) → 0 < length s → last ≡ get_or s (length s - 1) d → ends_line before s ≡ (last == line_feed)
+ends_line-last before s last d some is = ends_line-at before s (length s - 1) last d (omega arith) is
+
+-- one piece
+pub onto-sign : (before : Text) (level : ℕ) (s : Text) → onto before (sign level s ∷ []) ≡ (before ++ indent_before (ends_line false before) level s) ++ s
+unfolding onto
+onto-sign before level s = ap (λ x. before ++ (indent_before (ends_line false before) level s ++ x)) (append-nil s) ∙ sym (append_assoc before _ s)
+
+-- the mark of a default variant
+pub onto-mark : (before : Text) (level : ℕ) → onto before (default_mark (level + 1) ∷ []) ≡ (before ++ indent level) ++ (space ∷ space ∷ space ∷ asterisk ∷ [])
+unfolding onto
+onto-mark before level =
+    let three : 4 * (level + 1) - 1 ≡ 4 * level + 3 = omega arith in
+    ap (λ n. before ++ (replicate n space ++ (asterisk ∷ []))) three
+    ∙ ap (λ x. before ++ (x ++ (asterisk ∷ []))) (sym (replicate-append-replicate (4 * level) 3 space))
+    ∙ ap (λ x. before ++ x) (append_assoc (indent level) (space ∷ space ∷ space ∷ []) (asterisk ∷ []))
+    ∙ sym (append_assoc before (indent level) (space ∷ space ∷ space ∷ asterisk ∷ []))
 
 -- two steps of writing, one after the other
 pub onto-then : (before : Text) (first then : List Sign) {between after : Text} → between ≡ onto before first → after ≡ onto between then → after ≡ onto before (first ++ then)

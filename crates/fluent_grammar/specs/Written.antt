@@ -1,4 +1,4 @@
--- The written text of a tree: signs at their levels, one after the other, and how they are laid out.
+-- The written text of a tree: signs at their levels, one after the other, and how they are laid out (docs/written-text.md).
 use Rattle.std.specs.Prelude.{ℕ, zero, suc, ◌+◌, ◌-◌, ◌*◌, Bool, true, false, not, ◌&&◌, ◌||◌, ◌==◌, if◌then◌else◌, List, [], ◌∷◌, ◌++◌, length, replicate, Option, Some, None}
 use Rattle.std.specs.List.{list_any}
 use Rattle.std.specs.Str.{trim_end}
@@ -20,10 +20,13 @@ ends_line before (c ∷ cs) = ends_line (c == line_feed) cs
 abbrev pub indent : ℕ → Text
 indent level = replicate (4 * level) space
 
--- the indent before a piece that follows a line feed, unless it begins with one or is empty
+-- whether a piece takes an indent where a line feed stands before it: not where it is empty or begins with one
+abbrev pub takes_indent : Text → Bool
+takes_indent [] = false
+takes_indent (c ∷ cs) = not (c == line_feed)
+
 abbrev pub indent_before : Bool → ℕ → Text → Text
-indent_before at_line_start level [] = []
-indent_before at_line_start level (c ∷ cs) = if at_line_start && not (c == line_feed) then indent level else []
+indent_before at_line_start level s = if at_line_start && takes_indent s then indent level else []
 
 -- the bytes of signs; whether a line feed stands before them. The mark of a default variant takes the place of the last space of its indent.
 abbrev pub laid_out : Bool → List Sign → Text
@@ -81,6 +84,10 @@ abbrev pub mark : ℕ → Bool → List Sign
 mark level true = default_mark level ∷ []
 mark level false = []
 
+-- a variant up to its pattern, on a line of its own one level below its select
+abbrev pub variant_head_signs : ℕ → VariantKey → Bool → List Sign
+variant_head_signs level key default = new_line ∷ mark (level + 1) default ++ sign (level + 1) (open_bracket ∷ []) ∷ sign (level + 1) (key_text key) ∷ sign (level + 1) (close_bracket ∷ []) ∷ []
+
 -- the accessor of an attribute, behind a reference
 abbrev pub accessor_signs : ℕ → Option Text → List Sign
 accessor_signs level None = []
@@ -90,6 +97,10 @@ accessor_signs level (Some name) = sign level (dot ∷ []) ∷ sign level name �
 abbrev pub between : ℕ → Bool → List Sign
 between level false = []
 between level true = sign level (comma ∷ space ∷ []) ∷ []
+
+-- an argument's name, behind what separates it from an argument before it
+abbrev pub argument_name_signs : ℕ → Bool → Text → List Sign
+argument_name_signs level after name = between level after ++ sign level name ∷ sign level (colon ∷ space ∷ []) ∷ []
 
 abbrev pub has_positional : Inlines → Bool
 has_positional no_inlines = false
@@ -127,12 +138,10 @@ abbrev mutual
   expression_signs level (select s vs) = inline_signs level s ++ sign level (space ∷ hyphen ∷ greater ∷ []) ∷ (variants_signs level vs ++ new_line ∷ [])
   expression_signs level (inline i) = inline_signs level i
 
-  -- each variant on a line of its own, one level in, and its pattern two
+  -- the variants of a select, the pattern of each two levels in
   pub variants_signs : ℕ → Variants → List Sign
   variants_signs level no_variants = []
-  variants_signs level (variant key es default vs) =
-      (new_line ∷ mark (level + 1) default ++ sign (level + 1) (open_bracket ∷ []) ∷ sign (level + 1) (key_text key) ∷ sign (level + 1) (close_bracket ∷ []) ∷ pattern_start (level + 2) es ∷ elements_signs (level + 2) es)
-      ++ variants_signs level vs
+  variants_signs level (variant key es default vs) = (variant_head_signs level key default ++ pattern_start (level + 2) es ∷ elements_signs (level + 2) es) ++ variants_signs level vs
 
   -- an inline expression anywhere else
   pub inline_signs : ℕ → Inline → List Sign
@@ -159,7 +168,7 @@ abbrev mutual
   -- arguments with a name; whether one was written before
   pub nameds_signs : ℕ → Bool → Nameds → List Sign
   nameds_signs level after no_nameds = []
-  nameds_signs level after (named name e ns) = between level after ++ (sign level name ∷ sign level (colon ∷ space ∷ []) ∷ (inline_signs level e ++ nameds_signs level true ns))
+  nameds_signs level after (named name e ns) = argument_name_signs level after name ++ (inline_signs level e ++ nameds_signs level true ns)
 
 -- a pattern at its level
 abbrev pub pattern_signs : ℕ → Elements → List Sign
@@ -174,13 +183,14 @@ abbrev pub attributes_signs : List Attribute → List Sign
 attributes_signs [] = []
 attributes_signs (a ∷ more) = (new_line ∷ sign 1 (dot ∷ []) ∷ sign 1 a.id ∷ sign 1 (space ∷ equals ∷ []) ∷ pattern_signs 2 a.value) ++ attributes_signs more
 
--- a line of a comment: the sign alone where nothing but white space stands behind it
-abbrev pub comment_line_signs : Text → Text → List Sign
-comment_line_signs level line = if length (trim_end line) == 0 then sign 0 level ∷ new_line ∷ [] else sign 0 level ∷ sign 0 (space ∷ []) ∷ sign 0 line ∷ new_line ∷ []
+-- what stands behind the sign of a comment's line: nothing where the line is empty or white space alone
+abbrev pub comment_text_signs : Text → List Sign
+comment_text_signs line = if length (trim_end line) == 0 then [] else sign 0 (space ∷ []) ∷ sign 0 line ∷ []
 
+-- a comment, each line behind its sign
 abbrev pub comment_signs : Text → List Text → List Sign
 comment_signs level [] = []
-comment_signs level (line ∷ lines) = comment_line_signs level line ++ comment_signs level lines
+comment_signs level (line ∷ lines) = (sign 0 level ∷ (comment_text_signs line ++ new_line ∷ [])) ++ comment_signs level lines
 
 -- the comment of a message or a term, right above it
 abbrev pub own_comment_signs : Option (List Text) → List Sign
@@ -193,9 +203,12 @@ message_signs m = own_comment_signs m.comment ++ ((sign 0 m.id ∷ sign 0 (space
 abbrev pub term_signs : Term → List Sign
 term_signs m = own_comment_signs m.comment ++ ((sign 0 (hyphen ∷ []) ∷ sign 0 m.id ∷ sign 0 (space ∷ equals ∷ []) ∷ pattern_signs 1 m.value) ++ (attributes_signs m.attributes ++ new_line ∷ []))
 
--- a comment that stands by itself, with a line feed before it behind another entry
+-- the line feed before a comment that stands by itself, behind another entry
+abbrev pub gap_signs : Bool → List Sign
+gap_signs after = if after then new_line ∷ [] else []
+
 abbrev pub free_comment_signs : Bool → Text → List Text → List Sign
-free_comment_signs after level lines = (if after then new_line ∷ [] else []) ++ (comment_signs level lines ++ new_line ∷ [])
+free_comment_signs after level lines = gap_signs after ++ (comment_signs level lines ++ new_line ∷ [])
 
 abbrev pub junk_signs : Bool → Text → List Sign
 junk_signs with_junk s = if with_junk then sign 0 s ∷ [] else []

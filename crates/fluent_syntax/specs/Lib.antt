@@ -6,5 +6,6 @@ pub use Rattle.fluent_grammar.specs.Refusal
 pub use Rattle.fluent_grammar.specs.Reading
 pub use Rattle.fluent_grammar.specs.Spelling
 pub use Rattle.fluent_grammar.specs.Tiling
+pub use Rattle.fluent_grammar.specs.Written
 pub mod View
 pub mod ErrorView

@@ -101,6 +101,10 @@ pub(crate) trait Texts<S> {
     /// The bytes of a text, in UTF-8.
     ghost text: { S → List ℕ };
 
+    /// The same as [`Slice::as_str`].
+    fn as_str<'a>(&self, whole: &'a S) -> &'a str
+        ensures { result.now ≡ text whole.now };
+
     /// The same as [`Slice::slice`].
     fn slice(&self, whole: &S, alloc: Global, range: Range<usize>) -> Result<S, AllocError>
         requires ordered { range.start ≤ range.end }
@@ -129,6 +133,10 @@ impl Slices<'_> {
 
 impl<'s, S: Slice<'s>> Texts<S> for Slices<'s> {
     ghost text = { S.text };
+
+    fn as_str<'a>(&self, whole: &'a S) -> &'a str {
+        whole.as_str()
+    }
 
     fn slice(&self, whole: &S, alloc: Global, range: Range<usize>) -> Result<S, AllocError> {
         whole.slice(alloc, range)
