@@ -58,11 +58,11 @@ fn split_sign(text: &[u8]) -> (bool, &[u8])
     ensures negative { result.0 ≡ begins_with_minus text.now }
     ensures rest { result.1.now ≡ without_sign text.now }
 {
-    match text {
-        [b'-', rest @ ..] => (true, rest),
-        [b'+', rest @ ..] => (false, rest),
-        _ => (false, text),
-    }
+    let Some(&first) = text.first() else {
+        return (false, text);
+    };
+    let negative = first == b'-';
+    (negative, &text[usize::from(negative | (first == b'+'))..])
 }
 
 /// An unsigned text whose whole part is digits and fits.
