@@ -17,6 +17,8 @@ mod Lined
 mod Onto
 mod Laid
 mod Braces
+pub mod Equality
+pub mod EqualTrees
 pub mod Cycle
 pub mod Values
 pub mod Runs

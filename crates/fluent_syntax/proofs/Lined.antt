@@ -1,5 +1,5 @@
 -- Whether a list of elements takes more than one line, or begins with a dot, element by element.
-use Rattle.std.proofs.Common.{◌≡◌, ℕ, Bool, true, false, List, [], ◌∷◌, map, refl, ap, ◌∙◌, sym, subst}
+use Rattle.std.proofs.Common.{◌≡◌, Bool, true, false, List, [], ◌∷◌, map, refl, ap, ◌∙◌, sym, subst}
 use Rattle.std.specs.Prelude.{◌||◌, Option, MatchOption}
 use Rattle.std.specs.List.{list_any, slice_get}
 use Rattle.fluent_grammar.specs.Tree as t

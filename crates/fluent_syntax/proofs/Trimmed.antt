@@ -1,5 +1,5 @@
 -- Where a text is cut when the white space at its end goes.
-use Rattle.std.specs.Prelude.{◌≡◌, ℕ, List, length}
+use Rattle.std.specs.Prelude.{ℕ, List, length}
 use Rattle.std.specs.Str.{IsUtf8, IsTrimEnd, IsCharBoundary}
 use Rattle.std.proofs.Common.{sym, subst}
 use Rattle.std.proofs.lemmas.Str.{IsCharBoundary-from_take}

@@ -6,7 +6,7 @@ use Rattle.fluent_syntax.specs.declared.ast.Expression.{Expression, fold-roll-Ex
 use Rattle.fluent_syntax.specs.declared.ast.Expression.TheVariants.{Select, Inline, rolls-Select, rolls-Inline}
 use Rattle.fluent_syntax.specs.declared.ast.InlineExpression.{InlineExpression, fold-roll-InlineExpression}
 use Rattle.fluent_syntax.specs.declared.ast.InlineExpression.TheVariants.{StringLiteral, NumberLiteral, FunctionReference, MessageReference, TermReference, VariableReference, Placeable as Nested, rolls-StringLiteral, rolls-NumberLiteral, rolls-FunctionReference, rolls-MessageReference, rolls-TermReference, rolls-VariableReference, rolls-Placeable as rolls-Nested}
-use Rattle.fluent_syntax.specs.declared.ast.PatternElement.{PatternElement, fold-roll-PatternElement}
+use Rattle.fluent_syntax.specs.declared.ast.PatternElement.{fold-roll-PatternElement}
 use Rattle.fluent_syntax.specs.declared.ast.PatternElement.TheVariants.{TextElement, Placeable, rolls-TextElement, rolls-Placeable}
 use Rattle.fluent_syntax.specs.declared.ast.Pattern.{Pattern, out-Pattern, roll-Pattern, fold-roll-Pattern, fold_out-Pattern}
 use Rattle.fluent_syntax.specs.declared.ast.CallArguments.{CallArguments, out-CallArguments, roll-CallArguments, fold-roll-CallArguments, fold_out-CallArguments}

@@ -6,6 +6,7 @@
 #![tactic(auto)]
 
 pub mod ast;
+pub mod laws;
 pub mod parser;
 pub mod serializer;
 pub mod unicode;

@@ -17,11 +17,17 @@ space = 32
 abbrev pub dollar : ℕ
 dollar = 36
 
+abbrev pub hyphen : ℕ
+hyphen = 45
+
 abbrev pub dot : ℕ
 dot = 46
 
 abbrev pub equals : ℕ
 equals = 61
+
+abbrev pub underscore : ℕ
+underscore = 95
 
 abbrev pub open_brace : ℕ
 open_brace = 123

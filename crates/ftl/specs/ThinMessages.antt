@@ -2,7 +2,7 @@
 use Rattle.std.specs.Prelude.{ℕ, zero, suc, Bool, false, not, ◌&&◌, ◌||◌, ◌==◌, nat_le, if◌then◌else◌, List, [], ◌∷◌, length, take, drop, Option, Some, None, option_map, option_and_then}
 use Rattle.std.specs.List.{prefix_len, list_all, flat_map, filter_map, position_or_len, slice_split}
 use Rattle.std.specs.Char.{is_ascii_alphabetic, is_ascii_alphanumeric}
-use Rattle.ftl.specs.Text.{Text, line_feed, space, dollar, equals, open_brace, close_brace}
+use Rattle.ftl.specs.Text.{Text, line_feed, space, dollar, hyphen, equals, underscore, open_brace, close_brace}
 
 pub data Element : Type 0 where
   text_element : Text → Element
@@ -11,12 +11,6 @@ pub data Element : Type 0 where
 pub record Message : Type 0 where
   pub id : Text
   pub elements : List Element
-
-abbrev pub hyphen : ℕ
-hyphen = 45
-
-abbrev pub underscore : ℕ
-underscore = 95
 
 -- a byte that may go on an identifier: a letter, a digit, `-` or `_`
 abbrev pub is_name_byte : ℕ → Bool

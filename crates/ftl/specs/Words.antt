@@ -2,15 +2,12 @@
 use Rattle.std.specs.Prelude.{ℕ, ◌==◌, nat_lt, ◌&&◌, Bool, true, false, not, if◌then◌else◌, List, [], ◌∷◌, length, Option, Some, None, codes}
 use Rattle.std.specs.List.{list_all}
 use Rattle.std.specs.Str.{bytes_eq}
-use Rattle.ftl.specs.Text.{Text}
+use Rattle.ftl.specs.Text.{Text, hyphen}
 
 -- answer the request lines of standard input, from the sources in these files
 pub record Run : Type 0 where
   pub isolating : Bool
   pub files : List Text
-
-abbrev pub hyphen : ℕ
-hyphen = 45
 
 -- a word that begins with a hyphen is no file
 abbrev pub is_file : Text → Bool

@@ -1,5 +1,6 @@
 //! The sources' files.
-ghost use Rattle.std.specs.Prelude.{◌≡◌, length, IfOk, IfErr, IfSome, IsErrOf, IsUtf8, ◌⊎◌, string_bytes, [], ◌∷◌};
+ghost use Rattle.std.specs.Prelude.{◌≡◌, length, IfOk, IfErr, IfSome, IsErrOf, IsUtf8, ◌⊎◌, ◌↔◌, string_bytes, [], ◌∷◌};
+ghost use Rattle.std.specs.IoError.{error_kind, raw_os_error};
 ghost use Rattle.ftl.specs.CatalogView.{texts};
 ghost use Rattle.ftl.specs.Faults.{NamesOneOf, IsOfFiles};
 
@@ -66,7 +67,8 @@ fn read_text<'words, R: Read + Drop>(
 
 /// What the error of a read is told as: a growth that was refused, or else the file.
 fn read_fault(file: &str, error: io::Error) -> Fault<'_>
-    ensures { (result ≡ Fault.FileUnreadable file.entry) ⊎ (result ≡ Fault.Memory) }
+    ensures one { (result ≡ Fault.FileUnreadable file.entry) ⊎ (result ≡ Fault.Memory) }
+    ensures memory { (result ≡ Fault.Memory) ↔ ((error_kind error ≡ ErrorKind.OutOfMemory) × (raw_os_error error ≡ None)) }
 {
     if error.kind() == ErrorKind::OutOfMemory && error.raw_os_error().is_none() {
         Fault::Memory

@@ -1,6 +1,6 @@
-use Rattle.std.proofs.Common.{rules, ◌≡◌, ap, ◌∙◌, sym, map, take, length, arith, ◌≤◌}
+use Rattle.std.proofs.Common.{ap, ◌∙◌, sym, map}
 use Rattle.std.proofs.lemmas.List.{take_all}
-use Rattle.fluent_syntax.specs.View.{pattern_view, element_view, expression_view, inline_view, variant_view, arguments_view, named_view, key_of, name_of}
+use Rattle.fluent_syntax.specs.View.{element_view, inline_view, variant_view, named_view}
 use Rattle.fluent_syntax.proofs.Views.{pattern_view-out, pattern_view-roll, inline_view-FunctionReference_same}
 use Rattle.fluent_syntax.specs.View.{elements_of}
 use Rattle.fluent_syntax.proofs.Copied.{map-copied_more}

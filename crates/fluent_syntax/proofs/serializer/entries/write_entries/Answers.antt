@@ -1,4 +1,4 @@
-use Rattle.std.proofs.Common.{◌≡◌, map, take, ap, sym, ◌∙◌, refl, false}
+use Rattle.std.proofs.Common.{map, take, ap, sym, ◌∙◌, refl, false}
 use Rattle.fluent_grammar.specs.Written.{onto, entries_signs}
 use Rattle.fluent_grammar.proofs.LaidOut.{onto-nil, onto-then}
 use Rattle.fluent_syntax.proofs.Copied.{map-take_more}

@@ -1,15 +1,15 @@
-use Rattle.std.proofs.Common.{◌≡◌, [], ◌∷◌, ◌++◌, string_bytes, map, take, ap, sym, ◌∙◌, OnOk, refl, append-nil, option_map, vec_len}
+use Rattle.std.proofs.Common.{[], ◌∷◌, ◌++◌, string_bytes, map, take, ap, sym, ◌∙◌, refl, append-nil, option_map, vec_len}
 use Rattle.std.specs.Prelude.{◌||◌, not, false}
 use Rattle.fluent_grammar.specs.Tree.{inline, term_reference}
 use Rattle.fluent_syntax.specs.declared.ast.CallArguments.{out-CallArguments}
-use Rattle.fluent_grammar.specs.Written.{onto, sign, argument_name_signs, arguments_signs, elements_signs, expression_signs, inline_signs, inlines_signs, nameds_signs, placeable_signs, variants_signs, pattern_signs, has_positional}
+use Rattle.fluent_grammar.specs.Written.{onto, arguments_signs, elements_signs, expression_signs, inline_signs, inlines_signs, nameds_signs, placeable_signs, variants_signs, has_positional}
 use Rattle.fluent_grammar.proofs.LaidOut.{onto-nil, onto-then}
 use Rattle.fluent_syntax.specs.View.{element_view, elements_of, expression_view, inline_view, inlines_of, variant_view, variants_of, named_view, nameds_of, name_of, arguments_view, maybe_arguments}
 use Rattle.fluent_syntax.proofs.Braces.{in_braces-no_placeable}
 use Rattle.fluent_syntax.proofs.Copied.{map-take_more}
 use Rattle.fluent_syntax.proofs.Laid.{elements_signs-append, variants_signs-append, inlines_signs-push, has_positional-push, has_positional-length, has_named, nameds_signs-push, has_named-push, or_false}
 use Rattle.fluent_syntax.proofs.Onto.{onto-finish, onto-of}
-use Rattle.fluent_syntax.proofs.Views.{arguments_view-out, element_view-TextElement, element_view-Placeable, expression_view-Select, expression_view-Inline, inline_view-StringLiteral, inline_view-NumberLiteral, inline_view-FunctionReference, inline_view-MessageReference, inline_view-TermReference, inline_view-VariableReference, inline_view-Placeable, named_view-out, pattern_view-out, variant_view-out}
+use Rattle.fluent_syntax.proofs.Views.{arguments_view-out, element_view-TextElement, element_view-Placeable, expression_view-Select, inline_view-StringLiteral, inline_view-FunctionReference, inline_view-MessageReference, inline_view-TermReference, inline_view-VariableReference, inline_view-Placeable, named_view-out, pattern_view-out, variant_view-out}
 use Rattle.fluent_syntax.proofs.serializer.expressions.+writing.Goals as goal
 use Rattle.fluent_syntax.proofs.serializer.expressions.+writing.Goals.{write_elements-in-TextElement+in_ok-write_piece-in-TextElement, write_elements-in-Placeable+in_ok-write_placeable-in-Placeable}
 

@@ -1,4 +1,4 @@
-use Rattle.std.proofs.Common.{rules, string_bytes}
+use Rattle.std.proofs.Common.{rules}
 use Rattle.fluent_grammar.proofs.LaidOut.{onto-sign}
 use Rattle.fluent_syntax.proofs.serializer.pieces.write_piece.Goals as goal
 

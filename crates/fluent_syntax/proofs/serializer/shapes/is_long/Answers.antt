@@ -1,4 +1,4 @@
-use Rattle.std.proofs.Common.{[], ◌∷◌, ap, sym, ◌∙◌}
+use Rattle.std.proofs.Common.{ap, sym, ◌∙◌}
 use Rattle.fluent_syntax.proofs.Lined.{is_long, is_long-placeable}
 use Rattle.fluent_syntax.proofs.Views.{element_view-Placeable}
 use Rattle.fluent_syntax.specs.View.{element_view, expression_view}

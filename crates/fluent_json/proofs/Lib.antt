@@ -1,0 +1,6 @@
+mod Rows
+mod Lists
+mod Same
+mod NoTree
+mod Injective
+mod OneTree
