@@ -45,14 +45,28 @@ fn agrees(alloc: Global, vector: &Value) -> Result<bool> {
         .context("a source")?;
     let full = [vector.get("tree"), vector.get("errors")];
     let runtime = [vector.get("runtime_tree"), vector.get("runtime_errors")];
-    Ok(answers(alloc, full, parser::parse(alloc, source))?
-        && answers(alloc, full, parser::parse(alloc, String::from_str(alloc, source)?))?
-        && answers(alloc, runtime, parser::parse_runtime(alloc, source))?
-        && answers(alloc, runtime, parser::parse_runtime(alloc, String::from_str(alloc, source)?))?)
+    Ok(
+        answers(alloc, full, parser::parse(alloc, source))?
+            && answers(
+                alloc,
+                full,
+                parser::parse(alloc, String::from_str(alloc, source)?),
+            )?
+            && answers(alloc, runtime, parser::parse_runtime(alloc, source))?
+            && answers(
+                alloc,
+                runtime,
+                parser::parse_runtime(alloc, String::from_str(alloc, source)?),
+            )?,
+    )
 }
 
 /// Whether an answer is the tree and the errors that are wanted.
-fn answers<'s, S: Slice<'s>>(alloc: Global, wanted: [Option<&Value>; 2], answer: parser::Result<S>) -> Result<bool> {
+fn answers<'s, S: Slice<'s>>(
+    alloc: Global,
+    wanted: [Option<&Value>; 2],
+    answer: parser::Result<S>,
+) -> Result<bool> {
     let [tree, errors] = wanted;
     let (resource, found) = match answer {
         Ok(resource) => (resource, Vec::new(alloc)),
@@ -62,7 +76,11 @@ fn answers<'s, S: Slice<'s>>(alloc: Global, wanted: [Option<&Value>; 2], answer:
     Ok(has_tree(alloc, tree, &resource)? && has_errors(alloc, errors, found.as_slice())?)
 }
 
-fn has_tree<'s, S: Slice<'s>>(alloc: Global, wanted: Option<&Value>, resource: &Resource<S>) -> Result<bool> {
+fn has_tree<'s, S: Slice<'s>>(
+    alloc: Global,
+    wanted: Option<&Value>,
+    resource: &Resource<S>,
+) -> Result<bool> {
     let found = tree::resource_value(alloc, resource)?;
     Ok(wanted.is_none_or(|wanted| *wanted == found))
 }

@@ -1,14 +1,17 @@
 //! Trees as JSON.
 
 use fluent_syntax::ast::{
-    Attribute, CallArguments, Comment, Entry, Expression, Identifier, InlineExpression, Message, NamedArgument, Pattern,
-    PatternElement, Resource, Term, Variant, VariantKey,
+    Attribute, CallArguments, Comment, Entry, Expression, Identifier, InlineExpression, Message,
+    NamedArgument, Pattern, PatternElement, Resource, Term, Variant, VariantKey,
 };
 use fluent_syntax::parser::Slice;
 use serde_json::{Value, json};
 use std::alloc::{AllocError, Global};
 
-pub fn resource_value<'s, S: Slice<'s>>(alloc: Global, resource: &Resource<S>) -> Result<Value, AllocError> {
+pub fn resource_value<'s, S: Slice<'s>>(
+    alloc: Global,
+    resource: &Resource<S>,
+) -> Result<Value, AllocError> {
     let mut body = Vec::new(alloc);
     for entry in &resource.body {
         body.push(entry_value(alloc, entry)?)?;
@@ -31,7 +34,10 @@ fn entry_value<'s, S: Slice<'s>>(alloc: Global, entry: &Entry<S>) -> Result<Valu
     }
 }
 
-fn message_value<'s, S: Slice<'s>>(alloc: Global, message: &Message<S>) -> Result<Value, AllocError> {
+fn message_value<'s, S: Slice<'s>>(
+    alloc: Global,
+    message: &Message<S>,
+) -> Result<Value, AllocError> {
     let id = identifier_value(alloc, &message.id)?;
     let value = match &message.value {
         None => Value::Null,
@@ -50,14 +56,21 @@ fn term_value<'s, S: Slice<'s>>(alloc: Global, term: &Term<S>) -> Result<Value, 
     json!(in alloc; {"type": "Term", "id": id, "value": value, "attributes": attributes, "comment": comment})
 }
 
-fn maybe_comment_value<'s, S: Slice<'s>>(alloc: Global, comment: &Option<Comment<S>>) -> Result<Value, AllocError> {
+fn maybe_comment_value<'s, S: Slice<'s>>(
+    alloc: Global,
+    comment: &Option<Comment<S>>,
+) -> Result<Value, AllocError> {
     match comment {
         None => Ok(Value::Null),
         Some(comment) => comment_value(alloc, "Comment", comment),
     }
 }
 
-fn comment_value<'s, S: Slice<'s>>(alloc: Global, kind: &str, comment: &Comment<S>) -> Result<Value, AllocError> {
+fn comment_value<'s, S: Slice<'s>>(
+    alloc: Global,
+    kind: &str,
+    comment: &Comment<S>,
+) -> Result<Value, AllocError> {
     let mut lines = Vec::new(alloc);
     for line in &comment.content {
         lines.push(Value::try_from_str(alloc, line.as_str())?)?;
@@ -66,7 +79,10 @@ fn comment_value<'s, S: Slice<'s>>(alloc: Global, kind: &str, comment: &Comment<
     json!(in alloc; {"type": kind, "content": lines})
 }
 
-fn attributes_value<'s, S: Slice<'s>>(alloc: Global, attributes: &[Attribute<S>]) -> Result<Value, AllocError> {
+fn attributes_value<'s, S: Slice<'s>>(
+    alloc: Global,
+    attributes: &[Attribute<S>],
+) -> Result<Value, AllocError> {
     let mut values = Vec::new(alloc);
     for attribute in attributes {
         let id = identifier_value(alloc, &attribute.id)?;
@@ -76,12 +92,18 @@ fn attributes_value<'s, S: Slice<'s>>(alloc: Global, attributes: &[Attribute<S>]
     Ok(Value::Array(values))
 }
 
-fn identifier_value<'s, S: Slice<'s>>(alloc: Global, id: &Identifier<S>) -> Result<Value, AllocError> {
+fn identifier_value<'s, S: Slice<'s>>(
+    alloc: Global,
+    id: &Identifier<S>,
+) -> Result<Value, AllocError> {
     let name = id.name.as_str();
     json!(in alloc; {"type": "Identifier", "name": name})
 }
 
-fn maybe_identifier_value<'s, S: Slice<'s>>(alloc: Global, id: &Option<Identifier<S>>) -> Result<Value, AllocError> {
+fn maybe_identifier_value<'s, S: Slice<'s>>(
+    alloc: Global,
+    id: &Option<Identifier<S>>,
+) -> Result<Value, AllocError> {
     match id {
         None => Ok(Value::Null),
         Some(id) => identifier_value(alloc, id),
@@ -89,7 +111,10 @@ fn maybe_identifier_value<'s, S: Slice<'s>>(alloc: Global, id: &Option<Identifie
 }
 
 #[cycle(json)]
-fn pattern_value<'s, S: Slice<'s>>(alloc: Global, pattern: &Pattern<S>) -> Result<Value, AllocError> {
+fn pattern_value<'s, S: Slice<'s>>(
+    alloc: Global,
+    pattern: &Pattern<S>,
+) -> Result<Value, AllocError> {
     let mut elements = Vec::new(alloc);
     for element in &pattern.elements {
         elements.push(element_value(alloc, element)?)?;
@@ -99,7 +124,10 @@ fn pattern_value<'s, S: Slice<'s>>(alloc: Global, pattern: &Pattern<S>) -> Resul
 }
 
 #[cycle(json)]
-fn element_value<'s, S: Slice<'s>>(alloc: Global, element: &PatternElement<S>) -> Result<Value, AllocError> {
+fn element_value<'s, S: Slice<'s>>(
+    alloc: Global,
+    element: &PatternElement<S>,
+) -> Result<Value, AllocError> {
     match element {
         PatternElement::TextElement { value } => {
             let value = value.as_str();
@@ -113,7 +141,10 @@ fn element_value<'s, S: Slice<'s>>(alloc: Global, element: &PatternElement<S>) -
 }
 
 #[cycle(json)]
-fn expression_value<'s, S: Slice<'s>>(alloc: Global, expression: &Expression<S>) -> Result<Value, AllocError> {
+fn expression_value<'s, S: Slice<'s>>(
+    alloc: Global,
+    expression: &Expression<S>,
+) -> Result<Value, AllocError> {
     match expression {
         Expression::Inline(inline) => inline_value(alloc, inline),
         Expression::Select { selector, variants } => {
@@ -129,7 +160,10 @@ fn expression_value<'s, S: Slice<'s>>(alloc: Global, expression: &Expression<S>)
 }
 
 #[cycle(json)]
-fn variant_value<'s, S: Slice<'s>>(alloc: Global, variant: &Variant<S>) -> Result<Value, AllocError> {
+fn variant_value<'s, S: Slice<'s>>(
+    alloc: Global,
+    variant: &Variant<S>,
+) -> Result<Value, AllocError> {
     let key = key_value(alloc, &variant.key)?;
     let value = pattern_value(alloc, &variant.value)?;
     let is_default = variant.default;
@@ -150,7 +184,10 @@ fn key_value<'s, S: Slice<'s>>(alloc: Global, key: &VariantKey<S>) -> Result<Val
 }
 
 #[cycle(json)]
-fn inline_value<'s, S: Slice<'s>>(alloc: Global, inline: &InlineExpression<S>) -> Result<Value, AllocError> {
+fn inline_value<'s, S: Slice<'s>>(
+    alloc: Global,
+    inline: &InlineExpression<S>,
+) -> Result<Value, AllocError> {
     match inline {
         InlineExpression::StringLiteral { value } => {
             let value = value.as_str();
@@ -170,7 +207,11 @@ fn inline_value<'s, S: Slice<'s>>(alloc: Global, inline: &InlineExpression<S>) -
             let attribute = maybe_identifier_value(alloc, attribute)?;
             json!(in alloc; {"type": "MessageReference", "id": id, "attribute": attribute})
         }
-        InlineExpression::TermReference { id, attribute, arguments } => {
+        InlineExpression::TermReference {
+            id,
+            attribute,
+            arguments,
+        } => {
             let id = identifier_value(alloc, id)?;
             let attribute = maybe_identifier_value(alloc, attribute)?;
             let arguments = match arguments {
@@ -191,7 +232,10 @@ fn inline_value<'s, S: Slice<'s>>(alloc: Global, inline: &InlineExpression<S>) -
 }
 
 #[cycle(json)]
-fn arguments_value<'s, S: Slice<'s>>(alloc: Global, arguments: &CallArguments<S>) -> Result<Value, AllocError> {
+fn arguments_value<'s, S: Slice<'s>>(
+    alloc: Global,
+    arguments: &CallArguments<S>,
+) -> Result<Value, AllocError> {
     let mut positional = Vec::new(alloc);
     for argument in &arguments.positional {
         positional.push(inline_value(alloc, argument)?)?;
@@ -206,7 +250,10 @@ fn arguments_value<'s, S: Slice<'s>>(alloc: Global, arguments: &CallArguments<S>
 }
 
 #[cycle(json)]
-fn named_value<'s, S: Slice<'s>>(alloc: Global, argument: &NamedArgument<S>) -> Result<Value, AllocError> {
+fn named_value<'s, S: Slice<'s>>(
+    alloc: Global,
+    argument: &NamedArgument<S>,
+) -> Result<Value, AllocError> {
     let name = identifier_value(alloc, &argument.name)?;
     let value = inline_value(alloc, &argument.value)?;
     json!(in alloc; {"type": "NamedArgument", "name": name, "value": value})
