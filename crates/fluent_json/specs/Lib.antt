@@ -1,4 +1,4 @@
 pub mod Json
 pub mod Parts
-pub mod Found
+pub mod Members
 pub mod Message

@@ -33,14 +33,14 @@ impl From<AllocError> for FromValueError {
     ghost from_gives = { λ _ e. e ≡ Memory };
 
     fn from(_error: AllocError) -> Self {
-        FromValueError::Memory
+        Self::Memory
     }
 }
 
 impl<T: Drop> From<AllocFailed<T>> for FromValueError {
     ghost from_gives = { λ _ e. e ≡ Memory };
 
-    fn from(_error: AllocFailed<T>) -> Self {
-        FromValueError::Memory
+    fn from(error: AllocFailed<T>) -> Self {
+        FromValueError::from(AllocError::from(error))
     }
 }

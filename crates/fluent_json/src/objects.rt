@@ -22,7 +22,8 @@ pub(crate) fn message(
     attributes: Vec<Value>,
     comment: Value,
 ) -> Result<Value, AllocError>
-    ensures { IfOk result (λ made. view made ≡ object.message (view id) (view value) (items_view attributes.items) (view comment)) }
+    ensures { IfOk result (λ made. view made
+        ≡ object.message (view id) (view value) (items_view attributes.items) (view comment)) }
 {
     json!(in alloc; {
         "type": "Message", "id": id, "value": value, "attributes": attributes, "comment": comment
@@ -36,7 +37,8 @@ pub(crate) fn term(
     attributes: Vec<Value>,
     comment: Value,
 ) -> Result<Value, AllocError>
-    ensures { IfOk result (λ made. view made ≡ object.term (view id) (view value) (items_view attributes.items) (view comment)) }
+    ensures { IfOk result (λ made. view made
+        ≡ object.term (view id) (view value) (items_view attributes.items) (view comment)) }
 {
     json!(in alloc; {
         "type": "Term", "id": id, "value": value, "attributes": attributes, "comment": comment
@@ -156,7 +158,8 @@ pub(crate) fn term_reference(
     attribute: Value,
     arguments: Value,
 ) -> Result<Value, AllocError>
-    ensures { IfOk result (λ made. view made ≡ object.term_reference (view id) (view attribute) (view arguments)) }
+    ensures { IfOk result (λ made. view made
+        ≡ object.term_reference (view id) (view attribute) (view arguments)) }
 {
     json!(in alloc; {
         "type": "TermReference", "id": id, "attribute": attribute, "arguments": arguments
@@ -174,7 +177,8 @@ pub(crate) fn call_arguments(
     positional: Vec<Value>,
     named: Vec<Value>,
 ) -> Result<Value, AllocError>
-    ensures { IfOk result (λ made. view made ≡ object.call_arguments (items_view positional.items) (items_view named.items)) }
+    ensures { IfOk result (λ made. view made
+        ≡ object.call_arguments (items_view positional.items) (items_view named.items)) }
 {
     json!(in alloc; {"type": "CallArguments", "positional": positional, "named": named})
 }

@@ -23,8 +23,10 @@ pub(crate) fn resource(value: &Value) -> Option<&[Value]>
 }
 
 pub(crate) fn message(value: &Value) -> Option<(&Value, &Value, &[Value], &Value)>
-    ensures some { IfSome result (λ parts. view value.now ≡ object.message (view parts.0.now) (view parts.1.now) (items_view parts.2.now) (view parts.3.now)) }
-    ensures none { IfNone result ((id : Data) (value' : Data) (attributes : Items) (comment : Data) → view value.now ≢ object.message id value' attributes comment) }
+    ensures some { IfSome result (λ parts. view value.now
+        ≡ object.message (view parts.0.now) (view parts.1.now) (items_view parts.2.now) (view parts.3.now)) }
+    ensures none { IfNone result ((id : Data) (value' : Data) (attributes : Items) (comment : Data)
+        → view value.now ≢ object.message id value' attributes comment) }
 {
     let mut members = Members::of(value)?;
     let attributes = members.take_array("attributes")?;
@@ -37,8 +39,10 @@ pub(crate) fn message(value: &Value) -> Option<(&Value, &Value, &[Value], &Value
 }
 
 pub(crate) fn term(value: &Value) -> Option<(&Value, &Value, &[Value], &Value)>
-    ensures some { IfSome result (λ parts. view value.now ≡ object.term (view parts.0.now) (view parts.1.now) (items_view parts.2.now) (view parts.3.now)) }
-    ensures none { IfNone result ((id : Data) (value' : Data) (attributes : Items) (comment : Data) → view value.now ≢ object.term id value' attributes comment) }
+    ensures some { IfSome result (λ parts. view value.now
+        ≡ object.term (view parts.0.now) (view parts.1.now) (items_view parts.2.now) (view parts.3.now)) }
+    ensures none { IfNone result ((id : Data) (value' : Data) (attributes : Items) (comment : Data)
+        → view value.now ≢ object.term id value' attributes comment) }
 {
     let mut members = Members::of(value)?;
     let attributes = members.take_array("attributes")?;
@@ -62,8 +66,10 @@ pub(crate) fn comment(value: &Value) -> Option<&[Value]>
 }
 
 pub(crate) fn group_comment(value: &Value) -> Option<&[Value]>
-    ensures some { IfSome result (λ part. view value.now ≡ object.group_comment (items_view part.now)) }
-    ensures none { IfNone result ((content : Items) → view value.now ≢ object.group_comment content) }
+    ensures some { IfSome result (λ part. view value.now
+        ≡ object.group_comment (items_view part.now)) }
+    ensures none { IfNone result ((content : Items)
+        → view value.now ≢ object.group_comment content) }
 {
     let mut members = Members::of(value)?;
     let content = members.take_array("content")?;
@@ -73,8 +79,10 @@ pub(crate) fn group_comment(value: &Value) -> Option<&[Value]>
 }
 
 pub(crate) fn resource_comment(value: &Value) -> Option<&[Value]>
-    ensures some { IfSome result (λ part. view value.now ≡ object.resource_comment (items_view part.now)) }
-    ensures none { IfNone result ((content : Items) → view value.now ≢ object.resource_comment content) }
+    ensures some { IfSome result (λ part. view value.now
+        ≡ object.resource_comment (items_view part.now)) }
+    ensures none { IfNone result ((content : Items)
+        → view value.now ≢ object.resource_comment content) }
 {
     let mut members = Members::of(value)?;
     let content = members.take_array("content")?;
@@ -106,8 +114,10 @@ pub(crate) fn identifier(value: &Value) -> Option<&str>
 }
 
 pub(crate) fn attribute(value: &Value) -> Option<(&Value, &Value)>
-    ensures some { IfSome result (λ parts. view value.now ≡ object.attribute (view parts.0.now) (view parts.1.now)) }
-    ensures none { IfNone result ((id : Data) (value' : Data) → view value.now ≢ object.attribute id value') }
+    ensures some { IfSome result (λ parts. view value.now
+        ≡ object.attribute (view parts.0.now) (view parts.1.now)) }
+    ensures none { IfNone result ((id : Data) (value' : Data)
+        → view value.now ≢ object.attribute id value') }
 {
     let mut members = Members::of(value)?;
     let id = members.take("id")?;
@@ -141,7 +151,8 @@ pub(crate) fn text_element(value: &Value) -> Option<&str>
 
 pub(crate) fn placeable(value: &Value) -> Option<&Value>
     ensures some { IfSome result (λ part. view value.now ≡ object.placeable (view part.now)) }
-    ensures none { IfNone result ((expression : Data) → view value.now ≢ object.placeable expression) }
+    ensures none { IfNone result ((expression : Data)
+        → view value.now ≢ object.placeable expression) }
 {
     let mut members = Members::of(value)?;
     let expression = members.take("expression")?;
@@ -151,8 +162,10 @@ pub(crate) fn placeable(value: &Value) -> Option<&Value>
 }
 
 pub(crate) fn select(value: &Value) -> Option<(&Value, &[Value])>
-    ensures some { IfSome result (λ parts. view value.now ≡ object.select (view parts.0.now) (items_view parts.1.now)) }
-    ensures none { IfNone result ((selector : Data) (variants : Items) → view value.now ≢ object.select selector variants) }
+    ensures some { IfSome result (λ parts. view value.now
+        ≡ object.select (view parts.0.now) (items_view parts.1.now)) }
+    ensures none { IfNone result ((selector : Data) (variants : Items)
+        → view value.now ≢ object.select selector variants) }
 {
     let mut members = Members::of(value)?;
     let selector = members.take("selector")?;
@@ -163,8 +176,10 @@ pub(crate) fn select(value: &Value) -> Option<(&Value, &[Value])>
 }
 
 pub(crate) fn variant(value: &Value) -> Option<(&Value, &Value, bool)>
-    ensures some { IfSome result (λ parts. view value.now ≡ object.variant (view parts.0.now) (view parts.1.now) parts.2) }
-    ensures none { IfNone result ((key : Data) (value' : Data) (default : Bool) → view value.now ≢ object.variant key value' default) }
+    ensures some { IfSome result (λ parts. view value.now
+        ≡ object.variant (view parts.0.now) (view parts.1.now) parts.2) }
+    ensures none { IfNone result ((key : Data) (value' : Data) (default : Bool)
+        → view value.now ≢ object.variant key value' default) }
 {
     let mut members = Members::of(value)?;
     let default = members.take_bool("default")?;
@@ -177,7 +192,8 @@ pub(crate) fn variant(value: &Value) -> Option<(&Value, &Value, bool)>
 
 pub(crate) fn string_literal(value: &Value) -> Option<&str>
     ensures some { IfSome result (λ part. view value.now ≡ object.string_literal part.now) }
-    ensures none { IfNone result ((value' : List ℕ) → view value.now ≢ object.string_literal value') }
+    ensures none { IfNone result ((value' : List ℕ)
+        → view value.now ≢ object.string_literal value') }
 {
     let mut members = Members::of(value)?;
     members.take_type("StringLiteral")?;
@@ -188,7 +204,8 @@ pub(crate) fn string_literal(value: &Value) -> Option<&str>
 
 pub(crate) fn number_literal(value: &Value) -> Option<&str>
     ensures some { IfSome result (λ part. view value.now ≡ object.number_literal part.now) }
-    ensures none { IfNone result ((value' : List ℕ) → view value.now ≢ object.number_literal value') }
+    ensures none { IfNone result ((value' : List ℕ)
+        → view value.now ≢ object.number_literal value') }
 {
     let mut members = Members::of(value)?;
     members.take_type("NumberLiteral")?;
@@ -198,8 +215,10 @@ pub(crate) fn number_literal(value: &Value) -> Option<&str>
 }
 
 pub(crate) fn function_reference(value: &Value) -> Option<(&Value, &Value)>
-    ensures some { IfSome result (λ parts. view value.now ≡ object.function_reference (view parts.0.now) (view parts.1.now)) }
-    ensures none { IfNone result ((id : Data) (arguments : Data) → view value.now ≢ object.function_reference id arguments) }
+    ensures some { IfSome result (λ parts. view value.now
+        ≡ object.function_reference (view parts.0.now) (view parts.1.now)) }
+    ensures none { IfNone result ((id : Data) (arguments : Data)
+        → view value.now ≢ object.function_reference id arguments) }
 {
     let mut members = Members::of(value)?;
     let arguments = members.take("arguments")?;
@@ -210,8 +229,10 @@ pub(crate) fn function_reference(value: &Value) -> Option<(&Value, &Value)>
 }
 
 pub(crate) fn message_reference(value: &Value) -> Option<(&Value, &Value)>
-    ensures some { IfSome result (λ parts. view value.now ≡ object.message_reference (view parts.0.now) (view parts.1.now)) }
-    ensures none { IfNone result ((id : Data) (attribute : Data) → view value.now ≢ object.message_reference id attribute) }
+    ensures some { IfSome result (λ parts. view value.now
+        ≡ object.message_reference (view parts.0.now) (view parts.1.now)) }
+    ensures none { IfNone result ((id : Data) (attribute : Data)
+        → view value.now ≢ object.message_reference id attribute) }
 {
     let mut members = Members::of(value)?;
     let attribute = members.take("attribute")?;
@@ -222,8 +243,10 @@ pub(crate) fn message_reference(value: &Value) -> Option<(&Value, &Value)>
 }
 
 pub(crate) fn term_reference(value: &Value) -> Option<(&Value, &Value, &Value)>
-    ensures some { IfSome result (λ parts. view value.now ≡ object.term_reference (view parts.0.now) (view parts.1.now) (view parts.2.now)) }
-    ensures none { IfNone result ((id : Data) (attribute : Data) (arguments : Data) → view value.now ≢ object.term_reference id attribute arguments) }
+    ensures some { IfSome result (λ parts. view value.now
+        ≡ object.term_reference (view parts.0.now) (view parts.1.now) (view parts.2.now)) }
+    ensures none { IfNone result ((id : Data) (attribute : Data) (arguments : Data)
+        → view value.now ≢ object.term_reference id attribute arguments) }
 {
     let mut members = Members::of(value)?;
     let arguments = members.take("arguments")?;
@@ -235,7 +258,8 @@ pub(crate) fn term_reference(value: &Value) -> Option<(&Value, &Value, &Value)>
 }
 
 pub(crate) fn variable_reference(value: &Value) -> Option<&Value>
-    ensures some { IfSome result (λ part. view value.now ≡ object.variable_reference (view part.now)) }
+    ensures some { IfSome result (λ part. view value.now
+        ≡ object.variable_reference (view part.now)) }
     ensures none { IfNone result ((id : Data) → view value.now ≢ object.variable_reference id) }
 {
     let mut members = Members::of(value)?;
@@ -246,8 +270,10 @@ pub(crate) fn variable_reference(value: &Value) -> Option<&Value>
 }
 
 pub(crate) fn call_arguments(value: &Value) -> Option<(&[Value], &[Value])>
-    ensures some { IfSome result (λ parts. view value.now ≡ object.call_arguments (items_view parts.0.now) (items_view parts.1.now)) }
-    ensures none { IfNone result ((positional : Items) (named : Items) → view value.now ≢ object.call_arguments positional named) }
+    ensures some { IfSome result (λ parts. view value.now
+        ≡ object.call_arguments (items_view parts.0.now) (items_view parts.1.now)) }
+    ensures none { IfNone result ((positional : Items) (named : Items)
+        → view value.now ≢ object.call_arguments positional named) }
 {
     let mut members = Members::of(value)?;
     let named = members.take_array("named")?;
@@ -258,8 +284,10 @@ pub(crate) fn call_arguments(value: &Value) -> Option<(&[Value], &[Value])>
 }
 
 pub(crate) fn named_argument(value: &Value) -> Option<(&Value, &Value)>
-    ensures some { IfSome result (λ parts. view value.now ≡ object.named_argument (view parts.0.now) (view parts.1.now)) }
-    ensures none { IfNone result ((name : Data) (value' : Data) → view value.now ≢ object.named_argument name value') }
+    ensures some { IfSome result (λ parts. view value.now
+        ≡ object.named_argument (view parts.0.now) (view parts.1.now)) }
+    ensures none { IfNone result ((name : Data) (value' : Data)
+        → view value.now ≢ object.named_argument name value') }
 {
     let mut members = Members::of(value)?;
     let name = members.take("name")?;

@@ -26,7 +26,8 @@ use std::alloc::Global;
 /// either.
 pub fn from_value(alloc: Global, value: &Value) -> Result<Resource<String>, FromValueError>
     ensures ok { IfOk result (λ resource. json (plain resource) ≡ view value.now) }
-    ensures inverse { (tree : List PlainEntry) → json tree ≡ view value.now → IfOk result (λ resource. plain resource ≡ tree) }
+    ensures inverse { (tree : List PlainEntry) → json tree
+        ≡ view value.now → IfOk result (λ resource. plain resource ≡ tree) }
     ensures shape { result ≡ Err FromValueError.Shape → HasNone json (view value.now) }
 {
     read_resource(alloc, value)
@@ -48,7 +49,8 @@ fn read_resource(alloc: Global, value: &Value) -> Result<Resource<String>, FromV
 
 fn read_entry(alloc: Global, value: &Value) -> Result<Entry<String>, FromValueError>
     ensures ok { IfOk result (λ entry. entry_json entry ≡ view value.now) }
-    ensures shape { IfErr result (λ e. e ≡ FromValueError.Shape → HasNone json_entry (view value.now)) }
+    ensures shape { IfErr result (λ e. e ≡ FromValueError.Shape
+        → HasNone json_entry (view value.now)) }
 {
     if let Some((id, pattern, attributes, comment)) = parts::message(value) {
         return read_message(alloc, id, pattern, attributes, comment);
@@ -83,8 +85,10 @@ fn read_message(
     attributes: &[Value],
     comment: &Value,
 ) -> Result<Entry<String>, FromValueError>
-    ensures ok { IfOk result (λ entry. entry_json entry ≡ message (view id.now) (view pattern.now) (items_view attributes.now) (view comment.now)) }
-    ensures shape { IfErr result (λ e. e ≡ FromValueError.Shape → HasNone json_entry (message (view id.now) (view pattern.now) (items_view attributes.now) (view comment.now))) }
+    ensures ok { IfOk result (λ entry. entry_json entry
+        ≡ message (view id.now) (view pattern.now) (items_view attributes.now) (view comment.now)) }
+    ensures shape { IfErr result (λ e. e ≡ FromValueError.Shape
+        → HasNone json_entry (message (view id.now) (view pattern.now) (items_view attributes.now) (view comment.now))) }
 {
     let id = read_identifier(alloc, id)?;
     let value = read_maybe_pattern(alloc, pattern)?;
@@ -106,8 +110,10 @@ fn read_term(
     attributes: &[Value],
     comment: &Value,
 ) -> Result<Entry<String>, FromValueError>
-    ensures ok { IfOk result (λ entry. entry_json entry ≡ term (view id.now) (view pattern.now) (items_view attributes.now) (view comment.now)) }
-    ensures shape { IfErr result (λ e. e ≡ FromValueError.Shape → HasNone json_entry (term (view id.now) (view pattern.now) (items_view attributes.now) (view comment.now))) }
+    ensures ok { IfOk result (λ entry. entry_json entry
+        ≡ term (view id.now) (view pattern.now) (items_view attributes.now) (view comment.now)) }
+    ensures shape { IfErr result (λ e. e ≡ FromValueError.Shape
+        → HasNone json_entry (term (view id.now) (view pattern.now) (items_view attributes.now) (view comment.now))) }
 {
     let id = read_identifier(alloc, id)?;
     let value = read_pattern(alloc, pattern)?;
@@ -127,7 +133,8 @@ fn read_maybe_pattern(
     value: &Value,
 ) -> Result<Option<Pattern<String>>, FromValueError>
     ensures ok { IfOk result (λ pattern. maybe_pattern_json pattern ≡ view value.now) }
-    ensures shape { IfErr result (λ e. e ≡ FromValueError.Shape → HasNone (or_null json_pattern) (view value.now)) }
+    ensures shape { IfErr result (λ e. e ≡ FromValueError.Shape
+        → HasNone (or_null json_pattern) (view value.now)) }
 {
     if value.is_null() {
         return Ok(None);
@@ -141,7 +148,8 @@ fn read_maybe_comment(
     value: &Value,
 ) -> Result<Option<Comment<String>>, FromValueError>
     ensures ok { IfOk result (λ comment. maybe_comment_json comment ≡ view value.now) }
-    ensures shape { IfErr result (λ e. e ≡ FromValueError.Shape → HasNone (or_null json_comment) (view value.now)) }
+    ensures shape { IfErr result (λ e. e ≡ FromValueError.Shape
+        → HasNone (or_null json_comment) (view value.now)) }
 {
     if value.is_null() {
         return Ok(None);
@@ -157,8 +165,10 @@ fn read_attributes(
     alloc: Global,
     values: &[Value],
 ) -> Result<Vec<Attribute<String>>, FromValueError>
-    ensures ok { IfOk result (λ attributes. attributes_json attributes.items ≡ items_view values.now) }
-    ensures shape { IfErr result (λ e. e ≡ FromValueError.Shape → HasNone (each json_attribute) (items_view values.now)) }
+    ensures ok { IfOk result (λ attributes. attributes_json attributes.items
+        ≡ items_view values.now) }
+    ensures shape { IfErr result (λ e. e ≡ FromValueError.Shape
+        → HasNone (each json_attribute) (items_view values.now)) }
 {
     let mut attributes = Vec::new(alloc);
     for value in values {
@@ -169,7 +179,8 @@ fn read_attributes(
 
 fn read_attribute(alloc: Global, value: &Value) -> Result<Attribute<String>, FromValueError>
     ensures ok { IfOk result (λ attribute. attribute_json attribute ≡ view value.now) }
-    ensures shape { IfErr result (λ e. e ≡ FromValueError.Shape → HasNone json_attribute (view value.now)) }
+    ensures shape { IfErr result (λ e. e ≡ FromValueError.Shape
+        → HasNone json_attribute (view value.now)) }
 {
     let Some((id, pattern)) = parts::attribute(value) else {
         return Err(FromValueError::Shape);
@@ -181,7 +192,8 @@ fn read_attribute(alloc: Global, value: &Value) -> Result<Attribute<String>, Fro
 
 fn read_lines(alloc: Global, values: &[Value]) -> Result<Vec<String>, FromValueError>
     ensures ok { IfOk result (λ lines. lines_json lines.items ≡ items_view values.now) }
-    ensures shape { IfErr result (λ e. e ≡ FromValueError.Shape → HasNone (each string) (items_view values.now)) }
+    ensures shape { IfErr result (λ e. e ≡ FromValueError.Shape
+        → HasNone (each string) (items_view values.now)) }
 {
     let mut lines = Vec::new(alloc);
     for value in values {

@@ -2,11 +2,10 @@
 //!
 //! Each function gives the part of a tree that has the value, or `Shape` where no part of that kind has it.
 
-ghost use Rattle.std.specs.Prelude.{◌≡◌, ◌≢◌, List, IfOk, IfErr, map, string_bytes};
-ghost use Rattle.serde_json.specs.Data.{string};
+ghost use Rattle.std.specs.Prelude.{◌≡◌, IfOk, IfErr};
 ghost use Rattle.serde_json.specs.View.{view, items_view};
-ghost use Rattle.fluent_json.specs.Json.{json, term_reference, HasNone, each, or_null, identifier, json_key, json_pattern, json_elements, json_expression, json_variants, json_inline, json_arguments, json_maybe_arguments, json_positional, json_named, json_attribute, json_comment, json_entry};
-ghost use Rattle.fluent_json.specs.Parts.{plain, accessor_json, maybe_arguments_json, maybe_pattern_json, maybe_comment_json, lines_json, identifier_json, key_json, pattern_json, element_json, json_element, expression_json, inline_json, variant_json, json_variant, variants_json, elements_json, arguments_json, positional_json, named_json, json_one_named, nameds_json, attributes_json, attribute_json, comment_json, entry_json};
+ghost use Rattle.fluent_json.specs.Json.{term_reference, HasNone, or_null, identifier, json_key, json_pattern, json_elements, json_expression, json_variants, json_inline, json_arguments, json_maybe_arguments, json_positional, json_named};
+ghost use Rattle.fluent_json.specs.Parts.{accessor_json, maybe_arguments_json, identifier_json, key_json, pattern_json, element_json, json_element, expression_json, inline_json, variant_json, json_variant, variants_json, elements_json, arguments_json, positional_json, named_json, json_one_named, nameds_json};
 
 use crate::error::FromValueError;
 use crate::parts;
@@ -22,7 +21,8 @@ pub(super) fn read_identifier(
     value: &Value,
 ) -> Result<Identifier<String>, FromValueError>
     ensures ok { IfOk result (λ id. identifier_json id ≡ view value.now) }
-    ensures shape { IfErr result (λ e. e ≡ FromValueError.Shape → HasNone identifier (view value.now)) }
+    ensures shape { IfErr result (λ e. e ≡ FromValueError.Shape
+        → HasNone identifier (view value.now)) }
 {
     let Some(name) = parts::identifier(value) else {
         return Err(FromValueError::Shape);
@@ -34,7 +34,8 @@ pub(super) fn read_identifier(
 /// An identifier, or None for null.
 fn read_accessor(alloc: Global, value: &Value) -> Result<Option<Identifier<String>>, FromValueError>
     ensures ok { IfOk result (λ id. accessor_json id ≡ view value.now) }
-    ensures shape { IfErr result (λ e. e ≡ FromValueError.Shape → HasNone (or_null identifier) (view value.now)) }
+    ensures shape { IfErr result (λ e. e ≡ FromValueError.Shape
+        → HasNone (or_null identifier) (view value.now)) }
 {
     if value.is_null() {
         return Ok(None);
@@ -44,7 +45,8 @@ fn read_accessor(alloc: Global, value: &Value) -> Result<Option<Identifier<Strin
 
 fn read_key(alloc: Global, value: &Value) -> Result<VariantKey<String>, FromValueError>
     ensures ok { IfOk result (λ key. key_json key ≡ view value.now) }
-    ensures shape { IfErr result (λ e. e ≡ FromValueError.Shape → HasNone json_key (view value.now)) }
+    ensures shape { IfErr result (λ e. e ≡ FromValueError.Shape
+        → HasNone json_key (view value.now)) }
 {
     if let Some(name) = parts::identifier(value) {
         let name = String::from_str(alloc, name)?;
@@ -60,7 +62,8 @@ fn read_key(alloc: Global, value: &Value) -> Result<VariantKey<String>, FromValu
 #[cycle(read)]
 pub(super) fn read_pattern(alloc: Global, value: &Value) -> Result<Pattern<String>, FromValueError>
     ensures ok { IfOk result (λ pattern. pattern_json pattern ≡ view value.now) }
-    ensures shape { IfErr result (λ e. e ≡ FromValueError.Shape → HasNone json_pattern (view value.now)) }
+    ensures shape { IfErr result (λ e. e ≡ FromValueError.Shape
+        → HasNone json_pattern (view value.now)) }
 {
     let Some(elements) = parts::pattern(value) else {
         return Err(FromValueError::Shape);
@@ -75,7 +78,8 @@ fn read_elements(
     values: &[Value],
 ) -> Result<Vec<PatternElement<String>>, FromValueError>
     ensures ok { IfOk result (λ elements. elements_json elements.items ≡ items_view values.now) }
-    ensures shape { IfErr result (λ e. e ≡ FromValueError.Shape → HasNone json_elements (items_view values.now)) }
+    ensures shape { IfErr result (λ e. e ≡ FromValueError.Shape
+        → HasNone json_elements (items_view values.now)) }
 {
     let mut elements = Vec::new(alloc);
     for value in values {
@@ -87,7 +91,8 @@ fn read_elements(
 #[cycle(read)]
 fn read_element(alloc: Global, value: &Value) -> Result<PatternElement<String>, FromValueError>
     ensures ok { IfOk result (λ element. element_json element ≡ view value.now) }
-    ensures shape { IfErr result (λ e. e ≡ FromValueError.Shape → HasNone json_element (view value.now)) }
+    ensures shape { IfErr result (λ e. e ≡ FromValueError.Shape
+        → HasNone json_element (view value.now)) }
 {
     if let Some(text) = parts::text_element(value) {
         let value = String::from_str(alloc, text)?;
@@ -103,7 +108,8 @@ fn read_element(alloc: Global, value: &Value) -> Result<PatternElement<String>, 
 #[cycle(read)]
 fn read_expression(alloc: Global, value: &Value) -> Result<Expression<String>, FromValueError>
     ensures ok { IfOk result (λ expression. expression_json expression ≡ view value.now) }
-    ensures shape { IfErr result (λ e. e ≡ FromValueError.Shape → HasNone json_expression (view value.now)) }
+    ensures shape { IfErr result (λ e. e ≡ FromValueError.Shape
+        → HasNone json_expression (view value.now)) }
 {
     if let Some((selector, variants)) = parts::select(value) {
         let selector = read_inline(alloc, selector)?;
@@ -116,7 +122,8 @@ fn read_expression(alloc: Global, value: &Value) -> Result<Expression<String>, F
 #[cycle(read)]
 fn read_variants(alloc: Global, values: &[Value]) -> Result<Vec<Variant<String>>, FromValueError>
     ensures ok { IfOk result (λ variants. variants_json variants.items ≡ items_view values.now) }
-    ensures shape { IfErr result (λ e. e ≡ FromValueError.Shape → HasNone json_variants (items_view values.now)) }
+    ensures shape { IfErr result (λ e. e ≡ FromValueError.Shape
+        → HasNone json_variants (items_view values.now)) }
 {
     let mut variants = Vec::new(alloc);
     for value in values {
@@ -128,7 +135,8 @@ fn read_variants(alloc: Global, values: &[Value]) -> Result<Vec<Variant<String>>
 #[cycle(read)]
 fn read_variant(alloc: Global, value: &Value) -> Result<Variant<String>, FromValueError>
     ensures ok { IfOk result (λ variant. variant_json variant ≡ view value.now) }
-    ensures shape { IfErr result (λ e. e ≡ FromValueError.Shape → HasNone json_variant (view value.now)) }
+    ensures shape { IfErr result (λ e. e ≡ FromValueError.Shape
+        → HasNone json_variant (view value.now)) }
 {
     let Some((key, pattern, default)) = parts::variant(value) else {
         return Err(FromValueError::Shape);
@@ -145,7 +153,8 @@ fn read_variant(alloc: Global, value: &Value) -> Result<Variant<String>, FromVal
 #[cycle(read)]
 fn read_inline(alloc: Global, value: &Value) -> Result<InlineExpression<String>, FromValueError>
     ensures ok { IfOk result (λ inline. inline_json inline ≡ view value.now) }
-    ensures shape { IfErr result (λ e. e ≡ FromValueError.Shape → HasNone json_inline (view value.now)) }
+    ensures shape { IfErr result (λ e. e ≡ FromValueError.Shape
+        → HasNone json_inline (view value.now)) }
 {
     if let Some(text) = parts::string_literal(value) {
         let value = String::from_str(alloc, text)?;
@@ -187,8 +196,10 @@ fn read_term_reference(
     attribute: &Value,
     arguments: &Value,
 ) -> Result<InlineExpression<String>, FromValueError>
-    ensures ok { IfOk result (λ inline. inline_json inline ≡ term_reference (view id.now) (view attribute.now) (view arguments.now)) }
-    ensures shape { IfErr result (λ e. e ≡ FromValueError.Shape → HasNone json_inline (term_reference (view id.now) (view attribute.now) (view arguments.now))) }
+    ensures ok { IfOk result (λ inline. inline_json inline
+        ≡ term_reference (view id.now) (view attribute.now) (view arguments.now)) }
+    ensures shape { IfErr result (λ e. e ≡ FromValueError.Shape
+        → HasNone json_inline (term_reference (view id.now) (view attribute.now) (view arguments.now))) }
 {
     let id = read_identifier(alloc, id)?;
     let attribute = read_accessor(alloc, attribute)?;
@@ -207,7 +218,8 @@ fn read_maybe_arguments(
     value: &Value,
 ) -> Result<Option<CallArguments<String>>, FromValueError>
     ensures ok { IfOk result (λ arguments. maybe_arguments_json arguments ≡ view value.now) }
-    ensures shape { IfErr result (λ e. e ≡ FromValueError.Shape → HasNone json_maybe_arguments (view value.now)) }
+    ensures shape { IfErr result (λ e. e ≡ FromValueError.Shape
+        → HasNone json_maybe_arguments (view value.now)) }
 {
     if value.is_null() {
         return Ok(None);
@@ -218,7 +230,8 @@ fn read_maybe_arguments(
 #[cycle(read)]
 fn read_arguments(alloc: Global, value: &Value) -> Result<CallArguments<String>, FromValueError>
     ensures ok { IfOk result (λ arguments. arguments_json arguments ≡ view value.now) }
-    ensures shape { IfErr result (λ e. e ≡ FromValueError.Shape → HasNone json_arguments (view value.now)) }
+    ensures shape { IfErr result (λ e. e ≡ FromValueError.Shape
+        → HasNone json_arguments (view value.now)) }
 {
     let Some((positional, named)) = parts::call_arguments(value) else {
         return Err(FromValueError::Shape);
@@ -233,8 +246,10 @@ fn read_positional(
     alloc: Global,
     values: &[Value],
 ) -> Result<Vec<InlineExpression<String>>, FromValueError>
-    ensures ok { IfOk result (λ positional. positional_json positional.items ≡ items_view values.now) }
-    ensures shape { IfErr result (λ e. e ≡ FromValueError.Shape → HasNone json_positional (items_view values.now)) }
+    ensures ok { IfOk result (λ positional. positional_json positional.items
+        ≡ items_view values.now) }
+    ensures shape { IfErr result (λ e. e ≡ FromValueError.Shape
+        → HasNone json_positional (items_view values.now)) }
 {
     let mut positional = Vec::new(alloc);
     for value in values {
@@ -249,7 +264,8 @@ fn read_all_named(
     values: &[Value],
 ) -> Result<Vec<NamedArgument<String>>, FromValueError>
     ensures ok { IfOk result (λ named. nameds_json named.items ≡ items_view values.now) }
-    ensures shape { IfErr result (λ e. e ≡ FromValueError.Shape → HasNone json_named (items_view values.now)) }
+    ensures shape { IfErr result (λ e. e ≡ FromValueError.Shape
+        → HasNone json_named (items_view values.now)) }
 {
     let mut named = Vec::new(alloc);
     for value in values {
@@ -261,7 +277,8 @@ fn read_all_named(
 #[cycle(read)]
 fn read_named(alloc: Global, value: &Value) -> Result<NamedArgument<String>, FromValueError>
     ensures ok { IfOk result (λ argument. named_json argument ≡ view value.now) }
-    ensures shape { IfErr result (λ e. e ≡ FromValueError.Shape → HasNone json_one_named (view value.now)) }
+    ensures shape { IfErr result (λ e. e ≡ FromValueError.Shape
+        → HasNone json_one_named (view value.now)) }
 {
     let Some((name, inner)) = parts::named_argument(value) else {
         return Err(FromValueError::Shape);
