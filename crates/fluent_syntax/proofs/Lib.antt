@@ -24,3 +24,5 @@ pub mod Comments
 pub mod Entries
 pub mod Recovery
 pub mod Parts
+pub mod Left
+pub mod Collected

@@ -19,3 +19,5 @@ pub mod Entries
 pub mod Heads
 pub mod Places
 pub mod Parts
+pub mod Collected
+pub mod Left

@@ -25,12 +25,12 @@ abbrev pub IsJunk : Text → ErrorView → Piece → Type 0
 IsJunk content told (entry apart x) = ⊥
 IsJunk content told (junk s error) = (content ≡ s) × (told ≡ error_told error)
 
--- a piece is this entry
-abbrev pub IsEntry : t.Entry → Piece → Type 0
-IsEntry e (entry apart x) = e ≡ x
-IsEntry e (junk s error) = ⊥
+-- a piece is this entry, behind a blank line or not
+abbrev pub IsEntry : t.Entry → Bool → Piece → Type 0
+IsEntry e apart (entry b x) = (b ≡ apart) × (e ≡ x)
+IsEntry e apart (junk s error) = ⊥
 
--- a part shows a piece
-abbrev pub Shows : (S : Type 0) → (S → Text) → Part S → Piece → Type 0
-Shows S text_of (of.Entry e) p = IsEntry (entry_view S text_of e) p
-Shows S text_of (of.Junk content told) p = IsJunk (text_of content) (error_view told) p
+-- a part, behind a blank line or not, shows a piece
+abbrev pub Shows : (S : Type 0) → (S → Text) → Part S → Bool → Piece → Type 0
+Shows S text_of (of.Entry e) apart p = IsEntry (entry_view S text_of e) apart p
+Shows S text_of (of.Junk content told) apart p = IsJunk (text_of content) (error_view told) p

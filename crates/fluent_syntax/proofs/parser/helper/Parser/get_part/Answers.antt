@@ -27,7 +27,7 @@ take-requires-clause-cuts g c =
 pub returns-in-Ok-clause-part : goal.returns-in-Ok-clause-part
 returns-in-Ok-clause-part g c = λ apart.
     let s = c.args.self.now.rest.now in
-    subst (λ (x : Reading t.Entry). IsEntry (entry_view g.row.S.Denot g.T.Texts.text c.in-Ok.entry) (piece_of (length c.args.self.now.text.now - length s) apart s x)) (sym c.in-Ok.ensures.gives) refl
+    subst (λ (x : Reading t.Entry). IsEntry (entry_view g.row.S.Denot g.T.Texts.text c.in-Ok.entry) apart (piece_of (length c.args.self.now.text.now - length s) apart s x)) (sym c.in-Ok.ensures.gives) (refl, refl)
 
 pub returns-in-Ok-clause-onward : goal.returns-in-Ok-clause-onward
 returns-in-Ok-clause-onward g c = entry_less c.args.self.now.rest.now _ _ c.in-Ok.ensures.gives
