@@ -1,0 +1,27 @@
+#!/bin/sh
+# Reads the same texts by fluent_syntax and by the Rust crate fluent-syntax, in one process, and prints the ratios.
+#
+#   run.sh VENDOR [CORPUS]
+#
+# VENDOR is a folder of vendored crates with fluent-syntax, thiserror and what these stand on. CORPUS is a folder of
+# .ftl files, with all-en.ftl (those of English) and all.ftl (all of them) in it; without it only the shapes are read.
+# It needs rt, cargo and a C compiler, and no network.
+set -eu
+[ $# -ge 1 ] || { sed -n '2,8s/^# \{0,1\}//p' "$0" >&2; exit 2; }
+here=$(cd "$(dirname "$0")" && pwd)
+vendor=$(cd "$1" && pwd)
+crate=$here/../../crates/fluent_c
+kit=$(dirname "$(dirname "$(readlink -f "$(command -v rt)")")")
+(cd "$crate" && rt lib >/dev/null)
+built=$(mktemp -d)
+trap 'rm -rf "$built"' EXIT
+cp -R "$here/Cargo.toml" "$here/src" "$built"
+(cd "$built" && cargo rustc --quiet --release --offline --target-dir target \
+    --config 'source.crates-io.replace-with="vendor"' --config "source.vendor.directory='$vendor'" -- \
+    -C target-cpu=x86-64-v2 -L native="$crate/out" -l static=fluent_c -L native="$kit/c" -l static=libc_c)
+syntax=$built/target/release/syntax
+if [ $# -ge 2 ]; then
+    find "$2" -name '*.ftl' -print0 | sort -z | xargs -0 "$syntax" compare
+    "$syntax" time "$2/all-en.ftl" "$2/all.ftl"
+fi
+"$syntax" time all

@@ -1,0 +1,5 @@
+-- The definitions of the reader, from the crate below.
+pub use Rattle.fluent_syntax.specs.Tiling
+pub use Rattle.fluent_syntax.specs.Tree
+pub use Rattle.fluent_syntax.specs.View
+pub mod Counts
