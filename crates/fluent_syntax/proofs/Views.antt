@@ -10,7 +10,7 @@ use Rattle.fluent_syntax.specs.declared.ast.PatternElement.{fold-roll-PatternEle
 use Rattle.fluent_syntax.specs.declared.ast.PatternElement.TheVariants.{TextElement, Placeable, rolls-TextElement, rolls-Placeable}
 use Rattle.fluent_syntax.specs.declared.ast.Pattern.{Pattern, out-Pattern, roll-Pattern, fold-roll-Pattern, fold_out-Pattern}
 use Rattle.fluent_syntax.specs.declared.ast.CallArguments.{CallArguments, out-CallArguments, roll-CallArguments, fold-roll-CallArguments, fold_out-CallArguments}
-use Rattle.fluent_syntax.specs.declared.ast.NamedArgument.{NamedArgument, out-NamedArgument, fold_out-NamedArgument}
+use Rattle.fluent_syntax.specs.declared.ast.NamedArgument.{NamedArgument, out-NamedArgument, roll-NamedArgument, fold-roll-NamedArgument, fold_out-NamedArgument}
 use Rattle.fluent_syntax.specs.declared.ast.Variant.{Variant, out-Variant, fold_out-Variant}
 use Rattle.fluent_syntax.specs.declared.ast.Expression.TheOpen as o
 use Rattle.fluent_syntax.specs.View.{expression_step, inline_step, element_step, arguments_step, named_step, pattern_step, variant_step, pattern_view, element_view, expression_view, inline_view, variant_view, arguments_view, named_view, key_of, name_of, elements_of, variants_of, inlines_of, nameds_of, maybe_arguments, text, placeable}
@@ -88,6 +88,9 @@ module _ (S : Type 0) (text_of : S → List ℕ) where
 
   pub named_view-out : (x : NamedArgument S) → named_view S text_of x ≡ record { name = name_of S text_of (out-NamedArgument S x).name; value = inline_view S text_of (out-NamedArgument S x).value }
   named_view-out x = fold_out-NamedArgument S _ _ _ _ _ _ _ (expression_step S text_of) (inline_step S text_of) (element_step S text_of) (arguments_step S text_of) (named_step S text_of) (pattern_step S text_of) (variant_step S text_of) x
+
+  pub named_view-roll : (x : _) → named_view S text_of (roll-NamedArgument S x) ≡ record { name = name_of S text_of x.name; value = inline_view S text_of x.value }
+  named_view-roll x = fold-roll-NamedArgument S _ _ _ _ _ _ _ (expression_step S text_of) (inline_step S text_of) (element_step S text_of) (arguments_step S text_of) (named_step S text_of) (pattern_step S text_of) (variant_step S text_of) x
 
   pub variant_view-out : (x : Variant S) → variant_view S text_of x ≡ record { key = key_of S text_of (out-Variant S x).key; value = pattern_view S text_of (out-Variant S x).value; default = (out-Variant S x).default }
   variant_view-out x = fold_out-Variant S _ _ _ _ _ _ _ (expression_step S text_of) (inline_step S text_of) (element_step S text_of) (arguments_step S text_of) (named_step S text_of) (pattern_step S text_of) (variant_step S text_of) x

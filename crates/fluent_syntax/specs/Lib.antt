@@ -8,4 +8,16 @@ pub use Rattle.fluent_grammar.specs.Spelling
 pub use Rattle.fluent_grammar.specs.Tiling
 pub use Rattle.fluent_grammar.specs.Written
 pub mod View
+pub mod Counted
 pub mod ErrorView
+pub mod Reads
+pub mod Unescaped
+pub mod Steps
+pub mod Pieces
+pub mod Arguments
+pub mod Entries
+pub mod Heads
+pub mod Places
+pub mod Parts
+pub mod Collected
+pub mod Left

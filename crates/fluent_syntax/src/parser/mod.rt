@@ -1,12 +1,33 @@
 //! Reading a source into its tree.
 
+mod collected;
+mod comment;
+mod entry;
 pub mod errors;
+mod expression;
+mod fault;
+mod helper;
+mod part;
+mod pattern;
+mod pieces;
+mod recovery;
+mod resource;
 mod slice;
+#[cfg(test)]
+mod tests;
+pub(crate) mod words;
+
+ghost use Rattle.std.specs.Prelude.{map};
+ghost use Rattle.fluent_syntax.specs.Tiling.{tree, errors, runtime_tree, runtime_errors};
+ghost use Rattle.fluent_syntax.specs.ErrorView.{error_told};
+ghost use Rattle.fluent_syntax.specs.Collected.{HasTree, HasErrors};
 
 use crate::ast::Resource;
 pub use errors::{ErrorKind, ParserError};
+use helper::Parser;
 pub use slice::Slice;
 pub(crate) use slice::{Slices, Texts};
+use std::alloc::Global;
 
 /// Why a source isn't read whole.
 #[derive(Debug, PartialEq, Eq, Drop)]
@@ -19,3 +40,39 @@ pub enum Error<S> {
 
 /// What reading a source gives: its tree, or why it isn't read whole.
 pub type Result<S> = std::result::Result<Resource<S>, Error<S>>;
+
+/// The tree of a source, with its comments.
+///
+/// Each stretch of the source that isn't an entry, a blank line or a comment becomes junk in the tree, up to the next
+/// line that may begin an entry, and has one error. Where there is junk the answer is [`Error::Broken`] with the whole
+/// tree and the errors in the order of their places, which are bytes of the source. The other error is want of memory.
+///
+/// A comment of one `#` becomes the comment of the message or the term right below it, where no blank line lies
+/// between. The grammar is that of Fluent Syntax 1.0, production `Resource`.
+pub fn parse<'s, S: Slice<'s>>(alloc: Global, input: S) -> Result<S>
+    ensures tree { HasTree S S.text result (tree (S.text input)) }
+    ensures errors { HasErrors S result (map error_told (errors (S.text input))) }
+{
+    let texts = Slices::new();
+    let mut parser = Parser::new(alloc, &texts, &input);
+    match parser.get_parts() {
+        Ok(parts) => parts.finish(),
+        Err(_) => Err(Error::Memory),
+    }
+}
+
+/// The messages and the terms of a source, and its junk, for use at run time.
+///
+/// It reads as [`parse`] does, but for comments: a line that begins with `#` where an entry may begin is passed over,
+/// whatever follows the sign. So no entry has a comment.
+pub fn parse_runtime<'s, S: Slice<'s>>(alloc: Global, input: S) -> Result<S>
+    ensures tree { HasTree S S.text result (runtime_tree (S.text input)) }
+    ensures errors { HasErrors S result (map error_told (runtime_errors (S.text input))) }
+{
+    let texts = Slices::new();
+    let mut parser = Parser::new(alloc, &texts, &input);
+    match parser.get_runtime_parts() {
+        Ok(parts) => parts.finish(),
+        Err(_) => Err(Error::Memory),
+    }
+}

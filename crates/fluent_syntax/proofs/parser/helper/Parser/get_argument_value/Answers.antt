@@ -1,0 +1,28 @@
+use Rattle.std.proofs.Common.{◌≡◌, map, drop, sym, ap, ◌∙◌, refl}
+use Rattle.fluent_grammar.specs.Words as w
+use Rattle.fluent_syntax.specs.Counted.{begins_value}
+use Rattle.fluent_syntax.specs.Reads.{string_or_number_at, argument_value_at}
+use Rattle.fluent_syntax.specs.Steps.{names_of}
+use Rattle.fluent_syntax.specs.View.{inline_view, named_view}
+use Rattle.fluent_syntax.proofs.Cycle.{gives_same}
+use Rattle.fluent_syntax.proofs.Values.{value_read, value_none}
+use Rattle.fluent_syntax.proofs.parser.helper.Parser.get_argument_value.Goals as goal
+
+pub returns-then-begins_value-clause-gives : goal.returns-then-begins_value-clause-gives
+returns-then-begins_value-clause-gives g c =
+    let names = names_of (map (named_view g.row.S.Denot g.T.Texts.text) c.args.others.now) in
+    let name = g.T.Texts.text c.args.name.now.name in
+    let other = ap (λ z. w.is_among z names) (sym c.as_str-text.ensures) ∙ sym c.is_among.ensures ∙ c.if-is_among.false in
+    let skipped = c.skip_blank.ensures.rest ∙ ap w.skip_blank c.advance.ensures.rest in
+    let begun = ap begins_value (sym c.bytes.ensures.value) ∙ sym c.begins_value.ensures ∙ c.if-begins_value.true in
+    gives_same (inline_view g.row.S.Denot g.T.Texts.text) c.get_literal.new.self.rest.now c.get_literal.result (string_or_number_at c.skip_blank.new.self.rest.now) (argument_value_at names name c.args.self.now.rest.now)
+      (value_read names name c.args.self.now.rest.now c.skip_blank.new.self.rest.now other skipped begun) c.get_literal.ensures.gives
+
+pub returns-else-begins_value-clause-gives : goal.returns-else-begins_value-clause-gives
+returns-else-begins_value-clause-gives g c =
+    let names = names_of (map (named_view g.row.S.Denot g.T.Texts.text) c.args.others.now) in
+    let name = g.T.Texts.text c.args.name.now.name in
+    let other = ap (λ z. w.is_among z names) (sym c.as_str-text.ensures) ∙ sym c.is_among.ensures ∙ c.if-is_among.false in
+    let skipped = c.skip_blank.ensures.rest ∙ ap w.skip_blank c.advance.ensures.rest in
+    let begun = ap begins_value (sym c.bytes.ensures.value) ∙ sym c.begins_value.ensures ∙ c.if-begins_value.false in
+    rw (value_none names name c.args.self.now.rest.now c.skip_blank.new.self.rest.now other skipped begun) (refl, refl)

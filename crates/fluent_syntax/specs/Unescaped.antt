@@ -1,0 +1,14 @@
+-- What unescaping leaves in a writer, and where a text needs none.
+use Rattle.std.specs.Prelude.{◌≡◌, ◌++◌, Bool, ◌==◌}
+use Rattle.std.specs.List.{list_any}
+use Rattle.fluent_grammar.specs.Words.{Text, backslash}
+
+-- behind the text that it held, a writer took a prefix of a whole
+pub record TookPrefix (held now whole : Text) : Type 0 where
+  pub taken : Text
+  pub left : Text
+  pub holds : now ≡ held ++ taken
+  pub split : whole ≡ taken ++ left
+
+abbrev pub has_backslash : Text → Bool
+has_backslash text = list_any (λ c. c == backslash) text
