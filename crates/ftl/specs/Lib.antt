@@ -9,6 +9,7 @@ pub mod Exchange
 pub mod Waiting
 pub mod ThinEntries
 pub mod EntryView
+pub mod TreeView
 pub mod ThinText
 pub mod ReplyView
 pub mod Thin

@@ -25,6 +25,11 @@ and_more None rest = None
 and_more (Some a) None = None
 and_more (Some a) (Some rest) = Some (a ∷ rest)
 
+-- what a function gives for each, where it gives something for all
+abbrev pub every : {A B : Type 0} → (A → Option B) → List A → Option (List B)
+every f [] = Some []
+every f (x ∷ xs) = and_more (f x) (every f xs)
+
 -- the element that a placeable is: it holds a variable, directly
 abbrev pub variable_in_inline : t.Inline → Option Element
 variable_in_inline (t.string_literal s) = None
@@ -50,8 +55,7 @@ abbrev pub attribute_of : t.Attribute → Option Attribute
 attribute_of a = option_map (λ es. record { id = a.id; elements = es }) (elements_of a.value)
 
 abbrev pub attributes_of : List t.Attribute → Option (List Attribute)
-attributes_of [] = Some []
-attributes_of (a ∷ as) = and_more (attribute_of a) (attributes_of as)
+attributes_of attributes = every attribute_of attributes
 
 -- a value that may be absent: where it is there, each of its placeables holds a variable
 abbrev pub value_of : Option t.Elements → Option (Option (List Element))
