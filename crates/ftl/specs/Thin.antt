@@ -15,7 +15,7 @@ entry_named id (e ∷ es) = if bytes_eq id e.id then Some e else entry_named id 
 -- the first attribute of a name
 abbrev pub attribute_named : Text → List Attribute → Option (List Element)
 attribute_named name [] = None
-attribute_named name (a ∷ as) = if bytes_eq name a.id then Some a.elements else attribute_named name as
+attribute_named name (a ∷ more) = if bytes_eq name a.id then Some a.elements else attribute_named name more
 
 -- the value of an entry, or its attribute of that name
 abbrev pub pattern_asked : Option Text → Entry → Option (List Element)

@@ -32,16 +32,16 @@ every f (x ∷ xs) = and_more (f x) (every f xs)
 
 -- the element that a placeable is: it holds a variable, directly
 abbrev pub variable_in_inline : t.Inline → Option Element
-variable_in_inline (t.string_literal s) = None
-variable_in_inline (t.number_literal s) = None
-variable_in_inline (t.function_reference id arguments) = None
-variable_in_inline (t.message_reference id attribute) = None
-variable_in_inline (t.term_reference id attribute arguments) = None
+variable_in_inline (t.string_literal _) = None
+variable_in_inline (t.number_literal _) = None
+variable_in_inline (t.function_reference _ _) = None
+variable_in_inline (t.message_reference _ _) = None
+variable_in_inline (t.term_reference _ _ _) = None
 variable_in_inline (t.variable_reference name) = Some (variable name)
-variable_in_inline (t.nested e) = None
+variable_in_inline (t.nested _) = None
 
 abbrev pub variable_in : t.Expression → Option Element
-variable_in (t.select selector variants) = None
+variable_in (t.select _ _) = None
 variable_in (t.inline e) = variable_in_inline e
 
 -- the elements of a pattern, where each of its placeables holds a variable

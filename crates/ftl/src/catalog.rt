@@ -5,11 +5,13 @@ ghost use Rattle.std.specs.Str.{bytes_eq};
 ghost use Rattle.ftl.specs.ThinEntries.{entry_of, entries_of, all_entries};
 ghost use Rattle.ftl.specs.Thin.{entry_named, attribute_named, pattern_asked};
 ghost use Rattle.ftl.specs.EntryView.{elements_view, attributes_view, entry_view};
-ghost use Rattle.ftl.specs.TreeView.{plain_entries};
+ghost use Rattle.fluent_syntax.specs.Tiling.{tree as tree_of};
+ghost use Rattle.fluent_syntax.specs.View.{resource_view};
+ghost use Rattle.ftl.specs.TreeView.{Slice, text_of, plain_entries};
 ghost use Rattle.ftl.specs.CatalogView.{texts, entry_in, entry_under, first_of};
 
 use crate::entry::{Attribute, Element, Entry, read_entry};
-use fluent_syntax::ast;
+use fluent_syntax::ast::{self, Resource};
 use fluent_syntax::parser::{self, parse};
 use std::alloc::{AllocError, Global};
 use std::collections::BTreeMap;
@@ -38,7 +40,7 @@ impl<'s> Catalog<'s> {
 
     /// The elements of the message that `id` names, or of its first attribute of that name.
     pub fn find(&self, id: &str, attribute: Option<&str>) -> Option<&[Element<'s>]>
-        ensures { option_map (λ elements. elements_view elements.now) result ≡ option_and_then (pattern_asked (option_copied attribute)) (entry_under self.now id.now) }
+        ensures { option_map (λ elements. elements_view elements.now) result ≡ option_and_then (pattern_asked (option_copied attribute.entry)) (entry_under self.now id.now) }
     {
         let entry = self.entries.get(id)?;
         match attribute {
@@ -68,9 +70,20 @@ fn add_source<'s>(
 ) -> Result<(), AllocError>
     ensures { OnOk result ((id : List ℕ) → entry_in entries.new id ≡ first_of (entry_in entries.old id) (entry_named id (entries_of source.now))) }
 {
+    let tree = read_tree(alloc, source)?;
+    add_entries(alloc, entries, &tree.body)
+}
+
+/// The tree of a source, whose errors are passed over.
+fn read_tree<'s>(alloc: Global, source: &'s str) -> Result<Resource<&'s str>, AllocError>
+    ensures { IfOk result (λ tree. resource_view Slice text_of tree ≡ tree_of source.now) }
+{
     match parse(alloc, source) {
-        Ok(tree) | Err(parser::Error::Broken(tree, _)) => add_entries(alloc, entries, &tree.body),
-        Err(parser::Error::Memory) => Err(AllocError),
+        Ok(tree) => Ok(tree),
+        Err(error) => match error {
+            parser::Error::Broken(tree, _errors) => Ok(tree),
+            parser::Error::Memory => Err(AllocError),
+        },
     }
 }
 
