@@ -21,11 +21,9 @@ unsafe extern "C" {
     fn fluent_number_write(number: *const PlainNumber, buffer: *mut u8, len: usize) -> usize;
 }
 
-fn read(text: &str) -> Option<PlainNumber> {
-    let mut number = PlainNumber::default();
-    // The text is UTF-8, and `number` lives through the call.
-    let found = unsafe { fluent_number_read(text.as_ptr(), text.len(), &mut number) };
-    found.then_some(number)
+fn read(text: &str, number: &mut PlainNumber) -> bool {
+    // The text is UTF-8, and text and number live through the call.
+    unsafe { fluent_number_read(text.as_ptr(), text.len(), number) }
 }
 
 fn write<'b>(number: &PlainNumber, buffer: &'b mut [u8; 64]) -> &'b [u8] {
@@ -98,7 +96,11 @@ fn main() {
     let texts = texts();
     let numbers: Vec<PlainNumber> = texts
         .iter()
-        .map(|text| read(text).expect("a number"))
+        .map(|text| {
+            let mut number = PlainNumber::default();
+            assert!(read(text, &mut number), "{text}");
+            number
+        })
         .collect();
     let floats: Vec<f64> = texts
         .iter()
@@ -113,10 +115,12 @@ fn main() {
         );
     }
 
+    let mut number = PlainNumber::default();
     let reading = best(
         || {
             for text in &texts {
-                black_box(read(black_box(text)));
+                black_box(read(black_box(text), &mut number));
+                black_box(&number);
             }
         },
         || {

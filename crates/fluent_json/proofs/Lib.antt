@@ -2,3 +2,5 @@ mod Rows
 mod Lists
 mod Same
 mod NoTree
+mod Injective
+mod OneTree

@@ -1,5 +1,5 @@
 -- The JSON value of a tree, as `docs/json.md` has it in a table.
-use Rattle.std.specs.Prelude.{◌≢◌, ℕ, Bool, List, [], ◌∷◌, Option, Some, None, codes}
+use Rattle.std.specs.Prelude.{◌≡◌, ◌≢◌, ℕ, Bool, List, [], ◌∷◌, Option, Some, None, codes}
 use Rattle.serde_json.specs.Data.{Data, null, boolean, string, array, object, Items, no_items, item, Members, no_members, put}
 use Rattle.fluent_syntax.specs.Tree as t
 use Rattle.fluent_syntax.specs.Tree.{VariantKey, Elements, Expression, Variants, Inline, MaybeArguments, Arguments, Inlines, Nameds, Attribute, Entry}
@@ -165,3 +165,7 @@ json entries = resource (each json_entry entries)
 -- nothing has this value
 abbrev pub HasNone : {A D : Type 0} → (A → D) → D → Type 0
 HasNone {A} json d = (x : A) → json x ≢ d
+
+-- two trees with one value are equal
+abbrev pub ValueDecides : Type 0
+ValueDecides = (x y : List Entry) → json x ≡ json y → x ≡ y

@@ -1,3 +1,4 @@
 pub mod Json
 pub mod Parts
 pub mod Found
+pub mod Message

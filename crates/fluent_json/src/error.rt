@@ -9,18 +9,23 @@ use std::fmt;
 /// Why [`from_value`](crate::from_value) gave no tree.
 #[derive(Clone, Copy, Debug, PartialEq, Eq)]
 pub enum FromValueError {
-    /// Memory ran out.
+    /// Memory ran out. The same call may succeed later.
     Memory = 1,
-    /// No tree has the value.
+    /// No tree has the value, so that no later call succeeds either.
     Shape = 2,
 }
 
 impl fmt::Display for FromValueError {
+    ghost use Rattle.std.specs.Prelude.{Some};
+    ghost use Rattle.fluent_json.specs.Message.{message};
+
+    ghost output = { λ error. Some (message error) };
+
     fn fmt<W: fmt::Write>(&self, f: &mut fmt::Formatter<W>) -> fmt::Result {
-        match self {
-            FromValueError::Memory => write!(f, "out of memory"),
-            FromValueError::Shape => write!(f, "not the value of a tree"),
-        }
+        f.write_str(match self {
+            FromValueError::Memory => "out of memory",
+            FromValueError::Shape => "not the value of a tree",
+        })
     }
 }
 

@@ -13,7 +13,12 @@ use fluent_syntax::ast::{
 use serde_json::Value;
 use std::alloc::{AllocError, Global};
 
-/// The JSON value of a tree.
+/// The JSON value of a tree, as `docs/json.md` says. It is defined for every tree, also for one that no source reads as.
+///
+/// An object holds its members in the order of their keys' bytes, and the compact text of the value writes them so.
+///
+/// # Errors
+/// `AllocError` where memory ran out, and nothing else. Nothing of the value is left then, and the tree is as it was.
 pub fn to_value(alloc: Global, resource: &Resource<String>) -> Result<Value, AllocError>
     ensures { IfOk result (λ value. view value ≡ json (plain resource.now)) }
 {

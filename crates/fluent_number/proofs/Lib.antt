@@ -2,6 +2,7 @@ pub mod Agreeing
 pub mod Cut
 pub mod EndZeros
 pub mod Equal
+pub mod Front
 pub mod LastDigits
 pub mod Numerals
 pub mod Powers

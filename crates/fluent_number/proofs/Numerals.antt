@@ -1,5 +1,5 @@
 -- When a numeral is a decimal, and what its fraction is worth.
-use Rattle.std.proofs.Common.{◌≡◌, Bool, true, cond, ◌&&◌, nat_lt, nat_le, ℕ, ◌+◌, ◌-◌, ◌*◌, ◌^◌, ◌<◌, ◌≤◌, [], ◌++◌, sym, ap, ◌∙◌, length, Option, Some, None, IsSome, IfSome, option_map, unwrap_or, ℤ, ◌↔◌, arith, rules}
+use Rattle.std.proofs.Common.{◌≡◌, Bool, true, cond, ◌&&◌, nat_lt, nat_le, ℕ, ◌+◌, ◌-◌, ◌*◌, ◌^◌, ◌<◌, ◌≤◌, [], ◌++◌, sym, ap, ◌∙◌, length, Option, Some, None, IsSome, IfSome, option_map, unwrap_or, ℤ, arith, rules}
 use Rattle.std.proofs.lemmas.Str.Parse.{IsNumeralModel, numerals_by_weight, digits_value_short}
 use Rattle.std.proofs.lemmas.List.{length-append}
 use Rattle.std.proofs.lemmas.List.Folds.{list_all-append}
@@ -86,29 +86,49 @@ pub some_is : {A : Type 0} (found : Option A) (v : A) → IsSome found → IfSom
 some_is None v there is = absurd (search (rules, there))
 some_is (Some x) v there is = ap (λ y. Some y) is
 
--- what `from_parts` gives of digits that are a decimal
-pub decimal_read : (negative : Bool) (whole behind : Text) (found : Option ℤ) → AreDecimal whole behind → IsSome found ↔ (digits_worth behind * 10 ^ (18 - length behind) < units_per_one) → IfSome found (λ d. d ≡ signed negative (digits_worth whole * units_per_one + digits_worth behind * 10 ^ (18 - length behind))) → found ≡ read_decimal negative whole behind
-decimal_read negative whole behind found are there is =
-    some_is found (signed negative (digits_worth whole * 10 ^ 18 + digits_worth behind * 10 ^ (18 - length behind))) (there.1 (fraction_lt behind are.digits_behind are.short)) is
-    ∙ sym (read_decimal_some negative whole behind are)
-
--- what was split off a text
-pub record IsParted (text : Text) (negative : Bool) (unsigned whole : Text) (fraction : Option Text) : Type 0 where
-  pub negative_is : negative ≡ begins_with_minus text
-  pub unsigned_is : unsigned ≡ without_sign text
-  pub whole_is : whole ≡ (numeral_of unsigned).whole
-  pub fraction_is : fraction ≡ (numeral_of unsigned).fraction
-
-pub read_parted : (text unsigned whole behind : Text) (negative : Bool) (fraction : Option Text) (found : Option ℤ) → IsParted text negative unsigned whole fraction → behind ≡ unwrap_or fraction [] → found ≡ read_decimal negative whole behind → option_map (number_read fraction) found ≡ read_number text
+-- a text whose numeral is no decimal is no number
+pub read_fails : (text unsigned : Text) → unsigned ≡ without_sign text → (AreDecimal (numeral_of unsigned).whole (unwrap_or (numeral_of unsigned).fraction []) → ⊥) → None ≡ read_number text
 unfolding read_number
-read_parted text unsigned whole behind negative fraction found parts behind_is found_is =
-    let numeral : numeral_of unsigned ≡ numeral_of (without_sign text) = ap numeral_of parts.unsigned_is in
-    let whole_is : whole ≡ (numeral_of (without_sign text)).whole = parts.whole_is ∙ ap (λ n. n.whole) numeral in
-    let fraction_is : fraction ≡ (numeral_of (without_sign text)).fraction = parts.fraction_is ∙ ap (λ n. n.fraction) numeral in
-    ap (option_map (number_read fraction)) (found_is ∙ ap (λ b. read_decimal b whole behind) parts.negative_is ∙ ap (λ w. read_decimal (begins_with_minus text) w behind) whole_is ∙ ap (read_decimal (begins_with_minus text) (numeral_of (without_sign text)).whole) behind_is)
-    ∙ ap (λ f. option_map (number_read f) (read_decimal (begins_with_minus text) (numeral_of (without_sign text)).whole (unwrap_or f []))) fraction_is
+read_fails text unsigned same fails =
+    let numeral = numeral_of unsigned in
+    let behind = unwrap_or numeral.fraction [] in
+    sym (ap (λ u. option_map (number_read (numeral_of u).fraction) (read_decimal (begins_with_minus text) (numeral_of u).whole (unwrap_or (numeral_of u).fraction []))) (sym same)
+    ∙ ap (option_map (number_read numeral.fraction)) (read_decimal_none (begins_with_minus text) numeral.whole behind fails))
+
+-- a text whose numeral is a decimal is that number
+pub read_succeeds : (text unsigned : Text) (negative : Bool) (value : ℤ) → unsigned ≡ without_sign text → negative ≡ begins_with_minus text → AreDecimal (numeral_of unsigned).whole (unwrap_or (numeral_of unsigned).fraction []) → value ≡ signed negative (digits_worth (numeral_of unsigned).whole * 10 ^ 18 + digits_worth (unwrap_or (numeral_of unsigned).fraction []) * 10 ^ (18 - length (unwrap_or (numeral_of unsigned).fraction []))) → Some (number_read (numeral_of unsigned).fraction value) ≡ read_number text
+unfolding read_number
+read_succeeds text unsigned negative value same minus are value_is =
+    let numeral = numeral_of unsigned in
+    let behind = unwrap_or numeral.fraction [] in
+    sym (ap (λ u. option_map (number_read (numeral_of u).fraction) (read_decimal (begins_with_minus text) (numeral_of u).whole (unwrap_or (numeral_of u).fraction []))) (sym same)
+    ∙ ap (λ b. option_map (number_read numeral.fraction) (read_decimal b numeral.whole behind)) (sym minus)
+    ∙ ap (option_map (number_read numeral.fraction)) (read_decimal_some negative numeral.whole behind are ∙ ap (λ v. Some v) (sym value_is)))
 
 -- a number made of its parts, of which the options are known
 pub number_made : (number : FluentNumber) (value : ℤ) (options : FluentNumberOptions) (seen : Options) → number.value ≡ value → number.options ≡ options → options_of options ≡ seen → number_of number ≡ record { value = value; options = seen }
 number_made number value options seen value_is options_is seen_is =
     λ i. record { value = value_is i; options = (ap options_of options_is ∙ seen_is) i }
+
+-- the units of a fraction are less than one
+pub units_lt : (behind : Text) (units : ℕ) → (list_all is_ascii_digit behind ≡ true) × (length behind ≤ 18) → units ≡ digits_worth behind * 10 ^ (18 - length behind) → units < units_per_one
+units_lt behind units are same =
+    let small = fraction_lt behind are.0 are.1 in omega (arith, small, same)
+
+-- what was found of a text's numeral is a decimal
+pub are_found : (unsigned behind : Text) (count whole : ℕ) → list_all is_ascii_digit (numeral_of unsigned).whole ≡ true → count ≡ length (numeral_of unsigned).whole → whole ≡ digits_worth (numeral_of unsigned).whole → whole < 2 ^ 64 → behind ≡ unwrap_or (numeral_of unsigned).fraction [] → (list_all is_ascii_digit behind ≡ true) × (length behind ≤ 18) → 0 < count + length behind → AreDecimal (numeral_of unsigned).whole (unwrap_or (numeral_of unsigned).fraction [])
+are_found unsigned behind count whole digits count_is whole_is fits behind_is are some =
+    let long = ap length behind_is in
+    record {
+      whole_digits = digits;
+      digits_behind = sym (ap (list_all is_ascii_digit) behind_is) ∙ are.0;
+      some = omega (arith, count_is, long, some);
+      short = omega (arith, long, are.1);
+      fits = omega (arith, whole_is, fits);
+    }
+
+-- the value that `from_parts` gives of it
+pub value_found : (unsigned behind : Text) (negative : Bool) (whole units : ℕ) (value : ℤ) → whole ≡ digits_worth (numeral_of unsigned).whole → behind ≡ unwrap_or (numeral_of unsigned).fraction [] → units ≡ digits_worth behind * 10 ^ (18 - length behind) → value ≡ signed negative (whole * units_per_one + units) → value ≡ signed negative (digits_worth (numeral_of unsigned).whole * 10 ^ 18 + digits_worth (unwrap_or (numeral_of unsigned).fraction []) * 10 ^ (18 - length (unwrap_or (numeral_of unsigned).fraction [])))
+value_found unsigned behind negative whole units value whole_is behind_is units_is value_is =
+    value_is ∙ ap (λ w. signed negative (w * 10 ^ 18 + units)) whole_is
+    ∙ ap (λ u. signed negative (digits_worth (numeral_of unsigned).whole * 10 ^ 18 + u)) (units_is ∙ ap (λ b. digits_worth b * 10 ^ (18 - length b)) behind_is)

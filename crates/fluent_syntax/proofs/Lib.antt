@@ -17,8 +17,8 @@ mod Lined
 mod Onto
 mod Laid
 mod Braces
-mod Equality
-mod EqualTrees
+pub mod Equality
+pub mod EqualTrees
 pub mod Cycle
 pub mod Values
 pub mod Runs

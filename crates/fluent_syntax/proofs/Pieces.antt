@@ -50,8 +50,8 @@ pub cut_indent : (x : Text) (n : ℕ) (common : Option ℕ) → x ≡ replicate 
 cut_indent x n common e h =
     let c = cut_le common n in
     cut_by_ascii x (cut_len common n) (omega (arith, c)) (λ z.
-      let s : get_or x (cut_len common n - 1) 0 ≡ space = ap (λ (y : Text). get_or y (cut_len common n - 1) 0) e ∙ space_at n (cut_len common n - 1) (drop n x) (omega (arith, c)) in
-      rw s (omega arith))
+    let s : get_or x (cut_len common n - 1) 0 ≡ space = ap (λ (y : Text). get_or y (cut_len common n - 1) 0) e ∙ space_at n (cut_len common n - 1) (drop n x) (omega (arith, c)) in
+    rw s (omega arith))
 
 pub lesser_assoc : (a b c : Option ℕ) → l.lesser (l.lesser a b) c ≡ l.lesser a (l.lesser b c)
 lesser_assoc None b c = refl
@@ -96,7 +96,7 @@ blank_dropped view xs k d z h b =
     let e : k - 1 + 1 ≡ k = omega arith in
     let m = take_more xs (k - 1) d (omega arith) in
     sym (ap (λ (ys : List _). l.without_blank_end (map view ys)) (rw e at m) ∙ ap l.without_blank_end (map-append view (take (k - 1) xs) (get_or xs (k - 1) d ∷ []))
-      ∙ wbe_blank (map view (take (k - 1) xs)) (view (get_or xs (k - 1) d)) b)
+    ∙ wbe_blank (map view (take (k - 1) xs)) (view (get_or xs (k - 1) d)) b)
 
 pub not_blank_kept : {X : Type 0} (view : X → l.Piece) (xs : List X) (k : ℕ) (d : X) → 0 < k → k ≤ length xs → l.is_blank (view (get_or xs (k - 1) d)) ≡ false →
     l.without_blank_end (map view (take k xs)) ≡ map view (take k xs)
@@ -142,7 +142,7 @@ pub pattern_is : {X Y : Type 0} (view : X → l.Piece) (ev : Y → v.Element) (p
 pattern_is view ev ps m last kept common es rev c k t e r =
     let n : l.without_blank_end (map view ps) ≡ map view m ++ view last ∷ [] = sym k ∙ take-map view kept ps ∙ ap (map view) t ∙ map-append view m (last ∷ []) in
     let x : l.elements_of (map view ps) ≡ v.elements_of (map (element_in common) (map view m) ++ element_last common (view last) ∷ []) =
-      ap (λ (z : Option ℕ). l.elements_from z (l.without_blank_end (map view ps))) (sym c) ∙ ap (l.elements_from common) n ∙ elements_end common (map view m) (view last) in
+    ap (λ (z : Option ℕ). l.elements_from z (l.without_blank_end (map view ps))) (sym c) ∙ ap (l.elements_from common) n ∙ elements_end common (map view m) (view last) in
     let y : map ev rev ≡ map (element_in common) (map view m) ++ element_last common (view last) ∷ [] = ap (map ev) r ∙ map-reverse ev es ∙ e in
     ap (λ (z : List v.Element). Some (v.elements_of z)) y
     ∙ sym (ap l.value_of x ∙ value_some (map (element_in common) (map view m)) (element_last common (view last)))
@@ -154,7 +154,7 @@ pub piece_turned : {X Y : Type 0} (view : X → l.Piece) (ev : Y → v.Element) 
 piece_turned view ev common m rest p es e h k =
     let a : reverse (map ev (es ++ e ∷ [])) ≡ ev e ∷ reverse (map ev es) = ap reverse (map-append ev es (e ∷ [])) ∙ reverse-append (map ev es) (ev e ∷ []) in
     let b : map (element_in common) (map view m) ≡ map (element_in common) (map view rest) ++ element_in common (view p) ∷ [] =
-      ap (λ z. map (element_in common) (map view z)) h ∙ ap (map (element_in common)) (map-append view rest (p ∷ [])) ∙ map-append (element_in common) (map view rest) (view p ∷ []) in
+    ap (λ z. map (element_in common) (map view z)) h ∙ ap (map (element_in common)) (map-append view rest (p ∷ [])) ∙ map-append (element_in common) (map view rest) (view p ∷ []) in
     ap (λ z. map (element_in common) (map view rest) ++ z) (a ∙ ap (λ z. z ∷ reverse (map ev es)) k)
     ∙ sym (append_assoc (map (element_in common) (map view rest)) (element_in common (view p) ∷ []) (reverse (map ev es)))
     ∙ ap (λ z. z ++ reverse (map ev es)) (sym b)

@@ -141,6 +141,7 @@ cut_arrow s h = cut_more s 1 1 2 refl (cut_begun s w.hyphen (omega arith) (first
     first : (a b : Bool) → (a && b) ≡ true → a ≡ true
     first true b h = refl
     first false b h = absurd cc
+
     second : (a b : Bool) → (a && b) ≡ true → b ≡ true
     second true b h = h
     second false b h = absurd cc

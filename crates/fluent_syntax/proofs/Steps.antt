@@ -96,14 +96,14 @@ pattern_case default key marked (refused fault) = refl
 bracket_case : (default : Bool) (key : t.VariantKey) (marked : Bool) (x : Reading (Unit {0})) →
     (x >>= (λ u. pattern_by u.1 >>= (λ value. present value.0 value.1 >>= (λ v. mapped (t.variant key v.0 default) (whole.variants marked (skip_blank v.1))))))
     ≡ (((x >>= (λ u. got key u.1)) >>= (λ (k : t.VariantKey × Text). pattern_by k.1 >>= (λ value. present value.0 value.1 >>= (λ (es : t.Elements × Text). got (record { key = k.0; value = es.0; default = default }) es.1))))
-      >>= (λ (v : Variant × Text). mapped (t.variant v.0.key v.0.value v.0.default) (whole.variants marked (skip_blank v.1))))
+    >>= (λ (v : Variant × Text). mapped (t.variant v.0.key v.0.value v.0.default) (whole.variants marked (skip_blank v.1))))
 bracket_case default key marked (got u rest) = pattern_case default key marked (pattern_by rest)
 bracket_case default key marked (refused fault) = refl
 
 key_case : (default marked : Bool) (x : Reading t.VariantKey) →
     (x >>= (λ key. g.variant_value_at whole default key.0 marked (skip_blank key.1)))
     ≡ (((x >>= (λ key. byte_at w.close_bracket (skip_blank key.1) >>= (λ u. got key.0 u.1))) >>= (λ (k : t.VariantKey × Text). pattern_by k.1 >>= (λ value. present value.0 value.1 >>= (λ (es : t.Elements × Text). got (record { key = k.0; value = es.0; default = default }) es.1))))
-      >>= (λ (v : Variant × Text). mapped (t.variant v.0.key v.0.value v.0.default) (whole.variants marked (skip_blank v.1))))
+    >>= (λ (v : Variant × Text). mapped (t.variant v.0.key v.0.value v.0.default) (whole.variants marked (skip_blank v.1))))
 key_case default marked (got key rest) = variant_value_is default key marked (skip_blank rest) ∙ bracket_case default key marked (byte_at w.close_bracket (skip_blank rest))
 key_case default marked (refused fault) = refl
 
@@ -232,10 +232,10 @@ behind_spaces : (z line : Bool) (indent : ℕ) (u : Text) (crlf : Reading (List 
     ≡ (piece_behind line indent u >>= (λ p. pieces_after p.0 p.1))
 behind_spaces z line indent u crlf e k =
     if_by (length u == 0) _ _ _ _ (λ _. refl) (λ a.
-      if_by (begins_with w.open_brace u) _ _ _ _ (λ _. rw e (placeable_piece_is (line && indent == 0) u)) (λ b.
-        if_by (begins_crlf u) _ _ _ _ (λ c. k a b c) (λ _. text_piece_is (text_piece line indent) u)
-        ∙ sym (bind_if (begins_crlf u) (got (Some (in_line (w.line_feed ∷ []), true)) (drop 2 u)) (g.text_run u >>= (λ x. got (Some (text_piece line indent x.0, ends_line x.0)) x.1)) (λ p. pieces_after p.0 p.1)))
-      ∙ sym (bind_if (begins_with w.open_brace u) (mapped (λ e. Some (placed (line && indent == 0) e, false)) (placeable_by u)) _ (λ p. pieces_after p.0 p.1)))
+    if_by (begins_with w.open_brace u) _ _ _ _ (λ _. rw e (placeable_piece_is (line && indent == 0) u)) (λ b.
+    if_by (begins_crlf u) _ _ _ _ (λ c. k a b c) (λ _. text_piece_is (text_piece line indent) u)
+    ∙ sym (bind_if (begins_crlf u) (got (Some (in_line (w.line_feed ∷ []), true)) (drop 2 u)) (g.text_run u >>= (λ x. got (Some (text_piece line indent x.0, ends_line x.0)) x.1)) (λ p. pieces_after p.0 p.1)))
+    ∙ sym (bind_if (begins_with w.open_brace u) (mapped (λ e. Some (placed (line && indent == 0) e, false)) (placeable_by u)) _ (λ p. pieces_after p.0 p.1)))
     ∙ sym (bind_if (length u == 0) (got None []) _ (λ p. pieces_after p.0 p.1))
 
 crlf_pieces : (u : Text) → (length u == 0) ≡ false → begins_with w.open_brace u ≡ false → begins_crlf u ≡ true → g.pieces_at whole u ≡ mapped (λ ps. in_line (w.line_feed ∷ []) ∷ ps) (whole.line (drop 2 u))

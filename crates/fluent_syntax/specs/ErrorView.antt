@@ -32,6 +32,7 @@ pub data Told : Type 0 where
   expected_simple_expression_as_selector : Told
   expected_literal : Told
 
+-- what an `ErrorKind` tells
 abbrev pub kind_view : ErrorKind → Told
 kind_view (kind.ExpectedToken c) = expected_token c
 kind_view (kind.ExpectedCharRange s) = expected_char_range (string_bytes s)
@@ -109,6 +110,7 @@ told r.unbalanced_closing_brace = unbalanced_closing_brace
 told r.expected_inline_expression = expected_inline_expression
 told r.expected_literal = expected_literal
 
+-- a range of bytes
 pub record Span : Type 0 where
   pub start : ℕ
   pub end : ℕ
@@ -119,9 +121,11 @@ pub record ErrorView : Type 0 where
   pub slice : Option Span
   pub kind : Told
 
+-- a `Range`
 abbrev pub span : Range ℕ → Span
 span range = record { start = range.start; end = range.end }
 
+-- what a `ParserError` tells
 abbrev pub error_view : ParserError → ErrorView
 error_view e = record { pos = span e.pos; slice = option_map span e.slice; kind = kind_view e.kind }
 

@@ -26,40 +26,50 @@ pub data Element : Type 0 where
   text : List ℕ → Element
   placeable : t.Expression → Element
 
+-- a list of elements, as the plain tree has it
 abbrev pub elements_of : List Element → t.Elements
 elements_of [] = t.no_elements
 elements_of (text s ∷ es) = t.text s (elements_of es)
 elements_of (placeable e ∷ es) = t.placeable e (elements_of es)
 
+-- one variant, before it stands in a list
 pub record Variant : Type 0 where
   pub key : t.VariantKey
   pub value : t.Elements
   pub default : Bool
 
+-- a list of variants, as the plain tree has it
 abbrev pub variants_of : List Variant → t.Variants
 variants_of [] = t.no_variants
 variants_of (v ∷ vs) = t.variant v.key v.value v.default (variants_of vs)
 
+-- a list of arguments without a name, as the plain tree has it
 abbrev pub inlines_of : List t.Inline → t.Inlines
 inlines_of [] = t.no_inlines
 inlines_of (e ∷ es) = t.positional e (inlines_of es)
 
+-- one argument with a name, before it stands in a list
 pub record Named : Type 0 where
   pub name : List ℕ
   pub value : t.Inline
 
+-- a list of arguments with a name, as the plain tree has it
 abbrev pub nameds_of : List Named → t.Nameds
 nameds_of [] = t.no_nameds
 nameds_of (n ∷ ns) = t.named n.name n.value (nameds_of ns)
 
+-- the arguments of a term, as the plain tree has them
 abbrev pub maybe_arguments : Option t.Arguments → t.MaybeArguments
 maybe_arguments None = t.no_arguments
 maybe_arguments (Some a) = t.with_arguments a
 
+-- The views, by what the bytes of a text are. A step gives the plain node of one level, whose children are plain already.
 module _ (S : Type 0) (text_of : S → List ℕ) where
+  -- the bytes of a name
   abbrev pub name_of : Identifier S → List ℕ
   name_of i = text_of i.name
 
+  -- the key of a variant
   abbrev pub key_of : VariantKey S → t.VariantKey
   key_of (key.Identifier s) = t.identifier_key (text_of s)
   key_of (key.NumberLiteral s) = t.number_key (text_of s)
@@ -93,39 +103,51 @@ module _ (S : Type 0) (text_of : S → List ℕ) where
   abbrev pub variant_step : Variant-F S t.Expression t.Inline Element t.Arguments Named t.Elements Variant → Variant
   variant_step v = record { key = key_of v.key; value = v.value; default = v.default }
 
+  -- the elements of a pattern
   abbrev pub pattern_view : Pattern S → t.Elements
   pattern_view = fold-Pattern _ _ _ _ _ _ _ _ expression_step inline_step element_step arguments_step named_step pattern_step variant_step
 
+  -- an expression
   abbrev pub expression_view : Expression S → t.Expression
   expression_view = fold-Expression _ _ _ _ _ _ _ _ expression_step inline_step element_step arguments_step named_step pattern_step variant_step
 
+  -- an inline expression
   abbrev pub inline_view : InlineExpression S → t.Inline
   inline_view = fold-InlineExpression _ _ _ _ _ _ _ _ expression_step inline_step element_step arguments_step named_step pattern_step variant_step
 
+  -- an element of a pattern
   abbrev pub element_view : PatternElement S → Element
   element_view = fold-PatternElement _ _ _ _ _ _ _ _ expression_step inline_step element_step arguments_step named_step pattern_step variant_step
 
+  -- a variant
   abbrev pub variant_view : VariantOf S → Variant
   variant_view = fold-Variant _ _ _ _ _ _ _ _ expression_step inline_step element_step arguments_step named_step pattern_step variant_step
 
+  -- the arguments of a call
   abbrev pub arguments_view : CallArguments S → t.Arguments
   arguments_view = fold-CallArguments _ _ _ _ _ _ _ _ expression_step inline_step element_step arguments_step named_step pattern_step variant_step
 
+  -- an argument with a name
   abbrev pub named_view : NamedArgument S → Named
   named_view = fold-NamedArgument _ _ _ _ _ _ _ _ expression_step inline_step element_step arguments_step named_step pattern_step variant_step
 
+  -- an attribute
   abbrev pub attribute_view : Attribute S → t.Attribute
   attribute_view a = record { id = name_of a.id; value = pattern_view a.value }
 
+  -- the lines of a comment
   abbrev pub comment_view : Comment S → List (List ℕ)
   comment_view c = map text_of c.content.items
 
+  -- a message
   abbrev pub message_view : Message S → t.Message
   message_view m = record { id = name_of m.id; value = option_map pattern_view m.value; attributes = map attribute_view m.attributes.items; comment = option_map comment_view m.comment }
 
+  -- a term
   abbrev pub term_view : Term S → t.Term
   term_view m = record { id = name_of m.id; value = pattern_view m.value; attributes = map attribute_view m.attributes.items; comment = option_map comment_view m.comment }
 
+  -- an entry
   abbrev pub entry_view : Entry S → t.Entry
   entry_view (of.Message m) = t.message (message_view m)
   entry_view (of.Term m) = t.term (term_view m)

@@ -16,8 +16,23 @@ use patterns::{read_identifier, read_pattern};
 use serde_json::Value;
 use std::alloc::Global;
 
-/// The tree that has a JSON value, as `docs/json.md` says.
+/// The tree that has a JSON value, as `docs/json.md` says: the one whose value [`to_value`](crate::to_value) gives.
+///
+/// Names and literals are not examined, and neither are the texts in them. Nothing changes what `value` holds.
+///
+/// # Errors
+/// `Shape` exactly where no tree has the value: a key is unknown or missing, or a value is of another kind than the
+/// table has there, so also where there is a number. `Memory` where memory ran out. Nothing of the tree is left after
+/// either.
 pub fn from_value(alloc: Global, value: &Value) -> Result<Resource<String>, FromValueError>
+    ensures ok { IfOk result (λ resource. json (plain resource) ≡ view value.now) }
+    ensures inverse { (tree : List PlainEntry) → json tree ≡ view value.now → IfOk result (λ resource. plain resource ≡ tree) }
+    ensures shape { result ≡ Err FromValueError.Shape → HasNone json (view value.now) }
+{
+    read_resource(alloc, value)
+}
+
+fn read_resource(alloc: Global, value: &Value) -> Result<Resource<String>, FromValueError>
     ensures ok { IfOk result (λ resource. json (plain resource) ≡ view value.now) }
     ensures shape { IfErr result (λ e. e ≡ FromValueError.Shape → HasNone json (view value.now)) }
 {

@@ -1,19 +1,19 @@
 //! Expressions.
 #![tactic(auto, using(crate::proofs::Failing::handed, crate::proofs::Counted::cuts, crate::proofs::Steps::placeable_is))]
 
-use crate::ast::{CallArguments, Expression, Identifier, InlineExpression, NamedArgument, Variant, VariantKey};
-use crate::parser::fault::Fault;
-use crate::parser::helper::Parser;
-use crate::parser::words;
-use crate::parser::{ErrorKind, Texts};
-
-
 ghost use Rattle.std.specs.Prelude.{◌≡◌, ◌≤◌, ◌<◌, ◌||◌, true, false, [], length, drop, map, option_map, OnOk, if◌then◌else◌, is_some, string_bytes};
 ghost use Rattle.std.specs.List.{list_all};
 ghost use Rattle.std.specs.Str.{bytes_eq};
 ghost use Rattle.fluent_syntax.specs.Words as w;
 ghost use Rattle.fluent_syntax.specs.Refusal as r;
 ghost use Rattle.fluent_syntax.specs.Reading.{is_term_attribute, selector_fault};
+
+use crate::ast::{
+    CallArguments, Expression, Identifier, InlineExpression, NamedArgument, Variant, VariantKey,
+};
+use crate::parser::fault::Fault;
+use crate::parser::helper::Parser;
+use crate::parser::{ErrorKind, Texts, words};
 
 /// An argument of a call.
 #[derive(Drop)]
@@ -135,7 +135,11 @@ impl<'p, S: Drop, T: Texts<S>> Parser<'p, S, T> {
         let Some(value) = self.get_pattern()? else {
             return Err(Fault::Refused(ErrorKind::MissingValue));
         };
-        Ok(Variant { key, value, default })
+        Ok(Variant {
+            key,
+            value,
+            default,
+        })
     }
 
     /// An inline expression. Production `InlineExpression`.
@@ -181,10 +185,18 @@ impl<'p, S: Drop, T: Texts<S>> Parser<'p, S, T> {
         let attribute = self.get_attribute_accessor()?;
         self.skip_blank();
         if !self.is_current_byte(b'(') {
-            return Ok(InlineExpression::TermReference { id, attribute, arguments: None });
+            return Ok(InlineExpression::TermReference {
+                id,
+                attribute,
+                arguments: None,
+            });
         }
         let arguments = self.get_call_arguments()?;
-        Ok(InlineExpression::TermReference { id, attribute, arguments: Some(arguments) })
+        Ok(InlineExpression::TermReference {
+            id,
+            attribute,
+            arguments: Some(arguments),
+        })
     }
 
     /// A call, or a message's reference. Productions `FunctionReference` and `MessageReference`.
@@ -278,11 +290,17 @@ impl<'p, S: Drop, T: Texts<S>> Parser<'p, S, T> {
     }
 
     /// The name of an argument, or the expression back that can't be one.
-    fn name_of_argument(&self, argument: InlineExpression<S>) -> Result<Identifier<S>, InlineExpression<S>>
+    fn name_of_argument(
+        &self,
+        argument: InlineExpression<S>,
+    ) -> Result<Identifier<S>, InlineExpression<S>>
         ensures { IsName S T.text (inline_view S T.text argument) result }
     {
         match argument {
-            InlineExpression::MessageReference { id, attribute: None } => Ok(id),
+            InlineExpression::MessageReference {
+                id,
+                attribute: None,
+            } => Ok(id),
             argument => Err(argument),
         }
     }
@@ -337,7 +355,11 @@ impl<'p, S: Drop, T: Texts<S>> Parser<'p, S, T> {
     fn inline_expression(&self, inline: InlineExpression<S>) -> Result<Expression<S>, Fault>
         ensures { Gives (expression_view S T.text) self.now.rest.now result (inline_by (inline_view S T.text inline) self.now.rest.now) }
     {
-        if let InlineExpression::TermReference { attribute: Some(_), .. } = &inline {
+        if let InlineExpression::TermReference {
+            attribute: Some(_),
+            ..
+        } = &inline
+        {
             return Err(Fault::Refused(ErrorKind::TermAttributeAsPlaceable));
         }
         Ok(Expression::Inline(inline))
@@ -348,10 +370,20 @@ impl<'p, S: Drop, T: Texts<S>> Parser<'p, S, T> {
         ensures { IsToldAs result (selector_fault (inline_view S T.text selector.now)) }
     {
         match selector {
-            InlineExpression::MessageReference { attribute: None, .. } => Some(ErrorKind::MessageReferenceAsSelector),
-            InlineExpression::MessageReference { .. } => Some(ErrorKind::MessageAttributeAsSelector),
-            InlineExpression::TermReference { attribute: None, .. } => Some(ErrorKind::TermReferenceAsSelector),
-            InlineExpression::Placeable { .. } => Some(ErrorKind::ExpectedSimpleExpressionAsSelector),
+            InlineExpression::MessageReference {
+                attribute: None,
+                ..
+            } => Some(ErrorKind::MessageReferenceAsSelector),
+            InlineExpression::MessageReference { .. } => Some(
+                ErrorKind::MessageAttributeAsSelector,
+            ),
+            InlineExpression::TermReference {
+                attribute: None,
+                ..
+            } => Some(ErrorKind::TermReferenceAsSelector),
+            InlineExpression::Placeable { .. } => Some(
+                ErrorKind::ExpectedSimpleExpressionAsSelector,
+            ),
             _ => None,
         }
     }

@@ -1,16 +1,15 @@
 //! Patterns.
 #![tactic(auto, using(crate::proofs::Failing::handed, crate::proofs::Counted::cuts))]
 
+ghost use Rattle.std.specs.Prelude.{◌≡◌, ◌≤◌, ◌<◌, ◌||◌, IfOk, IfSome, Some, true, false, length, drop, map, option_map};
+ghost use Rattle.fluent_syntax.specs.Words as w;
+ghost use Rattle.fluent_syntax.specs.Lines.{in_line, pattern_ends};
+
 use crate::ast::Pattern;
 use crate::parser::fault::Fault;
 use crate::parser::helper::Parser;
 use crate::parser::pieces::{Piece, pattern_of};
-use crate::parser::words;
-use crate::parser::{ErrorKind, Texts};
-
-ghost use Rattle.std.specs.Prelude.{◌≡◌, ◌≤◌, ◌<◌, ◌||◌, IfOk, IfSome, Some, true, false, length, drop, map, option_map};
-ghost use Rattle.fluent_syntax.specs.Words as w;
-ghost use Rattle.fluent_syntax.specs.Lines.{in_line, pattern_ends};
+use crate::parser::{ErrorKind, Texts, words};
 
 impl<'p, S: Drop, T: Texts<S>> Parser<'p, S, T> {
     ghost use Rattle.fluent_syntax.specs.Reads.{Gives};
@@ -67,14 +66,22 @@ impl<'p, S: Drop, T: Texts<S>> Parser<'p, S, T> {
         if at_line_start && words::pattern_ends(self.bytes()) {
             return Ok(None);
         }
-        let indent = if at_line_start { words::blank_inline_len(self.bytes()) } else { 0 };
+        let indent = if at_line_start {
+            words::blank_inline_len(self.bytes())
+        } else {
+            0
+        };
         self.get_piece_behind(at_line_start, indent)
     }
 
     /// The next piece, behind so many spaces. Productions `inline_text`, `block_text`, `inline_placeable` and
     /// `block_placeable`.
     #[cycle(parser)]
-    fn get_piece_behind(&mut self, at_line_start: bool, indent: usize) -> Result<Option<(Piece<S>, bool)>, Fault>
+    fn get_piece_behind(
+        &mut self,
+        at_line_start: bool,
+        indent: usize,
+    ) -> Result<Option<(Piece<S>, bool)>, Fault>
         requires tied { T.text self.old.source.now ≡ self.old.text.now }
         requires indent { indent ≡ indent_at at_line_start self.old.rest.now }
         ensures gives { Gives (option_map (step_view S T.text)) self.new.rest.now result (piece_behind at_line_start indent (drop indent self.old.rest.now)) }
@@ -92,7 +99,13 @@ impl<'p, S: Drop, T: Texts<S>> Parser<'p, S, T> {
             self.advance(indent);
             let expression = self.get_placeable()?;
             let column_zero = at_line_start && indent == 0;
-            Ok(Some((Piece::Placeable { expression, column_zero }, false)))
+            Ok(Some((
+                Piece::Placeable {
+                    expression,
+                    column_zero,
+                },
+                false,
+            )))
         } else if words::begins_crlf(behind) {
             self.advance(indent + 1);
             let text = self.take(1)?;
@@ -103,7 +116,11 @@ impl<'p, S: Drop, T: Texts<S>> Parser<'p, S, T> {
     }
 
     /// A text behind so many spaces.
-    fn get_text_piece(&mut self, at_line_start: bool, indent: usize) -> Result<Option<(Piece<S>, bool)>, Fault>
+    fn get_text_piece(
+        &mut self,
+        at_line_start: bool,
+        indent: usize,
+    ) -> Result<Option<(Piece<S>, bool)>, Fault>
         requires tied { T.text self.old.source.now ≡ self.old.text.now }
         requires indent { indent ≡ indent_at at_line_start self.old.rest.now }
         requires some { IsTextStart (drop indent self.old.rest.now) }

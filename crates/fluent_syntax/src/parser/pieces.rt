@@ -1,22 +1,28 @@
 //! The pieces of a pattern, and the elements that they give once the common indent is known.
 
-use crate::ast::{Expression, Pattern, PatternElement};
-use crate::parser::Texts;
-use std::alloc::{AllocError, Global};
-
 ghost use Rattle.std.specs.Prelude.{◌≡◌, ◌≤◌, ◌-◌, ◌||◌, ◌==◌, IfOk, All, length, take, drop, map, min, option_map, if◌then◌else◌};
 ghost use Rattle.std.specs.List.{list_all};
 ghost use Rattle.fluent_syntax.specs.Lines as l;
 ghost use Rattle.fluent_syntax.specs.View.{pattern_view, element_view};
 ghost use Rattle.fluent_syntax.specs.Pieces.{piece_view, IsPiece, element_in, element_last, IsIndented, without_indent, cut_len};
 
+use crate::ast::{Expression, Pattern, PatternElement};
+use crate::parser::Texts;
+use std::alloc::{AllocError, Global};
+
 /// A piece of a pattern, before the common indent is known.
 #[derive(Drop)]
 pub enum Piece<S> {
     /// A text. At the start of a line it has so many leading spaces.
-    Text { text: S, indent: Option<usize> },
+    Text {
+        text: S,
+        indent: Option<usize>,
+    },
     /// A placeable, at column 0 of a line or not.
-    Placeable { expression: Expression<S>, column_zero: bool },
+    Placeable {
+        expression: Expression<S>,
+        column_zero: bool,
+    },
 }
 
 /// The pattern that pieces give, if there is one.
@@ -55,7 +61,10 @@ fn element<S: Drop, T: Texts<S>>(
     ensures { IfOk result (λ e. element_view S T.text e ≡ element_in common_indent (piece_view S T.text piece)) }
 {
     match piece {
-        Piece::Placeable { expression, column_zero: _ } => Ok(PatternElement::Placeable { expression }),
+        Piece::Placeable {
+            expression,
+            column_zero: _,
+        } => Ok(PatternElement::Placeable { expression }),
         Piece::Text { text, indent } => {
             let value = dedented(alloc, texts, text, indent, common_indent)?;
             Ok(PatternElement::TextElement { value })
@@ -74,7 +83,10 @@ fn last_element<S: Drop, T: Texts<S>>(
     ensures { IfOk result (λ e. element_view S T.text e ≡ element_last common_indent (piece_view S T.text piece)) }
 {
     match piece {
-        Piece::Placeable { expression, column_zero: _ } => Ok(PatternElement::Placeable { expression }),
+        Piece::Placeable {
+            expression,
+            column_zero: _,
+        } => Ok(PatternElement::Placeable { expression }),
         Piece::Text { text, indent } => {
             let mut value = dedented(alloc, texts, text, indent, common_indent)?;
             texts.trim(&mut value);
@@ -147,7 +159,11 @@ fn indent_of<S: Drop, T: Texts<S>>(texts: &T, piece: &Piece<S>) -> Option<usize>
     match piece {
         Piece::Text { text, indent } => {
             let indent = *indent;
-            if is_blank_text(texts.as_str(text)) { None } else { indent }
+            if is_blank_text(texts.as_str(text)) {
+                None
+            } else {
+                indent
+            }
         }
         Piece::Placeable { column_zero, .. } => column_zero.then_some(0),
     }
@@ -181,5 +197,7 @@ fn is_blank<S: Drop, T: Texts<S>>(texts: &T, piece: &Piece<S>) -> bool
 fn is_blank_text(text: &str) -> bool
     ensures { result ≡ l.is_blank_text text.now }
 {
-    text.as_bytes().iter().all(|byte| matches!(*byte, b' ' | b'\n'))
+    text.as_bytes()
+        .iter()
+        .all(|byte| matches!(*byte, b' ' | b'\n'))
 }

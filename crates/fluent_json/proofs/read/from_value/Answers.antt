@@ -1,20 +1,10 @@
-use Rattle.std.proofs.Common.{String, Global, string_bytes, sym, ap, ◌∙◌}
-use Rattle.serde_json.specs.View.{view}
-use Rattle.fluent_syntax.specs.View.{entry_view}
-use Rattle.fluent_json.specs.Json.{resource, json_entry}
-use Rattle.fluent_json.specs.Parts.{entry_json}
-use Rattle.fluent_json.proofs.Lists.{each-map, items_of-made}
-use Rattle.fluent_json.proofs.NoTree.{passed_on, no_each, no_resource}
+use Rattle.std.proofs.Common.{refl}
+use Rattle.std.proofs.lemmas.Result.{IfErr-at_err}
+use Rattle.fluent_json.proofs.OneTree.{is_that_tree}
 use Rattle.fluent_json.proofs.read.from_value.Goals as goal
 
-pub returns-in_err-read_entry-clause-shape : goal.returns-in_err-read_entry-clause-shape
-returns-in_err-read_entry-clause-shape c =
-    passed_on c.from_residual.result c.from_residual.ensures.1 c.in_err-read_entry.ensures.shape
-    (λ none. no_resource _ _ c.in-Some.ensures.some (no_each json_entry c.in-Some.values.now c.loop-value.value-index c.value-item.result c.loop-value-test.true c.value-item.is none))
+pub returns-clause-inverse : goal.returns-clause-inverse
+returns-clause-inverse c = is_that_tree c.read_resource.result _ c.read_resource.ensures.ok
 
-pub returns-clause-ok : goal.returns-clause-ok
-returns-clause-ok c =
-    ap resource (
-    each-map json_entry (entry_view (String Global) string_bytes) c.loop-value.body.items
-    ∙ items_of-made entry_json view c.loop-value.body.items c.in-Some.values.now c.loop-value.value-index c.loop-value-test.false c.loop-value.invariant)
-    ∙ sym c.in-Some.ensures.some
+pub returns-clause-shape : goal.returns-clause-shape
+returns-clause-shape c = λ shape. IfErr-at_err _ shape c.read_resource.ensures.shape refl

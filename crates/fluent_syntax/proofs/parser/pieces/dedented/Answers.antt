@@ -19,5 +19,5 @@ returns g c =
     let f : IsIndented x (Some n) = subst (IsIndented x) c.in-Some.is c.requires in
     let d : drop (cut_len c.args.common_indent n) x ≡ without_indent c.args.common_indent (Some n) x = dedent_is x n c.args.common_indent f.0 in
     let e : g.T.Texts.text c.in_ok-value.value ≡ take (length x - c.cut_len-cut.result) (drop c.cut_len-cut.result x) =
-      c.in_ok-value.ensures ∙ ap (λ (y : List ℕ). take (length y - c.cut_len-cut.result) (drop c.cut_len-cut.result x)) c.as_str-end.ensures in
+    c.in_ok-value.ensures ∙ ap (λ (y : List ℕ). take (length y - c.cut_len-cut.result) (drop c.cut_len-cut.result x)) c.as_str-end.ensures in
     e ∙ take_rest c.cut_len-cut.result x ∙ ap (λ (k : ℕ). drop k x) c.cut_len-cut.ensures ∙ d ∙ ap (λ o. without_indent c.args.common_indent o x) (sym c.in-Some.is)

@@ -5,9 +5,9 @@ use Rattle.fluent_syntax.proofs.parser.pieces.kept_len.Given as goal
 
 abbrev pub invariant-loop-kept : goal.invariant-loop-kept
 invariant-loop-kept g l = record {
-    within : l.kept ≤ length l.pieces;
-    same : lines.without_blank_end (map (piece_view g.row.S.Denot g.T.Texts.text) (take l.kept l.pieces)) ≡ lines.without_blank_end (map (piece_view g.row.S.Denot g.T.Texts.text) l.pieces);
-  }
+  within : l.kept ≤ length l.pieces;
+  same : lines.without_blank_end (map (piece_view g.row.S.Denot g.T.Texts.text) (take l.kept l.pieces)) ≡ lines.without_blank_end (map (piece_view g.row.S.Denot g.T.Texts.text) l.pieces);
+}
 
 abbrev pub decreases-loop-kept : goal.decreases-loop-kept
 decreases-loop-kept g l = l.kept

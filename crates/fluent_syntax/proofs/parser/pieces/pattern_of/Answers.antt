@@ -33,8 +33,8 @@ loop-piece-preserved g c =
     record {
       right = all_front P c.pop-in-loop-piece.new.self.items _ c.in-Some-pop.piece c.in-Some-pop.ensures.items c.loop-piece.invariant.right;
       same = ap (λ z. map (element_in c.common_indent-common_indent.result) (map (piece_view g.row.S.Denot g.T.Texts.text) c.pop-in-loop-piece.new.self.items) ++ reverse (map (element_view g.row.S.Denot g.T.Texts.text) z)) c.in_ok-push-2.ensures.items
-        ∙ piece_turned (piece_view g.row.S.Denot g.T.Texts.text) (element_view g.row.S.Denot g.T.Texts.text) c.common_indent-common_indent.result c.loop-piece.pieces.items c.pop-in-loop-piece.new.self.items c.in-Some-pop.piece c.loop-piece.elements.items _ c.in-Some-pop.ensures.items c.in_ok-element.ensures
-        ∙ c.loop-piece.invariant.same;
+          ∙ piece_turned (piece_view g.row.S.Denot g.T.Texts.text) (element_view g.row.S.Denot g.T.Texts.text) c.common_indent-common_indent.result c.loop-piece.pieces.items c.pop-in-loop-piece.new.self.items c.in-Some-pop.piece c.loop-piece.elements.items _ c.in-Some-pop.ensures.items c.in_ok-element.ensures
+          ∙ c.loop-piece.invariant.same;
     }
 
 pub returns : goal.returns
@@ -46,10 +46,10 @@ returns g c =
     let ind : common ≡ lines.common_indent (map view c.args.pieces.items) = c.common_indent-common_indent.ensures ∙ ap (λ z. lines.common_indent (map view z)) c.as_slice.ensures.value in
     let kept = ap (λ z. take c.kept_len-kept.result (map view z)) (sym c.as_slice-2.ensures.value) ∙ c.kept_len-kept.ensures.kept ∙ ap (λ z. lines.without_blank_end (map view z)) c.as_slice-2.ensures.value in
     let first : reverse (map ev c.push.new.self.items) ≡ element_last common (view c.in-Some.last) ∷ [] =
-      ap (λ z. reverse (map ev z)) (c.in_ok-push.ensures.items ∙ ap (λ z. z ++ c.in_ok-last_element.field-0 ∷ []) c.in_ok-elements.ensures.items) ∙ ap (λ z. z ∷ []) c.in_ok-last_element.ensures in
+    ap (λ z. reverse (map ev z)) (c.in_ok-push.ensures.items ∙ ap (λ z. z ++ c.in_ok-last_element.field-0 ∷ []) c.in_ok-elements.ensures.items) ∙ ap (λ z. z ∷ []) c.in_ok-last_element.ensures in
     let all : reverse (map ev c.loop-piece.elements.items) ≡ map (element_in common) (map view c.pop.new.self.items) ++ element_last common (view c.in-Some.last) ∷ [] =
-      sym (ap (λ z. map (element_in common) (map view z) ++ reverse (map ev c.loop-piece.elements.items)) left) ∙ c.loop-piece.invariant.same
-      ∙ ap (λ z. map (element_in common) (map view c.pop.new.self.items) ++ z) first in
+    sym (ap (λ z. map (element_in common) (map view z) ++ reverse (map ev c.loop-piece.elements.items)) left) ∙ c.loop-piece.invariant.same
+    ∙ ap (λ z. map (element_in common) (map view c.pop.new.self.items) ++ z) first in
     ap Some (pattern_view-roll g.row.S.Denot g.T.Texts.text _)
     ∙ pattern_is view ev c.args.pieces.items c.pop.new.self.items c.in-Some.last c.kept_len-kept.result common c.loop-piece.elements.items c.reverse.new.self.items
-        ind kept (sym c.truncate.ensures.items ∙ c.in-Some.ensures.items) all c.reverse.ensures.items
+    ind kept (sym c.truncate.ensures.items ∙ c.in-Some.ensures.items) all c.reverse.ensures.items

@@ -11,7 +11,7 @@ invariant-loop-piece g l =
     record {
       right : All (IsPiece S text) l.pieces.items;
       same : map (element_in l.common_indent) (map (piece_view S text) l.pieces.items) ++ reverse (map (element_view S text) l.elements.items)
-        ≡ map (element_in l.common_indent) (map (piece_view S text) l.initial.pieces.items) ++ reverse (map (element_view S text) l.initial.elements.items);
+          ≡ map (element_in l.common_indent) (map (piece_view S text) l.initial.pieces.items) ++ reverse (map (element_view S text) l.initial.elements.items);
     }
 
 abbrev pub decreases-loop-piece : goal.decreases-loop-piece

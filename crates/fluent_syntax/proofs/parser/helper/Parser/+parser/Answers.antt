@@ -69,7 +69,7 @@ get_inline_expression-returns-in_err-expression-clause-gives g t c =
     let brace = ap (begins_with w.open_brace) (sym c.bytes-bytes.ensures.value) ∙ sym c.begins_with-else-begins_with_letter.ensures ∙ c.if-begins_with-3.true in
     let nested = inline_nested c.args.self.now.rest.now lit minus dollar letter brace in
     handed_on (inline_view g.row.S.Denot g.T.Texts.text) c.get_placeable.new.self.rest.now c.from_residual.result c.in_err-expression.field-0.0 (whole.inline c.args.self.now.rest.now) c.from_residual.ensures.1
-      (fails_same c.in_err-expression.field-0.0 c.get_placeable.new.self.rest.now (mapped tree.nested (placeable_by c.args.self.now.rest.now)) (whole.inline c.args.self.now.rest.now) nested (fails_mapped c.in_err-expression.field-0.0 c.get_placeable.new.self.rest.now tree.nested (placeable_by c.args.self.now.rest.now) c.in_err-expression.ensures.gives))
+    (fails_same c.in_err-expression.field-0.0 c.get_placeable.new.self.rest.now (mapped tree.nested (placeable_by c.args.self.now.rest.now)) (whole.inline c.args.self.now.rest.now) nested (fails_mapped c.in_err-expression.field-0.0 c.get_placeable.new.self.rest.now tree.nested (placeable_by c.args.self.now.rest.now) c.in_err-expression.ensures.gives))
 
 pub get_inline_expression-returns-else-begins_with-3-clause-gives : goal.get_inline_expression-returns-else-begins_with-3-clause-gives
 get_inline_expression-returns-else-begins_with-3-clause-gives g t c =
@@ -87,13 +87,13 @@ get_expression-advance-requires g t c =
 pub get_named_reference-returns-then-is_callee-clause-gives : goal.get_named_reference-returns-then-is_callee-clause-gives
 get_named_reference-returns-then-is_callee-clause-gives g t c =
     function_read c.args.self.now.rest.now c.get_identifier.new.self.rest.now c.skip_blank.new.self.rest.now c.get_call_arguments.new.self.rest.now (name_of g.row.S.Denot g.T.Texts.text c.in_ok-id.id) (arguments_view g.row.S.Denot g.T.Texts.text c.in_ok-arguments.arguments)
-      c.in_ok-id.ensures.gives c.skip_blank.ensures.rest (sym c.is_current_byte.ensures ∙ c.if-not-is_current_byte.false) c.in_ok-arguments.ensures.gives (ap (list_all w.is_callee_byte) (sym c.as_str.ensures) ∙ sym c.is_callee.ensures ∙ c.if-is_callee.true)
+    c.in_ok-id.ensures.gives c.skip_blank.ensures.rest (sym c.is_current_byte.ensures ∙ c.if-not-is_current_byte.false) c.in_ok-arguments.ensures.gives (ap (list_all w.is_callee_byte) (sym c.as_str.ensures) ∙ sym c.is_callee.ensures ∙ c.if-is_callee.true)
     ∙ ap (λ z. got z c.get_call_arguments.new.self.rest.now) (sym (inline_view-FunctionReference g.row.S.Denot g.T.Texts.text c.in_ok-id.id c.in_ok-arguments.arguments))
 
 pub get_term_reference-returns-clause-gives : goal.get_term_reference-returns-clause-gives
 get_term_reference-returns-clause-gives g t c =
     term_read (drop 1 c.args.self.now.rest.now) c.get_identifier.new.self.rest.now c.get_attribute_accessor.new.self.rest.now c.skip_blank.new.self.rest.now c.get_call_arguments.new.self.rest.now (name_of g.row.S.Denot g.T.Texts.text c.in_ok-id.id) (option_map (name_of g.row.S.Denot g.T.Texts.text) c.in_ok-attribute.attribute) (arguments_view g.row.S.Denot g.T.Texts.text c.in_ok-arguments.arguments)
-      (ap read.identifier_at (sym c.advance.ensures.rest) ∙ c.in_ok-id.ensures.gives) c.in_ok-attribute.ensures.gives c.skip_blank.ensures.rest (sym c.is_current_byte.ensures ∙ c.if-not-is_current_byte.false) c.in_ok-arguments.ensures.gives
+    (ap read.identifier_at (sym c.advance.ensures.rest) ∙ c.in_ok-id.ensures.gives) c.in_ok-attribute.ensures.gives c.skip_blank.ensures.rest (sym c.is_current_byte.ensures ∙ c.if-not-is_current_byte.false) c.in_ok-arguments.ensures.gives
     ∙ ap (λ z. got z c.get_call_arguments.new.self.rest.now) (sym (inline_view-TermReference g.row.S.Denot g.T.Texts.text c.in_ok-id.id c.in_ok-attribute.attribute (Some c.in_ok-arguments.arguments)))
 
 pub get_variant-returns-clause-less : goal.get_variant-returns-clause-less
@@ -125,7 +125,7 @@ get_call_arguments-returns-in_err-argument-clause-gives g t c =
     let others = ap (λ (z : List (NamedArgument g.row.S.Denot)). argument_by (names_of (map (named_view g.row.S.Denot g.T.Texts.text) z)) c.loop-self.self.rest.now) c.as_slice.ensures.value in
     let failed = fails_same e rest (argument_by (names_of (map (named_view g.row.S.Denot g.T.Texts.text) c.as_slice.result.now)) c.loop-self.self.rest.now) (argument_by (names_of (map (named_view g.row.S.Denot g.T.Texts.text) c.loop-self.named.items)) c.loop-self.self.rest.now) others c.in_err-argument.ensures.gives in
     handed_on (arguments_view g.row.S.Denot g.T.Texts.text) rest c.from_residual.result e (whole.arguments [] (skip_blank (drop 1 c.args.self.now.rest.now))) c.from_residual.ensures.1
-      (arguments_fail (map (inline_view g.row.S.Denot g.T.Texts.text) c.loop-self.positional.items) (map (named_view g.row.S.Denot g.T.Texts.text) c.loop-self.named.items) c.loop-self.self.rest.now (skip_blank (drop 1 c.args.self.now.rest.now)) e rest c.loop-self.invariant.same (argument_fail (names_of (map (named_view g.row.S.Denot g.T.Texts.text) c.loop-self.named.items)) c.loop-self.self.rest.now e rest some more failed))
+    (arguments_fail (map (inline_view g.row.S.Denot g.T.Texts.text) c.loop-self.positional.items) (map (named_view g.row.S.Denot g.T.Texts.text) c.loop-self.named.items) c.loop-self.self.rest.now (skip_blank (drop 1 c.args.self.now.rest.now)) e rest c.loop-self.invariant.same (argument_fail (names_of (map (named_view g.row.S.Denot g.T.Texts.text) c.loop-self.named.items)) c.loop-self.self.rest.now e rest some more failed))
 
 pub get_call_arguments-loop-self-preserved : goal.get_call_arguments-loop-self-preserved
 get_call_arguments-loop-self-preserved g t c =
@@ -136,20 +136,20 @@ get_call_arguments-loop-self-preserved g t c =
     let others = ap (λ (z : List (NamedArgument g.row.S.Denot)). argument_by (names_of (map (named_view g.row.S.Denot g.T.Texts.text) z)) c.loop-self.self.rest.now) (sym c.as_slice.ensures.value) in
     let taken = others ∙ c.in_ok-argument.ensures.gives in
     let same : mapped (arguments_behind (map (inline_view g.row.S.Denot g.T.Texts.text) c.match-branch-2.positional.items) (map (named_view g.row.S.Denot g.T.Texts.text) c.match-branch-2.named.items)) (whole.arguments (names_of (map (named_view g.row.S.Denot g.T.Texts.text) c.match-branch-2.named.items)) behind) ≡ whole.arguments [] (skip_blank (drop 1 c.args.self.now.rest.now)) =
-      elim c.match-branch-2.branch [
-        get_call_arguments-in-Positional+in_ok-push-in-Positional w ↦
+    elim c.match-branch-2.branch [
+      | get_call_arguments-in-Positional+in_ok-push-in-Positional w ↦
           let x = w.in-Positional.argument in
           arguments_same ((map (inline_view g.row.S.Denot g.T.Texts.text) c.loop-self.positional.items) ++ inline_view g.row.S.Denot g.T.Texts.text x ∷ []) (map (inline_view g.row.S.Denot g.T.Texts.text) c.match-branch-2.positional.items) (map (named_view g.row.S.Denot g.T.Texts.text) c.loop-self.named.items) (map (named_view g.row.S.Denot g.T.Texts.text) c.match-branch-2.named.items) behind (whole.arguments [] (skip_blank (drop 1 c.args.self.now.rest.now)))
-            (ap (λ (v : Vec (InlineExpression g.row.S.Denot) Global). map (inline_view g.row.S.Denot g.T.Texts.text) v.items) w.positional-is ∙ pushed (inline_view g.row.S.Denot g.T.Texts.text) c.loop-self.positional.items w.push.new.self.items x w.in_ok-push-in-Positional.ensures.items)
-            (ap (λ (v : Vec (NamedArgument g.row.S.Denot) Global). map (named_view g.row.S.Denot g.T.Texts.text) v.items) w.named-is)
-            (positional_read (map (inline_view g.row.S.Denot g.T.Texts.text) c.loop-self.positional.items) (map (named_view g.row.S.Denot g.T.Texts.text) c.loop-self.named.items) c.loop-self.self.rest.now (skip_blank (drop 1 c.args.self.now.rest.now)) rest behind (inline_view g.row.S.Denot g.T.Texts.text x) c.loop-self.invariant.same some more (taken ∙ ap (λ z. got (argument_view g.row.S.Denot g.T.Texts.text z) rest) w.in-Positional.is) c.skip_separator.ensures.rest)
+          (ap (λ (v : Vec (InlineExpression g.row.S.Denot) Global). map (inline_view g.row.S.Denot g.T.Texts.text) v.items) w.positional-is ∙ pushed (inline_view g.row.S.Denot g.T.Texts.text) c.loop-self.positional.items w.push.new.self.items x w.in_ok-push-in-Positional.ensures.items)
+          (ap (λ (v : Vec (NamedArgument g.row.S.Denot) Global). map (named_view g.row.S.Denot g.T.Texts.text) v.items) w.named-is)
+          (positional_read (map (inline_view g.row.S.Denot g.T.Texts.text) c.loop-self.positional.items) (map (named_view g.row.S.Denot g.T.Texts.text) c.loop-self.named.items) c.loop-self.self.rest.now (skip_blank (drop 1 c.args.self.now.rest.now)) rest behind (inline_view g.row.S.Denot g.T.Texts.text x) c.loop-self.invariant.same some more (taken ∙ ap (λ z. got (argument_view g.row.S.Denot g.T.Texts.text z) rest) w.in-Positional.is) c.skip_separator.ensures.rest)
       | get_call_arguments-in-Named+in_ok-push-in-Named w ↦
           let x = w.in-Named.argument in
           arguments_same (map (inline_view g.row.S.Denot g.T.Texts.text) c.loop-self.positional.items) (map (inline_view g.row.S.Denot g.T.Texts.text) c.match-branch-2.positional.items) ((map (named_view g.row.S.Denot g.T.Texts.text) c.loop-self.named.items) ++ named_view g.row.S.Denot g.T.Texts.text x ∷ []) (map (named_view g.row.S.Denot g.T.Texts.text) c.match-branch-2.named.items) behind (whole.arguments [] (skip_blank (drop 1 c.args.self.now.rest.now)))
-            (ap (λ (v : Vec (InlineExpression g.row.S.Denot) Global). map (inline_view g.row.S.Denot g.T.Texts.text) v.items) w.positional-is)
-            (ap (λ (v : Vec (NamedArgument g.row.S.Denot) Global). map (named_view g.row.S.Denot g.T.Texts.text) v.items) w.named-is ∙ pushed (named_view g.row.S.Denot g.T.Texts.text) c.loop-self.named.items w.push-in-Named.new.self.items x w.in_ok-push-in-Named.ensures.items)
-            (named_read (map (inline_view g.row.S.Denot g.T.Texts.text) c.loop-self.positional.items) (map (named_view g.row.S.Denot g.T.Texts.text) c.loop-self.named.items) c.loop-self.self.rest.now (skip_blank (drop 1 c.args.self.now.rest.now)) rest behind (named_view g.row.S.Denot g.T.Texts.text x) c.loop-self.invariant.same some more (taken ∙ ap (λ z. got (argument_view g.row.S.Denot g.T.Texts.text z) rest) w.in-Named.is) c.skip_separator.ensures.rest)
-      ] in
+          (ap (λ (v : Vec (InlineExpression g.row.S.Denot) Global). map (inline_view g.row.S.Denot g.T.Texts.text) v.items) w.positional-is)
+          (ap (λ (v : Vec (NamedArgument g.row.S.Denot) Global). map (named_view g.row.S.Denot g.T.Texts.text) v.items) w.named-is ∙ pushed (named_view g.row.S.Denot g.T.Texts.text) c.loop-self.named.items w.push-in-Named.new.self.items x w.in_ok-push-in-Named.ensures.items)
+          (named_read (map (inline_view g.row.S.Denot g.T.Texts.text) c.loop-self.positional.items) (map (named_view g.row.S.Denot g.T.Texts.text) c.loop-self.named.items) c.loop-self.self.rest.now (skip_blank (drop 1 c.args.self.now.rest.now)) rest behind (named_view g.row.S.Denot g.T.Texts.text x) c.loop-self.invariant.same some more (taken ∙ ap (λ z. got (argument_view g.row.S.Denot g.T.Texts.text z) rest) w.in-Named.is) c.skip_separator.ensures.rest)
+    ] in
     record {
       source = c.skip_separator.ensures.source ∙ c.get_argument.ensures.source ∙ c.loop-self.invariant.source;
       text = c.skip_separator.ensures.text ∙ c.get_argument.ensures.text ∙ c.loop-self.invariant.text;
@@ -175,7 +175,7 @@ get_pattern-loop-pieces-init g t c =
 pub get_pattern-returns-in_err-piece-clause-gives : goal.get_pattern-returns-in_err-piece-clause-gives
 get_pattern-returns-in_err-piece-clause-gives g t c =
     handed_on (option_map (pattern_view g.row.S.Denot g.T.Texts.text)) c.get_piece.new.self.rest.now c.from_residual.result c.in_err-piece.field-0.0 (pattern_by c.args.self.now.rest.now) c.from_residual.ensures.1
-      (pattern_fails c.loop-pieces.self.rest.now c.args.self.now.rest.now c.loop-pieces.at_line_start (map (piece_view g.row.S.Denot g.T.Texts.text) c.loop-pieces.pieces.items) c.in_err-piece.field-0.0 c.get_piece.new.self.rest.now c.loop-pieces.invariant.same c.in_err-piece.ensures.gives)
+    (pattern_fails c.loop-pieces.self.rest.now c.args.self.now.rest.now c.loop-pieces.at_line_start (map (piece_view g.row.S.Denot g.T.Texts.text) c.loop-pieces.pieces.items) c.in_err-piece.field-0.0 c.get_piece.new.self.rest.now c.loop-pieces.invariant.same c.in_err-piece.ensures.gives)
 
 pub get_pattern-loop-pieces-preserved : goal.get_pattern-loop-pieces-preserved
 get_pattern-loop-pieces-preserved g t c =
@@ -188,7 +188,7 @@ get_pattern-loop-pieces-preserved g t c =
       onward = omega (arith, c.get_piece.ensures.onward, c.loop-pieces.invariant.onward);
       right = rw c.in_ok-push.ensures.items (All-append (IsPiece g.row.S.Denot g.T.Texts.text) c.loop-pieces.pieces.items (c.in-Some.piece ∷ []) c.loop-pieces.invariant.right (one_right g.row.S.Denot g.T.Texts.text c.in_ok-piece.field-0 c.in-Some.piece c.in-Some.ends_line c.in-Some.is c.in_ok-piece.ensures.right));
       same = pieces_same ((map (piece_view g.row.S.Denot g.T.Texts.text) c.loop-pieces.pieces.items) ++ x ∷ []) (map (piece_view g.row.S.Denot g.T.Texts.text) c.push.new.self.items) c.in-Some.ends_line rest (read.first_pieces_at whole (w.skip_spaces c.args.self.now.rest.now) (w.after_line_end (w.skip_spaces c.args.self.now.rest.now))) (pushed (piece_view g.row.S.Denot g.T.Texts.text) c.loop-pieces.pieces.items c.push.new.self.items c.in-Some.piece c.in_ok-push.ensures.items)
-        (piece_read (map (piece_view g.row.S.Denot g.T.Texts.text) c.loop-pieces.pieces.items) c.loop-pieces.at_line_start c.in-Some.ends_line c.loop-pieces.self.rest.now rest x (read.first_pieces_at whole (w.skip_spaces c.args.self.now.rest.now) (w.after_line_end (w.skip_spaces c.args.self.now.rest.now))) c.loop-pieces.invariant.same taken);
+          (piece_read (map (piece_view g.row.S.Denot g.T.Texts.text) c.loop-pieces.pieces.items) c.loop-pieces.at_line_start c.in-Some.ends_line c.loop-pieces.self.rest.now rest x (read.first_pieces_at whole (w.skip_spaces c.args.self.now.rest.now) (w.after_line_end (w.skip_spaces c.args.self.now.rest.now))) c.loop-pieces.invariant.same taken);
     }
 
 pub get_pattern-returns-clause-gives : goal.get_pattern-returns-clause-gives
@@ -208,7 +208,7 @@ get_piece_behind-take-requires-clause-cuts g t c =
 pub get_piece_behind-returns-in_ok-text-clause-gives : goal.get_piece_behind-returns-in_ok-text-clause-gives
 get_piece_behind-returns-in_ok-text-clause-gives g t c =
     line_feed_read c.args.self.now.rest.now c.from-behind.result.now c.advance-then-begins_crlf.new.self.rest.now c.take.new.self.rest.now (g.T.Texts.text c.in_ok-text.text) c.args.at_line_start c.args.indent (c.from-behind.ensures ∙ ap (drop c.args.indent) c.bytes.ensures.value)
-      (sym c.is_empty.ensures ∙ c.if-is_empty.false) (sym c.begins_with.ensures ∙ c.if-begins_with.false) (sym c.begins_crlf.ensures ∙ c.if-begins_crlf.true) c.advance-then-begins_crlf.ensures.rest c.in_ok-text.ensures.value c.take.ensures.rest
+    (sym c.is_empty.ensures ∙ c.if-is_empty.false) (sym c.begins_with.ensures ∙ c.if-begins_with.false) (sym c.begins_crlf.ensures ∙ c.if-begins_crlf.true) c.advance-then-begins_crlf.ensures.rest c.in_ok-text.ensures.value c.take.ensures.rest
 
 pub get_variants-returns-then-has_default-clause-gives : goal.get_variants-returns-then-has_default-clause-gives
 get_variants-returns-then-has_default-clause-gives g t c =
@@ -219,8 +219,8 @@ get_variants-returns-in_err-get_variant-clause-gives g t c =
     let e = c.in_err-get_variant.field-0.0 in
     let rest = c.get_variant.new.self.rest.now in
     handed_on (λ (vs : Vec (Variant g.row.S.Denot) Global). variants_of (map (variant_view g.row.S.Denot g.T.Texts.text) vs.items)) rest c.from_residual-in_err-get_variant.result e (whole.variants false c.args.self.now.rest.now) c.from_residual-in_err-get_variant.ensures.1
-      (variants_fail (map (variant_view g.row.S.Denot g.T.Texts.text) c.loop-variants.variants.items) c.loop-variants.has_default c.loop-variants.self.rest.now c.args.self.now.rest.now e rest c.loop-variants.invariant.same
-        (variant_fails c.loop-variants.has_default c.in_ok-default.default c.loop-variants.self.rest.now c.take_default_mark.new.self.rest.now e rest c.in_ok-default.ensures.gives (sym c.is_current_byte.ensures ∙ c.if-not-is_current_byte.false) c.in_err-get_variant.ensures.gives))
+    (variants_fail (map (variant_view g.row.S.Denot g.T.Texts.text) c.loop-variants.variants.items) c.loop-variants.has_default c.loop-variants.self.rest.now c.args.self.now.rest.now e rest c.loop-variants.invariant.same
+    (variant_fails c.loop-variants.has_default c.in_ok-default.default c.loop-variants.self.rest.now c.take_default_mark.new.self.rest.now e rest c.in_ok-default.ensures.gives (sym c.is_current_byte.ensures ∙ c.if-not-is_current_byte.false) c.in_err-get_variant.ensures.gives))
 
 pub get_variants-loop-variants-preserved : goal.get_variants-loop-variants-preserved
 get_variants-loop-variants-preserved g t c =
@@ -231,14 +231,14 @@ get_variants-loop-variants-preserved g t c =
       text = c.skip_blank.ensures.text ∙ c.get_variant.ensures.text ∙ c.take_default_mark.ensures.text ∙ c.loop-variants.invariant.text;
       onward = omega (arith, c.skip_blank.ensures.onward, c.get_variant.ensures.less, c.take_default_mark.ensures.onward, c.loop-variants.invariant.onward);
       same = variants_same ((map (variant_view g.row.S.Denot g.T.Texts.text) c.loop-variants.variants.items) ++ x ∷ []) (map (variant_view g.row.S.Denot g.T.Texts.text) c.push.new.self.items) (c.loop-variants.has_default || c.in_ok-default.default) c.skip_blank.new.self.rest.now (whole.variants false c.args.self.now.rest.now) items
-        (variants_read (map (variant_view g.row.S.Denot g.T.Texts.text) c.loop-variants.variants.items) c.loop-variants.has_default c.in_ok-default.default c.loop-variants.self.rest.now c.args.self.now.rest.now c.take_default_mark.new.self.rest.now c.get_variant.new.self.rest.now c.skip_blank.new.self.rest.now x c.loop-variants.invariant.same c.in_ok-default.ensures.gives (sym c.is_current_byte.ensures ∙ c.if-not-is_current_byte.false) c.in_ok-get_variant.ensures.gives c.skip_blank.ensures.rest);
+          (variants_read (map (variant_view g.row.S.Denot g.T.Texts.text) c.loop-variants.variants.items) c.loop-variants.has_default c.in_ok-default.default c.loop-variants.self.rest.now c.args.self.now.rest.now c.take_default_mark.new.self.rest.now c.get_variant.new.self.rest.now c.skip_blank.new.self.rest.now x c.loop-variants.invariant.same c.in_ok-default.ensures.gives (sym c.is_current_byte.ensures ∙ c.if-not-is_current_byte.false) c.in_ok-get_variant.ensures.gives c.skip_blank.ensures.rest);
     }
 
 pub get_variants-returns-in_err-default-clause-gives : goal.get_variants-returns-in_err-default-clause-gives
 get_variants-returns-in_err-default-clause-gives g t c =
     let e = c.in_err-default.field-0.0 in
     handed_on (λ (vs : Vec (Variant g.row.S.Denot) Global). variants_of (map (variant_view g.row.S.Denot g.T.Texts.text) vs.items)) c.take_default_mark.new.self.rest.now c.from_residual.result e (whole.variants false c.args.self.now.rest.now) c.from_residual.ensures.1
-      (variants_fail (map (variant_view g.row.S.Denot g.T.Texts.text) c.loop-variants.variants.items) c.loop-variants.has_default c.loop-variants.self.rest.now c.args.self.now.rest.now e c.take_default_mark.new.self.rest.now c.loop-variants.invariant.same (mark_fails c.loop-variants.has_default c.loop-variants.self.rest.now e c.take_default_mark.new.self.rest.now c.in_err-default.ensures.gives))
+    (variants_fail (map (variant_view g.row.S.Denot g.T.Texts.text) c.loop-variants.variants.items) c.loop-variants.has_default c.loop-variants.self.rest.now c.args.self.now.rest.now e c.take_default_mark.new.self.rest.now c.loop-variants.invariant.same (mark_fails c.loop-variants.has_default c.loop-variants.self.rest.now e c.take_default_mark.new.self.rest.now c.in_err-default.ensures.gives))
 
 pub get_variants-returns-else-has_default-clause-gives : goal.get_variants-returns-else-has_default-clause-gives
 get_variants-returns-else-has_default-clause-gives g t c =
@@ -257,7 +257,7 @@ get_argument-returns-then-not-is_current_byte-clause-less g t c =
 pub get_argument-returns-then-not-is_current_byte-clause-gives : goal.get_argument-returns-then-not-is_current_byte-clause-gives
 get_argument-returns-then-not-is_current_byte-clause-gives g t c =
     gives_same (argument_view g.row.S.Denot g.T.Texts.text) c.get_inline_expression.new.self.rest.now c.positional_argument.result (positional_by (names_of (map (named_view g.row.S.Denot g.T.Texts.text) c.args.others.now)) (inline_view g.row.S.Denot g.T.Texts.text c.in_ok-argument.argument) c.get_inline_expression.new.self.rest.now) (argument_by (names_of (map (named_view g.row.S.Denot g.T.Texts.text) c.args.others.now)) c.args.self.now.rest.now)
-      (argument_not_named (names_of (map (named_view g.row.S.Denot g.T.Texts.text) c.args.others.now)) c.args.self.now.rest.now c.get_inline_expression.new.self.rest.now (inline_view g.row.S.Denot g.T.Texts.text c.in_ok-argument.argument) c.in_ok-argument.ensures.gives (sym c.is_current_byte.ensures ∙ c.if-not-is_current_byte.true)) c.positional_argument.ensures
+    (argument_not_named (names_of (map (named_view g.row.S.Denot g.T.Texts.text) c.args.others.now)) c.args.self.now.rest.now c.get_inline_expression.new.self.rest.now (inline_view g.row.S.Denot g.T.Texts.text c.in_ok-argument.argument) c.in_ok-argument.ensures.gives (sym c.is_current_byte.ensures ∙ c.if-not-is_current_byte.true)) c.positional_argument.ensures
 
 pub get_argument-returns-in_err-value-in-Ok-clause-gives : goal.get_argument-returns-in_err-value-in-Ok-clause-gives
 get_argument-returns-in_err-value-in-Ok-clause-gives g t c =
@@ -267,7 +267,7 @@ get_argument-returns-in_err-value-in-Ok-clause-gives g t c =
     let e = c.in_err-value-in-Ok.field-0.0 in
     let rest = c.get_argument_value.new.self.rest.now in
     handed_on (argument_view g.row.S.Denot g.T.Texts.text) rest c.from_residual-in_err-value-in-Ok.result e (argument_by (names_of (map (named_view g.row.S.Denot g.T.Texts.text) c.args.others.now)) c.args.self.now.rest.now) c.from_residual-in_err-value-in-Ok.ensures.1
-      (fails_same e rest (mapped one (argument_value_at (names_of (map (named_view g.row.S.Denot g.T.Texts.text) c.args.others.now)) name c.get_inline_expression.new.self.rest.now)) (argument_by (names_of (map (named_view g.row.S.Denot g.T.Texts.text) c.args.others.now)) c.args.self.now.rest.now) is (fails_mapped e rest one (argument_value_at (names_of (map (named_view g.row.S.Denot g.T.Texts.text) c.args.others.now)) name c.get_inline_expression.new.self.rest.now) c.in_err-value-in-Ok.ensures.gives))
+    (fails_same e rest (mapped one (argument_value_at (names_of (map (named_view g.row.S.Denot g.T.Texts.text) c.args.others.now)) name c.get_inline_expression.new.self.rest.now)) (argument_by (names_of (map (named_view g.row.S.Denot g.T.Texts.text) c.args.others.now)) c.args.self.now.rest.now) is (fails_mapped e rest one (argument_value_at (names_of (map (named_view g.row.S.Denot g.T.Texts.text) c.args.others.now)) name c.get_inline_expression.new.self.rest.now) c.in_err-value-in-Ok.ensures.gives))
 
 pub get_argument-returns-in_ok-value-in-Ok-clause-less : goal.get_argument-returns-in_ok-value-in-Ok-clause-less
 get_argument-returns-in_ok-value-in-Ok-clause-less g t c =
@@ -288,4 +288,4 @@ get_argument-returns-in-Err-clause-less g t c =
 pub get_argument-returns-in-Err-clause-gives : goal.get_argument-returns-in-Err-clause-gives
 get_argument-returns-in-Err-clause-gives g t c =
     gives_same (argument_view g.row.S.Denot g.T.Texts.text) c.get_inline_expression.new.self.rest.now c.positional_argument-in-Err.result (positional_by (names_of (map (named_view g.row.S.Denot g.T.Texts.text) c.args.others.now)) (inline_view g.row.S.Denot g.T.Texts.text c.in-Err.argument) c.get_inline_expression.new.self.rest.now) (argument_by (names_of (map (named_view g.row.S.Denot g.T.Texts.text) c.args.others.now)) c.args.self.now.rest.now)
-      (ap (λ z. positional_by (names_of (map (named_view g.row.S.Denot g.T.Texts.text) c.args.others.now)) z c.get_inline_expression.new.self.rest.now) c.in-Err.ensures.0 ∙ argument_unnamed (names_of (map (named_view g.row.S.Denot g.T.Texts.text) c.args.others.now)) c.args.self.now.rest.now c.get_inline_expression.new.self.rest.now (inline_view g.row.S.Denot g.T.Texts.text c.in_ok-argument.argument) c.in_ok-argument.ensures.gives c.in-Err.ensures.1) c.positional_argument-in-Err.ensures
+    (ap (λ z. positional_by (names_of (map (named_view g.row.S.Denot g.T.Texts.text) c.args.others.now)) z c.get_inline_expression.new.self.rest.now) c.in-Err.ensures.0 ∙ argument_unnamed (names_of (map (named_view g.row.S.Denot g.T.Texts.text) c.args.others.now)) c.args.self.now.rest.now c.get_inline_expression.new.self.rest.now (inline_view g.row.S.Denot g.T.Texts.text c.in_ok-argument.argument) c.in_ok-argument.ensures.gives c.in-Err.ensures.1) c.positional_argument-in-Err.ensures

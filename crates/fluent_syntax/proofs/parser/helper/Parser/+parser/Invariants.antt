@@ -77,11 +77,11 @@ decreases-get_pattern-loop-pieces g l = length l.self.rest.now
 
 abbrev pub invariant-get_variants-loop-variants : goal.invariant-get_variants-loop-variants
 invariant-get_variants-loop-variants g l = record {
-    source : l.self.source.now ≡ l.fn.self.source.now;
-    text : l.self.text.now ≡ l.fn.self.text.now;
-    onward : length l.self.rest.now ≤ length l.fn.self.rest.now;
-    same : mapped (variants_behind (map (variant_view g.row.S.Denot g.T.Texts.text) l.variants.items)) (whole.variants l.has_default l.self.rest.now) ≡ whole.variants false l.fn.self.rest.now;
-  }
+  source : l.self.source.now ≡ l.fn.self.source.now;
+  text : l.self.text.now ≡ l.fn.self.text.now;
+  onward : length l.self.rest.now ≤ length l.fn.self.rest.now;
+  same : mapped (variants_behind (map (variant_view g.row.S.Denot g.T.Texts.text) l.variants.items)) (whole.variants l.has_default l.self.rest.now) ≡ whole.variants false l.fn.self.rest.now;
+}
 
 abbrev pub decreases-get_variants-loop-variants : goal.decreases-get_variants-loop-variants
 decreases-get_variants-loop-variants g l = length l.self.rest.now

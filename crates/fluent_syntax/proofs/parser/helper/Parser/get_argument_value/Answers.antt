@@ -16,7 +16,7 @@ returns-then-begins_value-clause-gives g c =
     let skipped = c.skip_blank.ensures.rest ∙ ap w.skip_blank c.advance.ensures.rest in
     let begun = ap begins_value (sym c.bytes.ensures.value) ∙ sym c.begins_value.ensures ∙ c.if-begins_value.true in
     gives_same (inline_view g.row.S.Denot g.T.Texts.text) c.get_literal.new.self.rest.now c.get_literal.result (string_or_number_at c.skip_blank.new.self.rest.now) (argument_value_at names name c.args.self.now.rest.now)
-      (value_read names name c.args.self.now.rest.now c.skip_blank.new.self.rest.now other skipped begun) c.get_literal.ensures.gives
+    (value_read names name c.args.self.now.rest.now c.skip_blank.new.self.rest.now other skipped begun) c.get_literal.ensures.gives
 
 pub returns-else-begins_value-clause-gives : goal.returns-else-begins_value-clause-gives
 returns-else-begins_value-clause-gives g c =

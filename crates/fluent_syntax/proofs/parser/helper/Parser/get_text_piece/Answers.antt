@@ -21,8 +21,8 @@ returns-in_ok-text-in-Ok-clause-gives g c =
     let behind = c.from-behind.ensures ∙ ap (drop c.args.indent) c.bytes.ensures.value in
     let seen = piece_seen g.row.S.Denot g.T.Texts.text s c.in_ok-text-in-Ok.text c.args.at_line_start c.args.indent c.in-Ok.count c.then_some-indent.result c.requires.indent c.in_ok-text-in-Ok.ensures.value c.then_some-indent.ensures in
     text_read s c.from-behind.result.now c.take.new.self.rest.now c.args.at_line_start c.args.indent c.in-Ok.count
-      (piece_view g.row.S.Denot g.T.Texts.text (piece.Text c.in_ok-text-in-Ok.text c.then_some-indent.result)) c.ends_line-ends_line.result
-      behind c.in-Ok.ensures.0 seen (c.ends_line-ends_line.ensures ∙ ap ends_line c.front.ensures) c.take.ensures.rest
+    (piece_view g.row.S.Denot g.T.Texts.text (piece.Text c.in_ok-text-in-Ok.text c.then_some-indent.result)) c.ends_line-ends_line.result
+    behind c.in-Ok.ensures.0 seen (c.ends_line-ends_line.ensures ∙ ap ends_line c.front.ensures) c.take.ensures.rest
 
 pub returns-in_ok-text-in-Ok-clause-right : goal.returns-in_ok-text-in-Ok-clause-right
 returns-in_ok-text-in-Ok-clause-right g c =
