@@ -65,9 +65,21 @@ module _ (id : Text) (old : Option Entry) (body : List (Plain Slice)) (i : ℕ) 
       ∙ ap (first_of old) (sym (entry_named-append id (read_entries body i) (e ∷ [])) ∙ ap (entry_named id) (sym (read_entries-more (Some e) inside is read)))))
 
 -- the attributes that are left, looked at from the front
-pub attribute-next : (name : Text) (items : List Read) (i : ℕ) (item : Read) → i < length items → item ≡ get_or items i item →
+attribute-next : (name : Text) (items : List Read) (i : ℕ) (item : Read) → i < length items → item ≡ get_or items i item →
     attribute_named name (attributes_view (drop i items)) ≡ cond (bytes_eq name item.id.now) (Some (elements_view item.elements.items)) (attribute_named name (attributes_view (drop (i + 1) items)))
 attribute-next name items i item inside is = ap (λ es. attribute_named name (attributes_view es)) (drop-cons items i item inside) ∙ rw (← is, add-one) refl
+
+-- the first one left has that name
+pub attribute-found : (name : Text) (items : List Read) (i : ℕ) (item : Read) → i < length items → item ≡ get_or items i item → bytes_eq name item.id.now ≡ true →
+    attribute_named name (attributes_view (drop i items)) ≡ Some (elements_view item.elements.items)
+attribute-found name items i item inside is same =
+    attribute-next name items i item inside is ∙ ap (λ b. cond b (Some (elements_view item.elements.items)) (attribute_named name (attributes_view (drop (i + 1) items)))) same
+
+-- it has another
+pub attribute-other : (name : Text) (items : List Read) (i : ℕ) (item : Read) → i < length items → item ≡ get_or items i item → bytes_eq name item.id.now ≡ false →
+    attribute_named name (attributes_view (drop i items)) ≡ attribute_named name (attributes_view (drop (i + 1) items))
+attribute-other name items i item inside is other =
+    attribute-next name items i item inside is ∙ ap (λ b. cond b (Some (elements_view item.elements.items)) (attribute_named name (attributes_view (drop (i + 1) items)))) other
 
 -- with none left there is none of that name
 pub attribute-end : (name : Text) (items : List Read) (i : ℕ) → length items ≤ i → attribute_named name (attributes_view (drop i items)) ≡ None

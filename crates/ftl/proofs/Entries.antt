@@ -1,11 +1,12 @@
 -- Lemmas on reading entries of a tree.
 use Rattle.std.proofs.Common.{◌≡◌, ℕ, suc, ◌+◌, ◌<◌, ◌≤◌, List, [], ◌∷◌, ◌++◌, length, drop, map, get_or, Option, Some, None, refl, sym, ap, ◌∙◌, append_assoc, append-nil, add-one, drop-cons}
-use Rattle.core.specs.List.{filter_map, cons_option}
+use Rattle.std.specs.List.{filter_map, cons_option}
 use Rattle.std.proofs.lemmas.List.{map-append, drop_all}
 use Rattle.fluent_syntax.specs.Tree as t
 use Rattle.fluent_syntax.specs.View as view
-use Rattle.fluent_syntax.specs.Tiling.{listed}
-use Rattle.ftl.specs.ThinEntries.{Element, text_element, and_more, every, variable_in, elements_of, entry_of}
+use Rattle.fluent_syntax.specs.Tiling.{tree, listed}
+use Rattle.ftl.specs.Text.{Text}
+use Rattle.ftl.specs.ThinEntries.{Element, text_element, and_more, every, variable_in, elements_of, entry_of, entries_of}
 use Rattle.ftl.specs.TreeView.{element_of}
 
 -- what was read, before what is left
@@ -61,3 +62,7 @@ entries-listed (t.comment lines ∷ es) = entries-listed es
 entries-listed (t.group_comment lines ∷ es) = entries-listed es
 entries-listed (t.resource_comment lines ∷ es) = entries-listed es
 entries-listed (t.junk s ∷ es) = entries-listed es
+
+-- the entries of a tree are those of its source
+pub entries-tree : (es : List t.Entry) (source : Text) → es ≡ tree source → filter_map entry_of es ≡ entries_of source
+entries-tree es source is = sym (entries-listed es) ∙ ap (λ e. filter_map entry_of (listed e)) is

@@ -55,7 +55,7 @@ fn find_attribute<'a, 's>(name: &str, attributes: &'a [Attribute<'s>]) -> Option
     ensures { option_map (λ elements. elements_view elements.now) result ≡ attribute_named name.now (attributes_view attributes.now) }
 {
     for attribute in attributes {
-        if attribute.id == name {
+        if name == attribute.id {
             return Some(attribute.elements.as_slice());
         }
     }
