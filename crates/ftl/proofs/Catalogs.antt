@@ -1,18 +1,17 @@
 -- Lemmas on the entries of sources, by their ids.
-use Rattle.std.proofs.Common.{◌≡◌, ℕ, suc, ◌+◌, ◌<◌, ◌≤◌, true, false, cond, List, [], ◌∷◌, ◌++◌, length, take, drop, map, get_or, Option, Some, None, refl, sym, ap, ◌∙◌, append_assoc, append-nil, add-one, drop-cons}
+use Rattle.std.proofs.Common.{◌≡◌, ℕ, ◌+◌, ◌<◌, ◌≤◌, true, false, cond, List, [], ◌∷◌, ◌++◌, length, take, drop, get_or, Option, Some, None, refl, sym, ap, ◌∙◌, append_assoc, append-nil, add-one, drop-cons}
 use Rattle.std.specs.List.{filter_map, flat_map}
 use Rattle.std.specs.Str.{bytes_eq}
 use Rattle.std.proofs.lemmas.List.{map-append, take_more, drop_all}
 use Rattle.std.proofs.lemmas.List.Elements.{filter_map-append}
 use denote.Ref.{Bor}
-use Rattle.fluent_syntax.specs.Tree as t
 use Rattle.fluent_syntax.specs.View as view
 use Rattle.fluent_syntax.specs.declared.ast.Entry.{Entry as Plain}
 use Rattle.ftl.specs.Text.{Text}
-use Rattle.ftl.specs.ThinEntries.{Element, Entry, entry_of, entries_of, all_entries}
+use Rattle.ftl.specs.ThinEntries.{Entry, entry_of, entries_of, all_entries}
 use Rattle.ftl.specs.Thin.{entry_named, attribute_named}
 use Rattle.ftl.specs.declared.entry.Attribute.{Attribute as Read}
-use Rattle.ftl.specs.EntryView.{elements_view, attribute_view, attributes_view}
+use Rattle.ftl.specs.EntryView.{elements_view, attributes_view}
 use Rattle.ftl.specs.TreeView.{Slice, text_of, plain_entries}
 use Rattle.ftl.specs.CatalogView.{texts, first_of}
 

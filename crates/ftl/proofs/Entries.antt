@@ -1,12 +1,12 @@
 -- Lemmas on reading entries of a tree.
-use Rattle.std.proofs.Common.{◌≡◌, ℕ, suc, ◌+◌, ◌<◌, ◌≤◌, List, [], ◌∷◌, ◌++◌, length, drop, map, get_or, Option, Some, None, refl, sym, ap, ◌∙◌, append_assoc, append-nil, add-one, drop-cons}
+use Rattle.std.proofs.Common.{◌≡◌, ℕ, ◌+◌, ◌<◌, ◌≤◌, List, [], ◌∷◌, ◌++◌, length, drop, map, get_or, Option, Some, None, refl, sym, ap, ◌∙◌, append_assoc, append-nil, add-one, drop-cons}
 use Rattle.std.specs.List.{filter_map, cons_option}
 use Rattle.std.proofs.lemmas.List.{map-append, drop_all}
 use Rattle.fluent_syntax.specs.Tree as t
 use Rattle.fluent_syntax.specs.View as view
 use Rattle.fluent_syntax.specs.Tiling.{tree, listed}
 use Rattle.ftl.specs.Text.{Text}
-use Rattle.ftl.specs.ThinEntries.{Element, text_element, and_more, every, variable_in, elements_of, entry_of, entries_of}
+use Rattle.ftl.specs.ThinEntries.{text_element, and_more, every, variable_in, elements_of, entry_of, entries_of}
 use Rattle.ftl.specs.TreeView.{element_of}
 
 -- what was read, before what is left

@@ -1,6 +1,5 @@
 -- What the code's entries stand for.
-use Rattle.std.specs.Prelude.{List, map, option_map, Vec}
-use Rattle.std.specs.declared.alloc.Global.{Global}
+use Rattle.std.specs.Prelude.{List, map, option_map}
 use Rattle.ftl.specs.ThinEntries as thin
 use Rattle.ftl.specs.declared.entry.Element.{Element}
 use Rattle.ftl.specs.declared.entry.Element.TheVariants.{Text, Variable}

@@ -1,5 +1,5 @@
 -- What trees over borrowed texts stand for.
-use Rattle.std.specs.Prelude.{List, map, Option, Some, option_map}
+use Rattle.std.specs.Prelude.{List, map, Option, Some}
 use denote.Ref.{Bor}
 use Rattle.fluent_syntax.specs.Tree as t
 use Rattle.fluent_syntax.specs.View as view
@@ -7,8 +7,6 @@ use Rattle.fluent_syntax.specs.declared.ast.Expression.{Expression}
 use Rattle.fluent_syntax.specs.declared.ast.PatternElement.{PatternElement}
 use Rattle.fluent_syntax.specs.declared.ast.Pattern.{Pattern}
 use Rattle.fluent_syntax.specs.declared.ast.Attribute.{Attribute}
-use Rattle.fluent_syntax.specs.declared.ast.Message.{Message}
-use Rattle.fluent_syntax.specs.declared.ast.Term.{Term}
 use Rattle.fluent_syntax.specs.declared.ast.Entry.{Entry}
 use Rattle.ftl.specs.Text.{Text}
 use Rattle.ftl.specs.ThinEntries as thin

@@ -69,10 +69,7 @@ fn read_message<'s>(
 }
 
 /// A term, where each placeable of its patterns holds a variable. Of those patterns nothing is kept.
-fn read_term<'s>(
-    alloc: Global,
-    term: &ast::Term<&'s str>,
-) -> Result<Option<Entry<'s>>, AllocError>
+fn read_term<'s>(alloc: Global, term: &ast::Term<&'s str>) -> Result<Option<Entry<'s>>, AllocError>
     ensures { IfOk result (λ read. option_map entry_view read ≡ entry_of (tree.term (plain_term Slice text_of term.now))) }
 {
     let Some(_) = read_pattern(alloc, &term.value)? else {

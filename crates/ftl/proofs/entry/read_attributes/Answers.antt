@@ -18,7 +18,7 @@ pub loop-attribute-preserved : goal.loop-attribute-preserved
 loop-attribute-preserved c =
     c.loop-attribute.invariant
     ∙ rw c.in_ok-push.ensures.items
-      (every-next attribute_of (view.attribute_view Slice text_of) attribute_view c.args.attributes.now c.loop-attribute.attribute-index c.loop-attribute.read.items c.attribute-item.result c.in-Some.one c.loop-attribute-test.true c.attribute-item.is (rw c.in-Some.is at c.in_ok-one.ensures))
+    (every-next attribute_of (view.attribute_view Slice text_of) attribute_view c.args.attributes.now c.loop-attribute.attribute-index c.loop-attribute.read.items c.attribute-item.result c.in-Some.one c.loop-attribute-test.true c.attribute-item.is (rw c.in-Some.is at c.in_ok-one.ensures))
 
 pub returns : goal.returns
 returns c =

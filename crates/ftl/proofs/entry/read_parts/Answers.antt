@@ -17,7 +17,7 @@ pub loop-part-preserved : goal.loop-part-preserved
 loop-part-preserved c =
     c.loop-part.invariant
     ∙ rw c.in_ok-push.ensures.items
-      (every-next element_of plain_part element_view c.args.parts.now c.loop-part.part-index c.loop-part.elements.items c.part-item.result c.in-Some.element c.loop-part-test.true c.part-item.is (rw c.in-Some.is at c.read_part.ensures))
+    (every-next element_of plain_part element_view c.args.parts.now c.loop-part.part-index c.loop-part.elements.items c.part-item.result c.in-Some.element c.loop-part-test.true c.part-item.is (rw c.in-Some.is at c.read_part.ensures))
 
 pub returns : goal.returns
 returns c = sym (c.loop-part.invariant ∙ every-end element_of plain_part element_view c.args.parts.now c.loop-part.part-index c.loop-part.elements.items c.loop-part-test.false)
