@@ -7,11 +7,11 @@ use Rattle.ftl.specs.Text.{Text}
 use Rattle.ftl.specs.Frames.{Reply}
 use Rattle.ftl.specs.Requests.{value_named}
 use Rattle.ftl.specs.ThinText.{isolated, variable_text, variable_errors, and_then, elements_reply, placeable_limit, message_reply}
-use Rattle.ftl.specs.declared.message.Element.{Element as Part}
-use Rattle.ftl.specs.declared.message.Element.TheVariants as part
+use Rattle.ftl.specs.declared.entry.Element.{Element as Part}
+use Rattle.ftl.specs.declared.entry.Element.TheVariants as part
 use Rattle.ftl.specs.declared.text.ThinError.{ThinError}
 use Rattle.ftl.specs.declared.text.ThinError.TheVariants.{UnknownVariable, TooManyPlaceables}
-use Rattle.ftl.specs.MessageView.{element_view, elements_view}
+use Rattle.ftl.specs.EntryView.{element_view, elements_view}
 use Rattle.ftl.specs.ReplyView.{error_text}
 
 abbrev reply : Text → List Text → Reply

@@ -9,8 +9,8 @@ pub mod Serving
 pub mod Runs
 pub mod Outcomes
 pub mod SameAnswers
-pub mod Messages
 pub mod Formatting
+pub mod Entries
 pub mod Catalogs
 pub mod Engines
 pub mod FilesOfCommands

@@ -7,8 +7,9 @@ pub mod AnswerView
 pub mod Devices
 pub mod Exchange
 pub mod Waiting
-pub mod ThinMessages
-pub mod MessageView
+pub mod ThinEntries
+pub mod EntryView
+pub mod TreeView
 pub mod ThinText
 pub mod ReplyView
 pub mod Thin

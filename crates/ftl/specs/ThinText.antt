@@ -1,9 +1,9 @@
--- The text of a message of one line, with its errors.
+-- The text of a pattern, with its errors.
 use Rattle.std.specs.Prelude.{ℕ, zero, suc, Bool, true, false, ◌&&◌, nat_lt, List, [], ◌∷◌, ◌++◌, length, Option, Some, None, codes}
 use Rattle.ftl.specs.Text.{Text}
 use Rattle.ftl.specs.Requests.{value_named}
 use Rattle.ftl.specs.Frames.{Reply}
-use Rattle.ftl.specs.ThinMessages.{Element, text_element, variable}
+use Rattle.ftl.specs.ThinEntries.{Element, text_element, variable}
 
 -- U+2068 and U+2069, around a placeable
 abbrev pub first_strong_isolate : Text
@@ -49,6 +49,6 @@ elements_reply isolate arguments (suc left) (variable name ∷ es) =
 abbrev pub placeable_limit : ℕ
 placeable_limit = 100
 
--- the text of a message: a placeable is isolated where it is not the only element
+-- the text of a pattern: a placeable is isolated where it is not the only element
 abbrev pub message_reply : Bool → List (Text × Text) → List Element → Reply
 message_reply isolating arguments es = elements_reply (isolating && nat_lt 1 (length es)) arguments placeable_limit es

@@ -1,66 +1,114 @@
-//! The messages of sources, by their identifiers.
-ghost use Rattle.std.specs.Prelude.{◌≡◌, List, ℕ, Some, None, IfOk, OnOk, option_map, if◌then◌else◌};
+//! What the ids of sources can be asked for.
+ghost use Rattle.std.specs.Prelude.{◌≡◌, List, ℕ, Some, None, IfOk, OnOk, option_map, option_and_then, option_copied, if◌then◌else◌};
+ghost use Rattle.std.specs.List.{filter_map};
 ghost use Rattle.std.specs.Str.{bytes_eq};
-ghost use Rattle.ftl.specs.ThinMessages.{messages_of, all_messages};
-ghost use Rattle.ftl.specs.Thin.{message_named};
-ghost use Rattle.ftl.specs.MessageView.{elements_view};
-ghost use Rattle.ftl.specs.CatalogView.{texts, elements_in, elements_named, first_of};
+ghost use Rattle.ftl.specs.ThinEntries.{entry_of, entries_of, all_entries};
+ghost use Rattle.ftl.specs.Thin.{entry_named, attribute_named, pattern_asked};
+ghost use Rattle.ftl.specs.EntryView.{elements_view, attributes_view, entry_view};
+ghost use Rattle.fluent_syntax.specs.Tiling.{tree as tree_of};
+ghost use Rattle.fluent_syntax.specs.View.{resource_view};
+ghost use Rattle.ftl.specs.TreeView.{Slice, text_of, plain_entries};
+ghost use Rattle.ftl.specs.CatalogView.{texts, entry_in, entry_under, first_of};
 
-use crate::message::{Element, Message, read_message};
+use crate::entry::{Attribute, Element, Entry, read_entry};
+use fluent_syntax::ast::{self, Resource};
+use fluent_syntax::parser::{self, parse};
 use std::alloc::{AllocError, Global};
 use std::collections::BTreeMap;
 
-/// What each message is made of, by the message's identifier.
-type Messages<'s> = BTreeMap<&'s str, Vec<Element<'s>>>;
+/// Entries by their ids.
+type Entries<'s> = BTreeMap<&'s str, Entry<'s>>;
 
-/// The messages of sources. The first message of an identifier counts.
+/// The messages and terms of sources that are made of texts and variables. The first entry of an id counts.
 #[derive(Drop)]
 pub struct Catalog<'s> {
-    messages: Messages<'s>,
+    entries: Entries<'s>,
 }
 
 impl<'s> Catalog<'s> {
-    /// The messages of `sources`, in their order. Each line that is no message is passed over: see `read_message`.
+    /// The messages and terms of `sources`, in their order. An entry with a placeable that holds anything but a
+    /// variable is passed over, and so is junk. The only error is want of memory.
     pub fn new(alloc: Global, sources: &[&'s str]) -> Result<Catalog<'s>, AllocError>
-        ensures { IfOk result (λ catalog. (id : List ℕ) → elements_named catalog id ≡ message_named id (all_messages (texts sources.now))) }
+        ensures { IfOk result (λ catalog. (id : List ℕ) → entry_under catalog id ≡ entry_named id (all_entries (texts sources.now))) }
     {
-        let mut messages = BTreeMap::new(alloc);
+        let mut entries = BTreeMap::new(alloc);
         for source in sources {
-            add_source(alloc, &mut messages, source)?;
+            add_source(alloc, &mut entries, source)?;
         }
-        Ok(Catalog { messages })
+        Ok(Catalog { entries })
     }
 
-    /// The elements of the message that `id` names.
-    pub fn find(&self, id: &str) -> Option<&[Element<'s>]>
-        ensures { option_map (λ elements. elements_view elements.now) result ≡ elements_named self.now id.now }
+    /// The elements of the message that `id` names, or of its first attribute of that name.
+    pub fn find(&self, id: &str, attribute: Option<&str>) -> Option<&[Element<'s>]>
+        ensures { option_map (λ elements. elements_view elements.now) result ≡ option_and_then (pattern_asked (option_copied attribute.entry)) (entry_under self.now id.now) }
     {
-        self.messages.get(id).map(|elements| elements.as_slice())
+        let entry = self.entries.get(id)?;
+        match attribute {
+            None => entry.value.as_deref(),
+            Some(name) => find_attribute(name, &entry.attributes),
+        }
     }
 }
 
-/// Adds the messages of a source behind those that are there.
+/// The elements of the first attribute of a name.
+fn find_attribute<'a, 's>(name: &str, attributes: &'a [Attribute<'s>]) -> Option<&'a [Element<'s>]>
+    ensures { option_map (λ elements. elements_view elements.now) result ≡ attribute_named name.now (attributes_view attributes.now) }
+{
+    for attribute in attributes {
+        if name == attribute.id {
+            return Some(attribute.elements.as_slice());
+        }
+    }
+    None
+}
+
+/// Adds the messages and terms of a source behind those that are there.
 fn add_source<'s>(
     alloc: Global,
-    messages: &mut Messages<'s>,
+    entries: &mut Entries<'s>,
     source: &'s str,
 ) -> Result<(), AllocError>
-    ensures { OnOk result ((id : List ℕ) → elements_in messages.new id ≡ first_of (elements_in messages.old id) (message_named id (messages_of source.now))) }
+    ensures { OnOk result ((id : List ℕ) → entry_in entries.new id ≡ first_of (entry_in entries.old id) (entry_named id (entries_of source.now))) }
 {
-    for line in source.split('\n') {
-        let Some(message) = read_message(alloc, line)? else {
+    let tree = read_tree(alloc, source)?;
+    add_entries(alloc, entries, &tree.body)
+}
+
+/// The tree of a source, whose errors are passed over.
+fn read_tree<'s>(alloc: Global, source: &'s str) -> Result<Resource<&'s str>, AllocError>
+    ensures { IfOk result (λ tree. resource_view Slice text_of tree ≡ tree_of source.now) }
+{
+    match parse(alloc, source) {
+        Ok(tree) => Ok(tree),
+        Err(error) => match error {
+            parser::Error::Broken(tree, _errors) => Ok(tree),
+            parser::Error::Memory => Err(AllocError),
+        },
+    }
+}
+
+/// Adds those of the entries of a tree that are made of texts and variables.
+fn add_entries<'s>(
+    alloc: Global,
+    entries: &mut Entries<'s>,
+    body: &[ast::Entry<&'s str>],
+) -> Result<(), AllocError>
+    ensures { OnOk result ((id : List ℕ) → entry_in entries.new id ≡ first_of (entry_in entries.old id) (entry_named id (filter_map entry_of (plain_entries body.now)))) }
+{
+    for plain in body {
+        let Some(entry) = read_entry(alloc, plain)? else {
             continue;
         };
-        add_message(messages, message)?;
+        add_entry(entries, entry)?;
     }
     Ok(())
 }
 
-/// Adds a message, unless one of its identifier is there.
-fn add_message<'s>(messages: &mut Messages<'s>, message: Message<'s>) -> Result<(), AllocError>
-    ensures { OnOk result ((id : List ℕ) → elements_in messages.new id ≡ first_of (elements_in messages.old id) (if bytes_eq id message.entry.id.now then Some (elements_view message.entry.elements.items) else None)) }
+/// Adds an entry, unless one of its id is there.
+fn add_entry<'s>(entries: &mut Entries<'s>, entry: Entry<'s>) -> Result<(), AllocError>
+    ensures { OnOk result ((id : List ℕ) → entry_in entries.new id ≡ first_of (entry_in entries.old id) (if bytes_eq id entry.entry.id.now then Some (entry_view entry.entry) else None)) }
 {
-    messages.entry(message.id)?.or_insert(message.elements);
+    entries.entry(entry.id)?.or_insert(entry);
     Ok(())
 }
 
@@ -70,17 +118,21 @@ mod tests {
     use std::test::Fail;
 
     #[test]
-    fn the_first_message_counts(rt: HostRuntime) -> Result<(), Fail> {
+    fn the_first_entry_counts(rt: HostRuntime) -> Result<(), Fail> {
         let sources = [
-            "damaged\nhello = Hi!\nhello = Again!\n",
-            "hello = Another Hi!\nbye = Bye!",
+            "damaged\nhello = Hi!\n    .x = One\n    .x = Two\nhello = Again!\n-term = A term\n",
+            "hello = Another Hi!\nterm = A message\nbye = { \"Bye!\" }\nbye = Bye!",
         ];
         let catalog = Catalog::new(rt.alloc(), &sources)?;
-        let hello = catalog.find("hello").ok_or("no message")?;
+        let hello = catalog.find("hello", None).ok_or("no message")?;
         assert_eq!(rt; hello, [Element::Text("Hi!")].as_slice());
-        let bye = catalog.find("bye").ok_or("no message")?;
+        let attribute = catalog.find("hello", Some("x")).ok_or("no attribute")?;
+        assert_eq!(rt; attribute, [Element::Text("One")].as_slice());
+        let bye = catalog.find("bye", None).ok_or("no message")?;
         assert_eq!(rt; bye, [Element::Text("Bye!")].as_slice());
-        assert!(rt; catalog.find("damaged").is_none());
+        assert!(rt; catalog.find("damaged", None).is_none());
+        assert!(rt; catalog.find("hello", Some("y")).is_none());
+        assert!(rt; catalog.find("term", None).is_none());
         Ok(())
     }
 }

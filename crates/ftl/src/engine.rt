@@ -1,8 +1,8 @@
-//! Answers request lines from sources of messages of one line.
+//! Answers request lines from the messages of sources that are made of texts and variables.
 ghost use Rattle.std.specs.Prelude.{◌≡◌, ◌++◌, ℕ, List, IfOk, OnOk, option_map, option_copied};
 ghost use Rattle.ftl.specs.Exchange.{IsFrontOf};
 ghost use Rattle.ftl.specs.RequestView.{request_view};
-ghost use Rattle.ftl.specs.CatalogView.{texts, elements_named};
+ghost use Rattle.ftl.specs.CatalogView.{texts, entry_under};
 ghost use Rattle.ftl.specs.Thin.{reply_where, thin_line};
 ghost use Rattle.ftl.specs.ReplyView.{reply_view};
 ghost use Rattle.ftl.specs.EngineView.{thin_reply};
@@ -14,7 +14,7 @@ use crate::serve::Engine;
 use crate::text::{Reply, ThinError, format_message};
 use std::alloc::{AllocError, Global};
 
-/// Answers request lines from the messages of one line of its sources.
+/// Answers request lines from the messages of its sources.
 #[derive(Drop)]
 pub struct Thin<'s> {
     catalog: Catalog<'s>,
@@ -31,18 +31,15 @@ impl<'s> Thin<'s> {
         Ok(Thin { catalog, isolating })
     }
 
-    /// What there is for a request. No message of one line has attributes.
+    /// What there is for a request.
     fn reply_to(
         &self,
         alloc: Global,
         request: &Request<'_>,
     ) -> Result<Option<Reply<'s>>, AllocError>
-        ensures { IfOk result (λ reply. option_map reply_view reply ≡ reply_where self.now.isolating (elements_named self.now.catalog) (request_view request.now)) }
+        ensures { IfOk result (λ reply. option_map reply_view reply ≡ reply_where self.now.isolating (entry_under self.now.catalog) (request_view request.now)) }
     {
-        if request.attribute.is_some() {
-            return Ok(None);
-        }
-        let Some(elements) = self.catalog.find(request.id) else {
+        let Some(elements) = self.catalog.find(request.id, request.attribute) else {
             return Ok(None);
         };
         let arguments = request.arguments.as_slice();
@@ -88,7 +85,7 @@ mod tests {
     use std::test::Fail;
 
     #[test]
-    fn answers_from_the_lines_that_are_whole(rt: HostRuntime) -> Result<(), Fail> {
+    fn answers_from_the_entries_that_are_whole(rt: HostRuntime) -> Result<(), Fail> {
         let source = "a = {$x}{ $y }\nb = x } y\n a = z\na = w\n";
         let thin = Thin::new(rt.alloc(), &[source], true)?;
         let mut out = Vec::new(rt.alloc());

@@ -1,4 +1,4 @@
-//! Answers request lines from sources of messages of one line.
+//! Answers request lines from the messages of sources that are made of texts and variables.
 ghost use Rattle.std.specs.Prelude.{◌≡◌, OnOk, IfSome, IsErrOf};
 ghost use Rattle.std.specs.Io.KnownBytes.{Appends, IsAtEnd};
 ghost use Rattle.ftl.specs.Devices.{HasFailed};

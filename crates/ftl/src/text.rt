@@ -1,11 +1,11 @@
 //! The text of a message, and the errors that come up while it is made.
 ghost use Rattle.std.specs.Prelude.{◌≡◌, ◌++◌, Some, IfOk, OnOk, string_bytes, option_copied};
 ghost use Rattle.ftl.specs.RequestView.{arguments_view};
-ghost use Rattle.ftl.specs.MessageView.{elements_view};
+ghost use Rattle.ftl.specs.EntryView.{elements_view};
 ghost use Rattle.ftl.specs.ThinText.{isolated, variable_text, message_reply};
 ghost use Rattle.ftl.specs.ReplyView.{error_text, reply_view};
 
-use crate::message::Element;
+use crate::entry::Element;
 use crate::request::value_named;
 use std::alloc::{AllocError, Global};
 use std::fmt;

@@ -78,6 +78,36 @@ fn takes_the_first_message_of_a_name(rt: HostRuntime) -> Result<(), Fail> {
 }
 
 #[test]
+fn answers_with_texts_of_many_lines(rt: HostRuntime) -> Result<(), Fail> {
+    let source = "a =\n    one\n      two\n    three\n";
+    let wanted = "ok 15 0\none\n  two\nthree\n";
+    assert_answers(&rt, &[source], true, b"a\n", wanted)
+}
+
+#[test]
+fn answers_with_attributes(rt: HostRuntime) -> Result<(), Fail> {
+    let source = "confirm = Sure, { $name }?\n    .yes = Yes\n";
+    let wanted = "ok 15 0\nSure, \u{2068}Al\u{2069}?\nok 3 0\nYes\n";
+    let requests = b"confirm\tname=Al\nconfirm.yes\n";
+    assert_answers(&rt, &[source], true, requests, wanted)?;
+    let valueless = "a =\n .x = 1\n .x = 2\n";
+    let answers = "ok 1 0\n1\nnone\nnone\n";
+    assert_answers(&rt, &[valueless], true, b"a.x\na.y\na\n", answers)
+}
+
+#[test]
+fn answers_no_term(rt: HostRuntime) -> Result<(), Fail> {
+    let source = "-a = b\n .x = c\na = d\n";
+    assert_answers(&rt, &[source], true, b"a\n-a\na.x\n", "none\nnone\nnone\n")
+}
+
+#[test]
+fn passes_over_entries_with_other_placeables(rt: HostRuntime) -> Result<(), Fail> {
+    let source = "a = b\n .x = {1}\n-a = {\"b\"}\na = { { $y } }\na = c\n";
+    assert_answers(&rt, &[source], true, b"a\na.x\n", "ok 1 0\nc\nnone\n")
+}
+
+#[test]
 fn stops_a_text_at_its_101st_placeable(rt: HostRuntime) -> Result<(), Fail> {
     let mut source = String::from_str(rt.alloc(), "a = ")?;
     let mut wanted = String::from_str(rt.alloc(), "ok 100 1\n")?;

@@ -1,7 +1,7 @@
 use Rattle.std.proofs.Common.{◌∙◌, [], string_bytes, sym, refl, ap}
 use Rattle.std.specs.Prelude.{not}
 use Rattle.ftl.specs.RequestView.{arguments_view}
-use Rattle.ftl.specs.declared.message.Element.TheVariants as part
+use Rattle.ftl.specs.declared.entry.Element.TheVariants as part
 use Rattle.ftl.proofs.Formatting.{message_reply-isolated, text_step, known_step, unknown_step, full_step, last_step}
 use Rattle.ftl.proofs.text.format_message.Goals as goal
 use Rattle.ftl.proofs.text.format_message.Goals.{then-isolating, else-isolating, in-Text+in_ok-push_str-in-Text, in-Variable-2+in_ok-push_placeable-in-Variable-2+then-is_none+in_ok-push-in-Variable-2, in-Variable-2+in_ok-push_placeable-in-Variable-2+else-is_none}

@@ -1,7 +1,7 @@
 use Rattle.std.proofs.Common.{◌≡◌, length, drop, map, string_bytes, nat_lt}
 use Rattle.std.specs.Prelude.{◌&&◌}
 use Rattle.ftl.specs.RequestView.{arguments_view}
-use Rattle.ftl.specs.MessageView.{elements_view}
+use Rattle.ftl.specs.EntryView.{elements_view}
 use Rattle.ftl.specs.ThinText.{and_then, elements_reply, placeable_limit}
 use Rattle.ftl.specs.ReplyView.{error_text}
 use Rattle.ftl.proofs.text.format_message.Given as goal
