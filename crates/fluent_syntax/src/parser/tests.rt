@@ -12,7 +12,8 @@ type Read<'s, T> = std::result::Result<T, Error<&'s str>>;
 
 fn tree_of<'s>(read: super::Result<&'s str>) -> Read<'s, Resource<&'s str>> {
     match read {
-        Ok(tree) | Err(Error::Broken(tree, _)) => Ok(tree),
+        Ok(tree) => Ok(tree),
+        Err(Error::Broken(tree, _errors)) => Ok(tree),
         Err(Error::Memory) => Err(Error::Memory),
     }
 }
