@@ -45,10 +45,17 @@ fn agrees(alloc: Global, vector: &Value) -> Result<bool> {
         .context("a source")?;
     let owned = parser::parse(alloc, String::from_str(alloc, source)?);
     let runtime = parser::parse_runtime(alloc, String::from_str(alloc, source)?);
-    Ok(has_tree(alloc, vector.get("tree"), vector.get("errors"), owned)?
-        && has_tree(alloc, vector.get("runtime_tree"), vector.get("runtime_errors"), runtime)?
-        && is_written(alloc, vector, parser::parse(alloc, source))?
-        && has_runtime_errors(alloc, vector, parser::parse_runtime(alloc, source))?)
+    Ok(
+        has_tree(alloc, vector.get("tree"), vector.get("errors"), owned)?
+            && has_tree(
+                alloc,
+                vector.get("runtime_tree"),
+                vector.get("runtime_errors"),
+                runtime,
+            )?
+            && is_written(alloc, vector, parser::parse(alloc, source))?
+            && has_runtime_errors(alloc, vector, parser::parse_runtime(alloc, source))?,
+    )
 }
 
 /// Whether an answer is the tree and the errors that are wanted.
@@ -67,10 +74,16 @@ fn has_tree(
 fn is_written(alloc: Global, vector: &Value, answer: parser::Result<&str>) -> Result<bool> {
     let (resource, found) = parts(alloc, answer)?;
     let written = serializer::serialize(alloc, &resource)?;
-    let with_junk = serializer::serialize_with_options(alloc, &resource, Options { with_junk: true })?;
-    Ok(is_text(vector.get("written"), &written)
-        && is_text(vector.get("written_with_junk"), &with_junk)
-        && has_errors(alloc, vector.get("errors"), found.as_slice())?)
+    let with_junk = serializer::serialize_with_options(
+        alloc,
+        &resource,
+        Options { with_junk: true },
+    )?;
+    Ok(
+        is_text(vector.get("written"), &written)
+            && is_text(vector.get("written_with_junk"), &with_junk)
+            && has_errors(alloc, vector.get("errors"), found.as_slice())?,
+    )
 }
 
 fn has_runtime_errors(alloc: Global, vector: &Value, answer: parser::Result<&str>) -> Result<bool> {
@@ -84,7 +97,10 @@ fn has_errors(alloc: Global, wanted: Option<&Value>, errors: &[ParserError]) -> 
 }
 
 /// The tree and the errors of an answer.
-fn parts<'s, S: Slice<'s>>(alloc: Global, answer: parser::Result<S>) -> Result<(Resource<S>, Vec<ParserError>)> {
+fn parts<'s, S: Slice<'s>>(
+    alloc: Global,
+    answer: parser::Result<S>,
+) -> Result<(Resource<S>, Vec<ParserError>)> {
     match answer {
         Ok(resource) => Ok((resource, Vec::new(alloc))),
         Err(Error::Broken(resource, found)) => Ok((resource, found)),
