@@ -1,13 +1,13 @@
 //! Reads the sources of `data/parse.jsonl` and `data/rows.jsonl` by both readers, over both kinds of text, and compares
-//! with the trees and errors that stand there. A row may leave some of them out.
+//! with the trees, errors and written texts that stand there. A row may leave some of them out.
 #![tactic(auto)]
 
 mod errors;
-mod tree;
 
-use anyhow::{Context, Result, ensure};
+use anyhow::{Context, Result, bail};
 use fluent_syntax::ast::Resource;
 use fluent_syntax::parser::{self, Error, ParserError, Slice};
+use fluent_syntax::serializer::{self, Options};
 use serde_json::Value;
 use std::alloc::Global;
 use std::fs;
@@ -43,49 +43,77 @@ fn agrees(alloc: Global, vector: &Value) -> Result<bool> {
         .get("source")
         .and_then(Value::as_str)
         .context("a source")?;
-    let full = [vector.get("tree"), vector.get("errors")];
-    let runtime = [vector.get("runtime_tree"), vector.get("runtime_errors")];
+    let owned = parser::parse(alloc, String::from_str(alloc, source)?);
+    let runtime = parser::parse_runtime(alloc, String::from_str(alloc, source)?);
     Ok(
-        answers(alloc, full, parser::parse(alloc, source))?
-            && answers(
+        has_tree(alloc, vector.get("tree"), vector.get("errors"), owned)?
+            && has_tree(
                 alloc,
-                full,
-                parser::parse(alloc, String::from_str(alloc, source)?),
-            )?
-            && answers(alloc, runtime, parser::parse_runtime(alloc, source))?
-            && answers(
-                alloc,
+                vector.get("runtime_tree"),
+                vector.get("runtime_errors"),
                 runtime,
-                parser::parse_runtime(alloc, String::from_str(alloc, source)?),
-            )?,
+            )?
+            && is_written(alloc, vector, parser::parse(alloc, source))?
+            && has_runtime_errors(alloc, vector, parser::parse_runtime(alloc, source))?,
     )
 }
 
 /// Whether an answer is the tree and the errors that are wanted.
-fn answers<'s, S: Slice<'s>>(
+fn has_tree(
     alloc: Global,
-    wanted: [Option<&Value>; 2],
-    answer: parser::Result<S>,
+    tree: Option<&Value>,
+    errors: Option<&Value>,
+    answer: parser::Result<String>,
 ) -> Result<bool> {
-    let [tree, errors] = wanted;
-    let (resource, found) = match answer {
-        Ok(resource) => (resource, Vec::new(alloc)),
-        Err(Error::Broken(resource, found)) => (resource, found),
-        Err(Error::Memory) => return Ok(false),
-    };
-    Ok(has_tree(alloc, tree, &resource)? && has_errors(alloc, errors, found.as_slice())?)
+    let (resource, found) = parts(alloc, answer)?;
+    let value = fluent_json::to_value(alloc, &resource)?;
+    Ok(is_wanted(tree, &value) && has_errors(alloc, errors, found.as_slice())?)
 }
 
-fn has_tree<'s, S: Slice<'s>>(
-    alloc: Global,
-    wanted: Option<&Value>,
-    resource: &Resource<S>,
-) -> Result<bool> {
-    let found = tree::resource_value(alloc, resource)?;
-    Ok(wanted.is_none_or(|wanted| *wanted == found))
+/// Whether the tree of a source is written as it is wanted, and its errors are.
+fn is_written(alloc: Global, vector: &Value, answer: parser::Result<&str>) -> Result<bool> {
+    let (resource, found) = parts(alloc, answer)?;
+    let written = serializer::serialize(alloc, &resource)?;
+    let with_junk = serializer::serialize_with_options(
+        alloc,
+        &resource,
+        Options { with_junk: true },
+    )?;
+    Ok(
+        is_text(vector.get("written"), &written)
+            && is_text(vector.get("written_with_junk"), &with_junk)
+            && has_errors(alloc, vector.get("errors"), found.as_slice())?,
+    )
+}
+
+fn has_runtime_errors(alloc: Global, vector: &Value, answer: parser::Result<&str>) -> Result<bool> {
+    let (_resource, found) = parts(alloc, answer)?;
+    has_errors(alloc, vector.get("runtime_errors"), found.as_slice())
 }
 
 fn has_errors(alloc: Global, wanted: Option<&Value>, errors: &[ParserError]) -> Result<bool> {
     let found = errors::errors_value(alloc, errors)?;
-    Ok(wanted.is_none_or(|wanted| *wanted == found))
+    Ok(is_wanted(wanted, &found))
+}
+
+/// The tree and the errors of an answer.
+fn parts<'s, S: Slice<'s>>(
+    alloc: Global,
+    answer: parser::Result<S>,
+) -> Result<(Resource<S>, Vec<ParserError>)> {
+    match answer {
+        Ok(resource) => Ok((resource, Vec::new(alloc))),
+        Err(Error::Broken(resource, found)) => Ok((resource, found)),
+        Err(Error::Memory) => bail!("no memory"),
+    }
+}
+
+/// Whether a value is the wanted one, if one is.
+fn is_wanted(wanted: Option<&Value>, found: &Value) -> bool {
+    wanted.is_none_or(|wanted| wanted == found)
+}
+
+/// Whether a text is the wanted one, if one is.
+fn is_text(wanted: Option<&Value>, found: &str) -> bool {
+    wanted.is_none_or(|wanted| wanted.as_str() == Some(found))
 }
