@@ -182,3 +182,49 @@ fn read_variable<'s>(expression: &Expression<&'s str>) -> Option<Element<'s>>
         _ => None,
     }
 }
+
+#[cfg(test)]
+mod tests {
+    use super::*;
+    use fluent_syntax::parser::parse;
+    use std::test::Fail;
+
+    const SOURCE: &str = r#"## Greetings
+intro = Hi, { $name }!
+    .title = { $title }
+-brand = { $case }
+    .gender = none
+literal = { "text" }
+reference =
+    .title = Hi, { $name }
+    .other = { intro }
+"#;
+
+    #[test]
+    fn reads_texts_and_variables(rt: HostRuntime) -> Result<(), Fail> {
+        let tree = parse(rt.alloc(), SOURCE)?;
+        let [comment, message, term, literal, reference] = tree.body.as_slice() else {
+            return Err(Fail::new("other entries"));
+        };
+        let intro = read_entry(rt.alloc(), message)?.ok_or("no message")?;
+        assert_eq!(rt; intro.id, "intro");
+        let value = intro.value.as_deref().ok_or("no value")?;
+        let wanted = [
+            Element::Text("Hi, "),
+            Element::Variable("name"),
+            Element::Text("!"),
+        ];
+        assert_eq!(rt; value, wanted.as_slice());
+        assert_eq!(rt; intro.attributes.len(), 1);
+        assert_eq!(rt; intro.attributes[0].id, "title");
+        let title = intro.attributes[0].elements.as_slice();
+        assert_eq!(rt; title, [Element::Variable("title")].as_slice());
+        let brand = read_entry(rt.alloc(), term)?.ok_or("no term")?;
+        assert_eq!(rt; brand.id, "brand");
+        assert!(rt; brand.value.is_none() && brand.attributes.is_empty());
+        for passed in [comment, literal, reference] {
+            assert!(rt; read_entry(rt.alloc(), passed)?.is_none());
+        }
+        Ok(())
+    }
+}

@@ -9,25 +9,29 @@ use std::io;
 use std::io::{ErrorKind, Read, Write};
 use std::test::Fail;
 
-const SOURCE: &str = "intro = Welcome, { $name }.\n";
+pub const SOURCE: &str = "intro = Welcome, { $name }.\n";
 
-const REQUESTS: &[u8] = b"intro\tname=John\nnope\nintro\tname=Jane\nintro\tname";
+pub const REQUESTS: &[u8] = b"intro\tname=John\nnope\nintro\nintro\tname=Jane\nintro\tname";
 
-const ANSWERS: [&str; 4] = [
+pub const ANSWERS: [&str; 5] = [
     "ok 20 0\nWelcome, \u{2068}John\u{2069}.\n",
     "none\n",
+    "ok 23 1\nWelcome, \u{2068}{$name}\u{2069}.\nUnknown variable: $name\n",
     "ok 20 0\nWelcome, \u{2068}Jane\u{2069}.\n",
     "bad\n",
 ];
 
 /// How many calls work, and how many bytes each moves at most.
 #[derive(Clone, Copy, Debug)]
-struct Manner {
-    calls: usize,
-    piece: usize,
+pub struct Manner {
+    pub calls: usize,
+    pub piece: usize,
 }
 
-const ALWAYS: Manner = Manner {
+/// More than a run over these takes, byte by byte.
+const CALLS: usize = 140;
+
+pub const ALWAYS: Manner = Manner {
     calls: usize::MAX,
     piece: usize::MAX,
 };
@@ -46,7 +50,7 @@ impl Manner {
 }
 
 #[derive(Drop)]
-struct Reader<'a>(&'a [u8], Manner);
+pub struct Reader<'a>(pub &'a [u8], pub Manner);
 
 impl Read for Reader<'_> {
     fn read(&mut self, buffer: &mut [u8]) -> io::Result<usize> {
@@ -56,7 +60,7 @@ impl Read for Reader<'_> {
 }
 
 #[derive(Drop)]
-struct Writer<'a>(&'a mut Vec<u8>, Manner);
+pub struct Writer<'a>(pub &'a mut Vec<u8>, pub Manner);
 
 impl Write for Writer<'_> {
     fn write(&mut self, bytes: &[u8]) -> io::Result<usize> {
@@ -81,7 +85,7 @@ fn run(alloc: Global, reading: Manner, writing: Manner) -> (Result<(), RunError>
 #[test]
 fn pieces_change_no_byte(rt: HostRuntime) -> Result<(), Fail> {
     let wanted = ANSWERS.concat(rt.alloc())?;
-    for piece in 1..60 {
+    for piece in 1..70 {
         let little = Manner { piece, ..ALWAYS };
         for (reading, writing) in [(little, ALWAYS), (ALWAYS, little), (little, little)] {
             let (ended, given) = run(rt.alloc(), reading, writing);
@@ -93,7 +97,7 @@ fn pieces_change_no_byte(rt: HostRuntime) -> Result<(), Fail> {
 }
 
 /// Whether these are the answers to the first requests, each of them whole.
-fn are_whole(given: &[u8]) -> bool {
+pub fn are_whole(given: &[u8]) -> bool {
     let mut rest = given;
     for answer in ANSWERS {
         match rest.strip_prefix(answer.as_bytes()) {
@@ -108,7 +112,7 @@ fn are_whole(given: &[u8]) -> bool {
 fn a_failed_read_leaves_whole_answers(rt: HostRuntime) -> Result<(), Fail> {
     let wanted = ANSWERS.concat(rt.alloc())?;
     for piece in [1, 5, 20, usize::MAX] {
-        for calls in 0..60 {
+        for calls in 0..=CALLS {
             let (ended, given) = run(rt.alloc(), Manner { calls, piece }, ALWAYS);
             match ended {
                 Ok(()) => assert_eq!(rt; given.as_slice(), wanted.as_bytes(), "{calls}"),
@@ -116,6 +120,7 @@ fn a_failed_read_leaves_whole_answers(rt: HostRuntime) -> Result<(), Fail> {
             }
             assert!(rt; are_whole(&given), "{calls}");
             assert!(rt; calls > 0 || ended.is_err());
+            assert!(rt; calls < CALLS || ended.is_ok());
         }
     }
     Ok(())
@@ -125,7 +130,7 @@ fn a_failed_read_leaves_whole_answers(rt: HostRuntime) -> Result<(), Fail> {
 fn a_failed_write_leaves_a_front(rt: HostRuntime) -> Result<(), Fail> {
     let wanted = ANSWERS.concat(rt.alloc())?;
     for piece in [0, 1, 5, 20, usize::MAX] {
-        for calls in 0..60 {
+        for calls in 0..=CALLS {
             let (ended, given) = run(rt.alloc(), ALWAYS, Manner { calls, piece });
             match ended {
                 Ok(()) => assert_eq!(rt; given.as_slice(), wanted.as_bytes(), "{calls}"),
@@ -133,7 +138,24 @@ fn a_failed_write_leaves_a_front(rt: HostRuntime) -> Result<(), Fail> {
             }
             assert!(rt; wanted.as_bytes().starts_with(&given), "{calls}");
             assert!(rt; (calls > 0 && piece > 0) || ended.is_err());
+            assert!(rt; calls < CALLS || piece == 0 || ended.is_ok());
         }
     }
+    Ok(())
+}
+
+#[test]
+fn a_block_takes_one_call(rt: HostRuntime) -> Result<(), Fail> {
+    let requests = "a\n".repeat(rt.alloc(), 40_960)?;
+    let wanted = "ok 1 0\nb\n".repeat(rt.alloc(), 40_960)?;
+    let few = Manner {
+        calls: 20,
+        ..ALWAYS
+    };
+    let mut given = Vec::new(rt.alloc());
+    let mut reader = FromRead::new(Reader(requests.as_bytes(), few));
+    let mut writer = FromWrite::new(Writer(&mut given, few));
+    run_thin(rt.alloc(), &["a = b\n"], true, &mut reader, &mut writer)?;
+    assert!(rt; given.as_slice() == wanted.as_bytes());
     Ok(())
 }

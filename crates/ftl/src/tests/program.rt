@@ -1,4 +1,5 @@
 //! Runs of the program in a folder of their own.
+use super::devices::{ALWAYS, ANSWERS, Manner, REQUESTS, Reader, SOURCE, Writer};
 use crate::commands::{program, tell};
 use crate::fault::Fault;
 use std::process::Abort;
@@ -116,6 +117,48 @@ fn answers_from_its_files(rt: HostRuntime) -> Result<(), Fail> {
     for (words, requests, answers) in rows {
         assert_run(&rt, words, requests, 0, answers, "");
     }
+    fs::remove_dir_all(&rt, folder.as_str())?;
+    Ok(())
+}
+
+/// Runs the program over devices of these manners.
+fn assert_devices(
+    rt: &(impl Files + AllocGlobal + Abort),
+    words: &[&str],
+    (reading, writing): (Manner, Manner),
+    output: &str,
+    fault: &str,
+) {
+    let mut given = Vec::new(rt.alloc());
+    let mut told = Vec::new(rt.alloc());
+    let input = Reader(REQUESTS, reading);
+    let answers = Writer(&mut given, writing);
+    let ended = program(rt, rt.alloc(), words, input, answers, &mut told);
+    assert_eq!(rt; ended, 3, "{fault}");
+    assert_eq!(rt; given.as_slice(), output.as_bytes(), "{fault}");
+    assert_eq!(rt; told.as_slice(), fault.as_bytes(), "{fault}");
+}
+
+#[test]
+fn tells_which_device_failed(rt: HostRuntime) -> Result<(), Fail> {
+    let folder = enter_folder(&rt)?;
+    fs::write(&rt, "a.ftl", SOURCE)?;
+    let once = Manner {
+        calls: 1,
+        piece: 20,
+    };
+    let head = Manner { calls: 1, piece: 8 };
+    let never = Manner { calls: 0, ..ALWAYS };
+    let nothing = Manner { piece: 0, ..ALWAYS };
+    let input = "ftl: standard input: cannot read\n";
+    let output = "ftl: standard output: cannot write\n";
+    let words = &["run", "a.ftl"];
+    assert_devices(&rt, words, (never, ALWAYS), "", input);
+    assert_devices(&rt, words, (once, ALWAYS), ANSWERS[0], input);
+    assert_devices(&rt, words, (once, nothing), "", output);
+    assert_devices(&rt, words, (ALWAYS, head), "ok 20 0\n", output);
+    let missing = "ftl: missing.ftl: cannot read\n";
+    assert_devices(&rt, &["run", "missing.ftl"], (never, never), "", missing);
     fs::remove_dir_all(&rt, folder.as_str())?;
     Ok(())
 }

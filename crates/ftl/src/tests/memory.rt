@@ -1,0 +1,27 @@
+//! Want of memory: `rt try --test --fail-alloc N` refuses an allocation, as `docs/CHECKS.md` says.
+use super::devices::{ANSWERS, REQUESTS, SOURCE, are_whole};
+use crate::run::run_thin;
+use crate::serve::RunError;
+use crate::stream::{FromRead, FromWrite};
+use std::test::Fail;
+
+/// The bytes that the answers have room for.
+const ROOM: usize = 256;
+
+/// With any one allocation refused this passes. It takes no memory of its own.
+#[test]
+fn refused_memory_changes_no_answer(rt: HostRuntime) -> Result<(), Fail> {
+    let mut room = [0; ROOM];
+    let mut rest = room.as_mut_slice();
+    let mut reader = FromRead::new(REQUESTS);
+    let mut writer = FromWrite::new(&mut rest);
+    let ended = run_thin(rt.alloc(), &[SOURCE], true, &mut reader, &mut writer);
+    let count = ROOM.saturating_sub(rest.len());
+    let given = &room[..count];
+    assert!(rt; are_whole(given), "{given:?}");
+    match ended {
+        Ok(()) => assert_eq!(rt; count, ANSWERS.iter().map(|answer| answer.len()).sum()),
+        Err(error) => assert_eq!(rt; error, RunError::Memory),
+    }
+    Ok(())
+}
