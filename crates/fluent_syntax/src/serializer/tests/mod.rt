@@ -1,3 +1,8 @@
+//! Trees that are built by hand, and sources that are written back.
+
+mod odd;
+mod rows;
+
 use super::*;
 use crate::ast::{
     Attribute, CallArguments, Comment, Entry, Expression, Identifier, InlineExpression, Message,
