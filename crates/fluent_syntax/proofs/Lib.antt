@@ -8,6 +8,8 @@ pub mod Scanned
 pub mod Strings
 pub mod Chars
 pub mod Names
+pub mod Named
+pub mod Indexed
 pub mod PieceViews
 pub mod Pieces
 pub mod Steps

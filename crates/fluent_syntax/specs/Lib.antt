@@ -15,6 +15,7 @@ pub mod Unescaped
 pub mod Steps
 pub mod Pieces
 pub mod Arguments
+pub mod Indexed
 pub mod Entries
 pub mod Heads
 pub mod Places

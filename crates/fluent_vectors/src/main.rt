@@ -1,13 +1,19 @@
 //! Reads the sources of `data/parse.jsonl` and `data/rows.jsonl` by both readers, over both kinds of text, and compares
-//! with the trees, errors and written texts that stand there. A row may leave some of them out.
+//! with the trees, errors and written texts that stand there. A row may leave some of them out. Then it reads each
+//! prefix of the sources of `data/rows.jsonl` and `data/prefixes.jsonl`.
 #![tactic(auto)]
 
 mod errors;
+mod laws;
+mod places;
+mod prefixes;
+#[cfg(test)]
+mod refused;
 
-use anyhow::{Context, Result, bail};
-use fluent_syntax::ast::Resource;
-use fluent_syntax::parser::{self, Error, ParserError, Slice};
+use anyhow::{Context, Result};
+use fluent_syntax::parser::{self, ParserError};
 use fluent_syntax::serializer::{self, Options};
+use prefixes::{count_prefixes, parts};
 use serde_json::Value;
 use std::alloc::Global;
 use std::fs;
@@ -15,6 +21,9 @@ use std::fs;
 fn main(rt: HostRuntime) -> Result<()> {
     for file in ["parse.jsonl", "rows.jsonl"] {
         try_file(&rt, file)?;
+    }
+    for file in ["rows.jsonl", "prefixes.jsonl"] {
+        try_prefixes(&rt, file)?;
     }
     Ok(())
 }
@@ -37,12 +46,37 @@ fn try_file(rt: &HostRuntime, file: &str) -> Result<()> {
     Ok(())
 }
 
-/// Whether both readers give what a vector says.
-fn agrees(alloc: Global, vector: &Value) -> Result<bool> {
+/// Tries each prefix of the sources of a file, and prints how many there are and which sources have one that breaks a
+/// law.
+fn try_prefixes(rt: &HostRuntime, file: &str) -> Result<()> {
+    let text = fs::read_to_string(rt, file).context("the sources")?;
+    let mut prefixes = 0u32;
+    let mut wrong = 0u32;
+    for line in text.as_str().lines() {
+        let vector = Value::from_str(rt.alloc(), line).context("a line")?;
+        let source = source_of(&vector)?;
+        let count = count_prefixes(rt.alloc(), source)?;
+        prefixes = prefixes.saturating_add(count.prefixes);
+        wrong = wrong.saturating_add(count.wrong);
+        if count.wrong > 0 {
+            println!(rt; "wrong: {source:?}")?;
+        }
+    }
+    println!(rt; "{file}: {prefixes} prefixes, {wrong} wrong")?;
+    Ok(())
+}
+
+fn source_of(vector: &Value) -> Result<&str> {
     let source = vector
         .get("source")
         .and_then(Value::as_str)
         .context("a source")?;
+    Ok(source)
+}
+
+/// Whether both readers give what a vector says.
+fn agrees(alloc: Global, vector: &Value) -> Result<bool> {
+    let source = source_of(vector)?;
     let owned = parser::parse(alloc, String::from_str(alloc, source)?);
     let runtime = parser::parse_runtime(alloc, String::from_str(alloc, source)?);
     Ok(
@@ -94,18 +128,6 @@ fn has_runtime_errors(alloc: Global, vector: &Value, answer: parser::Result<&str
 fn has_errors(alloc: Global, wanted: Option<&Value>, errors: &[ParserError]) -> Result<bool> {
     let found = errors::errors_value(alloc, errors)?;
     Ok(is_wanted(wanted, &found))
-}
-
-/// The tree and the errors of an answer.
-fn parts<'s, S: Slice<'s>>(
-    alloc: Global,
-    answer: parser::Result<S>,
-) -> Result<(Resource<S>, Vec<ParserError>)> {
-    match answer {
-        Ok(resource) => Ok((resource, Vec::new(alloc))),
-        Err(Error::Broken(resource, found)) => Ok((resource, found)),
-        Err(Error::Memory) => bail!("no memory"),
-    }
 }
 
 /// Whether a value is the wanted one, if one is.

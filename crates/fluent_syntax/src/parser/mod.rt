@@ -1,5 +1,6 @@
 //! Reading a source into its tree.
 
+mod arguments;
 mod collected;
 mod comment;
 mod entry;
@@ -7,11 +8,13 @@ pub mod errors;
 mod expression;
 mod fault;
 mod helper;
+mod named_arguments;
 mod part;
 mod pattern;
 mod pieces;
 mod recovery;
 mod resource;
+mod select;
 mod slice;
 #[cfg(test)]
 mod tests;

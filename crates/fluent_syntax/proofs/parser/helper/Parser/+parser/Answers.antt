@@ -1,4 +1,4 @@
-use Rattle.std.proofs.Common.{◌≡◌, ◌∙◌, ◌||◌, ℕ, List, [], length, drop, map, sym, ap, refl, subst, arith, rules, Option, Some, None, ◌++◌, ◌∷◌, Vec, Global}
+use Rattle.std.proofs.Common.{◌≡◌, ◌∙◌, ◌||◌, ℕ, List, [], length, take, drop, map, sym, ap, refl, subst, arith, rules, Option, Some, None, ◌++◌, ◌∷◌, Vec, Global}
 use Rattle.std.specs.Prelude.{true, false, option_map, ◌==◌}
 use Rattle.std.specs.List.{list_all}
 use Rattle.fluent_grammar.specs.Words as w
@@ -12,8 +12,11 @@ use Rattle.fluent_syntax.specs.declared.ast.Variant.{Variant}
 use Rattle.fluent_syntax.specs.Counted.{begins_literal}
 use Rattle.fluent_syntax.specs.Reads.{whole, string_or_number_at, argument_value_at}
 use Rattle.fluent_syntax.specs.Steps.{names_of, variants_behind, Argument, named, arguments_behind, positional_by, argument_by, placeable_by, pattern_by}
-use Rattle.fluent_syntax.specs.View.{name_of, inline_view, expression_view, named_view, variant_view, variants_of, arguments_view, pattern_view}
-use Rattle.fluent_syntax.specs.Arguments.{argument_view}
+use Rattle.fluent_syntax.specs.View.{Named, inlines_of, nameds_of, name_of, inline_view, expression_view, named_view, variant_view, variants_of, arguments_view, pattern_view}
+use Rattle.fluent_syntax.specs.declared.parser.named_arguments.NamedArguments.{NamedArguments}
+use Rattle.fluent_syntax.specs.Arguments.{argument_view, IsNamed}
+use Rattle.fluent_syntax.specs.Indexed.{IsIndexed}
+use Rattle.fluent_syntax.proofs.Named.{name_begins}
 use Rattle.fluent_syntax.specs.Pieces.{piece_view, step_view, IsPiece}
 use Rattle.fluent_syntax.proofs.Views.{inline_view-FunctionReference, inline_view-TermReference, inline_view-Placeable, arguments_view-roll, named_view-roll}
 use Rattle.fluent_syntax.proofs.Failing.{handed_on, fails_mapped, fails_same}
@@ -107,13 +110,14 @@ get_call_arguments-loop-self-init g t c =
       source = c.skip_blank.ensures.source ∙ c.advance.ensures.source;
       text = c.skip_blank.ensures.text ∙ c.advance.ensures.text;
       onward = omega (arith, begun_shorter c.args.self.now.rest.now c.advance.new.self.rest.now w.open_paren c.requires.parenthesis c.advance.ensures.rest, c.skip_blank.ensures.onward);
-      same = arguments_start (inline_view g.row.S.Denot g.T.Texts.text) (named_view g.row.S.Denot g.T.Texts.text) c.new-positional.result.items c.new-named.result.items c.skip_blank.new.self.rest.now (skip_blank (drop 1 c.args.self.now.rest.now)) c.new-positional.ensures.items c.new-named.ensures.items skipped;
+      same = arguments_start (inline_view g.row.S.Denot g.T.Texts.text) (named_view g.row.S.Denot g.T.Texts.text) c.new-positional.result.items c.new-named.result.all.items c.skip_blank.new.self.rest.now (skip_blank (drop 1 c.args.self.now.rest.now)) c.new-positional.ensures.items c.new-named.ensures.all skipped;
+      indexed = c.new-named.ensures.indexed g.T.Texts.text;
     }
 
 pub get_call_arguments-returns-then-is_empty-clause-gives : goal.get_call_arguments-returns-then-is_empty-clause-gives
 get_call_arguments-returns-then-is_empty-clause-gives g t c =
     let empty = test_of (length c.loop-self.self.rest.now) 0 (sym (ap (λ (z : List ℕ). length z == 0) c.bytes.ensures.value) ∙ sym c.is_empty.ensures ∙ c.if-is_empty.true) in
-    let refusal = ap (mapped (arguments_behind (map (inline_view g.row.S.Denot g.T.Texts.text) c.loop-self.positional.items) (map (named_view g.row.S.Denot g.T.Texts.text) c.loop-self.named.items))) (arguments_empty (names_of (map (named_view g.row.S.Denot g.T.Texts.text) c.loop-self.named.items)) c.loop-self.self.rest.now empty) in
+    let refusal = ap (mapped (arguments_behind (map (inline_view g.row.S.Denot g.T.Texts.text) c.loop-self.positional.items) (map (named_view g.row.S.Denot g.T.Texts.text) c.loop-self.named.all.items))) (arguments_empty (names_of (map (named_view g.row.S.Denot g.T.Texts.text) c.loop-self.named.all.items)) c.loop-self.self.rest.now empty) in
     rw (← c.loop-self.invariant.same, refusal) (refl, refl)
 
 pub get_call_arguments-returns-in_err-argument-clause-gives : goal.get_call_arguments-returns-in_err-argument-clause-gives
@@ -122,10 +126,9 @@ get_call_arguments-returns-in_err-argument-clause-gives g t c =
     let more = sym c.is_current_byte.ensures ∙ c.loop-self-test.true in
     let e = c.in_err-argument.field-0.0 in
     let rest = c.get_argument.new.self.rest.now in
-    let others = ap (λ (z : List (NamedArgument g.row.S.Denot)). argument_by (names_of (map (named_view g.row.S.Denot g.T.Texts.text) z)) c.loop-self.self.rest.now) c.as_slice.ensures.value in
-    let failed = fails_same e rest (argument_by (names_of (map (named_view g.row.S.Denot g.T.Texts.text) c.as_slice.result.now)) c.loop-self.self.rest.now) (argument_by (names_of (map (named_view g.row.S.Denot g.T.Texts.text) c.loop-self.named.items)) c.loop-self.self.rest.now) others c.in_err-argument.ensures.gives in
+    let failed = c.in_err-argument.ensures.gives in
     handed_on (arguments_view g.row.S.Denot g.T.Texts.text) rest c.from_residual.result e (whole.arguments [] (skip_blank (drop 1 c.args.self.now.rest.now))) c.from_residual.ensures.1
-    (arguments_fail (map (inline_view g.row.S.Denot g.T.Texts.text) c.loop-self.positional.items) (map (named_view g.row.S.Denot g.T.Texts.text) c.loop-self.named.items) c.loop-self.self.rest.now (skip_blank (drop 1 c.args.self.now.rest.now)) e rest c.loop-self.invariant.same (argument_fail (names_of (map (named_view g.row.S.Denot g.T.Texts.text) c.loop-self.named.items)) c.loop-self.self.rest.now e rest some more failed))
+    (arguments_fail (map (inline_view g.row.S.Denot g.T.Texts.text) c.loop-self.positional.items) (map (named_view g.row.S.Denot g.T.Texts.text) c.loop-self.named.all.items) c.loop-self.self.rest.now (skip_blank (drop 1 c.args.self.now.rest.now)) e rest c.loop-self.invariant.same (argument_fail (names_of (map (named_view g.row.S.Denot g.T.Texts.text) c.loop-self.named.all.items)) c.loop-self.self.rest.now e rest some more failed))
 
 pub get_call_arguments-loop-self-preserved : goal.get_call_arguments-loop-self-preserved
 get_call_arguments-loop-self-preserved g t c =
@@ -133,34 +136,42 @@ get_call_arguments-loop-self-preserved g t c =
     let more = sym c.is_current_byte.ensures ∙ c.loop-self-test.true in
     let rest = c.get_argument.new.self.rest.now in
     let behind = c.skip_separator.new.self.rest.now in
-    let others = ap (λ (z : List (NamedArgument g.row.S.Denot)). argument_by (names_of (map (named_view g.row.S.Denot g.T.Texts.text) z)) c.loop-self.self.rest.now) (sym c.as_slice.ensures.value) in
-    let taken = others ∙ c.in_ok-argument.ensures.gives in
-    let same : mapped (arguments_behind (map (inline_view g.row.S.Denot g.T.Texts.text) c.match-branch-2.positional.items) (map (named_view g.row.S.Denot g.T.Texts.text) c.match-branch-2.named.items)) (whole.arguments (names_of (map (named_view g.row.S.Denot g.T.Texts.text) c.match-branch-2.named.items)) behind) ≡ whole.arguments [] (skip_blank (drop 1 c.args.self.now.rest.now)) =
+    let taken = c.in_ok-argument.ensures.gives in
+    let same : mapped (arguments_behind (map (inline_view g.row.S.Denot g.T.Texts.text) c.match-branch-2.positional.items) (map (named_view g.row.S.Denot g.T.Texts.text) c.match-branch-2.named.all.items)) (whole.arguments (names_of (map (named_view g.row.S.Denot g.T.Texts.text) c.match-branch-2.named.all.items)) behind) ≡ whole.arguments [] (skip_blank (drop 1 c.args.self.now.rest.now)) =
     elim c.match-branch-2.branch [
       | get_call_arguments-in-Positional+in_ok-push-in-Positional w ↦
           let x = w.in-Positional.argument in
-          arguments_same ((map (inline_view g.row.S.Denot g.T.Texts.text) c.loop-self.positional.items) ++ inline_view g.row.S.Denot g.T.Texts.text x ∷ []) (map (inline_view g.row.S.Denot g.T.Texts.text) c.match-branch-2.positional.items) (map (named_view g.row.S.Denot g.T.Texts.text) c.loop-self.named.items) (map (named_view g.row.S.Denot g.T.Texts.text) c.match-branch-2.named.items) behind (whole.arguments [] (skip_blank (drop 1 c.args.self.now.rest.now)))
+          arguments_same ((map (inline_view g.row.S.Denot g.T.Texts.text) c.loop-self.positional.items) ++ inline_view g.row.S.Denot g.T.Texts.text x ∷ []) (map (inline_view g.row.S.Denot g.T.Texts.text) c.match-branch-2.positional.items) (map (named_view g.row.S.Denot g.T.Texts.text) c.loop-self.named.all.items) (map (named_view g.row.S.Denot g.T.Texts.text) c.match-branch-2.named.all.items) behind (whole.arguments [] (skip_blank (drop 1 c.args.self.now.rest.now)))
           (ap (λ (v : Vec (InlineExpression g.row.S.Denot) Global). map (inline_view g.row.S.Denot g.T.Texts.text) v.items) w.positional-is ∙ pushed (inline_view g.row.S.Denot g.T.Texts.text) c.loop-self.positional.items w.push.new.self.items x w.in_ok-push-in-Positional.ensures.items)
-          (ap (λ (v : Vec (NamedArgument g.row.S.Denot) Global). map (named_view g.row.S.Denot g.T.Texts.text) v.items) w.named-is)
-          (positional_read (map (inline_view g.row.S.Denot g.T.Texts.text) c.loop-self.positional.items) (map (named_view g.row.S.Denot g.T.Texts.text) c.loop-self.named.items) c.loop-self.self.rest.now (skip_blank (drop 1 c.args.self.now.rest.now)) rest behind (inline_view g.row.S.Denot g.T.Texts.text x) c.loop-self.invariant.same some more (taken ∙ ap (λ z. got (argument_view g.row.S.Denot g.T.Texts.text z) rest) w.in-Positional.is) c.skip_separator.ensures.rest)
+          (ap (λ (v : NamedArguments g.row.S.Denot). map (named_view g.row.S.Denot g.T.Texts.text) v.all.items) w.named-is)
+          (positional_read (map (inline_view g.row.S.Denot g.T.Texts.text) c.loop-self.positional.items) (map (named_view g.row.S.Denot g.T.Texts.text) c.loop-self.named.all.items) c.loop-self.self.rest.now (skip_blank (drop 1 c.args.self.now.rest.now)) rest behind (inline_view g.row.S.Denot g.T.Texts.text x) c.loop-self.invariant.same some more (taken ∙ ap (λ z. got (argument_view g.row.S.Denot g.T.Texts.text z) rest) w.in-Positional.is) c.skip_separator.ensures.rest)
       | get_call_arguments-in-Named+in_ok-push-in-Named w ↦
           let x = w.in-Named.argument in
-          arguments_same (map (inline_view g.row.S.Denot g.T.Texts.text) c.loop-self.positional.items) (map (inline_view g.row.S.Denot g.T.Texts.text) c.match-branch-2.positional.items) ((map (named_view g.row.S.Denot g.T.Texts.text) c.loop-self.named.items) ++ named_view g.row.S.Denot g.T.Texts.text x ∷ []) (map (named_view g.row.S.Denot g.T.Texts.text) c.match-branch-2.named.items) behind (whole.arguments [] (skip_blank (drop 1 c.args.self.now.rest.now)))
+          arguments_same (map (inline_view g.row.S.Denot g.T.Texts.text) c.loop-self.positional.items) (map (inline_view g.row.S.Denot g.T.Texts.text) c.match-branch-2.positional.items) ((map (named_view g.row.S.Denot g.T.Texts.text) c.loop-self.named.all.items) ++ named_view g.row.S.Denot g.T.Texts.text x ∷ []) (map (named_view g.row.S.Denot g.T.Texts.text) c.match-branch-2.named.all.items) behind (whole.arguments [] (skip_blank (drop 1 c.args.self.now.rest.now)))
           (ap (λ (v : Vec (InlineExpression g.row.S.Denot) Global). map (inline_view g.row.S.Denot g.T.Texts.text) v.items) w.positional-is)
-          (ap (λ (v : Vec (NamedArgument g.row.S.Denot) Global). map (named_view g.row.S.Denot g.T.Texts.text) v.items) w.named-is ∙ pushed (named_view g.row.S.Denot g.T.Texts.text) c.loop-self.named.items w.push-in-Named.new.self.items x w.in_ok-push-in-Named.ensures.items)
-          (named_read (map (inline_view g.row.S.Denot g.T.Texts.text) c.loop-self.positional.items) (map (named_view g.row.S.Denot g.T.Texts.text) c.loop-self.named.items) c.loop-self.self.rest.now (skip_blank (drop 1 c.args.self.now.rest.now)) rest behind (named_view g.row.S.Denot g.T.Texts.text x) c.loop-self.invariant.same some more (taken ∙ ap (λ z. got (argument_view g.row.S.Denot g.T.Texts.text z) rest) w.in-Named.is) c.skip_separator.ensures.rest)
+          (ap (λ (v : NamedArguments g.row.S.Denot). map (named_view g.row.S.Denot g.T.Texts.text) v.all.items) w.named-is ∙ pushed (named_view g.row.S.Denot g.T.Texts.text) c.loop-self.named.all.items w.push-in-Named.new.self.all.items x w.in_ok-push-in-Named.ensures.all)
+          (named_read (map (inline_view g.row.S.Denot g.T.Texts.text) c.loop-self.positional.items) (map (named_view g.row.S.Denot g.T.Texts.text) c.loop-self.named.all.items) c.loop-self.self.rest.now (skip_blank (drop 1 c.args.self.now.rest.now)) rest behind (named_view g.row.S.Denot g.T.Texts.text x) c.loop-self.invariant.same some more (taken ∙ ap (λ z. got (argument_view g.row.S.Denot g.T.Texts.text z) rest) w.in-Named.is) c.skip_separator.ensures.rest)
+    ] in
+    let indexed : IsIndexed g.row.S.Denot g.T.Texts.text c.match-branch-2.named =
+    elim c.match-branch-2.branch [
+      | get_call_arguments-in-Positional+in_ok-push-in-Positional w ↦ subst (IsIndexed g.row.S.Denot g.T.Texts.text) (sym w.named-is) c.loop-self.invariant.indexed
+      | get_call_arguments-in-Named+in_ok-push-in-Named w ↦
+          subst (IsIndexed g.row.S.Denot g.T.Texts.text) (sym w.named-is)
+          (w.in_ok-push-in-Named.ensures.indexed g.T.Texts.text (subst (IsNamed g.row.S.Denot g.T.Texts.text) w.in-Named.is c.in_ok-argument.ensures.named) c.loop-self.invariant.indexed)
     ] in
     record {
       source = c.skip_separator.ensures.source ∙ c.get_argument.ensures.source ∙ c.loop-self.invariant.source;
       text = c.skip_separator.ensures.text ∙ c.get_argument.ensures.text ∙ c.loop-self.invariant.text;
       onward = omega (arith, c.skip_separator.ensures.onward, c.get_argument.ensures.onward, c.loop-self.invariant.onward);
       same = same;
+      indexed = indexed;
     }
 
 pub get_call_arguments-returns-clause-gives : goal.get_call_arguments-returns-clause-gives
 get_call_arguments-returns-clause-gives g t c =
-    arguments_end (map (inline_view g.row.S.Denot g.T.Texts.text) c.loop-self.positional.items) (map (named_view g.row.S.Denot g.T.Texts.text) c.loop-self.named.items) c.loop-self.self.rest.now (skip_blank (drop 1 c.args.self.now.rest.now)) c.advance-2.new.self.rest.now c.loop-self.invariant.same (sym c.is_current_byte.ensures ∙ c.loop-self-test.false) c.advance-2.ensures.rest
-    ∙ ap (λ z. got z c.advance-2.new.self.rest.now) (sym (arguments_view-roll g.row.S.Denot g.T.Texts.text (record { positional = c.loop-self.positional; named = c.loop-self.named })))
+    arguments_end (map (inline_view g.row.S.Denot g.T.Texts.text) c.loop-self.positional.items) (map (named_view g.row.S.Denot g.T.Texts.text) c.loop-self.named.all.items) c.loop-self.self.rest.now (skip_blank (drop 1 c.args.self.now.rest.now)) c.advance-2.new.self.rest.now c.loop-self.invariant.same (sym c.is_current_byte.ensures ∙ c.loop-self-test.false) c.advance-2.ensures.rest
+    ∙ ap (λ (v : Vec (NamedArgument g.row.S.Denot) Global). got (tree.arguments (inlines_of (map (inline_view g.row.S.Denot g.T.Texts.text) c.loop-self.positional.items)) (nameds_of (map (named_view g.row.S.Denot g.T.Texts.text) v.items))) c.advance-2.new.self.rest.now) (sym c.into_all.ensures)
+    ∙ ap (λ z. got z c.advance-2.new.self.rest.now) (sym (arguments_view-roll g.row.S.Denot g.T.Texts.text (record { positional = c.loop-self.positional; named = c.into_all.result })))
 
 pub get_pattern-loop-pieces-init : goal.get_pattern-loop-pieces-init
 get_pattern-loop-pieces-init g t c =
@@ -248,7 +259,7 @@ get_variants-returns-else-has_default-clause-gives g t c =
 pub get_argument-returns-in_err-argument-clause-gives : goal.get_argument-returns-in_err-argument-clause-gives
 get_argument-returns-in_err-argument-clause-gives g t c =
     let e = c.in_err-argument.field-0.0 in
-    handed_on (argument_view g.row.S.Denot g.T.Texts.text) c.get_inline_expression.new.self.rest.now c.from_residual.result e (argument_by (names_of (map (named_view g.row.S.Denot g.T.Texts.text) c.args.others.now)) c.args.self.now.rest.now) c.from_residual.ensures.1 (argument_fails (names_of (map (named_view g.row.S.Denot g.T.Texts.text) c.args.others.now)) c.args.self.now.rest.now e c.get_inline_expression.new.self.rest.now c.in_err-argument.ensures.gives)
+    handed_on (argument_view g.row.S.Denot g.T.Texts.text) c.get_inline_expression.new.self.rest.now c.from_residual.result e (argument_by (names_of (map (named_view g.row.S.Denot g.T.Texts.text) c.args.others.now.all.items)) c.args.self.now.rest.now) c.from_residual.ensures.1 (argument_fails (names_of (map (named_view g.row.S.Denot g.T.Texts.text) c.args.others.now.all.items)) c.args.self.now.rest.now e c.get_inline_expression.new.self.rest.now c.in_err-argument.ensures.gives)
 
 pub get_argument-returns-then-not-is_current_byte-clause-less : goal.get_argument-returns-then-not-is_current_byte-clause-less
 get_argument-returns-then-not-is_current_byte-clause-less g t c =
@@ -256,18 +267,20 @@ get_argument-returns-then-not-is_current_byte-clause-less g t c =
 
 pub get_argument-returns-then-not-is_current_byte-clause-gives : goal.get_argument-returns-then-not-is_current_byte-clause-gives
 get_argument-returns-then-not-is_current_byte-clause-gives g t c =
-    gives_same (argument_view g.row.S.Denot g.T.Texts.text) c.get_inline_expression.new.self.rest.now c.positional_argument.result (positional_by (names_of (map (named_view g.row.S.Denot g.T.Texts.text) c.args.others.now)) (inline_view g.row.S.Denot g.T.Texts.text c.in_ok-argument.argument) c.get_inline_expression.new.self.rest.now) (argument_by (names_of (map (named_view g.row.S.Denot g.T.Texts.text) c.args.others.now)) c.args.self.now.rest.now)
-    (argument_not_named (names_of (map (named_view g.row.S.Denot g.T.Texts.text) c.args.others.now)) c.args.self.now.rest.now c.get_inline_expression.new.self.rest.now (inline_view g.row.S.Denot g.T.Texts.text c.in_ok-argument.argument) c.in_ok-argument.ensures.gives (sym c.is_current_byte.ensures ∙ c.if-not-is_current_byte.true)) c.positional_argument.ensures
+    gives_same (argument_view g.row.S.Denot g.T.Texts.text) c.get_inline_expression.new.self.rest.now c.positional_argument.result (positional_by (names_of (map (named_view g.row.S.Denot g.T.Texts.text) c.args.others.now.all.items)) (inline_view g.row.S.Denot g.T.Texts.text c.in_ok-argument.argument) c.get_inline_expression.new.self.rest.now) (argument_by (names_of (map (named_view g.row.S.Denot g.T.Texts.text) c.args.others.now.all.items)) c.args.self.now.rest.now)
+    (argument_not_named (names_of (map (named_view g.row.S.Denot g.T.Texts.text) c.args.others.now.all.items)) c.args.self.now.rest.now c.get_inline_expression.new.self.rest.now (inline_view g.row.S.Denot g.T.Texts.text c.in_ok-argument.argument) c.in_ok-argument.ensures.gives (sym c.is_current_byte.ensures ∙ c.if-not-is_current_byte.true)) c.positional_argument.ensures.gives
 
 pub get_argument-returns-in_err-value-in-Ok-clause-gives : goal.get_argument-returns-in_err-value-in-Ok-clause-gives
 get_argument-returns-in_err-value-in-Ok-clause-gives g t c =
     let name = name_of g.row.S.Denot g.T.Texts.text c.in-Ok.name in
     let one : tree.Inline → Argument = λ v. named (record { name = name; value = v }) in
-    let is = argument_named (names_of (map (named_view g.row.S.Denot g.T.Texts.text) c.args.others.now)) c.args.self.now.rest.now c.get_inline_expression.new.self.rest.now (inline_view g.row.S.Denot g.T.Texts.text c.in_ok-argument.argument) name c.in_ok-argument.ensures.gives c.in-Ok.ensures (sym c.is_current_byte.ensures ∙ c.if-not-is_current_byte.false) in
+    let is = argument_named (names_of (map (named_view g.row.S.Denot g.T.Texts.text) c.args.others.now.all.items)) c.args.self.now.rest.now c.get_inline_expression.new.self.rest.now (inline_view g.row.S.Denot g.T.Texts.text c.in_ok-argument.argument) name c.in_ok-argument.ensures.gives c.in-Ok.ensures (sym c.is_current_byte.ensures ∙ c.if-not-is_current_byte.false) in
+    let given = c.identifier-given.ensures ∙ ap (λ (z : List ℕ). take (w.name_len z) z) c.rest-start.ensures ∙ name_begins c.args.self.now.rest.now name c.get_inline_expression.new.self.rest.now (inline_view g.row.S.Denot g.T.Texts.text c.in_ok-argument.argument) c.in_ok-argument.ensures.gives c.in-Ok.ensures in
+    let value = ap (λ z. argument_value_at (names_of (map (named_view g.row.S.Denot g.T.Texts.text) c.args.others.now.all.items)) z c.get_inline_expression.new.self.rest.now) given in
     let e = c.in_err-value-in-Ok.field-0.0 in
     let rest = c.get_argument_value.new.self.rest.now in
-    handed_on (argument_view g.row.S.Denot g.T.Texts.text) rest c.from_residual-in_err-value-in-Ok.result e (argument_by (names_of (map (named_view g.row.S.Denot g.T.Texts.text) c.args.others.now)) c.args.self.now.rest.now) c.from_residual-in_err-value-in-Ok.ensures.1
-    (fails_same e rest (mapped one (argument_value_at (names_of (map (named_view g.row.S.Denot g.T.Texts.text) c.args.others.now)) name c.get_inline_expression.new.self.rest.now)) (argument_by (names_of (map (named_view g.row.S.Denot g.T.Texts.text) c.args.others.now)) c.args.self.now.rest.now) is (fails_mapped e rest one (argument_value_at (names_of (map (named_view g.row.S.Denot g.T.Texts.text) c.args.others.now)) name c.get_inline_expression.new.self.rest.now) c.in_err-value-in-Ok.ensures.gives))
+    handed_on (argument_view g.row.S.Denot g.T.Texts.text) rest c.from_residual-in_err-value-in-Ok.result e (argument_by (names_of (map (named_view g.row.S.Denot g.T.Texts.text) c.args.others.now.all.items)) c.args.self.now.rest.now) c.from_residual-in_err-value-in-Ok.ensures.1
+    (fails_same e rest (mapped one (argument_value_at (names_of (map (named_view g.row.S.Denot g.T.Texts.text) c.args.others.now.all.items)) name c.get_inline_expression.new.self.rest.now)) (argument_by (names_of (map (named_view g.row.S.Denot g.T.Texts.text) c.args.others.now.all.items)) c.args.self.now.rest.now) is (fails_mapped e rest one (argument_value_at (names_of (map (named_view g.row.S.Denot g.T.Texts.text) c.args.others.now.all.items)) name c.get_inline_expression.new.self.rest.now) (fails_same e rest _ _ value c.in_err-value-in-Ok.ensures.gives)))
 
 pub get_argument-returns-in_ok-value-in-Ok-clause-less : goal.get_argument-returns-in_ok-value-in-Ok-clause-less
 get_argument-returns-in_ok-value-in-Ok-clause-less g t c =
@@ -277,9 +290,11 @@ pub get_argument-returns-in_ok-value-in-Ok-clause-gives : goal.get_argument-retu
 get_argument-returns-in_ok-value-in-Ok-clause-gives g t c =
     let name = name_of g.row.S.Denot g.T.Texts.text c.in-Ok.name in
     let one : tree.Inline → Argument = λ v. named (record { name = name; value = v }) in
-    let is = argument_named (names_of (map (named_view g.row.S.Denot g.T.Texts.text) c.args.others.now)) c.args.self.now.rest.now c.get_inline_expression.new.self.rest.now (inline_view g.row.S.Denot g.T.Texts.text c.in_ok-argument.argument) name c.in_ok-argument.ensures.gives c.in-Ok.ensures (sym c.is_current_byte.ensures ∙ c.if-not-is_current_byte.false) in
+    let is = argument_named (names_of (map (named_view g.row.S.Denot g.T.Texts.text) c.args.others.now.all.items)) c.args.self.now.rest.now c.get_inline_expression.new.self.rest.now (inline_view g.row.S.Denot g.T.Texts.text c.in_ok-argument.argument) name c.in_ok-argument.ensures.gives c.in-Ok.ensures (sym c.is_current_byte.ensures ∙ c.if-not-is_current_byte.false) in
+    let given = c.identifier-given.ensures ∙ ap (λ (z : List ℕ). take (w.name_len z) z) c.rest-start.ensures ∙ name_begins c.args.self.now.rest.now name c.get_inline_expression.new.self.rest.now (inline_view g.row.S.Denot g.T.Texts.text c.in_ok-argument.argument) c.in_ok-argument.ensures.gives c.in-Ok.ensures in
+    let value = ap (λ z. argument_value_at (names_of (map (named_view g.row.S.Denot g.T.Texts.text) c.args.others.now.all.items)) z c.get_inline_expression.new.self.rest.now) given in
     let rest = c.get_argument_value.new.self.rest.now in
-    sym is ∙ ap (mapped one) c.in_ok-value-in-Ok.ensures.gives ∙ ap (λ z. got (named z) rest) (sym (named_view-roll g.row.S.Denot g.T.Texts.text (record { name = c.in-Ok.name; value = c.in_ok-value-in-Ok.value })))
+    sym is ∙ ap (mapped one) (sym value ∙ c.in_ok-value-in-Ok.ensures.gives) ∙ ap (λ z. got (named z) rest) (sym (named_view-roll g.row.S.Denot g.T.Texts.text (record { name = c.in-Ok.name; value = c.in_ok-value-in-Ok.value })))
 
 pub get_argument-returns-in-Err-clause-less : goal.get_argument-returns-in-Err-clause-less
 get_argument-returns-in-Err-clause-less g t c =
@@ -287,5 +302,12 @@ get_argument-returns-in-Err-clause-less g t c =
 
 pub get_argument-returns-in-Err-clause-gives : goal.get_argument-returns-in-Err-clause-gives
 get_argument-returns-in-Err-clause-gives g t c =
-    gives_same (argument_view g.row.S.Denot g.T.Texts.text) c.get_inline_expression.new.self.rest.now c.positional_argument-in-Err.result (positional_by (names_of (map (named_view g.row.S.Denot g.T.Texts.text) c.args.others.now)) (inline_view g.row.S.Denot g.T.Texts.text c.in-Err.argument) c.get_inline_expression.new.self.rest.now) (argument_by (names_of (map (named_view g.row.S.Denot g.T.Texts.text) c.args.others.now)) c.args.self.now.rest.now)
-    (ap (λ z. positional_by (names_of (map (named_view g.row.S.Denot g.T.Texts.text) c.args.others.now)) z c.get_inline_expression.new.self.rest.now) c.in-Err.ensures.0 ∙ argument_unnamed (names_of (map (named_view g.row.S.Denot g.T.Texts.text) c.args.others.now)) c.args.self.now.rest.now c.get_inline_expression.new.self.rest.now (inline_view g.row.S.Denot g.T.Texts.text c.in_ok-argument.argument) c.in_ok-argument.ensures.gives c.in-Err.ensures.1) c.positional_argument-in-Err.ensures
+    gives_same (argument_view g.row.S.Denot g.T.Texts.text) c.get_inline_expression.new.self.rest.now c.positional_argument-in-Err.result (positional_by (names_of (map (named_view g.row.S.Denot g.T.Texts.text) c.args.others.now.all.items)) (inline_view g.row.S.Denot g.T.Texts.text c.in-Err.argument) c.get_inline_expression.new.self.rest.now) (argument_by (names_of (map (named_view g.row.S.Denot g.T.Texts.text) c.args.others.now.all.items)) c.args.self.now.rest.now)
+    (ap (λ z. positional_by (names_of (map (named_view g.row.S.Denot g.T.Texts.text) c.args.others.now.all.items)) z c.get_inline_expression.new.self.rest.now) c.in-Err.ensures.0 ∙ argument_unnamed (names_of (map (named_view g.row.S.Denot g.T.Texts.text) c.args.others.now.all.items)) c.args.self.now.rest.now c.get_inline_expression.new.self.rest.now (inline_view g.row.S.Denot g.T.Texts.text c.in_ok-argument.argument) c.in_ok-argument.ensures.gives c.in-Err.ensures.1) c.positional_argument-in-Err.ensures.gives
+
+pub get_argument-returns-in_ok-value-in-Ok-clause-named : goal.get_argument-returns-in_ok-value-in-Ok-clause-named
+get_argument-returns-in_ok-value-in-Ok-clause-named g t c =
+    let name = name_of g.row.S.Denot g.T.Texts.text c.in-Ok.name in
+    let given = c.identifier-given.ensures ∙ ap (λ (z : List ℕ). take (w.name_len z) z) c.rest-start.ensures ∙ name_begins c.args.self.now.rest.now name c.get_inline_expression.new.self.rest.now (inline_view g.row.S.Denot g.T.Texts.text c.in_ok-argument.argument) c.in_ok-argument.ensures.gives c.in-Ok.ensures in
+    let own : Named → List ℕ = λ n. n.name in
+    ap own (named_view-roll g.row.S.Denot g.T.Texts.text (record { name = c.in-Ok.name; value = c.in_ok-value-in-Ok.value })) ∙ sym given

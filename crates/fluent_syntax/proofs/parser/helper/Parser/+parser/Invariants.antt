@@ -7,6 +7,7 @@ use Rattle.fluent_grammar.specs.Refusal.{mapped}
 use Rattle.fluent_grammar.specs.Reading.{first_pieces_at}
 use Rattle.fluent_syntax.specs.Reads.{whole}
 use Rattle.fluent_syntax.specs.Steps.{arguments_behind, names_of, variants_behind, pieces_by}
+use Rattle.fluent_syntax.specs.Indexed.{IsIndexed}
 use Rattle.fluent_syntax.specs.View.{inline_view, named_view, variant_view}
 use Rattle.fluent_syntax.specs.Pieces.{piece_view, IsPiece}
 use Rattle.fluent_syntax.proofs.parser.helper.Parser.+parser.Given as goal
@@ -50,12 +51,13 @@ decreases-get_variants g l = 5 * length l.self.now.rest.now + 3
 abbrev pub invariant-get_call_arguments-loop-self : goal.invariant-get_call_arguments-loop-self
 invariant-get_call_arguments-loop-self g l =
     let positional = map (inline_view g.row.S.Denot g.T.Texts.text) l.positional.items in
-    let named = map (named_view g.row.S.Denot g.T.Texts.text) l.named.items in
+    let named = map (named_view g.row.S.Denot g.T.Texts.text) l.named.all.items in
     record {
       source : l.self.source.now ≡ l.fn.self.source.now;
       text : l.self.text.now ≡ l.fn.self.text.now;
       onward : length l.self.rest.now < length l.fn.self.rest.now;
       same : mapped (arguments_behind positional named) (whole.arguments (names_of named) l.self.rest.now) ≡ whole.arguments [] (w.skip_blank (drop 1 l.fn.self.rest.now));
+      indexed : IsIndexed g.row.S.Denot g.T.Texts.text l.named;
     }
 
 abbrev pub decreases-get_call_arguments-loop-self : goal.decreases-get_call_arguments-loop-self

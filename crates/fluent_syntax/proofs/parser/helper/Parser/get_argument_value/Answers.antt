@@ -10,9 +10,9 @@ use Rattle.fluent_syntax.proofs.parser.helper.Parser.get_argument_value.Goals as
 
 pub returns-then-begins_value-clause-gives : goal.returns-then-begins_value-clause-gives
 returns-then-begins_value-clause-gives g c =
-    let names = names_of (map (named_view g.row.S.Denot g.T.Texts.text) c.args.others.now) in
-    let name = g.T.Texts.text c.args.name.now.name in
-    let other = ap (λ z. w.is_among z names) (sym c.as_str-text.ensures) ∙ sym c.is_among.ensures ∙ c.if-is_among.false in
+    let names = names_of (map (named_view g.row.S.Denot g.T.Texts.text) c.args.others.now.all.items) in
+    let name = c.args.name.now in
+    let other = sym c.has_name.ensures ∙ c.if-has_name.false in
     let skipped = c.skip_blank.ensures.rest ∙ ap w.skip_blank c.advance.ensures.rest in
     let begun = ap begins_value (sym c.bytes.ensures.value) ∙ sym c.begins_value.ensures ∙ c.if-begins_value.true in
     gives_same (inline_view g.row.S.Denot g.T.Texts.text) c.get_literal.new.self.rest.now c.get_literal.result (string_or_number_at c.skip_blank.new.self.rest.now) (argument_value_at names name c.args.self.now.rest.now)
@@ -20,9 +20,9 @@ returns-then-begins_value-clause-gives g c =
 
 pub returns-else-begins_value-clause-gives : goal.returns-else-begins_value-clause-gives
 returns-else-begins_value-clause-gives g c =
-    let names = names_of (map (named_view g.row.S.Denot g.T.Texts.text) c.args.others.now) in
-    let name = g.T.Texts.text c.args.name.now.name in
-    let other = ap (λ z. w.is_among z names) (sym c.as_str-text.ensures) ∙ sym c.is_among.ensures ∙ c.if-is_among.false in
+    let names = names_of (map (named_view g.row.S.Denot g.T.Texts.text) c.args.others.now.all.items) in
+    let name = c.args.name.now in
+    let other = sym c.has_name.ensures ∙ c.if-has_name.false in
     let skipped = c.skip_blank.ensures.rest ∙ ap w.skip_blank c.advance.ensures.rest in
     let begun = ap begins_value (sym c.bytes.ensures.value) ∙ sym c.begins_value.ensures ∙ c.if-begins_value.false in
     rw (value_none names name c.args.self.now.rest.now c.skip_blank.new.self.rest.now other skipped begun) (refl, refl)

@@ -1,0 +1,85 @@
+//! Reads each prefix of a source. What comes out isn't known beforehand, but laws hold of it.
+
+use crate::laws::{are_errors_of, are_same_entries};
+use anyhow::{Result, bail};
+use fluent_syntax::ast::Resource;
+use fluent_syntax::parser::{self, Error, ParserError, Slice};
+use std::alloc::Global;
+
+/// How many prefixes a source has, and how many of them break a law.
+#[derive(Clone, Copy)]
+pub struct Count {
+    pub prefixes: u32,
+    pub wrong: u32,
+}
+
+/// Counts the prefixes of a source, each up to the start of a character or the whole.
+pub fn count_prefixes(alloc: Global, source: &str) -> Result<Count> {
+    let mut count = Count {
+        prefixes: 0,
+        wrong: 0,
+    };
+    for (end, _) in source.char_indices() {
+        let prefix = source.get(..end).unwrap_or(source);
+        count = with_prefix(alloc, count, prefix)?;
+    }
+    with_prefix(alloc, count, source)
+}
+
+/// A count with one prefix more.
+fn with_prefix(alloc: Global, count: Count, prefix: &str) -> Result<Count> {
+    let wrong = u32::from(!are_laws_kept(alloc, prefix)?);
+    Ok(Count {
+        prefixes: count.prefixes.saturating_add(1),
+        wrong: count.wrong.saturating_add(wrong),
+    })
+}
+
+/// Whether the laws hold of what both readers give for a source.
+fn are_laws_kept(alloc: Global, source: &str) -> Result<bool> {
+    let (tree, errors) = parts(alloc, parser::parse(alloc, source))?;
+    let (runtime, runtime_errors) = parts(alloc, parser::parse_runtime(alloc, source))?;
+    Ok(
+        are_errors_of(source, &tree, errors.as_slice())
+            && are_errors_of(source, &runtime, runtime_errors.as_slice())
+            && are_same_entries(&tree, &runtime)
+            && is_same_owned(alloc, source, &tree, &errors, parser::parse)?
+            && is_same_owned(
+                alloc,
+                source,
+                &runtime,
+                &runtime_errors,
+                parser::parse_runtime,
+            )?,
+    )
+}
+
+/// Whether a reader gives the same tree and errors for a copy of the source.
+fn is_same_owned<F>(
+    alloc: Global,
+    source: &str,
+    tree: &Resource<&str>,
+    errors: &Vec<ParserError>,
+    read: F,
+) -> Result<bool>
+where
+    F: FnOnce(Global, String) -> parser::Result<String>,
+{
+    let copy = String::from_str(alloc, source)?;
+    let (owned, owned_errors) = parts(alloc, read(alloc, copy))?;
+    let shown = format!(in alloc; "{tree:?}")?;
+    let owned_shown = format!(in alloc; "{owned:?}")?;
+    Ok(shown == owned_shown && *errors == owned_errors)
+}
+
+/// The tree and the errors of an answer.
+pub fn parts<'s, S: Slice<'s>>(
+    alloc: Global,
+    answer: parser::Result<S>,
+) -> Result<(Resource<S>, Vec<ParserError>)> {
+    match answer {
+        Ok(resource) => Ok((resource, Vec::new(alloc))),
+        Err(Error::Broken(resource, found)) => Ok((resource, found)),
+        Err(Error::Memory) => bail!("no memory"),
+    }
+}

@@ -1,0 +1,220 @@
+//! Each call gives what it gives with all the memory that it asks for, or want of memory.
+//!
+//! A test is to be run with each allocation refused in turn. Each call is made twice: at most one of the two is refused
+//! memory, and the other tells what is right.
+
+use fluent_syntax::parser::{self, Error, parse, parse_runtime};
+use fluent_syntax::serializer::{Options, serialize, serialize_with_options};
+use fluent_syntax::unicode::{unescape_unicode, unescape_unicode_to_string};
+use std::alloc::{AllocError, Global};
+use std::process::Abort;
+
+const BROKEN_MIDDLE: &str = "\nkey1 = Value 1\n\ng@Rb@ge = #2y ds\n\nkey2 = Value 2\n\n";
+
+const COMMENTS_AND_LINES: &str =
+    "### r\n## g\n# c\n# d\na =\n    one\n      two\n    three { $x }\n    .t = u\n-b = c\n    .v = w\n";
+
+const SELECT: &str =
+    "rank = { NUMBER($n, type: \"ordinal\", x: -1.5) ->\n    [1] first\n   *[other] {$n}th\n}\n";
+
+const NESTED: &str = "a = {{ F(G(1), \"\\u00e9\", { -b.c(x: 1) }, m.n) }}\n";
+
+const MANY_ARGUMENTS: &str =
+    "a = { F(a: 1, b: 2, c: 3, d: 4, e: 5, f: 6, g: 7, h: 8, i: 9, j: 10, k: 11) }\n";
+
+const REFUSALS: &str =
+    "a = { F(x: 1, x: 2) }\nb = { \"\\q\" }\nc = { \"\\u12\" }\nd =\n-e =\nf = { 1 -> }\n9\n";
+
+/// Of two answers at most one is want of memory, and without it they are equal.
+fn agree<T: PartialEq + Drop>(rt: &impl Abort, one: Option<T>, other: Option<T>) {
+    match (one, other) {
+        (None, None) => assert!(rt; false, "refused twice"),
+        (Some(one), Some(other)) => assert!(rt; one == other),
+        _ => {}
+    }
+}
+
+/// An answer, or None for want of memory.
+fn told<S: Drop>(answer: parser::Result<S>) -> Option<parser::Result<S>> {
+    match answer {
+        Err(Error::Memory) => None,
+        answer => Some(answer),
+    }
+}
+
+/// Both readers over a borrowed source.
+fn read(rt: &impl Abort, alloc: Global, source: &str) {
+    let tree = told(parse(alloc, source));
+    let runtime = told(parse_runtime(alloc, source));
+    agree(rt, tree, told(parse(alloc, source)));
+    agree(rt, runtime, told(parse_runtime(alloc, source)));
+}
+
+/// What a reader gives for a copy of a source, or None for want of memory.
+fn read_copy<F>(alloc: Global, source: &str, read: F) -> Option<parser::Result<String>>
+where
+    F: FnOnce(Global, String) -> parser::Result<String>,
+{
+    let copy = String::from_str(alloc, source).ok()?;
+    told(read(alloc, copy))
+}
+
+/// Both readers over copies of a source.
+fn read_copies(rt: &impl Abort, alloc: Global, source: &str) {
+    let tree = read_copy(alloc, source, parse);
+    let runtime = read_copy(alloc, source, parse_runtime);
+    agree(rt, tree, read_copy(alloc, source, parse));
+    agree(rt, runtime, read_copy(alloc, source, parse_runtime));
+}
+
+/// The tree and the errors of a source copied, and its tree written with and without junk.
+fn copy_and_write(rt: &impl Abort, alloc: Global, source: &str) {
+    let (tree, errors) = match parse(alloc, source) {
+        Ok(tree) => (tree, Vec::new(alloc)),
+        Err(Error::Broken(tree, errors)) => (tree, errors),
+        Err(Error::Memory) => return,
+    };
+    agree(rt, tree.try_clone(alloc).ok(), tree.try_clone(alloc).ok());
+    for error in &errors {
+        agree(rt, error.try_clone(alloc).ok(), error.try_clone(alloc).ok());
+    }
+    agree(
+        rt,
+        serialize(alloc, &tree).ok(),
+        serialize(alloc, &tree).ok(),
+    );
+    let one = serialize_with_options(alloc, &tree, Options { with_junk: true });
+    let other = serialize_with_options(alloc, &tree, Options { with_junk: true });
+    agree(rt, one.ok(), other.ok());
+}
+
+#[test]
+fn reads_broken_middle(rt: HostRuntime) {
+    read(&rt, rt.alloc(), BROKEN_MIDDLE);
+}
+
+#[test]
+fn reads_copies_of_broken_middle(rt: HostRuntime) {
+    read_copies(&rt, rt.alloc(), BROKEN_MIDDLE);
+}
+
+#[test]
+fn copies_and_writes_broken_middle(rt: HostRuntime) {
+    copy_and_write(&rt, rt.alloc(), BROKEN_MIDDLE);
+}
+
+#[test]
+fn reads_comments_and_lines(rt: HostRuntime) {
+    read(&rt, rt.alloc(), COMMENTS_AND_LINES);
+}
+
+#[test]
+fn reads_copies_of_comments_and_lines(rt: HostRuntime) {
+    read_copies(&rt, rt.alloc(), COMMENTS_AND_LINES);
+}
+
+#[test]
+fn copies_and_writes_comments_and_lines(rt: HostRuntime) {
+    copy_and_write(&rt, rt.alloc(), COMMENTS_AND_LINES);
+}
+
+#[test]
+fn reads_select(rt: HostRuntime) {
+    read(&rt, rt.alloc(), SELECT);
+}
+
+#[test]
+fn reads_copies_of_select(rt: HostRuntime) {
+    read_copies(&rt, rt.alloc(), SELECT);
+}
+
+#[test]
+fn copies_and_writes_select(rt: HostRuntime) {
+    copy_and_write(&rt, rt.alloc(), SELECT);
+}
+
+#[test]
+fn reads_nested(rt: HostRuntime) {
+    read(&rt, rt.alloc(), NESTED);
+}
+
+#[test]
+fn reads_copies_of_nested(rt: HostRuntime) {
+    read_copies(&rt, rt.alloc(), NESTED);
+}
+
+#[test]
+fn copies_and_writes_nested(rt: HostRuntime) {
+    copy_and_write(&rt, rt.alloc(), NESTED);
+}
+
+#[test]
+fn reads_many_arguments(rt: HostRuntime) {
+    read(&rt, rt.alloc(), MANY_ARGUMENTS);
+}
+
+#[test]
+fn reads_copies_of_many_arguments(rt: HostRuntime) {
+    read_copies(&rt, rt.alloc(), MANY_ARGUMENTS);
+}
+
+#[test]
+fn copies_and_writes_many_arguments(rt: HostRuntime) {
+    copy_and_write(&rt, rt.alloc(), MANY_ARGUMENTS);
+}
+
+#[test]
+fn reads_refusals(rt: HostRuntime) {
+    read(&rt, rt.alloc(), REFUSALS);
+}
+
+#[test]
+fn reads_copies_of_refusals(rt: HostRuntime) {
+    read_copies(&rt, rt.alloc(), REFUSALS);
+}
+
+#[test]
+fn copies_and_writes_refusals(rt: HostRuntime) {
+    copy_and_write(&rt, rt.alloc(), REFUSALS);
+}
+
+/// Raw texts of string literals.
+const RAW: [&str; 4] = [
+    "Foo \\u5bd2 Bar",
+    "\\\\ and \\\" and \\U01F602",
+    "\\q\\u12",
+    "naïve",
+];
+
+#[test]
+fn unescaped_texts(rt: HostRuntime) {
+    let alloc = rt.alloc();
+    for raw in RAW {
+        match (
+            unescape_unicode_to_string(alloc, raw),
+            unescape_unicode_to_string(alloc, raw),
+        ) {
+            (Ok(one), Ok(other)) => assert_eq!(rt; one.as_str(), other.as_str()),
+            (Err(AllocError), Err(AllocError)) => assert!(rt; false, "refused twice"),
+            _ => {}
+        }
+    }
+}
+
+#[test]
+fn written_unescaped_texts(rt: HostRuntime) {
+    let alloc = rt.alloc();
+    for raw in RAW {
+        let mut one = String::new(alloc);
+        let mut other = String::new(alloc);
+        match (
+            unescape_unicode(&mut one, raw),
+            unescape_unicode(&mut other, raw),
+        ) {
+            (Ok(()), Ok(())) => assert_eq!(rt; one.as_str(), other.as_str()),
+            (Err(_), Ok(())) => assert!(rt; other.as_str().starts_with(one.as_str())),
+            (Ok(()), Err(_)) => assert!(rt; one.as_str().starts_with(other.as_str())),
+            (Err(_), Err(_)) => assert!(rt; false, "refused twice"),
+        }
+    }
+}
