@@ -1,12 +1,11 @@
 -- Pieces of a pattern and what they give.
-use Rattle.std.proofs.Common.{◌≡◌, ◌≢◌, ℕ, zero, suc, ◌+◌, ◌-◌, ◌<◌, ◌≤◌, Bool, true, false, cond, not, ◌&&◌, ◌||◌, List, [], ◌∷◌, ◌++◌, length, take, drop, map, reverse, get_or, replicate, min, refl, sym, ap, ◌∙◌, arith, subst, Option, Some, None, append_assoc}
+use Rattle.std.proofs.Common.{◌≡◌, ◌≢◌, ℕ, zero, suc, ◌+◌, ◌-◌, ◌<◌, ◌≤◌, Bool, true, false, cond, not, ◌&&◌, ◌||◌, List, [], ◌∷◌, ◌++◌, length, take, drop, map, get_or, replicate, min, refl, sym, ap, ◌∙◌, arith, subst, Option, Some, None}
 use Rattle.std.specs.Prelude.{◌==◌}
-use mathlib.Core.List.{reverse_aux}
 use Rattle.std.specs.List.{list_all, All, slice_range}
 use Rattle.std.specs.Str.{IsUtf8, IsCharBoundary, trim_end}
 use Rattle.std.proofs.Math.Seq.{take-length, drop-length, get_or-append_seam}
 use Rattle.std.proofs.lemmas.Bool.{false≢true}
-use Rattle.std.proofs.lemmas.List.{drop_more, take_more, get_or-map, length-drop, length-map, drop-append-le, drop-replicate, length-replicate, append-nil, length-append, map-append, get_or_append_left, take-map, reverse-append}
+use Rattle.std.proofs.lemmas.List.{drop_more, take_more, get_or-map, length-drop, length-map, drop-append-le, drop-replicate, length-replicate, append-nil, length-append, map-append, get_or_append_left, take-map}
 use Rattle.std.proofs.lemmas.List.Folds.{list_all-append}
 use Rattle.fluent_grammar.specs.Words.{Text, space}
 use Rattle.fluent_grammar.specs.Lines as l
@@ -127,37 +126,37 @@ pub value_some : (es : List v.Element) (e : v.Element) → l.value_of (v.element
 value_some [] e = value_first e []
 value_some (x ∷ es) e = value_first x (es ++ e ∷ [])
 
-map-reverse_aux : {X Y : Type 0} (f : X → Y) (xs acc : List X) → map f (reverse_aux xs acc) ≡ reverse_aux (map f xs) (map f acc)
-map-reverse_aux f [] acc = refl
-map-reverse_aux f (x ∷ xs) acc = map-reverse_aux f xs (x ∷ acc)
-
-map-reverse : {X Y : Type 0} (f : X → Y) (xs : List X) → map f (reverse xs) ≡ reverse (map f xs)
-map-reverse f xs = map-reverse_aux f xs []
-
 -- what the parser ends with is the pattern
-pub pattern_is : {X Y : Type 0} (view : X → l.Piece) (ev : Y → v.Element) (ps m : List X) (last : X) (kept : ℕ) (common : Option ℕ) (es rev : List Y) →
+pub pattern_is : {X Y : Type 0} (view : X → l.Piece) (ev : Y → v.Element) (ps m : List X) (last : X) (kept : ℕ) (common : Option ℕ) (es : List Y) →
     common ≡ l.common_indent (map view ps) → take kept (map view ps) ≡ l.without_blank_end (map view ps) → take kept ps ≡ m ++ last ∷ [] →
-    reverse (map ev es) ≡ map (element_in common) (map view m) ++ element_last common (view last) ∷ [] → rev ≡ reverse es →
-    Some (v.elements_of (map ev rev)) ≡ l.value_of (l.elements_of (map view ps))
-pattern_is view ev ps m last kept common es rev c k t e r =
+    map ev es ≡ map (element_in common) (map view m) ++ element_last common (view last) ∷ [] →
+    Some (v.elements_of (map ev es)) ≡ l.value_of (l.elements_of (map view ps))
+pattern_is view ev ps m last kept common es c k t e =
     let n : l.without_blank_end (map view ps) ≡ map view m ++ view last ∷ [] = sym k ∙ take-map view kept ps ∙ ap (map view) t ∙ map-append view m (last ∷ []) in
     let x : l.elements_of (map view ps) ≡ v.elements_of (map (element_in common) (map view m) ++ element_last common (view last) ∷ []) =
     ap (λ (z : Option ℕ). l.elements_from z (l.without_blank_end (map view ps))) (sym c) ∙ ap (l.elements_from common) n ∙ elements_end common (map view m) (view last) in
-    let y : map ev rev ≡ map (element_in common) (map view m) ++ element_last common (view last) ∷ [] = ap (map ev) r ∙ map-reverse ev es ∙ e in
-    ap (λ (z : List v.Element). Some (v.elements_of z)) y
+    ap (λ (z : List v.Element). Some (v.elements_of z)) e
     ∙ sym (ap l.value_of x ∙ value_some (map (element_in common) (map view m)) (element_last common (view last)))
 
 -- one more piece turned into an element
-pub piece_turned : {X Y : Type 0} (view : X → l.Piece) (ev : Y → v.Element) (common : Option ℕ) (m rest : List X) (p : X) (es : List Y) (e : Y) →
-    m ≡ rest ++ p ∷ [] → ev e ≡ element_in common (view p) →
-    map (element_in common) (map view rest) ++ reverse (map ev (es ++ e ∷ [])) ≡ map (element_in common) (map view m) ++ reverse (map ev es)
-piece_turned view ev common m rest p es e h k =
-    let a : reverse (map ev (es ++ e ∷ [])) ≡ ev e ∷ reverse (map ev es) = ap reverse (map-append ev es (e ∷ [])) ∙ reverse-append (map ev es) (ev e ∷ []) in
-    let b : map (element_in common) (map view m) ≡ map (element_in common) (map view rest) ++ element_in common (view p) ∷ [] =
-    ap (λ z. map (element_in common) (map view z)) h ∙ ap (map (element_in common)) (map-append view rest (p ∷ [])) ∙ map-append (element_in common) (map view rest) (view p ∷ []) in
-    ap (λ z. map (element_in common) (map view rest) ++ z) (a ∙ ap (λ z. z ∷ reverse (map ev es)) k)
-    ∙ sym (append_assoc (map (element_in common) (map view rest)) (element_in common (view p) ∷ []) (reverse (map ev es)))
-    ∙ ap (λ z. z ++ reverse (map ev es)) (sym b)
+pub piece_turned : {X Y : Type 0} (view : X → l.Piece) (ev : Y → v.Element) (common : Option ℕ) (xs : List X) (p : X) (es : List Y) (e : Y) →
+    map ev es ≡ map (element_in common) (map view xs) → ev e ≡ element_in common (view p) →
+    map ev (es ++ e ∷ []) ≡ map (element_in common) (map view (xs ++ p ∷ []))
+piece_turned view ev common xs p es e same k =
+    map-append ev es (e ∷ []) ∙ ap (λ z. map ev es ++ z ∷ []) k ∙ ap (λ z. z ++ element_in common (view p) ∷ []) same
+    ∙ sym (ap (map (element_in common)) (map-append view xs (p ∷ [])) ∙ map-append (element_in common) (map view xs) (view p ∷ []))
+
+-- a pattern of one piece
+pub blank_alone : (p : l.Piece) → l.is_blank p ≡ true → l.value_of (l.elements_of (p ∷ [])) ≡ None
+blank_alone p h = rw h refl
+
+pub alone : (p : l.Piece) (common : Option ℕ) → l.is_blank p ≡ false → common ≡ l.indent_of p → l.value_of (l.elements_of (p ∷ [])) ≡ Some (v.elements_of (element_last common p ∷ []))
+alone p common h c =
+    let n : l.without_blank_end (p ∷ []) ≡ p ∷ [] = rw h refl in
+    let i : l.common_indent (p ∷ []) ≡ common = lesser_none (l.indent_of p) ∙ sym c in
+    ap (λ (z : List l.Piece). l.value_of (l.elements_from (l.common_indent (p ∷ [])) z)) n
+    ∙ ap (λ (z : Option ℕ). l.value_of (l.elements_from z (p ∷ []))) i
+    ∙ ap l.value_of (elements_end common [] p) ∙ value_some [] (element_last common p)
 
 pub all_front : {X : Type 0} (P : X → Type 0) (xs ys : List X) (x : X) → ys ≡ xs ++ x ∷ [] → All P ys → All P xs
 all_front P xs ys x e h = λ k d l. let a : All P (xs ++ x ∷ []) = subst (All P) e h in subst P (get_or_append_left xs (x ∷ []) d k l) (a k d (omega (arith, length-append xs (x ∷ []))))
@@ -168,3 +167,6 @@ all_last P xs ys x e h = let a : All P (xs ++ x ∷ []) = subst (All P) e h in s
 pub none_of : {X : Type 0} (xs : List X) → length xs ≡ 0 → xs ≡ []
 none_of [] h = refl
 none_of (x ∷ xs) h = absurd (omega (arith, h))
+
+pub all_at : {X : Type 0} (P : X → Type 0) (xs : List X) (k : ℕ) (x : X) → All P xs → k < length xs → x ≡ get_or xs k x → P x
+all_at P xs k x h l e = subst P (sym e) (h k x l)

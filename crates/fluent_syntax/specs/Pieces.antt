@@ -6,7 +6,15 @@ use Rattle.fluent_grammar.specs.Lines as l
 use Rattle.fluent_grammar.specs.Lines.{dedented}
 use Rattle.fluent_syntax.specs.declared.parser.pieces.Piece.{Piece}
 use Rattle.fluent_syntax.specs.declared.parser.pieces.Piece.TheVariants as piece
+use Rattle.fluent_syntax.specs.declared.parser.pieces.Pieces.{Pieces}
+use Rattle.fluent_syntax.specs.declared.parser.pieces.Pieces.TheVariants as pieces
 use Rattle.fluent_syntax.specs.View.{Element, text, placeable, expression_view}
+
+-- the pieces that were collected, in order
+abbrev pub items_of : (S : Type 0) → Pieces S → List (Piece S)
+items_of S pieces.None = []
+items_of S (pieces.One p) = p ∷ []
+items_of S (pieces.Many ps) = ps.items
 
 module _ (S : Type 0) (text_of : S → List ℕ) where
   -- a text at a line start has its leading spaces at its front

@@ -8,7 +8,7 @@ ghost use Rattle.fluent_syntax.specs.Lines.{in_line, pattern_ends};
 use crate::ast::Pattern;
 use crate::parser::fault::Fault;
 use crate::parser::helper::Parser;
-use crate::parser::pieces::{Piece, pattern_of};
+use crate::parser::pieces::{Piece, Pieces, pattern_of};
 use crate::parser::{ErrorKind, Texts, words};
 
 impl<'p, S: Drop, T: Texts<S>> Parser<'p, S, T> {
@@ -26,10 +26,10 @@ impl<'p, S: Drop, T: Texts<S>> Parser<'p, S, T> {
         ensures text { self.new.text.now ≡ self.old.text.now }
         ensures onward { length self.new.rest.now ≤ length self.old.rest.now }
     {
-        let mut pieces = Vec::new(self.alloc);
+        let mut pieces = Pieces::None;
         let mut at_line_start = self.skip_to_pattern();
         while let Some((piece, ends_line)) = self.get_piece(at_line_start)? {
-            pieces.push(piece)?;
+            pieces.push(self.alloc, piece)?;
             at_line_start = ends_line;
         }
         let pattern = pattern_of(self.alloc, self.texts, pieces)?;

@@ -1,14 +1,15 @@
 //! The pieces of a pattern, and the elements that they give once the common indent is known.
 
-ghost use Rattle.std.specs.Prelude.{◌≡◌, ◌≤◌, ◌-◌, ◌||◌, ◌==◌, IfOk, All, length, take, drop, map, min, option_map, if◌then◌else◌};
+ghost use Rattle.std.specs.Prelude.{◌≡◌, ◌≤◌, ◌-◌, ◌||◌, ◌==◌, ◌++◌, ◌∷◌, [], IfOk, All, length, take, drop, map, min, option_map, if◌then◌else◌};
 ghost use Rattle.std.specs.List.{list_all};
 ghost use Rattle.fluent_syntax.specs.Lines as l;
 ghost use Rattle.fluent_syntax.specs.View.{pattern_view, element_view};
-ghost use Rattle.fluent_syntax.specs.Pieces.{piece_view, IsPiece, element_in, element_last, IsIndented, without_indent, cut_len};
+ghost use Rattle.fluent_syntax.specs.Pieces.{piece_view, items_of, IsPiece, element_in, element_last, IsIndented, without_indent, cut_len};
 
 use crate::ast::{Expression, Pattern, PatternElement};
 use crate::parser::Texts;
 use std::alloc::{AllocError, Global};
+use std::mem;
 
 /// A piece of a pattern, before the common indent is known.
 #[derive(Drop)]
@@ -25,29 +26,105 @@ pub enum Piece<S> {
     },
 }
 
+/// The pieces of a pattern. Most patterns have one, which needs no vector.
+#[derive(Drop)]
+pub enum Pieces<S> {
+    None,
+    One(Piece<S>),
+    Many(Vec<Piece<S>>),
+}
+
+impl<S: Drop> Pieces<S> {
+    /// Puts a piece behind the others.
+    pub fn push(&mut self, alloc: Global, piece: Piece<S>) -> Result<(), AllocError>
+        ensures { IfOk result (λ u. items_of S self.new ≡ items_of S self.old ++ piece ∷ []) }
+    {
+        *self = match mem::replace(self, Pieces::None) {
+            Pieces::None => Pieces::One(piece),
+            Pieces::One(first) => {
+                let mut pieces = Vec::with_capacity(alloc, 4)?;
+                pieces.push(first)?;
+                pieces.push(piece)?;
+                Pieces::Many(pieces)
+            }
+            Pieces::Many(mut pieces) => {
+                pieces.push(piece)?;
+                Pieces::Many(pieces)
+            }
+        };
+        Ok(())
+    }
+}
+
 /// The pattern that pieces give, if there is one.
 pub fn pattern_of<S: Drop, T: Texts<S>>(
     alloc: Global,
     texts: &T,
-    pieces: Vec<Piece<S>>,
+    pieces: Pieces<S>,
+) -> Result<Option<Pattern<S>>, AllocError>
+    requires { All (IsPiece S T.text) (items_of S pieces) }
+    ensures { IfOk result (λ p. option_map (pattern_view S T.text) p ≡ l.value_of (l.elements_of (map (piece_view S T.text) (items_of S pieces)))) }
+{
+    match pieces {
+        Pieces::None => Ok(None),
+        Pieces::One(piece) => pattern_of_one(alloc, texts, piece),
+        Pieces::Many(pieces) => pattern_of_many(alloc, texts, pieces),
+    }
+}
+
+/// The pattern that one piece gives, if there is one.
+fn pattern_of_one<S: Drop, T: Texts<S>>(
+    alloc: Global,
+    texts: &T,
+    piece: Piece<S>,
+) -> Result<Option<Pattern<S>>, AllocError>
+    requires { IsPiece S T.text piece }
+    ensures { IfOk result (λ p. option_map (pattern_view S T.text) p ≡ l.value_of (l.elements_of (piece_view S T.text piece ∷ []))) }
+{
+    if is_blank(texts, &piece) {
+        return Ok(None);
+    }
+    let common_indent = indent_of(texts, &piece);
+    let mut elements = Vec::with_capacity(alloc, 1)?;
+    elements.push(last_element(alloc, texts, piece, common_indent)?)?;
+    Ok(Some(Pattern { elements }))
+}
+
+/// The pattern that several pieces give, if there is one.
+fn pattern_of_many<S: Drop, T: Texts<S>>(
+    alloc: Global,
+    texts: &T,
+    mut pieces: Vec<Piece<S>>,
 ) -> Result<Option<Pattern<S>>, AllocError>
     requires { All (IsPiece S T.text) pieces.items }
     ensures { IfOk result (λ p. option_map (pattern_view S T.text) p ≡ l.value_of (l.elements_of (map (piece_view S T.text) pieces.items))) }
 {
     let common_indent = common_indent(texts, pieces.as_slice());
     let kept = kept_len(texts, pieces.as_slice());
-    let mut pieces = pieces;
     pieces.truncate(kept);
     let Some(last) = pieces.pop() else {
         return Ok(None);
     };
-    let mut elements = Vec::with_capacity(alloc, kept)?;
+    let mut elements = inner_elements(alloc, texts, pieces, common_indent)?;
     elements.push(last_element(alloc, texts, last, common_indent)?)?;
-    while let Some(piece) = pieces.pop() {
+    Ok(Some(Pattern { elements }))
+}
+
+/// The elements that all pieces but the last give under a common indent, with room for one more.
+fn inner_elements<S: Drop, T: Texts<S>>(
+    alloc: Global,
+    texts: &T,
+    pieces: Vec<Piece<S>>,
+    common_indent: Option<usize>,
+) -> Result<Vec<PatternElement<S>>, AllocError>
+    requires { All (IsPiece S T.text) pieces.items }
+    ensures { IfOk result (λ es. map (element_view S T.text) es.items ≡ map (element_in common_indent) (map (piece_view S T.text) pieces.items)) }
+{
+    let mut elements = Vec::with_capacity(alloc, pieces.len().saturating_add(1))?;
+    for piece in pieces {
         elements.push(element(alloc, texts, piece, common_indent)?)?;
     }
-    elements.reverse();
-    Ok(Some(Pattern { elements }))
+    Ok(elements)
 }
 
 /// The element that a piece gives under a common indent.

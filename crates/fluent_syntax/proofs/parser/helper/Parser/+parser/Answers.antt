@@ -17,7 +17,7 @@ use Rattle.fluent_syntax.specs.declared.parser.named_arguments.NamedArguments.{N
 use Rattle.fluent_syntax.specs.Arguments.{argument_view, IsNamed}
 use Rattle.fluent_syntax.specs.Indexed.{IsIndexed}
 use Rattle.fluent_syntax.proofs.Named.{name_begins}
-use Rattle.fluent_syntax.specs.Pieces.{piece_view, step_view, IsPiece}
+use Rattle.fluent_syntax.specs.Pieces.{piece_view, step_view, items_of, IsPiece}
 use Rattle.fluent_syntax.proofs.Views.{inline_view-FunctionReference, inline_view-TermReference, inline_view-Placeable, arguments_view-roll, named_view-roll}
 use Rattle.fluent_syntax.proofs.Failing.{handed_on, fails_mapped, fails_same}
 use Rattle.fluent_syntax.proofs.Scanned.{test_of, test_eq}
@@ -179,14 +179,14 @@ get_pattern-loop-pieces-init g t c =
       source = c.skip_to_pattern-at_line_start.ensures.source;
       text = c.skip_to_pattern-at_line_start.ensures.text;
       onward = c.skip_to_pattern-at_line_start.ensures.onward;
-      right = rw c.new-pieces.ensures.items (λ k d h. absurd (omega (arith, h)));
-      same = pieces_start (piece_view g.row.S.Denot g.T.Texts.text) c.new-pieces.result.items c.skip_to_pattern-at_line_start.result (w.skip_spaces c.args.self.now.rest.now) c.skip_to_pattern-at_line_start.new.self.rest.now (w.after_line_end (w.skip_spaces c.args.self.now.rest.now)) c.new-pieces.ensures.items c.skip_to_pattern-at_line_start.ensures.place;
+      right = λ k d h. absurd (omega (arith, h));
+      same = pieces_start (piece_view g.row.S.Denot g.T.Texts.text) [] c.skip_to_pattern-at_line_start.result (w.skip_spaces c.args.self.now.rest.now) c.skip_to_pattern-at_line_start.new.self.rest.now (w.after_line_end (w.skip_spaces c.args.self.now.rest.now)) refl c.skip_to_pattern-at_line_start.ensures.place;
     }
 
 pub get_pattern-returns-in_err-piece-clause-gives : goal.get_pattern-returns-in_err-piece-clause-gives
 get_pattern-returns-in_err-piece-clause-gives g t c =
     handed_on (option_map (pattern_view g.row.S.Denot g.T.Texts.text)) c.get_piece.new.self.rest.now c.from_residual.result c.in_err-piece.field-0.0 (pattern_by c.args.self.now.rest.now) c.from_residual.ensures.1
-    (pattern_fails c.loop-pieces.self.rest.now c.args.self.now.rest.now c.loop-pieces.at_line_start (map (piece_view g.row.S.Denot g.T.Texts.text) c.loop-pieces.pieces.items) c.in_err-piece.field-0.0 c.get_piece.new.self.rest.now c.loop-pieces.invariant.same c.in_err-piece.ensures.gives)
+    (pattern_fails c.loop-pieces.self.rest.now c.args.self.now.rest.now c.loop-pieces.at_line_start (map (piece_view g.row.S.Denot g.T.Texts.text) (items_of g.row.S.Denot c.loop-pieces.pieces)) c.in_err-piece.field-0.0 c.get_piece.new.self.rest.now c.loop-pieces.invariant.same c.in_err-piece.ensures.gives)
 
 pub get_pattern-loop-pieces-preserved : goal.get_pattern-loop-pieces-preserved
 get_pattern-loop-pieces-preserved g t c =
@@ -197,15 +197,15 @@ get_pattern-loop-pieces-preserved g t c =
       source = c.get_piece.ensures.source ∙ c.loop-pieces.invariant.source;
       text = c.get_piece.ensures.text ∙ c.loop-pieces.invariant.text;
       onward = omega (arith, c.get_piece.ensures.onward, c.loop-pieces.invariant.onward);
-      right = rw c.in_ok-push.ensures.items (All-append (IsPiece g.row.S.Denot g.T.Texts.text) c.loop-pieces.pieces.items (c.in-Some.piece ∷ []) c.loop-pieces.invariant.right (one_right g.row.S.Denot g.T.Texts.text c.in_ok-piece.field-0 c.in-Some.piece c.in-Some.ends_line c.in-Some.is c.in_ok-piece.ensures.right));
-      same = pieces_same ((map (piece_view g.row.S.Denot g.T.Texts.text) c.loop-pieces.pieces.items) ++ x ∷ []) (map (piece_view g.row.S.Denot g.T.Texts.text) c.push.new.self.items) c.in-Some.ends_line rest (read.first_pieces_at whole (w.skip_spaces c.args.self.now.rest.now) (w.after_line_end (w.skip_spaces c.args.self.now.rest.now))) (pushed (piece_view g.row.S.Denot g.T.Texts.text) c.loop-pieces.pieces.items c.push.new.self.items c.in-Some.piece c.in_ok-push.ensures.items)
-          (piece_read (map (piece_view g.row.S.Denot g.T.Texts.text) c.loop-pieces.pieces.items) c.loop-pieces.at_line_start c.in-Some.ends_line c.loop-pieces.self.rest.now rest x (read.first_pieces_at whole (w.skip_spaces c.args.self.now.rest.now) (w.after_line_end (w.skip_spaces c.args.self.now.rest.now))) c.loop-pieces.invariant.same taken);
+      right = rw c.in_ok-push.ensures (All-append (IsPiece g.row.S.Denot g.T.Texts.text) (items_of g.row.S.Denot c.loop-pieces.pieces) (c.in-Some.piece ∷ []) c.loop-pieces.invariant.right (one_right g.row.S.Denot g.T.Texts.text c.in_ok-piece.field-0 c.in-Some.piece c.in-Some.ends_line c.in-Some.is c.in_ok-piece.ensures.right));
+      same = pieces_same ((map (piece_view g.row.S.Denot g.T.Texts.text) (items_of g.row.S.Denot c.loop-pieces.pieces)) ++ x ∷ []) (map (piece_view g.row.S.Denot g.T.Texts.text) (items_of g.row.S.Denot c.push.new.self)) c.in-Some.ends_line rest (read.first_pieces_at whole (w.skip_spaces c.args.self.now.rest.now) (w.after_line_end (w.skip_spaces c.args.self.now.rest.now))) (pushed (piece_view g.row.S.Denot g.T.Texts.text) (items_of g.row.S.Denot c.loop-pieces.pieces) (items_of g.row.S.Denot c.push.new.self) c.in-Some.piece c.in_ok-push.ensures)
+          (piece_read (map (piece_view g.row.S.Denot g.T.Texts.text) (items_of g.row.S.Denot c.loop-pieces.pieces)) c.loop-pieces.at_line_start c.in-Some.ends_line c.loop-pieces.self.rest.now rest x (read.first_pieces_at whole (w.skip_spaces c.args.self.now.rest.now) (w.after_line_end (w.skip_spaces c.args.self.now.rest.now))) c.loop-pieces.invariant.same taken);
     }
 
 pub get_pattern-returns-clause-gives : goal.get_pattern-returns-clause-gives
 get_pattern-returns-clause-gives g t c =
     let piece = c.in_ok-piece.ensures.gives ∙ ap (λ z. got (option_map (step_view g.row.S.Denot g.T.Texts.text) z) c.get_piece.new.self.rest.now) c.in_default.is in
-    pattern_end c.loop-pieces.self.rest.now c.args.self.now.rest.now c.get_piece.new.self.rest.now c.loop-pieces.at_line_start (map (piece_view g.row.S.Denot g.T.Texts.text) c.loop-pieces.pieces.items) c.loop-pieces.invariant.same piece
+    pattern_end c.loop-pieces.self.rest.now c.args.self.now.rest.now c.get_piece.new.self.rest.now c.loop-pieces.at_line_start (map (piece_view g.row.S.Denot g.T.Texts.text) (items_of g.row.S.Denot c.loop-pieces.pieces)) c.loop-pieces.invariant.same piece
     ∙ ap (λ z. got z c.get_piece.new.self.rest.now) (sym c.in_ok-pattern.ensures)
 
 pub get_piece_behind-advance-requires : goal.get_piece_behind-advance-requires

@@ -9,7 +9,7 @@ use Rattle.fluent_syntax.specs.Reads.{whole}
 use Rattle.fluent_syntax.specs.Steps.{arguments_behind, names_of, variants_behind, pieces_by}
 use Rattle.fluent_syntax.specs.Indexed.{IsIndexed}
 use Rattle.fluent_syntax.specs.View.{inline_view, named_view, variant_view}
-use Rattle.fluent_syntax.specs.Pieces.{piece_view, IsPiece}
+use Rattle.fluent_syntax.specs.Pieces.{piece_view, items_of, IsPiece}
 use Rattle.fluent_syntax.proofs.parser.helper.Parser.+parser.Given as goal
 
 abbrev pub decreases-get_argument : goal.decreases-get_argument
@@ -70,8 +70,8 @@ invariant-get_pattern-loop-pieces g l =
       source : l.self.source.now ≡ l.fn.self.source.now;
       text : l.self.text.now ≡ l.fn.self.text.now;
       onward : length l.self.rest.now ≤ length l.fn.self.rest.now;
-      right : All (IsPiece g.row.S.Denot g.T.Texts.text) l.pieces.items;
-      same : mapped (λ ps. map (piece_view g.row.S.Denot g.T.Texts.text) l.pieces.items ++ ps) (pieces_by l.at_line_start l.self.rest.now) ≡ first_pieces_at whole s (w.after_line_end s);
+      right : All (IsPiece g.row.S.Denot g.T.Texts.text) (items_of g.row.S.Denot l.pieces);
+      same : mapped (λ ps. map (piece_view g.row.S.Denot g.T.Texts.text) (items_of g.row.S.Denot l.pieces) ++ ps) (pieces_by l.at_line_start l.self.rest.now) ≡ first_pieces_at whole s (w.after_line_end s);
     }
 
 abbrev pub decreases-get_pattern-loop-pieces : goal.decreases-get_pattern-loop-pieces
