@@ -82,13 +82,14 @@ fn best(mut ours: impl FnMut(), mut rust: impl FnMut()) -> (Duration, Duration) 
         .unwrap_or_default()
 }
 
+/// Prints the time of a text by both, and the ratio: Rust's time by ours.
 fn report(what: &str, (ours, rust): (Duration, Duration)) {
     let nanoseconds = |time: Duration| time.as_nanos() as f64 / COUNT as f64;
     println!(
         "{what}: {:.1} ns by fluent_number, {:.1} ns by f64, ratio {:.2}",
         nanoseconds(ours),
         nanoseconds(rust),
-        ours.as_secs_f64() / rust.as_secs_f64()
+        rust.as_secs_f64() / ours.as_secs_f64()
     );
 }
 

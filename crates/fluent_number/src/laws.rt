@@ -4,7 +4,10 @@ ghost use Rattle.fluent_number.specs.Number.{number_of};
 ghost use Rattle.fluent_number.specs.Options.{options_of};
 ghost use Rattle.std.specs.Cmp.{IsEquivalence};
 
-use crate::{Decimal, FluentNumber, FluentNumberOptions};
+use crate::{
+    Decimal, FluentNumber, FluentNumberCurrencyDisplayStyle, FluentNumberOptions,
+    FluentNumberStyle, FluentNumberType, PluralCategory, PluralOperands, PluralRuleType,
+};
 use std::hash::Hash;
 
 /// A text is read as a number exactly where it spells that number.
@@ -45,6 +48,28 @@ pub fn equality_is_an_equivalence()
     equality_of::<FluentNumber>();
 }
 
+/// So is equality of the choices that options hold.
+pub fn equality_of_choices_is_an_equivalence()
+    ensures types { IsEquivalence ⟦<FluentNumberType as PartialEq>⟧.eq }
+    ensures styles { IsEquivalence ⟦<FluentNumberStyle as PartialEq>⟧.eq }
+    ensures currency_displays { IsEquivalence ⟦<FluentNumberCurrencyDisplayStyle as PartialEq>⟧.eq }
+{
+    equality_of::<FluentNumberType>();
+    equality_of::<FluentNumberStyle>();
+    equality_of::<FluentNumberCurrencyDisplayStyle>();
+}
+
+/// So is equality of plural operands, of categories and of kinds of rules.
+pub fn equality_of_plurals_is_an_equivalence()
+    ensures operands { IsEquivalence ⟦<PluralOperands as PartialEq>⟧.eq }
+    ensures categories { IsEquivalence ⟦<PluralCategory as PartialEq>⟧.eq }
+    ensures rules { IsEquivalence ⟦<PluralRuleType as PartialEq>⟧.eq }
+{
+    equality_of::<PluralOperands>();
+    equality_of::<PluralCategory>();
+    equality_of::<PluralRuleType>();
+}
+
 /// The law of `Eq` at any type.
 fn equality_of<T: Eq>()
     ensures { IsEquivalence T.eq }
@@ -58,6 +83,20 @@ pub fn equal_values_look_the_same()
     ensures numbers { EqualWhereSeenSame ⟦<FluentNumber as PartialEq>⟧.eq number_of }
 {}
 
+/// Choices that options hold are equal where they are the same.
+pub fn equal_choices_are_the_same()
+    ensures types { EqualWhereSeenSame ⟦<FluentNumberType as PartialEq>⟧.eq (λ value. value) }
+    ensures styles { EqualWhereSeenSame ⟦<FluentNumberStyle as PartialEq>⟧.eq (λ value. value) }
+    ensures currency_displays { EqualWhereSeenSame ⟦<FluentNumberCurrencyDisplayStyle as PartialEq>⟧.eq (λ value. value) }
+{}
+
+/// Plural operands are equal where each of them is the same, categories and kinds of rules where they are the same.
+pub fn equal_plurals_are_the_same()
+    ensures operands { EqualWhereSeenSame ⟦<PluralOperands as PartialEq>⟧.eq (λ value. value) }
+    ensures categories { EqualWhereSeenSame ⟦<PluralCategory as PartialEq>⟧.eq (λ value. value) }
+    ensures rules { EqualWhereSeenSame ⟦<PluralRuleType as PartialEq>⟧.eq (λ value. value) }
+{}
+
 /// Equal decimals, equal options and equal numbers hash equally.
 pub fn equal_values_hash_equally()
     ensures decimals { HashesEqualAlike ⟦<Decimal as PartialEq>⟧.eq ⟦<Decimal as Hash>⟧.hash_input }
@@ -67,6 +106,28 @@ pub fn equal_values_hash_equally()
     hashing_of::<Decimal>();
     hashing_of::<FluentNumberOptions>();
     hashing_of::<FluentNumber>();
+}
+
+/// Equal choices that options hold hash equally.
+pub fn equal_choices_hash_equally()
+    ensures types { HashesEqualAlike ⟦<FluentNumberType as PartialEq>⟧.eq ⟦<FluentNumberType as Hash>⟧.hash_input }
+    ensures styles { HashesEqualAlike ⟦<FluentNumberStyle as PartialEq>⟧.eq ⟦<FluentNumberStyle as Hash>⟧.hash_input }
+    ensures currency_displays { HashesEqualAlike ⟦<FluentNumberCurrencyDisplayStyle as PartialEq>⟧.eq ⟦<FluentNumberCurrencyDisplayStyle as Hash>⟧.hash_input }
+{
+    hashing_of::<FluentNumberType>();
+    hashing_of::<FluentNumberStyle>();
+    hashing_of::<FluentNumberCurrencyDisplayStyle>();
+}
+
+/// Equal plural operands, equal categories and equal kinds of rules hash equally.
+pub fn equal_plurals_hash_equally()
+    ensures operands { HashesEqualAlike ⟦<PluralOperands as PartialEq>⟧.eq ⟦<PluralOperands as Hash>⟧.hash_input }
+    ensures categories { HashesEqualAlike ⟦<PluralCategory as PartialEq>⟧.eq ⟦<PluralCategory as Hash>⟧.hash_input }
+    ensures rules { HashesEqualAlike ⟦<PluralRuleType as PartialEq>⟧.eq ⟦<PluralRuleType as Hash>⟧.hash_input }
+{
+    hashing_of::<PluralOperands>();
+    hashing_of::<PluralCategory>();
+    hashing_of::<PluralRuleType>();
 }
 
 /// The law of `Hash` at any type.
