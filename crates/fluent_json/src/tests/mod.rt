@@ -1,3 +1,7 @@
+//! Trees and their JSON values.
+
+mod odd;
+
 use super::*;
 use fluent_syntax::ast::{
     Attribute, CallArguments, Comment, Entry, Expression, Identifier, InlineExpression, Message,

@@ -15,6 +15,7 @@ pub(super) fn deeper(level: usize, by: usize) -> Result<usize, AllocError>
 }
 
 /// Whether a text ends in a line feed.
+#[inline(always)]
 fn is_at_line_start(text: &str) -> bool
     ensures { result ≡ ends_line false text.now }
 {
@@ -25,6 +26,7 @@ fn is_at_line_start(text: &str) -> bool
 }
 
 /// Whether a piece takes an indent where a line feed stands before it.
+#[inline(always)]
 fn takes_indent(piece: &str) -> bool
     ensures { result ≡ written.takes_indent piece.now }
 {
@@ -44,6 +46,7 @@ fn write_indent(out: &mut String, level: usize) -> Result<(), AllocError>
 }
 
 /// Writes the indent that a piece takes behind what is written.
+#[inline(always)]
 fn write_indent_before(out: &mut String, level: usize, piece: &str) -> Result<(), AllocError>
     ensures { OnOk result (string_bytes out.new ≡ string_bytes out.old ++ indent_before (ends_line false (string_bytes out.old)) level piece.now) }
 {
@@ -54,6 +57,7 @@ fn write_indent_before(out: &mut String, level: usize, piece: &str) -> Result<()
 }
 
 /// Writes a sign or a text, behind an indent where it begins a line.
+#[inline(always)]
 pub(super) fn write_piece(out: &mut String, level: usize, piece: &str) -> Result<(), AllocError>
     ensures { OnOk result (string_bytes out.new ≡ onto (string_bytes out.old) (sign level piece.now ∷ [])) }
 {
@@ -61,6 +65,7 @@ pub(super) fn write_piece(out: &mut String, level: usize, piece: &str) -> Result
     out.push_str(piece)
 }
 
+#[inline(always)]
 pub(super) fn write_new_line(out: &mut String) -> Result<(), AllocError>
     ensures { OnOk result (string_bytes out.new ≡ onto (string_bytes out.old) (new_line ∷ [])) }
 {
