@@ -132,7 +132,7 @@ fn name_bytes_len(text: &[u8]) -> usize
 fn is_name_byte(byte: u8) -> bool
     ensures { result ≡ w.is_name_byte byte }
 {
-    matches!(byte, b'a'..=b'z' | b'A'..=b'Z' | b'0'..=b'9' | b'-' | b'_')
+    byte.is_ascii_alphanumeric() || byte == b'-' || byte == b'_'
 }
 
 /// How many digits stand at the front. Production `digits`.
