@@ -1,5 +1,6 @@
 #!/bin/sh
-# Reads the same texts by fluent_syntax and by the Rust crate fluent-syntax, in one process, and prints the ratios.
+# Reads the same texts by fluent_syntax and by the Rust crate fluent-syntax, in one process, and writes their trees;
+# compares what they found and made, and prints the ratios.
 #
 #   run.sh VENDOR [CORPUS]
 #
@@ -7,7 +8,7 @@
 # .ftl files, with all-en.ftl (those of English) and all.ftl (all of them) in it; without it only the shapes are read.
 # It needs rt, cargo and a C compiler, and no network.
 set -eu
-[ $# -ge 1 ] || { sed -n '2,8s/^# \{0,1\}//p' "$0" >&2; exit 2; }
+[ $# -ge 1 ] || { sed -n '2,9s/^# \{0,1\}//p' "$0" >&2; exit 2; }
 here=$(cd "$(dirname "$0")" && pwd)
 vendor=$(cd "$1" && pwd)
 crate=$here/../../crates/fluent_c

@@ -1,13 +1,14 @@
-/* The reader of fluent_syntax: what a Fluent source is made of, in numbers.
+/* The reader and the writer of fluent_syntax: what a Fluent source is made of, in numbers, and its tree as text.
  *
  * Link libfluent_c.a with a program that has malloc, realloc and free. A text is its first byte and its length in
  * bytes; it needs no byte 0 at its end, and it is only read. A text of length 0 still needs a pointer that isn't null.
- * Each call answers one of the three numbers below, and where it isn't FLUENT_READ it leaves what it was given to
- * write to unchanged. All memory that a call takes is free when it returns.
+ * Each call that answers a number answers one of the three below, and where it isn't FLUENT_READ it leaves what it was
+ * given to write to unchanged. All memory that a call takes is free when it returns, but for a text that it hands out.
  */
 #ifndef FLUENT_C_H
 #define FLUENT_C_H
 
+#include <stdbool.h>
 #include <stddef.h>
 #include <stdint.h>
 
@@ -37,6 +38,33 @@ uint32_t fluent_parse(const uint8_t *text, size_t len, struct FluentCounts *coun
 
 /* The same for a source that is read for use at run time, without its comments. */
 uint32_t fluent_parse_runtime(const uint8_t *text, size_t len, struct FluentCounts *counts);
+
+/* A text that the library made, or none. The memory is the library's: read the text, and change no field and no byte.
+ *
+ * Begin with `struct FluentText text = {0};`, which is no text. A call that puts a text there frees the one before, and
+ * fluent_free_text frees the last. A copy of the struct is no text of its own: only one of the two may be used.
+ */
+struct FluentText {
+    /* Whether there is a text. Where there is none, the other fields say nothing. */
+    bool held;
+    /* The first byte. An empty text may have any pointer here. */
+    const uint8_t *bytes;
+    size_t len;
+    void *owner;
+};
+
+/* Reads a source and writes its tree back, with its junk or without. */
+uint32_t fluent_write(const uint8_t *text, size_t len, bool with_junk, struct FluentText *made);
+
+/* Reads a source and writes its tree, junk included, as JSON: compact, each object's keys in the order of their bytes. */
+uint32_t fluent_write_json(const uint8_t *text, size_t len, struct FluentText *made);
+
+/* Frees a text, if there is one. There is none then. */
+void fluent_free_text(struct FluentText *made);
+
+/* Reads a source once and writes its tree, without junk, so many times, to measure how long writing takes. Gives the
+ * length of the written text. */
+uint32_t fluent_write_times(const uint8_t *text, size_t len, uint32_t times, size_t *written);
 
 /* A checksum over the texts of the tree that fluent_parse reads. */
 uint32_t fluent_checksum(const uint8_t *text, size_t len, uint64_t *checksum);

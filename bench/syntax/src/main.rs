@@ -1,28 +1,29 @@
-//! Reads the same texts by `fluent_syntax` (through `fluent_c`) and by the Rust crate `fluent-syntax`, checks that both
-//! found the same, and prints how long each took and how much memory it needed.
+//! Reads the same texts by `fluent_syntax` (through `fluent_c`) and by the Rust crate `fluent-syntax`, and writes their
+//! trees; checks that both found and made the same, and prints how long each took and how much memory it needed.
 
 mod clock;
+mod compare;
+mod json;
 mod memory;
 mod ours;
+mod report;
 mod rust;
 mod texts;
 
 use ours::Counts;
 use std::env;
-use std::fs;
 use std::hint::black_box;
 use std::process::ExitCode;
-use std::time::Duration;
 use texts::Text;
 
-/// Who reads.
+/// Who reads and writes.
 #[derive(Clone, Copy)]
-enum Reader {
+enum Maker {
     Ours,
     Rust,
 }
 
-/// The two calls of a reader.
+/// The two ways to read.
 #[derive(Clone, Copy)]
 enum Call {
     Parse,
@@ -40,120 +41,36 @@ impl Call {
     }
 }
 
-fn counts(reader: Reader, call: Call, text: &[u8]) -> Counts {
-    match reader {
-        Reader::Ours => ours::counts(call, text),
-        Reader::Rust => rust::counts(call, text),
+fn counts(maker: Maker, call: Call, text: &[u8]) -> Counts {
+    match maker {
+        Maker::Ours => ours::counts(call, text),
+        Maker::Rust => rust::counts(call, text),
     }
 }
 
-/// The best times of both in some rounds, in which each has its turn.
-fn best(call: Call, text: &[u8]) -> (Duration, Duration) {
-    let timed = |reader| {
-        clock::timed(|| {
-            black_box(counts(reader, call, black_box(text)));
-        })
-    };
-    let rounds = if text.len() > 20_000_000 { 3 } else { 15 };
-    (0..rounds)
-        .map(|_| (timed(Reader::Ours), timed(Reader::Rust)))
-        .reduce(|best, round| (best.0.min(round.0), best.1.min(round.1)))
-        .unwrap_or_default()
-}
-
-/// Whether both readers found the same; what they found otherwise is printed.
-///
-/// Where a source has errors only the messages and the terms are compared, since its junk may end elsewhere.
-fn agree(name: &str, text: &[u8]) -> bool {
-    Call::ALL.into_iter().all(|call| {
-        let ours = counts(Reader::Ours, call, text);
-        let rust = counts(Reader::Rust, call, text);
-        let same = if ours.errors == 0 && rust.errors == 0 {
-            ours == rust && ours::checksum(call, text) == rust::checksum(call, text)
-        } else {
-            (ours.messages, ours.terms) == (rust.messages, rust.terms)
-        };
-        if !same {
-            println!(
-                "{name}: {} differs: {ours:?} by fluent_c, {rust:?} by Rust",
-                call.name()
-            );
-        }
-        same
-    })
-}
-
-fn milliseconds(time: Duration) -> f64 {
-    time.as_secs_f64() * 1000.0
-}
-
-/// How much longer the whole of a text takes than half of it, by both.
-fn growth(call: Call, half: &[u8], whole: (Duration, Duration)) -> String {
-    let half = best(call, half);
-    let times = |whole: Duration, half: Duration| whole.as_secs_f64() / half.as_secs_f64();
-    format!(
-        ", growth {:.2} and {:.2}",
-        times(whole.0, half.0),
-        times(whole.1, half.1)
-    )
-}
-
-/// Prints the times of both calls over a text, how they grow from half of it, and the peaks of memory.
-fn report(text: &Text) {
-    let whole = text.whole();
-    let half = text.half();
-    for call in Call::ALL {
-        let (ours, rust) = best(call, &whole);
-        let growth = half.as_ref().map(|half| growth(call, half, (ours, rust)));
-        println!(
-            "{}: {} of {:.1} MB: {:.2} ms by fluent_c, {:.2} ms by Rust, Rust/fluent_c {:.2}{}",
-            text.name(),
-            call.name(),
-            whole.len() as f64 / 1e6,
-            milliseconds(ours),
-            milliseconds(rust),
-            rust.as_secs_f64() / ours.as_secs_f64(),
-            growth.unwrap_or_default()
-        );
-    }
-    let peak = |reader| {
-        memory::peak_of_child(reader, text.argument()).map_or("?".to_owned(), |kilobytes| {
-            format!("{:.1} MB", kilobytes as f64 / 1024.0)
-        })
-    };
-    println!(
-        "{}: peak memory beside the text {} by fluent_c, {} by Rust",
-        text.name(),
-        peak("ours"),
-        peak("rust")
-    );
-}
-
-/// Prints the peak of one reader over a text.
-fn peak(reader: &str, argument: &str) -> Option<ExitCode> {
+/// Prints the peak of one maker that reads a text, or reads it and writes its tree.
+fn peak(maker: &str, task: &str, argument: &str) -> Option<ExitCode> {
     let text = Text::of_argument(argument)?.whole();
-    let reader = match reader {
-        "ours" => Reader::Ours,
-        "rust" => Reader::Rust,
+    let maker = match maker {
+        "ours" => Maker::Ours,
+        "rust" => Maker::Rust,
         _ => return None,
     };
-    let kilobytes = memory::peak_of(|| {
-        black_box(counts(reader, Call::Parse, black_box(&text)));
-    })?;
+    let kilobytes = match task {
+        "parse" => memory::peak_of(|| {
+            black_box(counts(maker, Call::Parse, black_box(&text)));
+        }),
+        "write" => memory::peak_of(|| {
+            let text = black_box(&text);
+            black_box(match maker {
+                Maker::Ours => ours::write_times(text, 1),
+                Maker::Rust => rust::write_times(text, 1),
+            });
+        }),
+        _ => None,
+    }?;
     println!("{kilobytes}");
     Some(ExitCode::SUCCESS)
-}
-
-/// Compares what both readers find in each file, and says how many agree.
-fn compare(files: &[String]) -> ExitCode {
-    let same = |file: &&String| fs::read(file).is_ok_and(|text| agree(file, &text));
-    let agreeing = files.iter().filter(same).count();
-    println!("{agreeing} of {} files read alike", files.len());
-    if agreeing == files.len() {
-        ExitCode::SUCCESS
-    } else {
-        ExitCode::FAILURE
-    }
 }
 
 /// Reports on each text: a path, or the name of a shape; `all` stands for all shapes.
@@ -167,22 +84,24 @@ fn reports(arguments: &[String]) -> ExitCode {
             eprintln!("{argument}: neither a file nor a shape");
             return ExitCode::FAILURE;
         };
-        agree(text.name(), &text.whole());
-        report(&text);
+        report::report(&text);
     }
     ExitCode::SUCCESS
 }
 
+const USAGE: &str =
+    "usage: syntax compare FILE.. | time FILE|SHAPE|all.. | peak ours|rust parse|write FILE|SHAPE";
+
 fn main() -> ExitCode {
     let arguments: Vec<String> = env::args().skip(1).collect();
     match &*arguments {
-        [command, files @ ..] if command == "compare" => compare(files),
+        [command, files @ ..] if command == "compare" => compare::compare(files),
         [command, texts @ ..] if command == "time" => reports(texts),
-        [command, reader, text] if command == "peak" => {
-            peak(reader, text).unwrap_or(ExitCode::FAILURE)
+        [command, maker, task, text] if command == "peak" => {
+            peak(maker, task, text).unwrap_or(ExitCode::FAILURE)
         }
         _ => {
-            eprintln!("usage: syntax compare FILE.. | time FILE|SHAPE|all.. | peak ours|rust FILE|SHAPE");
+            eprintln!("{USAGE}");
             ExitCode::FAILURE
         }
     }

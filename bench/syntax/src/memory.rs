@@ -19,9 +19,15 @@ pub fn peak_of(call: impl FnOnce()) -> Option<u64> {
     Some(status("VmHWM:")?.saturating_sub(before))
 }
 
-/// The peak of a reader over a text, in a process of its own.
-pub fn peak_of_child(reader: &str, text: &str) -> Option<u64> {
+/// The peak of a maker at a task over a text, in a process of its own.
+pub fn peak_of_child(maker: &str, task: &str, text: &str) -> Option<u64> {
     let program = env::current_exe().ok()?;
-    let run = Command::new(program).args(["peak", reader, text]).output();
-    String::from_utf8(run.ok()?.stdout).ok()?.trim().parse().ok()
+    let run = Command::new(program)
+        .args(["peak", maker, task, text])
+        .output();
+    String::from_utf8(run.ok()?.stdout)
+        .ok()?
+        .trim()
+        .parse()
+        .ok()
 }

@@ -1,5 +1,6 @@
 //! The same numbers by the Rust crate `fluent-syntax`.
 
+use crate::json;
 use crate::ours::Counts;
 use crate::Call;
 use fluent_syntax::ast::{
@@ -7,6 +8,8 @@ use fluent_syntax::ast::{
     PatternElement, Resource, Variant, VariantKey,
 };
 use fluent_syntax::parser;
+use fluent_syntax::serializer::{serialize, serialize_with_options, Options};
+use std::hint::black_box;
 
 /// The tree of a source, and how many errors it has.
 fn read(call: Call, text: &[u8]) -> (Resource<&str>, usize) {
@@ -38,6 +41,27 @@ pub fn counts(call: Call, text: &[u8]) -> Counts {
         }
     }
     counts
+}
+
+/// The text that a source's tree is written as.
+pub fn written(text: &[u8], with_junk: bool) -> Vec<u8> {
+    let (resource, _) = read(Call::Parse, text);
+    serialize_with_options(&resource, Options { with_junk }).into_bytes()
+}
+
+/// The JSON text of a source's tree.
+pub fn json(text: &[u8]) -> Vec<u8> {
+    let (resource, _) = read(Call::Parse, text);
+    json::of(&resource).into_bytes()
+}
+
+/// Reads a source once and writes its tree so many times. Gives the length of the written text.
+pub fn write_times(text: &[u8], times: u32) -> usize {
+    let (resource, _) = read(Call::Parse, text);
+    (0..times)
+        .map(|_| black_box(serialize(black_box(&resource))).len())
+        .last()
+        .unwrap_or_default()
 }
 
 pub fn checksum(call: Call, text: &[u8]) -> u64 {

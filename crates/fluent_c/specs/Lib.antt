@@ -3,3 +3,5 @@ pub use Rattle.fluent_syntax.specs.Tiling
 pub use Rattle.fluent_syntax.specs.Tree
 pub use Rattle.fluent_syntax.specs.View
 pub mod Counts
+pub mod Made
+pub mod Texts

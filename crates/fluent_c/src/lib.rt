@@ -1,6 +1,8 @@
-//! The reader of `fluent_syntax` for programs in Rust and C: what a source is made of, in numbers.
+//! The reader and the writer of `fluent_syntax` for programs in Rust and C: what a source is made of, in numbers, and
+//! its tree as text, written back or as JSON.
 //!
-//! A program that calls it links C's `malloc`, `realloc` and `free`, as `bench/syntax/run.sh` does. `fluent_c.h` beside
+//! A text is handed out in memory of the library, which the caller frees by [`fluent_free_text`]. A program that calls
+//! the library links C's `malloc`, `realloc` and `free`, as `bench/syntax/run.sh` does. `fluent_c.h` beside
 //! this crate's folder `src` declares the calls for C.
 #![tactic(auto)]
 
@@ -10,11 +12,16 @@ ghost use Rattle.fluent_c.specs.Counts.{Counted};
 
 mod checksum;
 mod counts;
+mod loose;
+mod text;
+mod writing;
 
 use checksum::Checksum;
 pub use counts::FluentCounts;
 use fluent_syntax::parser::{Error, parse, parse_runtime};
 use std::alloc::Global;
+pub use text::FluentText;
+pub use writing::{fluent_free_text, fluent_write, fluent_write_json, fluent_write_times};
 
 /// What a call gives that found its answer.
 pub const FLUENT_READ: u32 = 0;
