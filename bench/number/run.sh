@@ -8,6 +8,6 @@ kit=$(dirname "$(dirname "$(readlink -f "$(command -v rt)")")")
 (cd "$crate" && rt lib >/dev/null)
 built=$(mktemp -d)
 trap 'rm -rf "$built"' EXIT
-rustc --edition 2024 -O -C target-cpu=x86-64-v2 -o "$built/number" "$here/src/main.rs" \
+rustc --edition 2021 -O -C target-cpu=x86-64-v2 -o "$built/number" "$here/src/main.rs" \
     -L native="$crate/out" -l static=fluent_number_c -L native="$kit/c" -l static=libc_c
 "$built/number"

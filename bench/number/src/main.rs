@@ -1,7 +1,11 @@
 //! Reads and writes a million mixed decimals by `fluent_number` and by Rust's `f64`, and prints how long each took.
 
+#[path = "../../syntax/src/clock.rs"]
+mod clock;
+
+use clock::timed;
 use std::hint::black_box;
-use std::time::{Duration, Instant};
+use std::time::Duration;
 
 const COUNT: usize = 1_000_000;
 const ROUNDS: usize = 15;
@@ -71,11 +75,6 @@ fn texts() -> Vec<String> {
 
 /// The best times of both in some rounds, in which each has its turn.
 fn best(mut ours: impl FnMut(), mut rust: impl FnMut()) -> (Duration, Duration) {
-    let timed = |round: &mut dyn FnMut()| {
-        let start = Instant::now();
-        round();
-        start.elapsed()
-    };
     let rounds = (0..ROUNDS).map(|_| (timed(&mut ours), timed(&mut rust)));
     rounds
         .reduce(|best, round| (best.0.min(round.0), best.1.min(round.1)))

@@ -53,11 +53,7 @@ pub fn equality_of_choices_is_an_equivalence()
     ensures types { IsEquivalence ⟦<FluentNumberType as PartialEq>⟧.eq }
     ensures styles { IsEquivalence ⟦<FluentNumberStyle as PartialEq>⟧.eq }
     ensures currency_displays { IsEquivalence ⟦<FluentNumberCurrencyDisplayStyle as PartialEq>⟧.eq }
-{
-    equality_of::<FluentNumberType>();
-    equality_of::<FluentNumberStyle>();
-    equality_of::<FluentNumberCurrencyDisplayStyle>();
-}
+{}
 
 /// So is equality of plural operands, of categories and of kinds of rules.
 pub fn equality_of_plurals_is_an_equivalence()
@@ -66,8 +62,6 @@ pub fn equality_of_plurals_is_an_equivalence()
     ensures rules { IsEquivalence ⟦<PluralRuleType as PartialEq>⟧.eq }
 {
     equality_of::<PluralOperands>();
-    equality_of::<PluralCategory>();
-    equality_of::<PluralRuleType>();
 }
 
 /// The law of `Eq` at any type.
@@ -113,22 +107,14 @@ pub fn equal_choices_hash_equally()
     ensures types { HashesEqualAlike ⟦<FluentNumberType as PartialEq>⟧.eq ⟦<FluentNumberType as Hash>⟧.hash_input }
     ensures styles { HashesEqualAlike ⟦<FluentNumberStyle as PartialEq>⟧.eq ⟦<FluentNumberStyle as Hash>⟧.hash_input }
     ensures currency_displays { HashesEqualAlike ⟦<FluentNumberCurrencyDisplayStyle as PartialEq>⟧.eq ⟦<FluentNumberCurrencyDisplayStyle as Hash>⟧.hash_input }
-{
-    hashing_of::<FluentNumberType>();
-    hashing_of::<FluentNumberStyle>();
-    hashing_of::<FluentNumberCurrencyDisplayStyle>();
-}
+{}
 
 /// Equal plural operands, equal categories and equal kinds of rules hash equally.
 pub fn equal_plurals_hash_equally()
     ensures operands { HashesEqualAlike ⟦<PluralOperands as PartialEq>⟧.eq ⟦<PluralOperands as Hash>⟧.hash_input }
     ensures categories { HashesEqualAlike ⟦<PluralCategory as PartialEq>⟧.eq ⟦<PluralCategory as Hash>⟧.hash_input }
     ensures rules { HashesEqualAlike ⟦<PluralRuleType as PartialEq>⟧.eq ⟦<PluralRuleType as Hash>⟧.hash_input }
-{
-    hashing_of::<PluralOperands>();
-    hashing_of::<PluralCategory>();
-    hashing_of::<PluralRuleType>();
-}
+{}
 
 /// The law of `Hash` at any type.
 fn hashing_of<T: Hash>()
