@@ -50,21 +50,22 @@ fn read(rt: &impl Abort, alloc: Global, source: &str) {
     agree(rt, runtime, told(parse_runtime(alloc, source)));
 }
 
-/// What a reader gives for a copy of a source, or None for want of memory.
-fn read_copy<F>(alloc: Global, source: &str, read: F) -> Option<parser::Result<String>>
-where
-    F: FnOnce(Global, String) -> parser::Result<String>,
-{
-    let copy = String::from_str(alloc, source).ok()?;
-    told(read(alloc, copy))
+/// What `parse` gives for a copy of a source, or None for want of memory.
+fn parse_copy(alloc: Global, source: &str) -> Option<parser::Result<String>> {
+    told(parse(alloc, String::from_str(alloc, source).ok()?))
+}
+
+/// What `parse_runtime` gives for a copy of a source, or None for want of memory.
+fn parse_runtime_copy(alloc: Global, source: &str) -> Option<parser::Result<String>> {
+    told(parse_runtime(alloc, String::from_str(alloc, source).ok()?))
 }
 
 /// Both readers over copies of a source.
 fn read_copies(rt: &impl Abort, alloc: Global, source: &str) {
-    let tree = read_copy(alloc, source, parse);
-    let runtime = read_copy(alloc, source, parse_runtime);
-    agree(rt, tree, read_copy(alloc, source, parse));
-    agree(rt, runtime, read_copy(alloc, source, parse_runtime));
+    let tree = parse_copy(alloc, source);
+    let runtime = parse_runtime_copy(alloc, source);
+    agree(rt, tree, parse_copy(alloc, source));
+    agree(rt, runtime, parse_runtime_copy(alloc, source));
 }
 
 /// The tree and the errors of a source copied, and its tree written with and without junk.
