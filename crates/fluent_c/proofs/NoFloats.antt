@@ -1,7 +1,7 @@
 -- The JSON value of a tree has no floats.
 use Rattle.std.proofs.Common.{◌≡◌, ℕ, Bool, false, List, [], ◌∷◌, Option, Some, None, refl}
 use Rattle.std.specs.Prelude.{◌||◌}
-use Rattle.serde_json.specs.Data.{Data, null, string, Items, item}
+use Rattle.serde_json.specs.Data.{Data, string}
 use Rattle.serde_json.specs.Written.{has_float, items_have_float}
 use Rattle.fluent_syntax.specs.Tree as t
 use Rattle.fluent_json.specs.Json.{json, each, or_null, identifier, json_key, json_elements, json_expression, json_variants, json_inline, json_maybe_arguments, json_arguments, json_positional, json_named, json_pattern, json_attribute, json_comment, json_entry}

@@ -57,6 +57,8 @@ fn write_indent_before(out: &mut String, level: usize, piece: &str) -> Result<()
 }
 
 /// Writes a sign or a text, behind an indent where it begins a line.
+///
+/// It is inlined, so that most of it falls away where the sign is known.
 #[inline(always)]
 pub(super) fn write_piece(out: &mut String, level: usize, piece: &str) -> Result<(), AllocError>
     ensures { OnOk result (string_bytes out.new ≡ onto (string_bytes out.old) (sign level piece.now ∷ [])) }
