@@ -92,7 +92,7 @@ fn agrees(alloc: Global, vector: &Value) -> Result<bool> {
     )
 }
 
-/// Whether an answer is the tree and the errors that are wanted.
+/// Whether an answer is the tree and the errors that are wanted, and a copy of the tree equals it.
 fn has_tree(
     alloc: Global,
     tree: Option<&Value>,
@@ -101,7 +101,8 @@ fn has_tree(
 ) -> Result<bool> {
     let (resource, found) = parts(alloc, answer)?;
     let value = fluent_json::to_value(alloc, &resource)?;
-    Ok(is_wanted(tree, &value) && has_errors(alloc, errors, found.as_slice())?)
+    let copy = resource.try_clone(alloc)?;
+    Ok(is_wanted(tree, &value) && has_errors(alloc, errors, found.as_slice())? && copy == resource)
 }
 
 /// Whether the tree of a source is written as it is wanted, and its errors are.

@@ -50,21 +50,24 @@ fn read(rt: &impl Abort, alloc: Global, source: &str) {
     agree(rt, runtime, told(parse_runtime(alloc, source)));
 }
 
-/// What a reader gives for a copy of a source, or None for want of memory.
-fn read_copy<F>(alloc: Global, source: &str, read: F) -> Option<parser::Result<String>>
-where
-    F: FnOnce(Global, String) -> parser::Result<String>,
-{
+/// The tree of a copy of a source, or None for want of memory.
+fn read_copy(alloc: Global, source: &str) -> Option<parser::Result<String>> {
     let copy = String::from_str(alloc, source).ok()?;
-    told(read(alloc, copy))
+    told(parse(alloc, copy))
+}
+
+/// The same at run time.
+fn read_copy_at_run_time(alloc: Global, source: &str) -> Option<parser::Result<String>> {
+    let copy = String::from_str(alloc, source).ok()?;
+    told(parse_runtime(alloc, copy))
 }
 
 /// Both readers over copies of a source.
 fn read_copies(rt: &impl Abort, alloc: Global, source: &str) {
-    let tree = read_copy(alloc, source, parse);
-    let runtime = read_copy(alloc, source, parse_runtime);
-    agree(rt, tree, read_copy(alloc, source, parse));
-    agree(rt, runtime, read_copy(alloc, source, parse_runtime));
+    let tree = read_copy(alloc, source);
+    let runtime = read_copy_at_run_time(alloc, source);
+    agree(rt, tree, read_copy(alloc, source));
+    agree(rt, runtime, read_copy_at_run_time(alloc, source));
 }
 
 /// The tree and the errors of a source copied, and its tree written with and without junk.
