@@ -29,7 +29,7 @@ pub fn are_errors_of(source: &str, tree: &Resource<&str>, errors: &[ParserError]
 }
 
 /// Whether a tree has the messages and terms of another one, comments aside, and no comment itself.
-pub fn are_same_entries(tree: &Resource<&str>, runtime: &Resource<&str>) -> bool {
+pub fn are_same_entries<'s>(tree: &Resource<&'s str>, runtime: &Resource<&'s str>) -> bool {
     let mut left = runtime.body.iter().filter(|entry| is_kept(entry));
     for entry in tree.body.iter().filter(|entry| is_kept(entry)) {
         let is_same = match (entry, left.next()) {
@@ -58,7 +58,7 @@ fn is_comment(entry: &Entry<&str>) -> bool {
 }
 
 /// Whether another message is the same, without a comment.
-fn is_same_message(message: &Message<&str>, other: &Message<&str>) -> bool {
+fn is_same_message<'s>(message: &Message<&'s str>, other: &Message<&'s str>) -> bool {
     message.id == other.id
         && message.value == other.value
         && message.attributes == other.attributes
@@ -66,7 +66,7 @@ fn is_same_message(message: &Message<&str>, other: &Message<&str>) -> bool {
 }
 
 /// Whether another term is the same, without a comment.
-fn is_same_term(term: &Term<&str>, other: &Term<&str>) -> bool {
+fn is_same_term<'s>(term: &Term<&'s str>, other: &Term<&'s str>) -> bool {
     term.id == other.id
         && term.value == other.value
         && term.attributes == other.attributes

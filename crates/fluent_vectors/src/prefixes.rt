@@ -35,7 +35,7 @@ fn with_prefix(alloc: Global, count: Count, prefix: &str) -> Result<Count> {
     })
 }
 
-/// Whether the laws hold of what both readers give for a source.
+/// Whether the laws hold of what both readers give for a source, and both give the same for a copy of it.
 fn are_laws_kept(alloc: Global, source: &str) -> Result<bool> {
     let (tree, errors) = parts(alloc, parser::parse(alloc, source))?;
     let (runtime, runtime_errors) = parts(alloc, parser::parse_runtime(alloc, source))?;
@@ -45,22 +45,22 @@ fn are_laws_kept(alloc: Global, source: &str) -> Result<bool> {
         are_errors_of(source, &tree, errors.as_slice())
             && are_errors_of(source, &runtime, runtime_errors.as_slice())
             && are_same_entries(&tree, &runtime)
-            && is_same_owned(alloc, &tree, &errors, owned)?
-            && is_same_owned(alloc, &runtime, &runtime_errors, owned_runtime)?,
+            && is_same(alloc, &tree, errors.as_slice(), owned)?
+            && is_same(alloc, &runtime, runtime_errors.as_slice(), owned_runtime)?,
     )
 }
 
-/// Whether an answer over a copy of the source has this tree and these errors.
-fn is_same_owned(
+/// Whether an answer is this tree with these errors.
+fn is_same(
     alloc: Global,
     tree: &Resource<&str>,
-    errors: &Vec<ParserError>,
+    errors: &[ParserError],
     answer: parser::Result<String>,
 ) -> Result<bool> {
-    let (owned, owned_errors) = parts(alloc, answer)?;
+    let (other, other_errors) = parts(alloc, answer)?;
     let shown = format!(in alloc; "{tree:?}")?;
-    let owned_shown = format!(in alloc; "{owned:?}")?;
-    Ok(shown == owned_shown && *errors == owned_errors)
+    let other_shown = format!(in alloc; "{other:?}")?;
+    Ok(shown == other_shown && errors == other_errors.as_slice())
 }
 
 /// The tree and the errors of an answer.

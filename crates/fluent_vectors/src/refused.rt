@@ -50,22 +50,24 @@ fn read(rt: &impl Abort, alloc: Global, source: &str) {
     agree(rt, runtime, told(parse_runtime(alloc, source)));
 }
 
-/// What `parse` gives for a copy of a source, or None for want of memory.
-fn parse_copy(alloc: Global, source: &str) -> Option<parser::Result<String>> {
-    told(parse(alloc, String::from_str(alloc, source).ok()?))
+/// The tree of a copy of a source, or None for want of memory.
+fn read_copy(alloc: Global, source: &str) -> Option<parser::Result<String>> {
+    let copy = String::from_str(alloc, source).ok()?;
+    told(parse(alloc, copy))
 }
 
-/// What `parse_runtime` gives for a copy of a source, or None for want of memory.
-fn parse_runtime_copy(alloc: Global, source: &str) -> Option<parser::Result<String>> {
-    told(parse_runtime(alloc, String::from_str(alloc, source).ok()?))
+/// The same at run time.
+fn read_copy_at_run_time(alloc: Global, source: &str) -> Option<parser::Result<String>> {
+    let copy = String::from_str(alloc, source).ok()?;
+    told(parse_runtime(alloc, copy))
 }
 
 /// Both readers over copies of a source.
 fn read_copies(rt: &impl Abort, alloc: Global, source: &str) {
-    let tree = parse_copy(alloc, source);
-    let runtime = parse_runtime_copy(alloc, source);
-    agree(rt, tree, parse_copy(alloc, source));
-    agree(rt, runtime, parse_runtime_copy(alloc, source));
+    let tree = read_copy(alloc, source);
+    let runtime = read_copy_at_run_time(alloc, source);
+    agree(rt, tree, read_copy(alloc, source));
+    agree(rt, runtime, read_copy_at_run_time(alloc, source));
 }
 
 /// The tree and the errors of a source copied, and its tree written with and without junk.
