@@ -222,9 +222,9 @@ reference =
         let brand = read_entry(rt.alloc(), term)?.ok_or("no term")?;
         assert_eq!(rt; brand.id, "brand");
         assert!(rt; brand.value.is_none() && brand.attributes.is_empty());
-        for passed in [comment, literal, reference] {
-            assert!(rt; read_entry(rt.alloc(), passed)?.is_none());
-        }
+        assert!(rt; read_entry(rt.alloc(), comment)?.is_none());
+        assert!(rt; read_entry(rt.alloc(), literal)?.is_none());
+        assert!(rt; read_entry(rt.alloc(), reference)?.is_none());
         Ok(())
     }
 }
