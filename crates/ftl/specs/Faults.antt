@@ -1,5 +1,5 @@
 -- The program's faults, and the status that it ends with.
-use Rattle.std.specs.Prelude.{ℕ, List, Contains}
+use Rattle.std.specs.Prelude.{ℕ, List, Contains, Option, IfSome, IsUtf8}
 use Rattle.ftl.specs.Text.{Text}
 use Rattle.ftl.specs.declared.fault.Fault.{Fault}
 use Rattle.ftl.specs.declared.fault.Fault.TheVariants.{CommandLine, FileUnreadable, FileNotUtf8, Input, Output, Memory}
@@ -23,6 +23,15 @@ NamesOneOf names (FileNotUtf8 file) = Contains names file.now
 NamesOneOf names Input = Unit {0}
 NamesOneOf names Output = Unit {0}
 NamesOneOf names Memory = Unit {0}
+
+-- where the fault says that a file is no UTF-8, what the file holds is none, if that is known
+abbrev pub SaysNoUtf8 : (Text → Option Text) → Fault → Type 0
+SaysNoUtf8 contents CommandLine = Unit {0}
+SaysNoUtf8 contents (FileUnreadable file) = Unit {0}
+SaysNoUtf8 contents (FileNotUtf8 file) = IfSome (contents file.now) (λ held. IsUtf8 held → ⊥)
+SaysNoUtf8 contents Input = Unit {0}
+SaysNoUtf8 contents Output = Unit {0}
+SaysNoUtf8 contents Memory = Unit {0}
 
 -- a fault that comes while files are read
 abbrev pub IsOfFiles : Fault → Type 0

@@ -2,7 +2,7 @@
 ghost use Rattle.std.specs.Prelude.{◌≡◌, OnOk, IfSome, IsErrOf};
 ghost use Rattle.std.specs.Io.KnownBytes.{Appends, IsAtEnd};
 ghost use Rattle.ftl.specs.Devices.{HasFailed};
-ghost use Rattle.ftl.specs.Exchange.{devices, AnswersFirst, AnswersWhole, AnswersFront};
+ghost use Rattle.ftl.specs.Exchange.{devices, AnswersAll, AnswersFirst, AnswersWhole, AnswersFront};
 ghost use Rattle.ftl.specs.CatalogView.{texts};
 ghost use Rattle.ftl.specs.Thin.{thin, thin_line};
 
@@ -23,9 +23,12 @@ pub fn run_thin<R: Source, W: Sink>(
     reader: &mut R,
     writer: &mut W,
 ) -> Result<(), RunError>
-    // The answers to all of the input are written, and nothing else.
+    // The answers to all of the input are written, and nothing else. Of a reader that does not tell its bytes: to those
+    // that it gave.
     ensures exact { OnOk result (IfSome (R.remaining reader.old) (λ input.
         Appends (W.contents writer.old) (W.contents writer.new) (thin (texts sources.now) isolating input))) }
+    ensures given { OnOk result (AnswersAll (devices (R.remaining reader.old) (R.remaining reader.new) (W.contents writer.old) (W.contents writer.new))
+        (thin_line (texts sources.now) isolating)) }
     ensures end { OnOk result (IsAtEnd (R.remaining reader.new)) }
 
     // The first whole lines are answered.

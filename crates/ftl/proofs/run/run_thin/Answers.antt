@@ -1,7 +1,7 @@
 use Rattle.ftl.specs.CatalogView.{texts}
 use Rattle.ftl.specs.Thin.{thin_line}
 use Rattle.ftl.proofs.Runs.{nothing_served}
-use Rattle.ftl.proofs.Outcomes.{on_ok_both}
+use Rattle.ftl.proofs.Outcomes.{on_ok_map, on_ok_both}
 use Rattle.ftl.proofs.SameAnswers.{same_all, same_first, same_whole, same_front, answers_known}
 use Rattle.ftl.proofs.run.run_thin.Goals as goal
 
@@ -11,6 +11,9 @@ returns-in_err-engine-clause-memory g c = λ is.
 
 pub returns-clause-exact : goal.returns-clause-exact
 returns-clause-exact g c = on_ok_both c.serve.result (λ all end. answers_known (same_all c.in_ok-engine.ensures all) end) c.serve.ensures.ok c.serve.ensures.end
+
+pub returns-clause-given : goal.returns-clause-given
+returns-clause-given g c = on_ok_map c.serve.result (same_all c.in_ok-engine.ensures) c.serve.ensures.ok
 
 pub returns-clause-memory : goal.returns-clause-memory
 returns-clause-memory g c = λ is. same_first c.in_ok-engine.ensures (c.serve.ensures.memory is)
