@@ -5,7 +5,7 @@ use denote.Ref.{Bor}
 use Rattle.fluent_syntax.specs.Tree as t
 use Rattle.fluent_syntax.specs.Tiling.{ParserError}
 use Rattle.fluent_syntax.specs.View.{resource_view}
-use Rattle.fluent_syntax.specs.declared.ast.Resource.{Resource}
+use Rattle.fluent_ast.specs.declared.Resource.{Resource}
 use Rattle.fluent_c.specs.declared.counts.FluentCounts.{FluentCounts}
 
 -- the entries of a tree over borrowed texts

@@ -4,21 +4,21 @@ use Rattle.std.specs.declared.alloc.Global.{Global}
 use Rattle.serde_json.specs.Data.{Data, string, Items}
 use Rattle.fluent_syntax.specs.Tree as t
 use Rattle.fluent_syntax.specs.View as v
-use Rattle.fluent_syntax.specs.declared.ast.Resource.{Resource}
-use Rattle.fluent_syntax.specs.declared.ast.Entry.{Entry}
-use Rattle.fluent_syntax.specs.declared.ast.Message.{Message}
-use Rattle.fluent_syntax.specs.declared.ast.Term.{Term}
-use Rattle.fluent_syntax.specs.declared.ast.Comment.{Comment}
-use Rattle.fluent_syntax.specs.declared.ast.Attribute.{Attribute}
-use Rattle.fluent_syntax.specs.declared.ast.Identifier.{Identifier}
-use Rattle.fluent_syntax.specs.declared.ast.VariantKey.{VariantKey}
-use Rattle.fluent_syntax.specs.declared.ast.Expression.{Expression}
-use Rattle.fluent_syntax.specs.declared.ast.InlineExpression.{InlineExpression}
-use Rattle.fluent_syntax.specs.declared.ast.PatternElement.{PatternElement}
-use Rattle.fluent_syntax.specs.declared.ast.Pattern.{Pattern}
-use Rattle.fluent_syntax.specs.declared.ast.Variant.{Variant}
-use Rattle.fluent_syntax.specs.declared.ast.CallArguments.{CallArguments}
-use Rattle.fluent_syntax.specs.declared.ast.NamedArgument.{NamedArgument}
+use Rattle.fluent_ast.specs.declared.Resource.{Resource}
+use Rattle.fluent_ast.specs.declared.Entry.{Entry}
+use Rattle.fluent_ast.specs.declared.Message.{Message}
+use Rattle.fluent_ast.specs.declared.Term.{Term}
+use Rattle.fluent_ast.specs.declared.Comment.{Comment}
+use Rattle.fluent_ast.specs.declared.Attribute.{Attribute}
+use Rattle.fluent_ast.specs.declared.Identifier.{Identifier}
+use Rattle.fluent_ast.specs.declared.VariantKey.{VariantKey}
+use Rattle.fluent_ast.specs.declared.Expression.{Expression}
+use Rattle.fluent_ast.specs.declared.InlineExpression.{InlineExpression}
+use Rattle.fluent_ast.specs.declared.PatternElement.{PatternElement}
+use Rattle.fluent_ast.specs.declared.Pattern.{Pattern}
+use Rattle.fluent_ast.specs.declared.Variant.{Variant}
+use Rattle.fluent_ast.specs.declared.CallArguments.{CallArguments}
+use Rattle.fluent_ast.specs.declared.NamedArgument.{NamedArgument}
 use Rattle.fluent_json.specs.Json.{each, or_null, json_maybe_arguments, json_key, json_expression, json_inline, json_arguments, json_pattern, json_attribute, json_comment, json_entry, json_elements, json_variants, json_positional, json_named, identifier, text_element, placeable, variant, named_argument}
 
 abbrev Text : Type 0

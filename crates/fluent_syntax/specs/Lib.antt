@@ -1,4 +1,4 @@
--- The definitions of the grammar, from the crate below.
+-- The definitions of the grammar, and of what trees and errors stand for, from the crates below.
 pub use Rattle.fluent_grammar.specs.Tree
 pub use Rattle.fluent_grammar.specs.Words
 pub use Rattle.fluent_grammar.specs.Lines
@@ -7,18 +7,7 @@ pub use Rattle.fluent_grammar.specs.Reading
 pub use Rattle.fluent_grammar.specs.Spelling
 pub use Rattle.fluent_grammar.specs.Tiling
 pub use Rattle.fluent_grammar.specs.Written
-pub mod View
-pub mod Counted
-pub mod ErrorView
-pub mod Reads
+pub use Rattle.fluent_ast.specs.View
+pub use Rattle.fluent_parser.specs.ErrorView
+pub use Rattle.fluent_parser.specs.Collected
 pub mod Unescaped
-pub mod Steps
-pub mod Pieces
-pub mod Arguments
-pub mod Indexed
-pub mod Entries
-pub mod Heads
-pub mod Places
-pub mod Parts
-pub mod Collected
-pub mod Left

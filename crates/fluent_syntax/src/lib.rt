@@ -1,12 +1,15 @@
-//! The syntax of Fluent: the tree of a source, its reader and its writer.
+//! The syntax of Fluent: the tree of a source, its reader and its writer, each a crate of its own.
 //!
-//! [`ast`] has the tree over any text type, [`parser`] reads a source into it. Contracts speak of a tree through its
-//! plain tree, the data of the crate `fluent_grammar`: the views in `specs/View.antt` say which plain tree a tree
-//! stands for. Offsets and lengths are in bytes throughout.
+//! [`ast`] has the tree over any text type, [`parser`] reads a source into it, [`serializer`] writes it back, and
+//! [`unicode`] resolves the escapes of string literals. Contracts speak of a tree through its plain tree, the data of the
+//! crate `fluent_grammar`. Offsets and lengths are in bytes throughout.
 #![tactic(auto)]
 
-pub mod ast;
 pub mod laws;
-pub mod parser;
-pub mod serializer;
+#[cfg(test)]
+mod tests;
 pub mod unicode;
+
+pub use fluent_ast as ast;
+pub use fluent_parser as parser;
+pub use fluent_serializer as serializer;

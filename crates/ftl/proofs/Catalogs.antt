@@ -6,7 +6,7 @@ use Rattle.std.proofs.lemmas.List.{map-append, take_more, drop_all}
 use Rattle.std.proofs.lemmas.List.Elements.{filter_map-append}
 use denote.Ref.{Bor}
 use Rattle.fluent_syntax.specs.View as view
-use Rattle.fluent_syntax.specs.declared.ast.Entry.{Entry as Plain}
+use Rattle.fluent_ast.specs.declared.Entry.{Entry as Plain}
 use Rattle.ftl.specs.Text.{Text}
 use Rattle.ftl.specs.ThinEntries.{Entry, entry_of, entries_of, all_entries}
 use Rattle.ftl.specs.Thin.{entry_named, attribute_named}

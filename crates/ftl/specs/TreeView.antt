@@ -3,11 +3,11 @@ use Rattle.std.specs.Prelude.{List, map, Option, Some}
 use denote.Ref.{Bor}
 use Rattle.fluent_syntax.specs.Tree as t
 use Rattle.fluent_syntax.specs.View as view
-use Rattle.fluent_syntax.specs.declared.ast.Expression.{Expression}
-use Rattle.fluent_syntax.specs.declared.ast.PatternElement.{PatternElement}
-use Rattle.fluent_syntax.specs.declared.ast.Pattern.{Pattern}
-use Rattle.fluent_syntax.specs.declared.ast.Attribute.{Attribute}
-use Rattle.fluent_syntax.specs.declared.ast.Entry.{Entry}
+use Rattle.fluent_ast.specs.declared.Expression.{Expression}
+use Rattle.fluent_ast.specs.declared.PatternElement.{PatternElement}
+use Rattle.fluent_ast.specs.declared.Pattern.{Pattern}
+use Rattle.fluent_ast.specs.declared.Attribute.{Attribute}
+use Rattle.fluent_ast.specs.declared.Entry.{Entry}
 use Rattle.ftl.specs.Text.{Text}
 use Rattle.ftl.specs.ThinEntries as thin
 

@@ -1,13 +1,13 @@
 //! One escape of a string literal.
-#![tactic(auto, using(crate::proofs::Counted::cuts))]
+#![tactic(auto, using(fluent_words::proofs::Counted::cuts))]
 
 ghost use Rattle.std.specs.Prelude.{◌≡◌, ◌<◌, encode_utf8};
 ghost use Rattle.std.specs.List.{list_all};
 ghost use Rattle.fluent_grammar.specs.Words.{is_hex_digit};
-ghost use Rattle.fluent_syntax.specs.Counted.{Cuts};
+ghost use Rattle.fluent_words.specs.Counted.{Cuts};
 ghost use Rattle.fluent_grammar.specs.Escapes.{escape_at, unicode_escape, digits_len, character_of};
 
-use crate::parser::words;
+use fluent_words as words;
 
 /// What an escape stands for, and how many bytes of it follow its backslash.
 #[derive(Drop)]

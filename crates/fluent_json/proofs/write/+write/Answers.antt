@@ -1,7 +1,7 @@
 use Rattle.std.proofs.Common.{◌≡◌, String, Global, string_bytes, sym, ap, ◌∙◌, rules}
 use Rattle.serde_json.specs.View.{view, items_view}
-use Rattle.fluent_syntax.proofs.Views.{pattern_view-out}
-use Rattle.fluent_syntax.specs.declared.ast.Pattern.{out-Pattern}
+use Rattle.fluent_ast.proofs.Views.{pattern_view-out}
+use Rattle.fluent_ast.specs.declared.Pattern.{out-Pattern}
 use Rattle.fluent_json.specs.Json.{pattern, json_elements}
 use Rattle.fluent_json.specs.Parts.{variant_json, inline_json, named_json, element_json, elements_json, pattern_json}
 use Rattle.fluent_json.proofs.Lists.{items_of-made, elements_json-items, variants_json-items, positional_json-items, nameds_json-items}

@@ -1,6 +1,6 @@
 use Rattle.std.proofs.Common.{◌∙◌, sym, ap}
-use Rattle.fluent_syntax.specs.declared.ast.Pattern.{out-Pattern}
-use Rattle.fluent_syntax.proofs.Views.{pattern_view-out}
+use Rattle.fluent_ast.specs.declared.Pattern.{out-Pattern}
+use Rattle.fluent_ast.proofs.Views.{pattern_view-out}
 use Rattle.ftl.specs.ThinEntries.{elements_of}
 use Rattle.ftl.specs.TreeView.{Slice, text_of, plain_parts}
 use Rattle.ftl.proofs.Entries.{elements_of-every}

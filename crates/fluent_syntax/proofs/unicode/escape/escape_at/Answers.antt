@@ -1,4 +1,4 @@
-use Rattle.fluent_syntax.proofs.Chars.{cut_char}
+use Rattle.fluent_words.proofs.Chars.{cut_char}
 use Rattle.fluent_syntax.proofs.unicode.escape.escape_at.Goals as goal
 
 pub returns-in_default-clause-cuts : goal.returns-in_default-clause-cuts

@@ -3,7 +3,7 @@ use Rattle.std.proofs.lemmas.Str.{IsCharBoundary-after_ascii}
 use Rattle.std.proofs.lemmas.Grind.{common_steps}
 use Rattle.memchr.specs.Find.{IsFirstByte, is_byte}
 use Rattle.fluent_grammar.specs.Escapes.{unescaped, escape_at}
-use Rattle.fluent_syntax.proofs.Scanned.{test_of}
+use Rattle.fluent_words.proofs.Scanned.{test_of}
 use Rattle.fluent_syntax.proofs.Unescaped.{Took, took_plain, took_character, took_prefix, took_all, no_escape, on_err, on_ok}
 use Rattle.fluent_syntax.proofs.unicode.unescape.unescape_unicode.Goals as goal
 

@@ -1,0 +1,4 @@
+pub mod Copied
+pub mod Views
+pub mod Equality
+pub mod EqualTrees

@@ -1,0 +1,253 @@
+//! Copies of trees over any text type.
+//!
+//! The functions on patterns and expressions call each other, so they take the text type as a value under [`Texts`].
+
+ghost use Rattle.std.specs.Prelude.{◌≡◌, IfOk, map, option_map};
+ghost use Rattle.fluent_ast.specs.View.{pattern_view, element_view, expression_view, inline_view, variant_view, arguments_view, named_view, key_of, name_of};
+
+use crate::{
+    CallArguments, Expression, Identifier, InlineExpression, NamedArgument, Pattern,
+    PatternElement, Variant, VariantKey,
+};
+use fluent_slice::Texts;
+use std::alloc::{AllocError, Global};
+
+pub(crate) fn clone_identifier<S: Drop, T: Texts<S>>(
+    texts: &T,
+    alloc: Global,
+    id: &Identifier<S>,
+) -> Result<Identifier<S>, AllocError>
+    ensures { IfOk result (λ copy. name_of S T.text copy ≡ name_of S T.text id.now) }
+{
+    let name = texts.try_clone(&id.name, alloc)?;
+    Ok(Identifier { name })
+}
+
+pub(crate) fn clone_key<S: Drop, T: Texts<S>>(
+    texts: &T,
+    alloc: Global,
+    key: &VariantKey<S>,
+) -> Result<VariantKey<S>, AllocError>
+    ensures { IfOk result (λ copy. key_of S T.text copy ≡ key_of S T.text key.now) }
+{
+    match key {
+        VariantKey::Identifier { name } => {
+            let name = texts.try_clone(name, alloc)?;
+            Ok(VariantKey::Identifier { name })
+        }
+        VariantKey::NumberLiteral { value } => {
+            let value = texts.try_clone(value, alloc)?;
+            Ok(VariantKey::NumberLiteral { value })
+        }
+    }
+}
+
+/// The name of an attribute behind a reference, if there is one.
+fn clone_accessor<S: Drop, T: Texts<S>>(
+    texts: &T,
+    alloc: Global,
+    attribute: &Option<Identifier<S>>,
+) -> Result<Option<Identifier<S>>, AllocError>
+    ensures { IfOk result (λ copy. option_map (name_of S T.text) copy ≡ option_map (name_of S T.text) attribute.now) }
+{
+    match attribute {
+        Some(id) => Ok(Some(clone_identifier(texts, alloc, id)?)),
+        None => Ok(None),
+    }
+}
+
+#[cycle(copies)]
+pub(crate) fn clone_pattern<S: Drop, T: Texts<S>>(
+    texts: &T,
+    alloc: Global,
+    pattern: &Pattern<S>,
+) -> Result<Pattern<S>, AllocError>
+    ensures { IfOk result (λ copy. pattern_view S T.text copy ≡ pattern_view S T.text pattern.now) }
+{
+    let mut elements = Vec::new(alloc);
+    for element in &pattern.elements {
+        elements.push(clone_element(texts, alloc, element)?)?;
+    }
+    Ok(Pattern { elements })
+}
+
+#[cycle(copies)]
+pub(crate) fn clone_element<S: Drop, T: Texts<S>>(
+    texts: &T,
+    alloc: Global,
+    element: &PatternElement<S>,
+) -> Result<PatternElement<S>, AllocError>
+    ensures { IfOk result (λ copy. element_view S T.text copy ≡ element_view S T.text element.now) }
+{
+    match element {
+        PatternElement::TextElement { value } => {
+            let value = texts.try_clone(value, alloc)?;
+            Ok(PatternElement::TextElement { value })
+        }
+        PatternElement::Placeable { expression } => {
+            let expression = clone_expression(texts, alloc, expression)?;
+            Ok(PatternElement::Placeable { expression })
+        }
+    }
+}
+
+#[cycle(copies)]
+pub(crate) fn clone_expression<S: Drop, T: Texts<S>>(
+    texts: &T,
+    alloc: Global,
+    expression: &Expression<S>,
+) -> Result<Expression<S>, AllocError>
+    ensures { IfOk result (λ copy. expression_view S T.text copy ≡ expression_view S T.text expression.now) }
+{
+    match expression {
+        Expression::Select { selector, variants } => {
+            let selector = clone_inline(texts, alloc, selector)?;
+            let variants = clone_variants(texts, alloc, variants)?;
+            Ok(Expression::Select { selector, variants })
+        }
+        Expression::Inline(inline) => Ok(Expression::Inline(clone_inline(texts, alloc, inline)?)),
+    }
+}
+
+#[cycle(copies)]
+fn clone_variants<S: Drop, T: Texts<S>>(
+    texts: &T,
+    alloc: Global,
+    variants: &[Variant<S>],
+) -> Result<Vec<Variant<S>>, AllocError>
+    ensures { IfOk result (λ copies. map (variant_view S T.text) copies.items ≡ map (variant_view S T.text) variants.now) }
+{
+    let mut copies = Vec::new(alloc);
+    for variant in variants {
+        copies.push(clone_variant(texts, alloc, variant)?)?;
+    }
+    Ok(copies)
+}
+
+#[cycle(copies)]
+pub(crate) fn clone_variant<S: Drop, T: Texts<S>>(
+    texts: &T,
+    alloc: Global,
+    variant: &Variant<S>,
+) -> Result<Variant<S>, AllocError>
+    ensures { IfOk result (λ copy. variant_view S T.text copy ≡ variant_view S T.text variant.now) }
+{
+    let key = clone_key(texts, alloc, &variant.key)?;
+    let value = clone_pattern(texts, alloc, &variant.value)?;
+    Ok(Variant {
+        key,
+        value,
+        default: variant.default,
+    })
+}
+
+#[cycle(copies)]
+pub(crate) fn clone_inline<S: Drop, T: Texts<S>>(
+    texts: &T,
+    alloc: Global,
+    inline: &InlineExpression<S>,
+) -> Result<InlineExpression<S>, AllocError>
+    ensures { IfOk result (λ copy. inline_view S T.text copy ≡ inline_view S T.text inline.now) }
+{
+    match inline {
+        InlineExpression::StringLiteral { value } => {
+            let value = texts.try_clone(value, alloc)?;
+            Ok(InlineExpression::StringLiteral { value })
+        }
+        InlineExpression::NumberLiteral { value } => {
+            let value = texts.try_clone(value, alloc)?;
+            Ok(InlineExpression::NumberLiteral { value })
+        }
+        InlineExpression::FunctionReference { id, arguments } => {
+            let id = clone_identifier(texts, alloc, id)?;
+            let arguments = clone_arguments(texts, alloc, arguments)?;
+            Ok(InlineExpression::FunctionReference { id, arguments })
+        }
+        InlineExpression::MessageReference { id, attribute } => {
+            let id = clone_identifier(texts, alloc, id)?;
+            let attribute = clone_accessor(texts, alloc, attribute)?;
+            Ok(InlineExpression::MessageReference { id, attribute })
+        }
+        InlineExpression::TermReference {
+            id,
+            attribute,
+            arguments,
+        } => {
+            let id = clone_identifier(texts, alloc, id)?;
+            let attribute = clone_accessor(texts, alloc, attribute)?;
+            let arguments = match arguments {
+                Some(arguments) => Some(clone_arguments(texts, alloc, arguments)?),
+                None => None,
+            };
+            Ok(InlineExpression::TermReference {
+                id,
+                attribute,
+                arguments,
+            })
+        }
+        InlineExpression::VariableReference { id } => {
+            let id = clone_identifier(texts, alloc, id)?;
+            Ok(InlineExpression::VariableReference { id })
+        }
+        InlineExpression::Placeable { expression } => {
+            let expression = Box::new(alloc, clone_expression(texts, alloc, expression)?)?;
+            Ok(InlineExpression::Placeable { expression })
+        }
+    }
+}
+
+#[cycle(copies)]
+pub(crate) fn clone_arguments<S: Drop, T: Texts<S>>(
+    texts: &T,
+    alloc: Global,
+    arguments: &CallArguments<S>,
+) -> Result<CallArguments<S>, AllocError>
+    ensures { IfOk result (λ copy. arguments_view S T.text copy ≡ arguments_view S T.text arguments.now) }
+{
+    let positional = clone_positional(texts, alloc, &arguments.positional)?;
+    let named = clone_all_named(texts, alloc, &arguments.named)?;
+    Ok(CallArguments { positional, named })
+}
+
+#[cycle(copies)]
+fn clone_positional<S: Drop, T: Texts<S>>(
+    texts: &T,
+    alloc: Global,
+    arguments: &[InlineExpression<S>],
+) -> Result<Vec<InlineExpression<S>>, AllocError>
+    ensures { IfOk result (λ copies. map (inline_view S T.text) copies.items ≡ map (inline_view S T.text) arguments.now) }
+{
+    let mut copies = Vec::new(alloc);
+    for argument in arguments {
+        copies.push(clone_inline(texts, alloc, argument)?)?;
+    }
+    Ok(copies)
+}
+
+#[cycle(copies)]
+fn clone_all_named<S: Drop, T: Texts<S>>(
+    texts: &T,
+    alloc: Global,
+    arguments: &[NamedArgument<S>],
+) -> Result<Vec<NamedArgument<S>>, AllocError>
+    ensures { IfOk result (λ copies. map (named_view S T.text) copies.items ≡ map (named_view S T.text) arguments.now) }
+{
+    let mut copies = Vec::new(alloc);
+    for argument in arguments {
+        copies.push(clone_named(texts, alloc, argument)?)?;
+    }
+    Ok(copies)
+}
+
+#[cycle(copies)]
+pub(crate) fn clone_named<S: Drop, T: Texts<S>>(
+    texts: &T,
+    alloc: Global,
+    argument: &NamedArgument<S>,
+) -> Result<NamedArgument<S>, AllocError>
+    ensures { IfOk result (λ copy. named_view S T.text copy ≡ named_view S T.text argument.now) }
+{
+    let name = clone_identifier(texts, alloc, &argument.name)?;
+    let value = clone_inline(texts, alloc, &argument.value)?;
+    Ok(NamedArgument { name, value })
+}

@@ -1,0 +1,188 @@
+//! The tree of a Fluent source over a text type `S`.
+//!
+//! A reader makes it of slices of a source (`S` is `&str`) or of texts of its own (`S` is `String`). The names in
+//! backquotes after "production" are those of Fluent Syntax 1.0. Contracts speak of a tree through its plain tree, the
+//! data of the crate `fluent_grammar`: `specs/View.antt` says which plain tree a tree stands for.
+#![tactic(auto)]
+
+ghost use Rattle.std.specs.Prelude.{◌≡◌, ℕ, List};
+ghost use Rattle.fluent_grammar.specs.Tree.{arguments, no_inlines, no_nameds};
+ghost use Rattle.fluent_ast.specs.View.{arguments_view};
+
+mod clones;
+mod copies;
+pub mod laws;
+
+use std::alloc::Global;
+
+/// A whole source: its entries in the order of their places. Production `Resource`.
+#[derive(Debug, PartialEq, Eq, Drop)]
+pub struct Resource<S> {
+    pub body: Vec<Entry<S>>,
+}
+
+/// One entry of a source. Productions `Entry` and `Junk`.
+#[derive(Debug, PartialEq, Eq, Drop)]
+pub enum Entry<S> {
+    Message(Message<S>),
+    Term(Term<S>),
+    /// A comment that stands by itself, of lines with `#`.
+    Comment(Comment<S>),
+    /// A comment on the entries behind it, of lines with `##`.
+    GroupComment(Comment<S>),
+    /// A comment on the whole source, of lines with `###`.
+    ResourceComment(Comment<S>),
+    /// A stretch of the source in which no entry could be read, as it stands there.
+    Junk { content: S },
+}
+
+/// A message: a value, attributes, or both. Production `Message`.
+#[derive(Debug, PartialEq, Eq, Drop)]
+pub struct Message<S> {
+    pub id: Identifier<S>,
+    /// None for a message of attributes alone.
+    pub value: Option<Pattern<S>>,
+    pub attributes: Vec<Attribute<S>>,
+    /// The comment right above the message.
+    pub comment: Option<Comment<S>>,
+}
+
+/// A term, a text for use in other texts. Production `Term`.
+#[derive(Debug, PartialEq, Eq, Drop)]
+pub struct Term<S> {
+    /// The name without the minus sign.
+    pub id: Identifier<S>,
+    pub value: Pattern<S>,
+    pub attributes: Vec<Attribute<S>>,
+    /// The comment right above the term.
+    pub comment: Option<Comment<S>>,
+}
+
+/// A value: texts and placeables in their order. Production `Pattern`.
+#[cycle(tree)]
+#[derive(Debug, PartialEq, Eq, Drop)]
+pub struct Pattern<S> {
+    pub elements: Vec<PatternElement<S>>,
+}
+
+/// A part of a pattern. Production `PatternElement`.
+#[cycle(tree)]
+#[derive(Debug, PartialEq, Eq, Drop)]
+pub enum PatternElement<S> {
+    /// A text without its common indent. It ends with its line's line feed, where that stands before another element.
+    TextElement { value: S },
+    /// An expression in braces.
+    Placeable { expression: Expression<S> },
+}
+
+/// A named pattern of a message or a term. Production `Attribute`.
+#[derive(Debug, PartialEq, Eq, Drop)]
+pub struct Attribute<S> {
+    pub id: Identifier<S>,
+    pub value: Pattern<S>,
+}
+
+/// A name. Production `Identifier`.
+#[derive(Debug, PartialEq, Eq, Drop)]
+pub struct Identifier<S> {
+    pub name: S,
+}
+
+/// One choice of a select expression. Productions `Variant` and `DefaultVariant`.
+#[cycle(tree)]
+#[derive(Debug, PartialEq, Eq, Drop)]
+pub struct Variant<S> {
+    pub key: VariantKey<S>,
+    pub value: Pattern<S>,
+    /// Whether the variant is marked with `*`.
+    pub default: bool,
+}
+
+/// The key of a variant. Production `VariantKey`.
+#[derive(Debug, PartialEq, Eq, Drop)]
+pub enum VariantKey<S> {
+    Identifier { name: S },
+    NumberLiteral { value: S },
+}
+
+/// A comment: its lines, each without its sign and the space behind it. Production `CommentLine`.
+#[derive(Debug, PartialEq, Eq, Drop)]
+pub struct Comment<S> {
+    pub content: Vec<S>,
+}
+
+/// The arguments of a call. Production `CallArguments`.
+#[cycle(tree)]
+#[derive(Debug, PartialEq, Eq, Drop)]
+pub struct CallArguments<S> {
+    pub positional: Vec<InlineExpression<S>>,
+    pub named: Vec<NamedArgument<S>>,
+}
+
+impl<S> CallArguments<S> {
+    /// No arguments. It takes no memory and succeeds.
+    pub fn new(alloc: Global) -> Self
+        ensures { (text_of : S → List ℕ) → arguments_view S text_of result ≡ arguments no_inlines no_nameds }
+    {
+        CallArguments {
+            positional: Vec::new(alloc),
+            named: Vec::new(alloc),
+        }
+    }
+}
+
+/// An argument with a name. Production `NamedArgument`.
+#[cycle(tree)]
+#[derive(Debug, PartialEq, Eq, Drop)]
+pub struct NamedArgument<S> {
+    pub name: Identifier<S>,
+    pub value: InlineExpression<S>,
+}
+
+/// An expression that stands on one line. Production `InlineExpression`.
+#[cycle(tree)]
+#[derive(Debug, PartialEq, Eq, Drop)]
+pub enum InlineExpression<S> {
+    /// The raw text between the quotes, escapes as they stand.
+    StringLiteral {
+        value: S,
+    },
+    /// The digits, with a minus and a point where they stand.
+    NumberLiteral {
+        value: S,
+    },
+    FunctionReference {
+        id: Identifier<S>,
+        arguments: CallArguments<S>,
+    },
+    MessageReference {
+        id: Identifier<S>,
+        attribute: Option<Identifier<S>>,
+    },
+    /// The name without the minus sign. Arguments that are present may be empty.
+    TermReference {
+        id: Identifier<S>,
+        attribute: Option<Identifier<S>>,
+        arguments: Option<CallArguments<S>>,
+    },
+    /// The name without the dollar sign.
+    VariableReference {
+        id: Identifier<S>,
+    },
+    /// A placeable inside a placeable.
+    Placeable {
+        expression: Box<Expression<S>>,
+    },
+}
+
+/// The expression of a placeable. Productions `SelectExpression` and `InlineExpression`.
+#[cycle(tree)]
+#[derive(Debug, PartialEq, Eq, Drop)]
+pub enum Expression<S> {
+    /// A choice among variants by the value of the selector.
+    Select {
+        selector: InlineExpression<S>,
+        variants: Vec<Variant<S>>,
+    },
+    Inline(InlineExpression<S>),
+}

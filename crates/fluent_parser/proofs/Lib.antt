@@ -1,0 +1,17 @@
+pub mod Names
+pub mod Named
+pub mod Indexed
+pub mod PieceViews
+pub mod PatternPieces
+pub mod Steps
+pub mod Whole
+pub mod Failing
+pub mod Cycle
+pub mod Values
+pub mod Runs
+pub mod Comments
+pub mod Entries
+pub mod EntryStarts
+pub mod Parts
+pub mod Left
+pub mod CollectedEntries

@@ -1,0 +1,313 @@
+use Rattle.std.proofs.Common.{◌≡◌, ◌∙◌, ◌||◌, ℕ, List, [], length, take, drop, map, sym, ap, refl, subst, arith, Some, ◌++◌, ◌∷◌, Vec, Global}
+use Rattle.std.specs.Prelude.{false, option_map, ◌==◌}
+use Rattle.std.specs.List.{list_all}
+use Rattle.fluent_grammar.specs.Words as w
+use Rattle.fluent_grammar.specs.Words.{begins_with, skip_blank, skip_separator}
+use Rattle.fluent_grammar.specs.Refusal.{got, mapped}
+use Rattle.fluent_grammar.specs.Tree as tree
+use Rattle.fluent_grammar.specs.Reading as read
+use Rattle.fluent_ast.specs.declared.NamedArgument.{NamedArgument}
+use Rattle.fluent_ast.specs.declared.InlineExpression.{InlineExpression}
+use Rattle.fluent_ast.specs.declared.Variant.{Variant}
+use Rattle.fluent_words.specs.Counted.{begins_literal}
+use Rattle.fluent_parser.specs.Reads.{whole, string_or_number_at, argument_value_at}
+use Rattle.fluent_parser.specs.Steps.{names_of, variants_behind, Argument, named, arguments_behind, positional_by, argument_by, placeable_by, pattern_by}
+use Rattle.fluent_ast.specs.View.{Named, inlines_of, nameds_of, name_of, inline_view, expression_view, named_view, variant_view, variants_of, arguments_view, pattern_view}
+use Rattle.fluent_parser.specs.declared.named_arguments.NamedArguments.{NamedArguments}
+use Rattle.fluent_parser.specs.Arguments.{argument_view, IsNamed}
+use Rattle.fluent_parser.specs.Indexed.{IsIndexed}
+use Rattle.fluent_parser.proofs.Named.{name_begins}
+use Rattle.fluent_parser.specs.Pieces.{piece_view, step_view, items_of, IsPiece}
+use Rattle.fluent_ast.proofs.Views.{inline_view-FunctionReference, inline_view-TermReference, inline_view-Placeable, arguments_view-roll, named_view-roll}
+use Rattle.fluent_parser.proofs.Failing.{handed_on, fails_mapped, fails_same}
+use Rattle.fluent_words.proofs.Scanned.{test_of}
+use Rattle.fluent_parser.proofs.Runs.{cut_indent_at, cut_line_feed, line_feed_read, begun_shorter, cut_arrow, one_right}
+use Rattle.std.proofs.lemmas.List.Elements.{All-append}
+use Rattle.fluent_parser.proofs.Cycle.{gives_same, inline_literal, inline_term, inline_variable, inline_named, inline_nested, inline_none, inline_shorter, argument_fails, argument_not_named, argument_unnamed, argument_named, arguments_start, arguments_empty, arguments_fail, argument_fail, positional_read, named_read, arguments_end, mark_fails, variants_fail, variant_fails, variants_read, variants_end, variants_refused, pieces_start, pattern_fails, piece_read, pattern_end, term_read, function_read, pushed, arguments_same, variants_same, pieces_same, on_ok_always}
+use Rattle.fluent_parser.proofs.helper.Parser.+parser.Goals as goal
+use Rattle.fluent_parser.proofs.helper.Parser.+parser.Goals.{get_call_arguments-in-Positional+in_ok-push-in-Positional, get_call_arguments-in-Named+in_ok-push-in-Named}
+
+pub get_inline_expression-returns-then-begins_literal-clause-gives : goal.get_inline_expression-returns-then-begins_literal-clause-gives
+get_inline_expression-returns-then-begins_literal-clause-gives g t c =
+    let lit = ap begins_literal (sym c.bytes-bytes.ensures.value) ∙ sym c.begins_literal.ensures ∙ c.if-begins_literal.true in
+    gives_same (inline_view g.row.S.Denot g.T.Texts.text) c.get_literal.new.self.rest.now c.get_literal.result (string_or_number_at c.args.self.now.rest.now) (whole.inline c.args.self.now.rest.now) (inline_literal c.args.self.now.rest.now lit) c.get_literal.ensures.gives
+
+pub get_inline_expression-returns-then-begins_with-clause-gives : goal.get_inline_expression-returns-then-begins_with-clause-gives
+get_inline_expression-returns-then-begins_with-clause-gives g t c =
+    let lit = ap begins_literal (sym c.bytes-bytes.ensures.value) ∙ sym c.begins_literal.ensures ∙ c.if-begins_literal.false in
+    let minus = ap (begins_with w.hyphen) (sym c.bytes-bytes.ensures.value) ∙ sym c.begins_with.ensures ∙ c.if-begins_with.true in
+    gives_same (inline_view g.row.S.Denot g.T.Texts.text) c.get_term_reference.new.self.rest.now c.get_term_reference.result (read.term_at whole (drop 1 c.args.self.now.rest.now)) (whole.inline c.args.self.now.rest.now) (inline_term c.args.self.now.rest.now lit minus) c.get_term_reference.ensures.gives
+
+pub get_inline_expression-returns-then-begins_with-2-clause-gives : goal.get_inline_expression-returns-then-begins_with-2-clause-gives
+get_inline_expression-returns-then-begins_with-2-clause-gives g t c =
+    let lit = ap begins_literal (sym c.bytes-bytes.ensures.value) ∙ sym c.begins_literal.ensures ∙ c.if-begins_literal.false in
+    let minus = ap (begins_with w.hyphen) (sym c.bytes-bytes.ensures.value) ∙ sym c.begins_with.ensures ∙ c.if-begins_with.false in
+    let dollar = ap (begins_with w.dollar) (sym c.bytes-bytes.ensures.value) ∙ sym c.begins_with-else-begins_with.ensures ∙ c.if-begins_with-2.true in
+    gives_same (inline_view g.row.S.Denot g.T.Texts.text) c.get_variable_reference.new.self.rest.now c.get_variable_reference.result (mapped tree.variable_reference (read.identifier_at (drop 1 c.args.self.now.rest.now))) (whole.inline c.args.self.now.rest.now) (inline_variable c.args.self.now.rest.now lit minus dollar) c.get_variable_reference.ensures.gives
+
+pub get_inline_expression-returns-then-begins_with_letter-clause-gives : goal.get_inline_expression-returns-then-begins_with_letter-clause-gives
+get_inline_expression-returns-then-begins_with_letter-clause-gives g t c =
+    let lit = ap begins_literal (sym c.bytes-bytes.ensures.value) ∙ sym c.begins_literal.ensures ∙ c.if-begins_literal.false in
+    let minus = ap (begins_with w.hyphen) (sym c.bytes-bytes.ensures.value) ∙ sym c.begins_with.ensures ∙ c.if-begins_with.false in
+    let dollar = ap (begins_with w.dollar) (sym c.bytes-bytes.ensures.value) ∙ sym c.begins_with-else-begins_with.ensures ∙ c.if-begins_with-2.false in
+    let letter = ap (w.begins w.is_letter) (sym c.bytes-bytes.ensures.value) ∙ sym c.begins_with_letter.ensures ∙ c.if-begins_with_letter.true in
+    gives_same (inline_view g.row.S.Denot g.T.Texts.text) c.get_named_reference.new.self.rest.now c.get_named_reference.result (read.named_at whole c.args.self.now.rest.now) (whole.inline c.args.self.now.rest.now) (inline_named c.args.self.now.rest.now lit minus dollar letter) c.get_named_reference.ensures.gives
+
+pub get_inline_expression-returns-in_ok-expression-2-clause-gives : goal.get_inline_expression-returns-in_ok-expression-2-clause-gives
+get_inline_expression-returns-in_ok-expression-2-clause-gives g t c =
+    let lit = ap begins_literal (sym c.bytes-bytes.ensures.value) ∙ sym c.begins_literal.ensures ∙ c.if-begins_literal.false in
+    let minus = ap (begins_with w.hyphen) (sym c.bytes-bytes.ensures.value) ∙ sym c.begins_with.ensures ∙ c.if-begins_with.false in
+    let dollar = ap (begins_with w.dollar) (sym c.bytes-bytes.ensures.value) ∙ sym c.begins_with-else-begins_with.ensures ∙ c.if-begins_with-2.false in
+    let letter = ap (w.begins w.is_letter) (sym c.bytes-bytes.ensures.value) ∙ sym c.begins_with_letter.ensures ∙ c.if-begins_with_letter.false in
+    let brace = ap (begins_with w.open_brace) (sym c.bytes-bytes.ensures.value) ∙ sym c.begins_with-else-begins_with_letter.ensures ∙ c.if-begins_with-3.true in
+    sym (inline_nested c.args.self.now.rest.now lit minus dollar letter brace) ∙ ap (mapped tree.nested) c.in_ok-expression.ensures.gives
+    ∙ ap (λ z. got z c.get_placeable.new.self.rest.now) (ap (λ z. tree.nested (expression_view g.row.S.Denot g.T.Texts.text z)) (sym c.in_ok-expression-2.ensures.ok) ∙ sym (inline_view-Placeable g.row.S.Denot g.T.Texts.text c.in_ok-expression-2.expression))
+
+pub get_inline_expression-returns-in_err-expression-clause-gives : goal.get_inline_expression-returns-in_err-expression-clause-gives
+get_inline_expression-returns-in_err-expression-clause-gives g t c =
+    let lit = ap begins_literal (sym c.bytes-bytes.ensures.value) ∙ sym c.begins_literal.ensures ∙ c.if-begins_literal.false in
+    let minus = ap (begins_with w.hyphen) (sym c.bytes-bytes.ensures.value) ∙ sym c.begins_with.ensures ∙ c.if-begins_with.false in
+    let dollar = ap (begins_with w.dollar) (sym c.bytes-bytes.ensures.value) ∙ sym c.begins_with-else-begins_with.ensures ∙ c.if-begins_with-2.false in
+    let letter = ap (w.begins w.is_letter) (sym c.bytes-bytes.ensures.value) ∙ sym c.begins_with_letter.ensures ∙ c.if-begins_with_letter.false in
+    let brace = ap (begins_with w.open_brace) (sym c.bytes-bytes.ensures.value) ∙ sym c.begins_with-else-begins_with_letter.ensures ∙ c.if-begins_with-3.true in
+    let nested = inline_nested c.args.self.now.rest.now lit minus dollar letter brace in
+    handed_on (inline_view g.row.S.Denot g.T.Texts.text) c.get_placeable.new.self.rest.now c.from_residual.result c.in_err-expression.field-0.0 (whole.inline c.args.self.now.rest.now) c.from_residual.ensures.1
+    (fails_same c.in_err-expression.field-0.0 c.get_placeable.new.self.rest.now (mapped tree.nested (placeable_by c.args.self.now.rest.now)) (whole.inline c.args.self.now.rest.now) nested (fails_mapped c.in_err-expression.field-0.0 c.get_placeable.new.self.rest.now tree.nested (placeable_by c.args.self.now.rest.now) c.in_err-expression.ensures.gives))
+
+pub get_inline_expression-returns-else-begins_with-3-clause-gives : goal.get_inline_expression-returns-else-begins_with-3-clause-gives
+get_inline_expression-returns-else-begins_with-3-clause-gives g t c =
+    let lit = ap begins_literal (sym c.bytes-bytes.ensures.value) ∙ sym c.begins_literal.ensures ∙ c.if-begins_literal.false in
+    let minus = ap (begins_with w.hyphen) (sym c.bytes-bytes.ensures.value) ∙ sym c.begins_with.ensures ∙ c.if-begins_with.false in
+    let dollar = ap (begins_with w.dollar) (sym c.bytes-bytes.ensures.value) ∙ sym c.begins_with-else-begins_with.ensures ∙ c.if-begins_with-2.false in
+    let letter = ap (w.begins w.is_letter) (sym c.bytes-bytes.ensures.value) ∙ sym c.begins_with_letter.ensures ∙ c.if-begins_with_letter.false in
+    let brace = ap (begins_with w.open_brace) (sym c.bytes-bytes.ensures.value) ∙ sym c.begins_with-else-begins_with_letter.ensures ∙ c.if-begins_with-3.false in
+    rw (inline_none c.args.self.now.rest.now lit minus dollar letter brace) (refl, refl)
+
+pub get_expression-advance-requires : goal.get_expression-advance-requires
+get_expression-advance-requires g t c =
+    cut_arrow c.skip_blank.new.self.rest.now (ap w.begins_arrow (sym c.bytes.ensures.value) ∙ sym c.begins_arrow.ensures ∙ c.if-not-begins_arrow.false)
+
+pub get_named_reference-returns-then-is_callee-clause-gives : goal.get_named_reference-returns-then-is_callee-clause-gives
+get_named_reference-returns-then-is_callee-clause-gives g t c =
+    function_read c.args.self.now.rest.now c.get_identifier.new.self.rest.now c.skip_blank.new.self.rest.now c.get_call_arguments.new.self.rest.now (name_of g.row.S.Denot g.T.Texts.text c.in_ok-id.id) (arguments_view g.row.S.Denot g.T.Texts.text c.in_ok-arguments.arguments)
+    c.in_ok-id.ensures.gives c.skip_blank.ensures.rest (sym c.is_current_byte.ensures ∙ c.if-not-is_current_byte.false) c.in_ok-arguments.ensures.gives (ap (list_all w.is_callee_byte) (sym c.as_str.ensures) ∙ sym c.is_callee.ensures ∙ c.if-is_callee.true)
+    ∙ ap (λ z. got z c.get_call_arguments.new.self.rest.now) (sym (inline_view-FunctionReference g.row.S.Denot g.T.Texts.text c.in_ok-id.id c.in_ok-arguments.arguments))
+
+pub get_term_reference-returns-clause-gives : goal.get_term_reference-returns-clause-gives
+get_term_reference-returns-clause-gives g t c =
+    term_read (drop 1 c.args.self.now.rest.now) c.get_identifier.new.self.rest.now c.get_attribute_accessor.new.self.rest.now c.skip_blank.new.self.rest.now c.get_call_arguments.new.self.rest.now (name_of g.row.S.Denot g.T.Texts.text c.in_ok-id.id) (option_map (name_of g.row.S.Denot g.T.Texts.text) c.in_ok-attribute.attribute) (arguments_view g.row.S.Denot g.T.Texts.text c.in_ok-arguments.arguments)
+    (ap read.identifier_at (sym c.advance.ensures.rest) ∙ c.in_ok-id.ensures.gives) c.in_ok-attribute.ensures.gives c.skip_blank.ensures.rest (sym c.is_current_byte.ensures ∙ c.if-not-is_current_byte.false) c.in_ok-arguments.ensures.gives
+    ∙ ap (λ z. got z c.get_call_arguments.new.self.rest.now) (sym (inline_view-TermReference g.row.S.Denot g.T.Texts.text c.in_ok-id.id c.in_ok-attribute.attribute (Some c.in_ok-arguments.arguments)))
+
+pub get_variant-returns-clause-less : goal.get_variant-returns-clause-less
+get_variant-returns-clause-less g t c =
+    omega (arith, begun_shorter c.args.self.now.rest.now c.advance.new.self.rest.now w.open_bracket c.requires.bracket c.advance.ensures.rest, c.get_variant_key.ensures.onward, c.get_pattern.ensures.onward)
+
+pub get_call_arguments-loop-self-init : goal.get_call_arguments-loop-self-init
+get_call_arguments-loop-self-init g t c =
+    let skipped = c.skip_blank.ensures.rest ∙ ap skip_blank c.advance.ensures.rest in
+    record {
+      source = c.skip_blank.ensures.source ∙ c.advance.ensures.source;
+      text = c.skip_blank.ensures.text ∙ c.advance.ensures.text;
+      onward = omega (arith, begun_shorter c.args.self.now.rest.now c.advance.new.self.rest.now w.open_paren c.requires.parenthesis c.advance.ensures.rest, c.skip_blank.ensures.onward);
+      same = arguments_start (inline_view g.row.S.Denot g.T.Texts.text) (named_view g.row.S.Denot g.T.Texts.text) c.new-positional.result.items c.new-named.result.all.items c.skip_blank.new.self.rest.now (skip_blank (drop 1 c.args.self.now.rest.now)) c.new-positional.ensures.items c.new-named.ensures.all skipped;
+      indexed = c.new-named.ensures.indexed g.T.Texts.text;
+    }
+
+pub get_call_arguments-returns-then-is_empty-clause-gives : goal.get_call_arguments-returns-then-is_empty-clause-gives
+get_call_arguments-returns-then-is_empty-clause-gives g t c =
+    let empty = test_of (length c.loop-self.self.rest.now) 0 (sym (ap (λ (z : List ℕ). length z == 0) c.bytes.ensures.value) ∙ sym c.is_empty.ensures ∙ c.if-is_empty.true) in
+    let refusal = ap (mapped (arguments_behind (map (inline_view g.row.S.Denot g.T.Texts.text) c.loop-self.positional.items) (map (named_view g.row.S.Denot g.T.Texts.text) c.loop-self.named.all.items))) (arguments_empty (names_of (map (named_view g.row.S.Denot g.T.Texts.text) c.loop-self.named.all.items)) c.loop-self.self.rest.now empty) in
+    rw (← c.loop-self.invariant.same, refusal) (refl, refl)
+
+pub get_call_arguments-returns-in_err-argument-clause-gives : goal.get_call_arguments-returns-in_err-argument-clause-gives
+get_call_arguments-returns-in_err-argument-clause-gives g t c =
+    let some = sym (ap (λ (z : List ℕ). length z == 0) c.bytes.ensures.value) ∙ sym c.is_empty.ensures ∙ c.if-is_empty.false in
+    let more = sym c.is_current_byte.ensures ∙ c.loop-self-test.true in
+    let e = c.in_err-argument.field-0.0 in
+    let rest = c.get_argument.new.self.rest.now in
+    let failed = c.in_err-argument.ensures.gives in
+    handed_on (arguments_view g.row.S.Denot g.T.Texts.text) rest c.from_residual.result e (whole.arguments [] (skip_blank (drop 1 c.args.self.now.rest.now))) c.from_residual.ensures.1
+    (arguments_fail (map (inline_view g.row.S.Denot g.T.Texts.text) c.loop-self.positional.items) (map (named_view g.row.S.Denot g.T.Texts.text) c.loop-self.named.all.items) c.loop-self.self.rest.now (skip_blank (drop 1 c.args.self.now.rest.now)) e rest c.loop-self.invariant.same (argument_fail (names_of (map (named_view g.row.S.Denot g.T.Texts.text) c.loop-self.named.all.items)) c.loop-self.self.rest.now e rest some more failed))
+
+pub get_call_arguments-loop-self-preserved : goal.get_call_arguments-loop-self-preserved
+get_call_arguments-loop-self-preserved g t c =
+    let some = sym (ap (λ (z : List ℕ). length z == 0) c.bytes.ensures.value) ∙ sym c.is_empty.ensures ∙ c.if-is_empty.false in
+    let more = sym c.is_current_byte.ensures ∙ c.loop-self-test.true in
+    let rest = c.get_argument.new.self.rest.now in
+    let behind = c.skip_separator.new.self.rest.now in
+    let taken = c.in_ok-argument.ensures.gives in
+    let same : mapped (arguments_behind (map (inline_view g.row.S.Denot g.T.Texts.text) c.match-branch-2.positional.items) (map (named_view g.row.S.Denot g.T.Texts.text) c.match-branch-2.named.all.items)) (whole.arguments (names_of (map (named_view g.row.S.Denot g.T.Texts.text) c.match-branch-2.named.all.items)) behind) ≡ whole.arguments [] (skip_blank (drop 1 c.args.self.now.rest.now)) =
+    elim c.match-branch-2.branch [
+      | get_call_arguments-in-Positional+in_ok-push-in-Positional w ↦
+          let x = w.in-Positional.argument in
+          arguments_same ((map (inline_view g.row.S.Denot g.T.Texts.text) c.loop-self.positional.items) ++ inline_view g.row.S.Denot g.T.Texts.text x ∷ []) (map (inline_view g.row.S.Denot g.T.Texts.text) c.match-branch-2.positional.items) (map (named_view g.row.S.Denot g.T.Texts.text) c.loop-self.named.all.items) (map (named_view g.row.S.Denot g.T.Texts.text) c.match-branch-2.named.all.items) behind (whole.arguments [] (skip_blank (drop 1 c.args.self.now.rest.now)))
+          (ap (λ (v : Vec (InlineExpression g.row.S.Denot) Global). map (inline_view g.row.S.Denot g.T.Texts.text) v.items) w.positional-is ∙ pushed (inline_view g.row.S.Denot g.T.Texts.text) c.loop-self.positional.items w.push.new.self.items x w.in_ok-push-in-Positional.ensures.items)
+          (ap (λ (v : NamedArguments g.row.S.Denot). map (named_view g.row.S.Denot g.T.Texts.text) v.all.items) w.named-is)
+          (positional_read (map (inline_view g.row.S.Denot g.T.Texts.text) c.loop-self.positional.items) (map (named_view g.row.S.Denot g.T.Texts.text) c.loop-self.named.all.items) c.loop-self.self.rest.now (skip_blank (drop 1 c.args.self.now.rest.now)) rest behind (inline_view g.row.S.Denot g.T.Texts.text x) c.loop-self.invariant.same some more (taken ∙ ap (λ z. got (argument_view g.row.S.Denot g.T.Texts.text z) rest) w.in-Positional.is) c.skip_separator.ensures.rest)
+      | get_call_arguments-in-Named+in_ok-push-in-Named w ↦
+          let x = w.in-Named.argument in
+          arguments_same (map (inline_view g.row.S.Denot g.T.Texts.text) c.loop-self.positional.items) (map (inline_view g.row.S.Denot g.T.Texts.text) c.match-branch-2.positional.items) ((map (named_view g.row.S.Denot g.T.Texts.text) c.loop-self.named.all.items) ++ named_view g.row.S.Denot g.T.Texts.text x ∷ []) (map (named_view g.row.S.Denot g.T.Texts.text) c.match-branch-2.named.all.items) behind (whole.arguments [] (skip_blank (drop 1 c.args.self.now.rest.now)))
+          (ap (λ (v : Vec (InlineExpression g.row.S.Denot) Global). map (inline_view g.row.S.Denot g.T.Texts.text) v.items) w.positional-is)
+          (ap (λ (v : NamedArguments g.row.S.Denot). map (named_view g.row.S.Denot g.T.Texts.text) v.all.items) w.named-is ∙ pushed (named_view g.row.S.Denot g.T.Texts.text) c.loop-self.named.all.items w.push-in-Named.new.self.all.items x w.in_ok-push-in-Named.ensures.all)
+          (named_read (map (inline_view g.row.S.Denot g.T.Texts.text) c.loop-self.positional.items) (map (named_view g.row.S.Denot g.T.Texts.text) c.loop-self.named.all.items) c.loop-self.self.rest.now (skip_blank (drop 1 c.args.self.now.rest.now)) rest behind (named_view g.row.S.Denot g.T.Texts.text x) c.loop-self.invariant.same some more (taken ∙ ap (λ z. got (argument_view g.row.S.Denot g.T.Texts.text z) rest) w.in-Named.is) c.skip_separator.ensures.rest)
+    ] in
+    let indexed : IsIndexed g.row.S.Denot g.T.Texts.text c.match-branch-2.named =
+    elim c.match-branch-2.branch [
+      | get_call_arguments-in-Positional+in_ok-push-in-Positional w ↦ subst (IsIndexed g.row.S.Denot g.T.Texts.text) (sym w.named-is) c.loop-self.invariant.indexed
+      | get_call_arguments-in-Named+in_ok-push-in-Named w ↦
+          subst (IsIndexed g.row.S.Denot g.T.Texts.text) (sym w.named-is)
+          (w.in_ok-push-in-Named.ensures.indexed g.T.Texts.text (subst (IsNamed g.row.S.Denot g.T.Texts.text) w.in-Named.is c.in_ok-argument.ensures.named) c.loop-self.invariant.indexed)
+    ] in
+    record {
+      source = c.skip_separator.ensures.source ∙ c.get_argument.ensures.source ∙ c.loop-self.invariant.source;
+      text = c.skip_separator.ensures.text ∙ c.get_argument.ensures.text ∙ c.loop-self.invariant.text;
+      onward = omega (arith, c.skip_separator.ensures.onward, c.get_argument.ensures.onward, c.loop-self.invariant.onward);
+      same = same;
+      indexed = indexed;
+    }
+
+pub get_call_arguments-returns-clause-gives : goal.get_call_arguments-returns-clause-gives
+get_call_arguments-returns-clause-gives g t c =
+    arguments_end (map (inline_view g.row.S.Denot g.T.Texts.text) c.loop-self.positional.items) (map (named_view g.row.S.Denot g.T.Texts.text) c.loop-self.named.all.items) c.loop-self.self.rest.now (skip_blank (drop 1 c.args.self.now.rest.now)) c.advance-2.new.self.rest.now c.loop-self.invariant.same (sym c.is_current_byte.ensures ∙ c.loop-self-test.false) c.advance-2.ensures.rest
+    ∙ ap (λ (v : Vec (NamedArgument g.row.S.Denot) Global). got (tree.arguments (inlines_of (map (inline_view g.row.S.Denot g.T.Texts.text) c.loop-self.positional.items)) (nameds_of (map (named_view g.row.S.Denot g.T.Texts.text) v.items))) c.advance-2.new.self.rest.now) (sym c.into_all.ensures)
+    ∙ ap (λ z. got z c.advance-2.new.self.rest.now) (sym (arguments_view-roll g.row.S.Denot g.T.Texts.text (record { positional = c.loop-self.positional; named = c.into_all.result })))
+
+pub get_pattern-loop-pieces-init : goal.get_pattern-loop-pieces-init
+get_pattern-loop-pieces-init g t c =
+    record {
+      source = c.skip_to_pattern-at_line_start.ensures.source;
+      text = c.skip_to_pattern-at_line_start.ensures.text;
+      onward = c.skip_to_pattern-at_line_start.ensures.onward;
+      right = λ k d h. absurd (omega (arith, h));
+      same = pieces_start (piece_view g.row.S.Denot g.T.Texts.text) [] c.skip_to_pattern-at_line_start.result (w.skip_spaces c.args.self.now.rest.now) c.skip_to_pattern-at_line_start.new.self.rest.now (w.after_line_end (w.skip_spaces c.args.self.now.rest.now)) refl c.skip_to_pattern-at_line_start.ensures.place;
+    }
+
+pub get_pattern-returns-in_err-piece-clause-gives : goal.get_pattern-returns-in_err-piece-clause-gives
+get_pattern-returns-in_err-piece-clause-gives g t c =
+    handed_on (option_map (pattern_view g.row.S.Denot g.T.Texts.text)) c.get_piece.new.self.rest.now c.from_residual.result c.in_err-piece.field-0.0 (pattern_by c.args.self.now.rest.now) c.from_residual.ensures.1
+    (pattern_fails c.loop-pieces.self.rest.now c.args.self.now.rest.now c.loop-pieces.at_line_start (map (piece_view g.row.S.Denot g.T.Texts.text) (items_of g.row.S.Denot c.loop-pieces.pieces)) c.in_err-piece.field-0.0 c.get_piece.new.self.rest.now c.loop-pieces.invariant.same c.in_err-piece.ensures.gives)
+
+pub get_pattern-loop-pieces-preserved : goal.get_pattern-loop-pieces-preserved
+get_pattern-loop-pieces-preserved g t c =
+    let rest = c.get_piece.new.self.rest.now in
+    let x = piece_view g.row.S.Denot g.T.Texts.text c.in-Some.piece in
+    let taken = c.in_ok-piece.ensures.gives ∙ ap (λ z. got (option_map (step_view g.row.S.Denot g.T.Texts.text) z) rest) c.in-Some.is in
+    record {
+      source = c.get_piece.ensures.source ∙ c.loop-pieces.invariant.source;
+      text = c.get_piece.ensures.text ∙ c.loop-pieces.invariant.text;
+      onward = omega (arith, c.get_piece.ensures.onward, c.loop-pieces.invariant.onward);
+      right = rw c.in_ok-push.ensures (All-append (IsPiece g.row.S.Denot g.T.Texts.text) (items_of g.row.S.Denot c.loop-pieces.pieces) (c.in-Some.piece ∷ []) c.loop-pieces.invariant.right (one_right g.row.S.Denot g.T.Texts.text c.in_ok-piece.field-0 c.in-Some.piece c.in-Some.ends_line c.in-Some.is c.in_ok-piece.ensures.right));
+      same = pieces_same ((map (piece_view g.row.S.Denot g.T.Texts.text) (items_of g.row.S.Denot c.loop-pieces.pieces)) ++ x ∷ []) (map (piece_view g.row.S.Denot g.T.Texts.text) (items_of g.row.S.Denot c.push.new.self)) c.in-Some.ends_line rest (read.first_pieces_at whole (w.skip_spaces c.args.self.now.rest.now) (w.after_line_end (w.skip_spaces c.args.self.now.rest.now))) (pushed (piece_view g.row.S.Denot g.T.Texts.text) (items_of g.row.S.Denot c.loop-pieces.pieces) (items_of g.row.S.Denot c.push.new.self) c.in-Some.piece c.in_ok-push.ensures)
+          (piece_read (map (piece_view g.row.S.Denot g.T.Texts.text) (items_of g.row.S.Denot c.loop-pieces.pieces)) c.loop-pieces.at_line_start c.in-Some.ends_line c.loop-pieces.self.rest.now rest x (read.first_pieces_at whole (w.skip_spaces c.args.self.now.rest.now) (w.after_line_end (w.skip_spaces c.args.self.now.rest.now))) c.loop-pieces.invariant.same taken);
+    }
+
+pub get_pattern-returns-clause-gives : goal.get_pattern-returns-clause-gives
+get_pattern-returns-clause-gives g t c =
+    let piece = c.in_ok-piece.ensures.gives ∙ ap (λ z. got (option_map (step_view g.row.S.Denot g.T.Texts.text) z) c.get_piece.new.self.rest.now) c.in_default.is in
+    pattern_end c.loop-pieces.self.rest.now c.args.self.now.rest.now c.get_piece.new.self.rest.now c.loop-pieces.at_line_start (map (piece_view g.row.S.Denot g.T.Texts.text) (items_of g.row.S.Denot c.loop-pieces.pieces)) c.loop-pieces.invariant.same piece
+    ∙ ap (λ z. got z c.get_piece.new.self.rest.now) (sym c.in_ok-pattern.ensures)
+
+pub get_piece_behind-advance-requires : goal.get_piece_behind-advance-requires
+get_piece_behind-advance-requires g t c =
+    cut_indent_at c.args.at_line_start c.args.self.now.rest.now c.args.indent c.requires.indent
+
+pub get_piece_behind-take-requires-clause-cuts : goal.get_piece_behind-take-requires-clause-cuts
+get_piece_behind-take-requires-clause-cuts g t c =
+    cut_line_feed c.args.self.now.rest.now c.from-behind.result.now c.advance-then-begins_crlf.new.self.rest.now c.args.indent (c.from-behind.ensures ∙ ap (drop c.args.indent) c.bytes.ensures.value) (sym c.begins_crlf.ensures ∙ c.if-begins_crlf.true) c.advance-then-begins_crlf.ensures.rest
+
+pub get_piece_behind-returns-in_ok-text-clause-gives : goal.get_piece_behind-returns-in_ok-text-clause-gives
+get_piece_behind-returns-in_ok-text-clause-gives g t c =
+    line_feed_read c.args.self.now.rest.now c.from-behind.result.now c.advance-then-begins_crlf.new.self.rest.now c.take.new.self.rest.now (g.T.Texts.text c.in_ok-text.text) c.args.at_line_start c.args.indent (c.from-behind.ensures ∙ ap (drop c.args.indent) c.bytes.ensures.value)
+    (sym c.is_empty.ensures ∙ c.if-is_empty.false) (sym c.begins_with.ensures ∙ c.if-begins_with.false) (sym c.begins_crlf.ensures ∙ c.if-begins_crlf.true) c.advance-then-begins_crlf.ensures.rest c.in_ok-text.ensures.value c.take.ensures.rest
+
+pub get_variants-returns-then-has_default-clause-gives : goal.get_variants-returns-then-has_default-clause-gives
+get_variants-returns-then-has_default-clause-gives g t c =
+    variants_end (map (variant_view g.row.S.Denot g.T.Texts.text) c.loop-variants.variants.items) c.loop-variants.has_default c.in_ok-default.default c.loop-variants.self.rest.now c.args.self.now.rest.now c.take_default_mark.new.self.rest.now c.loop-variants.invariant.same c.in_ok-default.ensures.gives (sym c.is_current_byte.ensures ∙ c.if-not-is_current_byte.true) c.if-has_default.true
+
+pub get_variants-returns-in_err-get_variant-clause-gives : goal.get_variants-returns-in_err-get_variant-clause-gives
+get_variants-returns-in_err-get_variant-clause-gives g t c =
+    let e = c.in_err-get_variant.field-0.0 in
+    let rest = c.get_variant.new.self.rest.now in
+    handed_on (λ (vs : Vec (Variant g.row.S.Denot) Global). variants_of (map (variant_view g.row.S.Denot g.T.Texts.text) vs.items)) rest c.from_residual-in_err-get_variant.result e (whole.variants false c.args.self.now.rest.now) c.from_residual-in_err-get_variant.ensures.1
+    (variants_fail (map (variant_view g.row.S.Denot g.T.Texts.text) c.loop-variants.variants.items) c.loop-variants.has_default c.loop-variants.self.rest.now c.args.self.now.rest.now e rest c.loop-variants.invariant.same
+    (variant_fails c.loop-variants.has_default c.in_ok-default.default c.loop-variants.self.rest.now c.take_default_mark.new.self.rest.now e rest c.in_ok-default.ensures.gives (sym c.is_current_byte.ensures ∙ c.if-not-is_current_byte.false) c.in_err-get_variant.ensures.gives))
+
+pub get_variants-loop-variants-preserved : goal.get_variants-loop-variants-preserved
+get_variants-loop-variants-preserved g t c =
+    let x = variant_view g.row.S.Denot g.T.Texts.text c.in_ok-get_variant.field-0 in
+    let items = pushed (variant_view g.row.S.Denot g.T.Texts.text) c.loop-variants.variants.items c.push.new.self.items c.in_ok-get_variant.field-0 c.in_ok-push.ensures.items in
+    record {
+      source = c.skip_blank.ensures.source ∙ c.get_variant.ensures.source ∙ c.take_default_mark.ensures.source ∙ c.loop-variants.invariant.source;
+      text = c.skip_blank.ensures.text ∙ c.get_variant.ensures.text ∙ c.take_default_mark.ensures.text ∙ c.loop-variants.invariant.text;
+      onward = omega (arith, c.skip_blank.ensures.onward, c.get_variant.ensures.less, c.take_default_mark.ensures.onward, c.loop-variants.invariant.onward);
+      same = variants_same ((map (variant_view g.row.S.Denot g.T.Texts.text) c.loop-variants.variants.items) ++ x ∷ []) (map (variant_view g.row.S.Denot g.T.Texts.text) c.push.new.self.items) (c.loop-variants.has_default || c.in_ok-default.default) c.skip_blank.new.self.rest.now (whole.variants false c.args.self.now.rest.now) items
+          (variants_read (map (variant_view g.row.S.Denot g.T.Texts.text) c.loop-variants.variants.items) c.loop-variants.has_default c.in_ok-default.default c.loop-variants.self.rest.now c.args.self.now.rest.now c.take_default_mark.new.self.rest.now c.get_variant.new.self.rest.now c.skip_blank.new.self.rest.now x c.loop-variants.invariant.same c.in_ok-default.ensures.gives (sym c.is_current_byte.ensures ∙ c.if-not-is_current_byte.false) c.in_ok-get_variant.ensures.gives c.skip_blank.ensures.rest);
+    }
+
+pub get_variants-returns-in_err-default-clause-gives : goal.get_variants-returns-in_err-default-clause-gives
+get_variants-returns-in_err-default-clause-gives g t c =
+    let e = c.in_err-default.field-0.0 in
+    handed_on (λ (vs : Vec (Variant g.row.S.Denot) Global). variants_of (map (variant_view g.row.S.Denot g.T.Texts.text) vs.items)) c.take_default_mark.new.self.rest.now c.from_residual.result e (whole.variants false c.args.self.now.rest.now) c.from_residual.ensures.1
+    (variants_fail (map (variant_view g.row.S.Denot g.T.Texts.text) c.loop-variants.variants.items) c.loop-variants.has_default c.loop-variants.self.rest.now c.args.self.now.rest.now e c.take_default_mark.new.self.rest.now c.loop-variants.invariant.same (mark_fails c.loop-variants.has_default c.loop-variants.self.rest.now e c.take_default_mark.new.self.rest.now c.in_err-default.ensures.gives))
+
+pub get_variants-returns-else-has_default-clause-gives : goal.get_variants-returns-else-has_default-clause-gives
+get_variants-returns-else-has_default-clause-gives g t c =
+    let refusal = ap (mapped (variants_behind (map (variant_view g.row.S.Denot g.T.Texts.text) c.loop-variants.variants.items))) (variants_refused c.loop-variants.has_default c.in_ok-default.default c.loop-variants.self.rest.now c.take_default_mark.new.self.rest.now c.in_ok-default.ensures.gives (sym c.is_current_byte.ensures ∙ c.if-not-is_current_byte.true) c.if-has_default.false) in
+    rw (← c.loop-variants.invariant.same, refusal) (refl, refl)
+
+pub get_argument-returns-in_err-argument-clause-gives : goal.get_argument-returns-in_err-argument-clause-gives
+get_argument-returns-in_err-argument-clause-gives g t c =
+    let e = c.in_err-argument.field-0.0 in
+    handed_on (argument_view g.row.S.Denot g.T.Texts.text) c.get_inline_expression.new.self.rest.now c.from_residual.result e (argument_by (names_of (map (named_view g.row.S.Denot g.T.Texts.text) c.args.others.now.all.items)) c.args.self.now.rest.now) c.from_residual.ensures.1 (argument_fails (names_of (map (named_view g.row.S.Denot g.T.Texts.text) c.args.others.now.all.items)) c.args.self.now.rest.now e c.get_inline_expression.new.self.rest.now c.in_err-argument.ensures.gives)
+
+pub get_argument-returns-then-not-is_current_byte-clause-less : goal.get_argument-returns-then-not-is_current_byte-clause-less
+get_argument-returns-then-not-is_current_byte-clause-less g t c =
+    on_ok_always c.positional_argument.result (inline_shorter c.args.self.now.rest.now c.get_inline_expression.new.self.rest.now (inline_view g.row.S.Denot g.T.Texts.text c.in_ok-argument.argument) c.in_ok-argument.ensures.gives)
+
+pub get_argument-returns-then-not-is_current_byte-clause-gives : goal.get_argument-returns-then-not-is_current_byte-clause-gives
+get_argument-returns-then-not-is_current_byte-clause-gives g t c =
+    gives_same (argument_view g.row.S.Denot g.T.Texts.text) c.get_inline_expression.new.self.rest.now c.positional_argument.result (positional_by (names_of (map (named_view g.row.S.Denot g.T.Texts.text) c.args.others.now.all.items)) (inline_view g.row.S.Denot g.T.Texts.text c.in_ok-argument.argument) c.get_inline_expression.new.self.rest.now) (argument_by (names_of (map (named_view g.row.S.Denot g.T.Texts.text) c.args.others.now.all.items)) c.args.self.now.rest.now)
+    (argument_not_named (names_of (map (named_view g.row.S.Denot g.T.Texts.text) c.args.others.now.all.items)) c.args.self.now.rest.now c.get_inline_expression.new.self.rest.now (inline_view g.row.S.Denot g.T.Texts.text c.in_ok-argument.argument) c.in_ok-argument.ensures.gives (sym c.is_current_byte.ensures ∙ c.if-not-is_current_byte.true)) c.positional_argument.ensures.gives
+
+pub get_argument-returns-in_err-value-in-Ok-clause-gives : goal.get_argument-returns-in_err-value-in-Ok-clause-gives
+get_argument-returns-in_err-value-in-Ok-clause-gives g t c =
+    let name = name_of g.row.S.Denot g.T.Texts.text c.in-Ok.name in
+    let one : tree.Inline → Argument = λ v. named (record { name = name; value = v }) in
+    let is = argument_named (names_of (map (named_view g.row.S.Denot g.T.Texts.text) c.args.others.now.all.items)) c.args.self.now.rest.now c.get_inline_expression.new.self.rest.now (inline_view g.row.S.Denot g.T.Texts.text c.in_ok-argument.argument) name c.in_ok-argument.ensures.gives c.in-Ok.ensures (sym c.is_current_byte.ensures ∙ c.if-not-is_current_byte.false) in
+    let given = c.identifier-given.ensures ∙ ap (λ (z : List ℕ). take (w.name_len z) z) c.rest-start.ensures ∙ name_begins c.args.self.now.rest.now name c.get_inline_expression.new.self.rest.now (inline_view g.row.S.Denot g.T.Texts.text c.in_ok-argument.argument) c.in_ok-argument.ensures.gives c.in-Ok.ensures in
+    let value = ap (λ z. argument_value_at (names_of (map (named_view g.row.S.Denot g.T.Texts.text) c.args.others.now.all.items)) z c.get_inline_expression.new.self.rest.now) given in
+    let e = c.in_err-value-in-Ok.field-0.0 in
+    let rest = c.get_argument_value.new.self.rest.now in
+    handed_on (argument_view g.row.S.Denot g.T.Texts.text) rest c.from_residual-in_err-value-in-Ok.result e (argument_by (names_of (map (named_view g.row.S.Denot g.T.Texts.text) c.args.others.now.all.items)) c.args.self.now.rest.now) c.from_residual-in_err-value-in-Ok.ensures.1
+    (fails_same e rest (mapped one (argument_value_at (names_of (map (named_view g.row.S.Denot g.T.Texts.text) c.args.others.now.all.items)) name c.get_inline_expression.new.self.rest.now)) (argument_by (names_of (map (named_view g.row.S.Denot g.T.Texts.text) c.args.others.now.all.items)) c.args.self.now.rest.now) is (fails_mapped e rest one (argument_value_at (names_of (map (named_view g.row.S.Denot g.T.Texts.text) c.args.others.now.all.items)) name c.get_inline_expression.new.self.rest.now) (fails_same e rest _ _ value c.in_err-value-in-Ok.ensures.gives)))
+
+pub get_argument-returns-in_ok-value-in-Ok-clause-less : goal.get_argument-returns-in_ok-value-in-Ok-clause-less
+get_argument-returns-in_ok-value-in-Ok-clause-less g t c =
+    omega (arith, inline_shorter c.args.self.now.rest.now c.get_inline_expression.new.self.rest.now (inline_view g.row.S.Denot g.T.Texts.text c.in_ok-argument.argument) c.in_ok-argument.ensures.gives, c.get_argument_value.ensures.onward)
+
+pub get_argument-returns-in_ok-value-in-Ok-clause-gives : goal.get_argument-returns-in_ok-value-in-Ok-clause-gives
+get_argument-returns-in_ok-value-in-Ok-clause-gives g t c =
+    let name = name_of g.row.S.Denot g.T.Texts.text c.in-Ok.name in
+    let one : tree.Inline → Argument = λ v. named (record { name = name; value = v }) in
+    let is = argument_named (names_of (map (named_view g.row.S.Denot g.T.Texts.text) c.args.others.now.all.items)) c.args.self.now.rest.now c.get_inline_expression.new.self.rest.now (inline_view g.row.S.Denot g.T.Texts.text c.in_ok-argument.argument) name c.in_ok-argument.ensures.gives c.in-Ok.ensures (sym c.is_current_byte.ensures ∙ c.if-not-is_current_byte.false) in
+    let given = c.identifier-given.ensures ∙ ap (λ (z : List ℕ). take (w.name_len z) z) c.rest-start.ensures ∙ name_begins c.args.self.now.rest.now name c.get_inline_expression.new.self.rest.now (inline_view g.row.S.Denot g.T.Texts.text c.in_ok-argument.argument) c.in_ok-argument.ensures.gives c.in-Ok.ensures in
+    let value = ap (λ z. argument_value_at (names_of (map (named_view g.row.S.Denot g.T.Texts.text) c.args.others.now.all.items)) z c.get_inline_expression.new.self.rest.now) given in
+    let rest = c.get_argument_value.new.self.rest.now in
+    sym is ∙ ap (mapped one) (sym value ∙ c.in_ok-value-in-Ok.ensures.gives) ∙ ap (λ z. got (named z) rest) (sym (named_view-roll g.row.S.Denot g.T.Texts.text (record { name = c.in-Ok.name; value = c.in_ok-value-in-Ok.value })))
+
+pub get_argument-returns-in-Err-clause-less : goal.get_argument-returns-in-Err-clause-less
+get_argument-returns-in-Err-clause-less g t c =
+    on_ok_always c.positional_argument-in-Err.result (inline_shorter c.args.self.now.rest.now c.get_inline_expression.new.self.rest.now (inline_view g.row.S.Denot g.T.Texts.text c.in_ok-argument.argument) c.in_ok-argument.ensures.gives)
+
+pub get_argument-returns-in-Err-clause-gives : goal.get_argument-returns-in-Err-clause-gives
+get_argument-returns-in-Err-clause-gives g t c =
+    gives_same (argument_view g.row.S.Denot g.T.Texts.text) c.get_inline_expression.new.self.rest.now c.positional_argument-in-Err.result (positional_by (names_of (map (named_view g.row.S.Denot g.T.Texts.text) c.args.others.now.all.items)) (inline_view g.row.S.Denot g.T.Texts.text c.in-Err.argument) c.get_inline_expression.new.self.rest.now) (argument_by (names_of (map (named_view g.row.S.Denot g.T.Texts.text) c.args.others.now.all.items)) c.args.self.now.rest.now)
+    (ap (λ z. positional_by (names_of (map (named_view g.row.S.Denot g.T.Texts.text) c.args.others.now.all.items)) z c.get_inline_expression.new.self.rest.now) c.in-Err.ensures.0 ∙ argument_unnamed (names_of (map (named_view g.row.S.Denot g.T.Texts.text) c.args.others.now.all.items)) c.args.self.now.rest.now c.get_inline_expression.new.self.rest.now (inline_view g.row.S.Denot g.T.Texts.text c.in_ok-argument.argument) c.in_ok-argument.ensures.gives c.in-Err.ensures.1) c.positional_argument-in-Err.ensures.gives
+
+pub get_argument-returns-in_ok-value-in-Ok-clause-named : goal.get_argument-returns-in_ok-value-in-Ok-clause-named
+get_argument-returns-in_ok-value-in-Ok-clause-named g t c =
+    let name = name_of g.row.S.Denot g.T.Texts.text c.in-Ok.name in
+    let given = c.identifier-given.ensures ∙ ap (λ (z : List ℕ). take (w.name_len z) z) c.rest-start.ensures ∙ name_begins c.args.self.now.rest.now name c.get_inline_expression.new.self.rest.now (inline_view g.row.S.Denot g.T.Texts.text c.in_ok-argument.argument) c.in_ok-argument.ensures.gives c.in-Ok.ensures in
+    let own : Named → List ℕ = λ n. n.name in
+    ap own (named_view-roll g.row.S.Denot g.T.Texts.text (record { name = c.in-Ok.name; value = c.in_ok-value-in-Ok.value })) ∙ sym given

@@ -1,0 +1,15 @@
+-- The names that the parser keeps of the named arguments of a call.
+use Rattle.std.specs.Prelude.{◌≡◌, ℕ, List, drop}
+use Rattle.std.specs.List.{list_any}
+use Rattle.std.specs.Str.{bytes_eq}
+use Rattle.std.specs.Ordering.{nat_cmp}
+use Rattle.std.specs.Cmp.Lexicographic.{slice_cmp}
+use Rattle.std.specs.BTreeSet.{contains_by}
+use Rattle.fluent_parser.specs.declared.named_arguments.NamedArguments.{NamedArguments}
+use Rattle.fluent_parser.specs.declared.named_arguments.TheConstants.{FEW}
+use Rattle.fluent_ast.specs.View.{named_view}
+
+module _ (S : Type 0) (text_of : S → List ℕ) where
+  -- the set has the names of all but the first few
+  abbrev pub IsIndexed : NamedArguments S → Type 0
+  IsIndexed n = (name : List ℕ) → contains_by (λ k. slice_cmp nat_cmp name k.now) n.later ≡ list_any (λ x. bytes_eq (named_view S text_of x).name name) (drop FEW n.all.items)

@@ -1,0 +1,12 @@
+pub mod ErrorView
+pub mod Reads
+pub mod Steps
+pub mod Pieces
+pub mod Arguments
+pub mod Indexed
+pub mod Entries
+pub mod Heads
+pub mod Places
+pub mod Parts
+pub mod Collected
+pub mod Left

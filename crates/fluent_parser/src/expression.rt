@@ -1,0 +1,218 @@
+//! Expressions.
+#![tactic(auto, using(crate::proofs::Failing::handed, fluent_words::proofs::Counted::cuts, crate::proofs::Steps::placeable_is))]
+
+ghost use Rattle.std.specs.Prelude.{◌≡◌, ◌≤◌, ◌<◌, true, length, drop, option_map};
+ghost use Rattle.std.specs.List.{list_all};
+ghost use Rattle.fluent_grammar.specs.Words as w;
+
+use crate::ErrorKind;
+use crate::fault::Fault;
+use crate::helper::Parser;
+use fluent_ast::{Expression, Identifier, InlineExpression};
+use fluent_slice::Texts;
+use fluent_words as words;
+
+impl<'p, S: Drop, T: Texts<S>> Parser<'p, S, T> {
+    ghost use Rattle.fluent_parser.specs.Reads.{Gives, whole, string_or_number_at, inline_by};
+    ghost use Rattle.fluent_parser.specs.Steps.{expression_by, placeable_by};
+    ghost use Rattle.fluent_ast.specs.View.{name_of, inline_view, expression_view};
+    ghost use Rattle.fluent_grammar.specs.Reading.{identifier_at, accessor_at, term_at, named_at};
+    ghost use Rattle.fluent_grammar.specs.Refusal.{mapped};
+    ghost use Rattle.fluent_grammar.specs.Tree as t;
+
+    /// A placeable, from its opening brace on. Productions `inline_placeable` and `block_placeable`.
+    #[cycle(parser)]
+    #[tactic(auto, using(crate::proofs::Failing::handed, fluent_words::proofs::Counted::cuts), unfolding(crate::specs::Steps::placeable_by))]
+    pub fn get_placeable(&mut self) -> Result<Expression<S>, Fault>
+        requires tied { T.text self.old.source.now ≡ self.old.text.now }
+        requires brace { w.begins_with w.open_brace self.old.rest.now ≡ true }
+        ensures gives { Gives (expression_view S T.text) self.new.rest.now result (placeable_by self.old.rest.now) }
+        ensures less { length self.new.rest.now < length self.old.rest.now }
+        ensures source { self.new.source.now ≡ self.old.source.now }
+        ensures text { self.new.text.now ≡ self.old.text.now }
+    {
+        self.advance(1);
+        self.skip_blank();
+        let expression = self.get_expression()?;
+        self.skip_blank();
+        self.expect_byte(b'}')?;
+        Ok(expression)
+    }
+
+    /// An inline expression, or a select.
+    #[cycle(parser)]
+    #[tactic(auto, using(crate::proofs::Failing::handed, fluent_words::proofs::Counted::cuts), unfolding(crate::specs::Steps::expression_by, fluent_grammar::specs::Reading::select_or_inline_at, fluent_grammar::specs::Reading::select_at, fluent_grammar::specs::Reading::variants_after))]
+    fn get_expression(&mut self) -> Result<Expression<S>, Fault>
+        requires { T.text self.old.source.now ≡ self.old.text.now }
+        ensures gives { Gives (expression_view S T.text) self.new.rest.now result (expression_by self.old.rest.now) }
+        ensures source { self.new.source.now ≡ self.old.source.now }
+        ensures text { self.new.text.now ≡ self.old.text.now }
+        ensures onward { length self.new.rest.now ≤ length self.old.rest.now }
+    {
+        let selector = self.get_inline_expression()?;
+        self.skip_blank();
+        if !words::begins_arrow(self.bytes()) {
+            return self.inline_expression(selector);
+        }
+        if let Some(kind) = self.selector_fault(&selector) {
+            return Err(Fault::Refused(kind));
+        }
+        self.advance(2);
+        self.skip_blank_inline();
+        if !self.skip_eol() {
+            return Err(self.expected_line_end());
+        }
+        self.skip_blank();
+        let variants = self.get_variants()?;
+        Ok(Expression::Select { selector, variants })
+    }
+
+    /// An expression that no arrow follows.
+    fn inline_expression(&self, inline: InlineExpression<S>) -> Result<Expression<S>, Fault>
+        ensures { Gives (expression_view S T.text) self.now.rest.now result (inline_by (inline_view S T.text inline) self.now.rest.now) }
+    {
+        if let InlineExpression::TermReference {
+            attribute: Some(_),
+            ..
+        } = &inline
+        {
+            return Err(Fault::Refused(ErrorKind::TermAttributeAsPlaceable));
+        }
+        Ok(Expression::Inline(inline))
+    }
+
+    /// An inline expression. Production `InlineExpression`.
+    #[cycle(parser)]
+    pub fn get_inline_expression(&mut self) -> Result<InlineExpression<S>, Fault>
+        requires { T.text self.old.source.now ≡ self.old.text.now }
+        ensures gives { Gives (inline_view S T.text) self.new.rest.now result (whole.inline self.old.rest.now) }
+        ensures source { self.new.source.now ≡ self.old.source.now }
+        ensures text { self.new.text.now ≡ self.old.text.now }
+        ensures onward { length self.new.rest.now ≤ length self.old.rest.now }
+    {
+        let bytes = self.bytes();
+        if words::begins_literal(bytes) {
+            self.get_literal()
+        } else if words::begins_with(bytes, b'-') {
+            self.get_term_reference()
+        } else if words::begins_with(bytes, b'$') {
+            self.get_variable_reference()
+        } else if words::begins_with_letter(bytes) {
+            self.get_named_reference()
+        } else if words::begins_with(bytes, b'{') {
+            let expression = self.get_placeable()?;
+            let expression = Box::new(self.alloc, expression)?;
+            Ok(InlineExpression::Placeable { expression })
+        } else {
+            Err(Fault::Refused(ErrorKind::ExpectedInlineExpression))
+        }
+    }
+
+    /// A term's reference, from its minus on. Production `TermReference`.
+    #[cycle(parser)]
+    #[tactic(auto, using(crate::proofs::Failing::handed, fluent_words::proofs::Counted::cuts), unfolding(fluent_grammar::specs::Reading::term_at, fluent_grammar::specs::Reading::term_arguments_at))]
+    fn get_term_reference(&mut self) -> Result<InlineExpression<S>, Fault>
+        requires tied { T.text self.old.source.now ≡ self.old.text.now }
+        requires minus { w.begins_with w.hyphen self.old.rest.now ≡ true }
+        ensures gives { Gives (inline_view S T.text) self.new.rest.now result (term_at whole (drop 1 self.old.rest.now)) }
+        ensures source { self.new.source.now ≡ self.old.source.now }
+        ensures text { self.new.text.now ≡ self.old.text.now }
+        ensures onward { length self.new.rest.now ≤ length self.old.rest.now }
+    {
+        self.advance(1);
+        let id = self.get_identifier()?;
+        let attribute = self.get_attribute_accessor()?;
+        self.skip_blank();
+        if !self.is_current_byte(b'(') {
+            return Ok(InlineExpression::TermReference {
+                id,
+                attribute,
+                arguments: None,
+            });
+        }
+        let arguments = self.get_call_arguments()?;
+        Ok(InlineExpression::TermReference {
+            id,
+            attribute,
+            arguments: Some(arguments),
+        })
+    }
+
+    /// A call, or a message's reference. Productions `FunctionReference` and `MessageReference`.
+    #[cycle(parser)]
+    #[tactic(auto, using(crate::proofs::Failing::handed, fluent_words::proofs::Counted::cuts), unfolding(fluent_grammar::specs::Reading::named_at, fluent_grammar::specs::Reading::called_at, fluent_grammar::specs::Reading::function_of))]
+    fn get_named_reference(&mut self) -> Result<InlineExpression<S>, Fault>
+        requires { T.text self.old.source.now ≡ self.old.text.now }
+        ensures gives { Gives (inline_view S T.text) self.new.rest.now result (named_at whole self.old.rest.now) }
+        ensures source { self.new.source.now ≡ self.old.source.now }
+        ensures text { self.new.text.now ≡ self.old.text.now }
+        ensures onward { length self.new.rest.now ≤ length self.old.rest.now }
+    {
+        let id = self.get_identifier()?;
+        self.skip_blank();
+        if !self.is_current_byte(b'(') {
+            let attribute = self.get_attribute_accessor()?;
+            return Ok(InlineExpression::MessageReference { id, attribute });
+        }
+        let arguments = self.get_call_arguments()?;
+        if is_callee(self.texts.as_str(&id.name)) {
+            Ok(InlineExpression::FunctionReference { id, arguments })
+        } else {
+            Err(Fault::Refused(ErrorKind::ForbiddenCallee))
+        }
+    }
+
+    /// A string or a number. Productions `StringLiteral` and `NumberLiteral`.
+    pub fn get_literal(&mut self) -> Result<InlineExpression<S>, Fault>
+        requires { T.text self.old.source.now ≡ self.old.text.now }
+        ensures gives { Gives (inline_view S T.text) self.new.rest.now result (string_or_number_at self.old.rest.now) }
+        ensures source { self.new.source.now ≡ self.old.source.now }
+        ensures text { self.new.text.now ≡ self.old.text.now }
+        ensures onward { length self.new.rest.now ≤ length self.old.rest.now }
+    {
+        if self.take_byte_if(b'"') {
+            let value = self.get_string_content()?;
+            Ok(InlineExpression::StringLiteral { value })
+        } else {
+            let value = self.get_number_literal()?;
+            Ok(InlineExpression::NumberLiteral { value })
+        }
+    }
+
+    /// Production `VariableReference`, from its dollar sign on.
+    fn get_variable_reference(&mut self) -> Result<InlineExpression<S>, Fault>
+        requires tied { T.text self.old.source.now ≡ self.old.text.now }
+        requires dollar { w.begins_with w.dollar self.old.rest.now ≡ true }
+        ensures gives { Gives (inline_view S T.text) self.new.rest.now result (mapped t.variable_reference (identifier_at (drop 1 self.old.rest.now))) }
+        ensures source { self.new.source.now ≡ self.old.source.now }
+        ensures text { self.new.text.now ≡ self.old.text.now }
+        ensures onward { length self.new.rest.now ≤ length self.old.rest.now }
+    {
+        self.advance(1);
+        let id = self.get_identifier()?;
+        Ok(InlineExpression::VariableReference { id })
+    }
+
+    /// The attribute that a reference names, if it names one. Production `AttributeAccessor`.
+    #[tactic(auto, using(crate::proofs::Failing::handed), unfolding(fluent_grammar::specs::Reading::accessor_at))]
+    fn get_attribute_accessor(&mut self) -> Result<Option<Identifier<S>>, Fault>
+        requires { T.text self.old.source.now ≡ self.old.text.now }
+        ensures gives { Gives (option_map (name_of S T.text)) self.new.rest.now result (accessor_at self.old.rest.now) }
+        ensures source { self.new.source.now ≡ self.old.source.now }
+        ensures text { self.new.text.now ≡ self.old.text.now }
+        ensures onward { length self.new.rest.now ≤ length self.old.rest.now }
+    {
+        if !self.take_byte_if(b'.') {
+            return Ok(None);
+        }
+        let id = self.get_identifier()?;
+        Ok(Some(id))
+    }
+}
+
+/// Whether a function may have this name.
+fn is_callee(name: &str) -> bool
+    ensures { result ≡ list_all w.is_callee_byte name.now }
+{
+    name.as_bytes().iter().all(|byte| matches!(*byte, b'A'..=b'Z' | b'0'..=b'9' | b'-' | b'_'))
+}

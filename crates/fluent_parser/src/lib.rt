@@ -1,0 +1,81 @@
+//! Reading a source into its tree.
+//!
+//! [`parse`] reads everything, [`parse_runtime`] passes comments over. What a source says is defined in
+//! `fluent_grammar`; `docs/grammar.md` has it in words. Offsets and lengths are in bytes.
+#![tactic(auto)]
+
+mod arguments;
+mod collected;
+mod comment;
+mod entry;
+pub mod errors;
+mod expression;
+mod fault;
+mod helper;
+mod named_arguments;
+mod part;
+mod pattern;
+mod pieces;
+mod recovery;
+mod resource;
+mod select;
+
+ghost use Rattle.std.specs.Prelude.{map};
+ghost use Rattle.fluent_grammar.specs.Tiling.{tree, errors, runtime_tree, runtime_errors};
+ghost use Rattle.fluent_parser.specs.ErrorView.{error_told};
+ghost use Rattle.fluent_parser.specs.Collected.{HasTree, HasErrors};
+
+pub use errors::{ErrorKind, ParserError};
+use fluent_ast::Resource;
+pub use fluent_slice::Slice;
+use fluent_slice::Slices;
+use helper::Parser;
+use std::alloc::Global;
+
+/// Why a source isn't read whole.
+#[derive(Debug, PartialEq, Eq, Drop)]
+pub enum Error<S> {
+    /// Parts of the source are no entries. The tree has them as junk, and each junk has one error, in the same order.
+    Broken(Resource<S>, Vec<ParserError>),
+    /// Want of memory.
+    Memory,
+}
+
+/// What reading a source gives: its tree, or why it isn't read whole.
+pub type Result<S> = std::result::Result<Resource<S>, Error<S>>;
+
+/// The tree of a source, with its comments.
+///
+/// Each stretch of the source that isn't an entry, a blank line or a comment becomes junk in the tree, up to the next
+/// line that may begin an entry, and has one error. Where there is junk the answer is [`Error::Broken`] with the whole
+/// tree and the errors in the order of their places, which are bytes of the source. The other error is want of memory.
+///
+/// A comment of one `#` becomes the comment of the message or the term right below it, where no blank line lies
+/// between. The grammar is that of Fluent Syntax 1.0, production `Resource`.
+pub fn parse<'s, S: Slice<'s>>(alloc: Global, input: S) -> Result<S>
+    ensures tree { HasTree S S.text result (tree (S.text input)) }
+    ensures errors { HasErrors S result (map error_told (errors (S.text input))) }
+{
+    let texts = Slices::new();
+    let mut parser = Parser::new(alloc, &texts, &input);
+    match parser.get_parts() {
+        Ok(parts) => parts.finish(),
+        Err(_) => Err(Error::Memory),
+    }
+}
+
+/// The messages and the terms of a source, and its junk, for use at run time.
+///
+/// It reads as [`parse`] does, but for comments: a line that begins with `#` where an entry may begin is passed over,
+/// whatever follows the sign. So no entry has a comment.
+pub fn parse_runtime<'s, S: Slice<'s>>(alloc: Global, input: S) -> Result<S>
+    ensures tree { HasTree S S.text result (runtime_tree (S.text input)) }
+    ensures errors { HasErrors S result (map error_told (runtime_errors (S.text input))) }
+{
+    let texts = Slices::new();
+    let mut parser = Parser::new(alloc, &texts, &input);
+    match parser.get_runtime_parts() {
+        Ok(parts) => parts.finish(),
+        Err(_) => Err(Error::Memory),
+    }
+}

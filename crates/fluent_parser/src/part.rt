@@ -1,0 +1,93 @@
+//! One part of a source: an entry, or junk with its error.
+#![tactic(auto, using(crate::proofs::Failing::handed, fluent_words::proofs::Counted::cuts))]
+
+ghost use Rattle.std.specs.Prelude.{◌≡◌, ◌<◌, ◌≤◌, ◌-◌, ◌^◌, IfOk, length};
+ghost use Rattle.fluent_grammar.specs.Tiling.{behind_junk};
+ghost use Rattle.fluent_parser.specs.ErrorView.{error_view, kind_view};
+ghost use Rattle.fluent_parser.specs.Places.{error_by};
+
+use crate::fault::Fault;
+use crate::helper::Parser;
+use crate::recovery::entry_start;
+use crate::{ErrorKind, ParserError};
+use fluent_ast::Entry;
+use fluent_slice::Texts;
+use std::alloc::AllocError;
+
+/// A part of a source.
+#[derive(Drop)]
+pub enum Part<S> {
+    Entry(Entry<S>),
+    /// A stretch in which no entry could be read, and why.
+    Junk { content: S, error: ParserError },
+}
+
+impl<'p, S: Drop, T: Texts<S>> Parser<'p, S, T> {
+    ghost use Rattle.fluent_parser.specs.Parts.{Shows, piece_of, behind_piece};
+    ghost use Rattle.std.specs.Prelude.{Bool};
+    ghost use Rattle.fluent_grammar.specs.Reading.{entry_at};
+
+    /// The part that begins here. Behind a refused entry, reading goes on at the first place that may begin another:
+    /// at or behind the place of the refusal, at column 0, before a letter, `-` or `#`.
+    pub fn get_part(&mut self) -> Result<Part<S>, AllocError>
+        requires tied { T.text self.old.source.now ≡ self.old.text.now }
+        requires some { 0 < length self.old.rest.now }
+        ensures part { IfOk result (λ part. (apart : Bool) → Shows S T.text part apart (piece_of (length self.old.text.now - length self.old.rest.now) apart self.old.rest.now (entry_at self.old.rest.now))) }
+        ensures rest { IfOk result (λ part. self.new.rest.now ≡ behind_piece self.old.rest.now (entry_at self.old.rest.now)) }
+        ensures onward { IfOk result (λ part. length self.new.rest.now < length self.old.rest.now) }
+        ensures source { self.new.source.now ≡ self.old.source.now }
+        ensures text { self.new.text.now ≡ self.old.text.now }
+    {
+        let start = self.rest();
+        let slice_start = self.place();
+        match self.get_entry() {
+            Ok(entry) => Ok(Part::Entry(entry)),
+            Err(Fault::Memory) => Err(AllocError),
+            Err(Fault::Refused(kind)) => {
+                let place = self.place();
+                self.skip_to_next_entry_start(start);
+                let junk_len = start.len() - self.rest().len();
+                self.set_rest(start);
+                let content = self.take(junk_len)?;
+                let error = error_at(kind, slice_start, place, slice_start + junk_len);
+                Ok(Part::Junk { content, error })
+            }
+        }
+    }
+
+    /// Passes over the rest of junk that begins with this start, from within it on.
+    fn skip_to_next_entry_start(&mut self, start: &str)
+        requires { length self.old.rest.now ≤ length start.now }
+        ensures rest { self.new.rest.now ≡ behind_junk start.now self.old.rest.now }
+        ensures source { self.new.source.now ≡ self.old.source.now }
+        ensures text { self.new.text.now ≡ self.old.text.now }
+        ensures onward { length self.new.rest.now ≤ length self.old.rest.now }
+    {
+        let rest = self.bytes();
+        let read = start.len() - rest.len();
+        let at_column_zero = read == 0 || start.as_bytes()[read - 1] == b'\n';
+        self.advance(entry_start(rest, at_column_zero));
+    }
+}
+
+/// The error of an entry from `start` on that was refused at `place`, with junk up to `end`. A message or a term with
+/// nothing to hold is shown whole.
+fn error_at(kind: ErrorKind, start: usize, place: usize, end: usize) -> ParserError
+    requires { place < 2 ^ 64 - 1 }
+    ensures { error_view result ≡ error_by (kind_view kind) start place end }
+{
+    let is_whole_entry = matches!(
+        &kind,
+        ErrorKind::ExpectedMessageField { .. } | ErrorKind::ExpectedTermField { .. }
+    );
+    let pos = if is_whole_entry {
+        start..place
+    } else {
+        place..place + 1
+    };
+    ParserError {
+        pos,
+        slice: Some(start..end),
+        kind,
+    }
+}

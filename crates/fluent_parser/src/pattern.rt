@@ -1,0 +1,150 @@
+//! Patterns.
+#![tactic(auto, using(crate::proofs::Failing::handed, fluent_words::proofs::Counted::cuts))]
+
+ghost use Rattle.std.specs.Prelude.{◌≡◌, ◌≤◌, ◌<◌, ◌||◌, IfOk, IfSome, Some, true, false, length, drop, map, option_map};
+ghost use Rattle.fluent_grammar.specs.Words as w;
+ghost use Rattle.fluent_grammar.specs.Lines.{in_line, pattern_ends};
+
+use crate::ErrorKind;
+use crate::fault::Fault;
+use crate::helper::Parser;
+use crate::pieces::{Piece, Pieces, pattern_of};
+use fluent_ast::Pattern;
+use fluent_slice::Texts;
+use fluent_words as words;
+
+impl<'p, S: Drop, T: Texts<S>> Parser<'p, S, T> {
+    ghost use Rattle.fluent_parser.specs.Reads.{Gives};
+    ghost use Rattle.fluent_parser.specs.Steps.{pattern_by, piece_by, piece_behind, indent_at, text_step, first_place, IsTextStart};
+    ghost use Rattle.fluent_ast.specs.View.{pattern_view};
+    ghost use Rattle.fluent_parser.specs.Pieces.{piece_view, step_view, IsPiece};
+
+    /// A pattern, or none where nothing but blank stands. Production `Pattern`.
+    #[cycle(parser)]
+    pub fn get_pattern(&mut self) -> Result<Option<Pattern<S>>, Fault>
+        requires { T.text self.old.source.now ≡ self.old.text.now }
+        ensures gives { Gives (option_map (pattern_view S T.text)) self.new.rest.now result (pattern_by self.old.rest.now) }
+        ensures source { self.new.source.now ≡ self.old.source.now }
+        ensures text { self.new.text.now ≡ self.old.text.now }
+        ensures onward { length self.new.rest.now ≤ length self.old.rest.now }
+    {
+        let mut pieces = Pieces::None;
+        let mut at_line_start = self.skip_to_pattern();
+        while let Some((piece, ends_line)) = self.get_piece(at_line_start)? {
+            pieces.push(self.alloc, piece)?;
+            at_line_start = ends_line;
+        }
+        let pattern = pattern_of(self.alloc, self.texts, pieces)?;
+        Ok(pattern)
+    }
+
+    /// Passes over the blank before a pattern, and says whether its first piece begins a line.
+    fn skip_to_pattern(&mut self) -> bool
+        ensures place { (result, self.new.rest.now) ≡ first_place (w.skip_spaces self.old.rest.now) (w.after_line_end (w.skip_spaces self.old.rest.now)) }
+        ensures source { self.new.source.now ≡ self.old.source.now }
+        ensures text { self.new.text.now ≡ self.old.text.now }
+        ensures onward { length self.new.rest.now ≤ length self.old.rest.now }
+    {
+        self.skip_blank_inline();
+        let begins_line = self.skip_eol();
+        if begins_line {
+            self.skip_blank_block();
+        }
+        begins_line
+    }
+
+    /// The next piece of a pattern and whether it ends its line, or None where the pattern ends.
+    #[cycle(parser)]
+    #[tactic(auto, using(crate::proofs::Failing::handed, fluent_words::proofs::Counted::cuts), unfolding(crate::specs::Steps::piece_by))]
+    fn get_piece(&mut self, at_line_start: bool) -> Result<Option<(Piece<S>, bool)>, Fault>
+        requires { T.text self.old.source.now ≡ self.old.text.now }
+        ensures gives { Gives (option_map (step_view S T.text)) self.new.rest.now result (piece_by at_line_start self.old.rest.now) }
+        ensures right { IfOk result (λ found. IfSome found (λ p. IsPiece S T.text p.0)) }
+        ensures less { IfOk result (λ found. IfSome found (λ p. length self.new.rest.now < length self.old.rest.now)) }
+        ensures source { self.new.source.now ≡ self.old.source.now }
+        ensures text { self.new.text.now ≡ self.old.text.now }
+        ensures onward { length self.new.rest.now ≤ length self.old.rest.now }
+    {
+        if at_line_start && words::pattern_ends(self.bytes()) {
+            return Ok(None);
+        }
+        let indent = if at_line_start {
+            words::blank_inline_len(self.bytes())
+        } else {
+            0
+        };
+        self.get_piece_behind(at_line_start, indent)
+    }
+
+    /// The next piece, behind so many spaces. Productions `inline_text`, `block_text`, `inline_placeable` and
+    /// `block_placeable`.
+    #[cycle(parser)]
+    fn get_piece_behind(
+        &mut self,
+        at_line_start: bool,
+        indent: usize,
+    ) -> Result<Option<(Piece<S>, bool)>, Fault>
+        requires tied { T.text self.old.source.now ≡ self.old.text.now }
+        requires indent { indent ≡ indent_at at_line_start self.old.rest.now }
+        ensures gives { Gives (option_map (step_view S T.text)) self.new.rest.now result (piece_behind at_line_start indent (drop indent self.old.rest.now)) }
+        ensures right { IfOk result (λ found. IfSome found (λ p. IsPiece S T.text p.0)) }
+        ensures less { IfOk result (λ found. IfSome found (λ p. length self.new.rest.now < length self.old.rest.now)) }
+        ensures source { self.new.source.now ≡ self.old.source.now }
+        ensures text { self.new.text.now ≡ self.old.text.now }
+        ensures onward { length self.new.rest.now ≤ length self.old.rest.now }
+    {
+        let behind = words::from(self.bytes(), indent);
+        if behind.is_empty() {
+            self.advance(indent);
+            Ok(None)
+        } else if words::begins_with(behind, b'{') {
+            self.advance(indent);
+            let expression = self.get_placeable()?;
+            let column_zero = at_line_start && indent == 0;
+            Ok(Some((
+                Piece::Placeable {
+                    expression,
+                    column_zero,
+                },
+                false,
+            )))
+        } else if words::begins_crlf(behind) {
+            self.advance(indent + 1);
+            let text = self.take(1)?;
+            Ok(Some((Piece::Text { text, indent: None }, true)))
+        } else {
+            self.get_text_piece(at_line_start, indent)
+        }
+    }
+
+    /// A text behind so many spaces.
+    fn get_text_piece(
+        &mut self,
+        at_line_start: bool,
+        indent: usize,
+    ) -> Result<Option<(Piece<S>, bool)>, Fault>
+        requires tied { T.text self.old.source.now ≡ self.old.text.now }
+        requires indent { indent ≡ indent_at at_line_start self.old.rest.now }
+        requires some { IsTextStart (drop indent self.old.rest.now) }
+        ensures gives { Gives (option_map (step_view S T.text)) self.new.rest.now result (text_step at_line_start indent (drop indent self.old.rest.now)) }
+        ensures less { IfOk result (λ found. IfSome found (λ p. length self.new.rest.now < length self.old.rest.now)) }
+        ensures right { IfOk result (λ found. IfSome found (λ p. IsPiece S T.text p.0)) }
+        ensures source { self.new.source.now ≡ self.old.source.now }
+        ensures text { self.new.text.now ≡ self.old.text.now }
+        ensures onward { length self.new.rest.now ≤ length self.old.rest.now }
+    {
+        let behind = words::from(self.bytes(), indent);
+        match words::text_len(behind) {
+            Ok(count) => {
+                let ends_line = words::ends_line(words::front(behind, count));
+                let text = self.take(indent + count)?;
+                let indent = at_line_start.then_some(indent);
+                Ok(Some((Piece::Text { text, indent }, ends_line)))
+            }
+            Err(count) => {
+                self.advance(indent + count);
+                Err(Fault::Refused(ErrorKind::UnbalancedClosingBrace))
+            }
+        }
+    }
+}

@@ -1,0 +1,68 @@
+//! The parts of a whole source.
+#![tactic(auto)]
+
+ghost use Rattle.std.specs.Prelude.{◌≡◌, ◌-◌, ◌≤◌, [], None, IfOk, length, map};
+ghost use Rattle.fluent_grammar.specs.Words as w;
+
+use crate::collected::Collected;
+use crate::helper::Parser;
+use fluent_slice::Texts;
+use fluent_words as words;
+use std::alloc::AllocError;
+
+impl<'p, S: Drop, T: Texts<S>> Parser<'p, S, T> {
+    ghost use Rattle.fluent_parser.specs.Collected.{entries_with, errors_with};
+    ghost use Rattle.fluent_parser.specs.Left.{pieces_left, runtime_left};
+    ghost use Rattle.fluent_grammar.specs.Tiling.{entries_of, errors_of};
+    ghost use Rattle.fluent_parser.specs.ErrorView.{error_told};
+
+    /// All parts that are left, with their comments.
+    pub fn get_parts(&mut self) -> Result<Collected<S>, AllocError>
+        requires { T.text self.old.source.now ≡ self.old.text.now }
+        ensures entries { IfOk result (λ all. entries_with S T.text all [] ≡ entries_of None (pieces_left (length self.old.text.now) self.old.rest.now)) }
+        ensures errors { IfOk result (λ all. errors_with S all [] ≡ map error_told (errors_of (pieces_left (length self.old.text.now) self.old.rest.now))) }
+    {
+        let mut collected = Collected::new(self.alloc);
+        'parts: loop {
+            let apart = self.skip_blank_block();
+            if self.bytes().is_empty() {
+                return Ok(collected);
+            }
+            let part = self.get_part()?;
+            collected.push(part, apart)?;
+        }
+    }
+
+    /// All parts that are left, without comments: a line that begins with `#` where a part may begin is passed over,
+    /// whatever follows.
+    pub fn get_runtime_parts(&mut self) -> Result<Collected<S>, AllocError>
+        requires { T.text self.old.source.now ≡ self.old.text.now }
+        ensures entries { IfOk result (λ all. entries_with S T.text all [] ≡ entries_of None (runtime_left (length self.old.text.now) self.old.rest.now)) }
+        ensures errors { IfOk result (λ all. errors_with S all [] ≡ map error_told (errors_of (runtime_left (length self.old.text.now) self.old.rest.now))) }
+    {
+        let mut collected = Collected::new(self.alloc);
+        'parts: loop {
+            self.skip_blank_block();
+            if self.bytes().is_empty() {
+                return Ok(collected);
+            }
+            if self.is_current_byte(b'#') {
+                self.skip_line();
+                continue;
+            }
+            let part = self.get_part()?;
+            collected.push(part, false)?;
+        }
+    }
+
+    /// Passes over the rest of the line with its line end.
+    fn skip_line(&mut self)
+        ensures rest { self.new.rest.now ≡ (w.rest_of_line self.old.rest.now).1 }
+        ensures source { self.new.source.now ≡ self.old.source.now }
+        ensures text { self.new.text.now ≡ self.old.text.now }
+        ensures onward { length self.new.rest.now ≤ length self.old.rest.now }
+    {
+        self.advance(words::line_len(self.bytes()));
+        self.skip_eol();
+    }
+}

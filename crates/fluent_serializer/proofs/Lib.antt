@@ -1,0 +1,4 @@
+pub mod Lined
+pub mod Onto
+pub mod Laid
+pub mod Braces

@@ -1,0 +1,49 @@
+//! Writing a tree as the text of a source.
+//!
+//! Writing goes by pieces: signs, names, texts and raw literals. Four spaces a level stand before a piece that follows
+//! a line feed. `docs/written-text.md` has the rules, and `specs/Written.antt` of `fluent_grammar` the definition.
+#![tactic(auto)]
+
+mod entries;
+mod expressions;
+pub mod laws;
+mod pieces;
+mod shapes;
+
+ghost use Rattle.std.specs.Prelude.{◌≡◌, IfOk, string_bytes};
+ghost use Rattle.fluent_grammar.specs.Written.{written, written_with};
+ghost use Rattle.fluent_ast.specs.View.{resource_view};
+
+use fluent_ast::Resource;
+use fluent_slice::Slice;
+use std::alloc::{AllocError, Global};
+
+/// What is written of a tree.
+#[derive(Clone, Copy, Debug, Default, PartialEq, Eq)]
+pub struct Options {
+    /// Whether junk is written, as it stands in the tree. By default it is left out.
+    pub with_junk: bool,
+}
+
+/// The text of a tree, without its junk. The only error is want of memory.
+pub fn serialize<'s, S: Slice<'s>>(
+    alloc: Global,
+    resource: &Resource<S>,
+) -> Result<String, AllocError>
+    ensures { IfOk result (λ text. string_bytes text ≡ written (resource_view S S.text resource.now)) }
+{
+    serialize_with_options(alloc, resource, Options::default())
+}
+
+/// The text of a tree, by the options. The only error is want of memory.
+pub fn serialize_with_options<'s, S: Slice<'s>>(
+    alloc: Global,
+    resource: &Resource<S>,
+    options: Options,
+) -> Result<String, AllocError>
+    ensures { IfOk result (λ text. string_bytes text ≡ written_with options.with_junk (resource_view S S.text resource.now)) }
+{
+    let mut text = String::new(alloc);
+    entries::write_entries(&mut text, options, resource)?;
+    Ok(text)
+}

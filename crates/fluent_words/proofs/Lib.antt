@@ -1,0 +1,4 @@
+pub mod Counted
+pub mod Scanned
+pub mod Strings
+pub mod Chars
