@@ -12,6 +12,7 @@ pub mod errors;
 mod expression;
 mod fault;
 mod helper;
+pub mod laws;
 mod named_arguments;
 mod part;
 mod pattern;

@@ -1,0 +1,18 @@
+#![tactic(auto)]
+
+//! The values of Fluent: what arguments are, what functions take and give, and what a selector is compared by.
+//!
+//! A [`FluentValue`] is a text, a number or a value of the program's own type, which implements [`FluentType`]. It may also
+//! be [`None`](FluentValue::None) or [`Error`](FluentValue::Error), which are shown as nothing and equal nothing.
+
+mod custom;
+mod integers;
+pub mod laws;
+mod texts;
+mod value;
+
+pub use custom::{FluentType, NoCustom};
+pub use value::FluentValue;
+
+#[cfg(test)]
+mod tests;

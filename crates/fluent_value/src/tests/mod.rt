@@ -1,0 +1,44 @@
+//! Values from texts and integers, copies and equality.
+
+mod conversions;
+mod copies;
+mod equality;
+mod numbers;
+
+ghost use Rattle.std.specs.Prelude.{ℕ, ◌==◌, codes};
+ghost use Rattle.std.proofs.Common.{rules};
+
+use crate::{FluentType, FluentValue, NoCustom};
+use std::alloc::{AllocError, Global};
+use std::borrow::CowStr;
+
+/// A value of a program without values of its own.
+type Value<'a> = FluentValue<'a, NoCustom>;
+
+/// A value of a program's own type, whose text is `c`.
+#[derive(Clone, Copy, Debug, PartialEq, Eq)]
+struct Count(u32);
+
+impl FluentType for Count {
+    ghost Meaning = { ℕ };
+
+    ghost meaning = { λ count. count.0 };
+
+    ghost text = { λ _. codes "c" };
+
+    ghost same = { λ a b. a == b };
+
+    ghost laws = { Prim.search rules };
+
+    fn duplicate(&self, _alloc: Global) -> Result<Self, AllocError> {
+        Ok(*self)
+    }
+
+    fn equals(&self, other: &Self) -> bool {
+        self.0 == other.0
+    }
+
+    fn as_string(&self, _alloc: Global) -> Result<CowStr<'static>, AllocError> {
+        Ok(CowStr::Borrowed("c"))
+    }
+}
