@@ -16,6 +16,3 @@ mod write;
 pub use error::FromValueError;
 pub use read::from_value;
 pub use write::to_value;
-
-#[cfg(test)]
-mod tests;

@@ -1,9 +1,14 @@
 //! Reads the sources of `data/parse.jsonl` and `data/rows.jsonl` by both readers, over both kinds of text, and compares
 //! with the trees, errors and written texts that stand there. A row may leave some of them out. Then it reads each
 //! prefix of the sources of `data/rows.jsonl` and `data/prefixes.jsonl`.
+//!
+//! The tests cover what `fluent_json` gives for trees and values made by hand, odd ones among them, and what
+//! `fluent_syntax` gives where memory is refused.
 #![tactic(auto)]
 
 mod errors;
+#[cfg(test)]
+mod json_values;
 mod laws;
 mod places;
 mod prefixes;

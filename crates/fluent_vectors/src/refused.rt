@@ -1,7 +1,7 @@
 //! Each call gives what it gives with all the memory that it asks for, or want of memory.
 //!
-//! A test is to be run with each allocation refused in turn. Each call is made twice: at most one of the two is refused
-//! memory, and the other tells what is right.
+//! The tests of this file are to be run with each allocation refused in turn. Each call is made twice: at most one of
+//! the two is refused memory, and the other tells what is right.
 
 use fluent_syntax::parser::{self, Error, parse, parse_runtime};
 use fluent_syntax::serializer::{Options, serialize, serialize_with_options};

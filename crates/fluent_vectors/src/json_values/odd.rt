@@ -1,6 +1,15 @@
-//! The JSON texts of trees that no source reads as, worked out by hand from the table.
+//! The JSON texts of trees that no source reads as, worked out by hand from the table of `docs/json.md`.
 
-use super::*;
+use super::builders::{
+    Inline, comment, empty_select, id, nested, owned, placeable, string, valued,
+};
+use fluent_json::{FromValueError, from_value, to_value};
+use fluent_syntax::ast::{
+    Attribute, CallArguments, Comment, Entry, Expression, InlineExpression, Message, NamedArgument,
+    Pattern, Resource,
+};
+use std::alloc::{AllocError, Global};
+use std::test::Fail;
 
 /// Whether a tree has the value of this text, and the value this tree.
 fn has_text(
