@@ -5,12 +5,14 @@
 //! A [`FluentValue`] is a text, a number or a value of the program's own type, which implements [`FluentType`]. It may also
 //! be [`None`](FluentValue::None) or [`Error`](FluentValue::Error), which are shown as nothing and equal nothing.
 
+mod args;
 mod custom;
 mod integers;
 pub mod laws;
 mod texts;
 mod value;
 
+pub use args::FluentArgs;
 pub use custom::{FluentType, NoCustom};
 pub use value::FluentValue;
 

@@ -1,0 +1,9 @@
+use Rattle.std.proofs.Common.{rules, ◌≡◌, sym, subst, map, []}
+use Rattle.std.specs.List.Sorted.{IsStrictlySortedBy}
+use Rattle.fluent_value.specs.Args.{IsAscending, order}
+use Rattle.fluent_value.specs.ArgsNames.{names_of}
+use Rattle.fluent_value.proofs.Placed.{none_ascend}
+use Rattle.fluent_value.proofs.args.FluentArgs.new.Goals as goal
+
+pub invariant_of-result : goal.invariant_of-result
+invariant_of-result g c = record { ascending = subst (λ es. IsAscending (names_of g.row.C.Denot es)) (sym c.new.ensures.items) none_ascend }

@@ -1,0 +1,9 @@
+-- The plain arguments that arguments stand for.
+use Rattle.std.specs.Prelude.{ℕ, List, map}
+use Rattle.fluent_value.specs.ArgsNames.{name_of}
+use Rattle.fluent_value.specs.Value.{Value}
+use Rattle.fluent_value.specs.View.{value_view}
+use Rattle.fluent_value.specs.declared.args.FluentArgs.{FluentArgs}
+
+abbrev pub args_view : (C : Type 0) (S : Type 0) (meaning : C → S) → FluentArgs C → List (List ℕ × Value S)
+args_view C S meaning args = map (λ it. (name_of C it, value_view C S meaning it.value)) args.arguments.items

@@ -1,0 +1,24 @@
+//! The arguments that a message is given.
+
+ghost use Rattle.std.proofs.Props.{props};
+ghost use Rattle.fluent_value.specs.Args.{IsAscending};
+ghost use Rattle.fluent_value.specs.ArgsNames.{names_of};
+
+mod calls;
+
+use crate::value::FluentValue;
+use std::borrow::CowStr;
+
+/// A name and its value.
+#[derive(Debug, Drop)]
+struct Argument<'args, C> {
+    name: CowStr<'args>,
+    value: FluentValue<'args, C>,
+}
+
+/// The arguments of a message: values by their names, in the order of the names' bytes.
+#[derive(Debug, Drop)]
+pub struct FluentArgs<'args, C> {
+    arguments: Vec<Argument<'args, C>>,
+    ghost ascending: { IsAscending (names_of C arguments.items) } by { Prim.hlevel props },
+}
