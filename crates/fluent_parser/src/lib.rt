@@ -5,10 +5,12 @@
 #![tactic(auto)]
 
 mod arguments;
+mod blank;
 mod collected;
 mod comment;
 mod entry;
 pub mod errors;
+mod expected;
 mod expression;
 mod fault;
 mod helper;
@@ -19,6 +21,7 @@ mod pieces;
 mod recovery;
 mod resource;
 mod select;
+mod token;
 
 ghost use Rattle.std.specs.Prelude.{map};
 ghost use Rattle.fluent_grammar.specs.Tiling.{tree, errors, runtime_tree, runtime_errors};

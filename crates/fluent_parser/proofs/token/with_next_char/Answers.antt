@@ -2,7 +2,7 @@ use Rattle.std.proofs.Common.{◌≡◌, ◌+◌, ◌-◌, ℕ, length, take, ap
 use Rattle.std.specs.Str.{IsUtf8}
 use Rattle.fluent_grammar.specs.Reading.{first_char}
 use Rattle.fluent_words.proofs.Chars.{cut_first, first_char_front}
-use Rattle.fluent_parser.proofs.helper.with_next_char.Goals as goal
+use Rattle.fluent_parser.proofs.token.with_next_char.Goals as goal
 
 pub range-requires-clause-end_boundary : goal.range-requires-clause-end_boundary
 range-requires-clause-end_boundary c =
