@@ -10,14 +10,14 @@ use Rattle.fluent_ast.proofs.Copied.{map-take_more}
 use Rattle.fluent_serializer.proofs.Laid.{elements_signs-append, variants_signs-append, inlines_signs-push, has_positional-push, has_positional-length, has_named, nameds_signs-push, has_named-push, or_false}
 use Rattle.fluent_serializer.proofs.Onto.{onto-finish, onto-of}
 use Rattle.fluent_ast.proofs.Views.{arguments_view-out, element_view-TextElement, element_view-Placeable, expression_view-Select, inline_view-StringLiteral, inline_view-FunctionReference, inline_view-MessageReference, inline_view-TermReference, inline_view-VariableReference, inline_view-Placeable, named_view-out, pattern_view-out, variant_view-out}
-use Rattle.fluent_serializer.proofs.expressions.+writing.Goals as goal
-use Rattle.fluent_serializer.proofs.expressions.+writing.Goals.{write_elements-in-TextElement+in_ok-write_piece-in-TextElement, write_elements-in-Placeable+in_ok-write_placeable-in-Placeable}
+use Rattle.fluent_serializer.proofs.+writing.Goals as goal
+use Rattle.fluent_serializer.proofs.+writing.Goals.{expressions::write_elements-in-TextElement+in_ok-write_piece-in-TextElement, expressions::write_elements-in-Placeable+in_ok-write_placeable-in-Placeable}
 
-pub write_all_named-loop-argument-init : goal.write_all_named-loop-argument-init
-write_all_named-loop-argument-init g t c = (sym (onto-nil _), sym (or_false _))
+pub inline::write_all_named-loop-argument-init : goal.inline::write_all_named-loop-argument-init
+inline::write_all_named-loop-argument-init g t c = (sym (onto-nil _), sym (or_false _))
 
-pub write_all_named-loop-argument-preserved : goal.write_all_named-loop-argument-preserved
-write_all_named-loop-argument-preserved g t c =
+pub inline::write_all_named-loop-argument-preserved : goal.inline::write_all_named-loop-argument-preserved
+inline::write_all_named-loop-argument-preserved g t c =
     let S = g.row.S.Denot in
     let text_of = g.T.Texts.text in
     let view = named_view S text_of in
@@ -33,8 +33,8 @@ write_all_named-loop-argument-preserved g t c =
       sym (ap (λ ns. after || has_named (nameds_of ns)) more ∙ has_named-push after before _),
     )
 
-pub write_arguments-returns : goal.write_arguments-returns
-write_arguments-returns g t c =
+pub inline::write_arguments-returns : goal.inline::write_arguments-returns
+inline::write_arguments-returns g t c =
     let S = g.row.S.Denot in
     let text_of = g.T.Texts.text in
     let positional = rw c.deref.ensures.value at c.in_ok-write_positional.ensures in
@@ -45,11 +45,11 @@ write_arguments-returns g t c =
     (onto-finish _ _ _ _ _ c.in_ok-write_piece.ensures
     (onto-finish _ _ _ _ _ (onto-then _ _ _ positional named) c.write_piece-2.ensures))
 
-pub write_elements-loop-element-init : goal.write_elements-loop-element-init
-write_elements-loop-element-init g t c = sym (onto-nil _)
+pub expressions::write_elements-loop-element-init : goal.expressions::write_elements-loop-element-init
+expressions::write_elements-loop-element-init g t c = sym (onto-nil _)
 
-pub write_elements-loop-element-preserved : goal.write_elements-loop-element-preserved
-write_elements-loop-element-preserved g t c =
+pub expressions::write_elements-loop-element-preserved : goal.expressions::write_elements-loop-element-preserved
+expressions::write_elements-loop-element-preserved g t c =
     let S = g.row.S.Denot in
     let text_of = g.T.Texts.text in
     let view = element_view S text_of in
@@ -59,20 +59,20 @@ write_elements-loop-element-preserved g t c =
     let more = map-take_more view c.args.elements.now c.loop-element.element-index item c.loop-element-test.true c.element-item.is in
     let signs = ap (λ es. elements_signs level (elements_of es)) more ∙ elements_signs-append level before (view item ∷ []) in
     elim c.match-element.branch [
-      | write_elements-in-TextElement+in_ok-write_piece-in-TextElement w ↦
+      | expressions::write_elements-in-TextElement+in_ok-write_piece-in-TextElement w ↦
           let seen = ap view w.in-TextElement.is ∙ element_view-TextElement S text_of w.in-TextElement.value in
           let here = ap (λ e. elements_signs level (elements_of (e ∷ []))) seen in
           let one = rw w.as_str.ensures at w.in_ok-write_piece-in-TextElement.ensures in
           ap string_bytes w.out-is ∙ onto-then _ _ _ c.loop-element.invariant one ∙ ap (onto _) (sym (signs ∙ ap (λ x. elements_signs level (elements_of before) ++ x) here))
-      | write_elements-in-Placeable+in_ok-write_placeable-in-Placeable w ↦
+      | expressions::write_elements-in-Placeable+in_ok-write_placeable-in-Placeable w ↦
           let seen = ap view w.in-Placeable.is ∙ element_view-Placeable S text_of w.in-Placeable.expression in
           let here = ap (λ e. elements_signs level (elements_of (e ∷ []))) seen ∙ append-nil (placeable_signs level (expression_view S text_of w.in-Placeable.expression)) in
           ap string_bytes w.out-is ∙ onto-then _ _ _ c.loop-element.invariant w.in_ok-write_placeable-in-Placeable.ensures ∙ ap (onto _) (sym (signs ∙ ap (λ x. elements_signs level (elements_of before) ++ x) here))
     ]
 
-pub write_expression-returns-in_ok-write_variants-in-Select :
-    goal.write_expression-returns-in_ok-write_variants-in-Select
-write_expression-returns-in_ok-write_variants-in-Select g t c =
+pub expressions::write_expression-returns-in_ok-write_variants-in-Select :
+    goal.expressions::write_expression-returns-in_ok-write_variants-in-Select
+expressions::write_expression-returns-in_ok-write_variants-in-Select g t c =
     let S = g.row.S.Denot in
     let text_of = g.T.Texts.text in
     let is = ap (expression_view S text_of) c.in-Select.is ∙ expression_view-Select S text_of c.in-Select.selector c.in-Select.variants in
@@ -81,9 +81,9 @@ write_expression-returns-in_ok-write_variants-in-Select g t c =
     (onto-finish _ _ _ _ _ c.in_ok-write_piece-in-Select.ensures
     (onto-finish _ _ _ _ _ (rw c.deref.ensures.value at c.in_ok-write_variants-in-Select.ensures) c.write_new_line.ensures)))
 
-pub write_inline-returns-in_ok-write_piece-in-StringLiteral-2 :
-    goal.write_inline-returns-in_ok-write_piece-in-StringLiteral-2
-write_inline-returns-in_ok-write_piece-in-StringLiteral-2 g t c =
+pub inline::write_inline-returns-in_ok-write_piece-in-StringLiteral-2 :
+    goal.inline::write_inline-returns-in_ok-write_piece-in-StringLiteral-2
+inline::write_inline-returns-in_ok-write_piece-in-StringLiteral-2 g t c =
     let S = g.row.S.Denot in
     let text_of = g.T.Texts.text in
     let is = ap (inline_view S text_of) c.in-StringLiteral.is ∙ inline_view-StringLiteral S text_of c.in-StringLiteral.value in
@@ -91,50 +91,50 @@ write_inline-returns-in_ok-write_piece-in-StringLiteral-2 g t c =
     (onto-finish _ _ _ _ _ c.in_ok-write_piece-in-StringLiteral.ensures
     (onto-finish _ _ _ _ _ (rw c.as_str.ensures at c.in_ok-write_piece-in-StringLiteral-2.ensures) c.write_piece-in-StringLiteral-2.ensures))
 
-pub write_inline-returns-in_ok-write_name-in-FunctionReference :
-    goal.write_inline-returns-in_ok-write_name-in-FunctionReference
-write_inline-returns-in_ok-write_name-in-FunctionReference g t c =
+pub inline::write_inline-returns-in_ok-write_name-in-FunctionReference :
+    goal.inline::write_inline-returns-in_ok-write_name-in-FunctionReference
+inline::write_inline-returns-in_ok-write_name-in-FunctionReference g t c =
     let S = g.row.S.Denot in
     let text_of = g.T.Texts.text in
     let is = ap (inline_view S text_of) c.in-FunctionReference.is ∙ inline_view-FunctionReference S text_of c.in-FunctionReference.id c.in-FunctionReference.arguments in
     onto-of (inline_signs c.args.level) _ _ _ is
     (onto-finish _ _ _ _ _ c.in_ok-write_name-in-FunctionReference.ensures c.write_arguments.ensures)
 
-pub write_inline-returns-in_ok-write_name-in-MessageReference :
-    goal.write_inline-returns-in_ok-write_name-in-MessageReference
-write_inline-returns-in_ok-write_name-in-MessageReference g t c =
+pub inline::write_inline-returns-in_ok-write_name-in-MessageReference :
+    goal.inline::write_inline-returns-in_ok-write_name-in-MessageReference
+inline::write_inline-returns-in_ok-write_name-in-MessageReference g t c =
     let S = g.row.S.Denot in
     let text_of = g.T.Texts.text in
     let is = ap (inline_view S text_of) c.in-MessageReference.is ∙ inline_view-MessageReference S text_of c.in-MessageReference.id c.in-MessageReference.attribute in
     onto-of (inline_signs c.args.level) _ _ _ is
     (onto-finish _ _ _ _ _ c.in_ok-write_name-in-MessageReference.ensures c.write_accessor.ensures)
 
-pub write_inline-returns-in-Some : goal.write_inline-returns-in-Some
-write_inline-returns-in-Some g t c =
+pub inline::write_inline-returns-in-Some : goal.inline::write_inline-returns-in-Some
+inline::write_inline-returns-in-Some g t c =
     let S = g.row.S.Denot in
     let text_of = g.T.Texts.text in
     let is = ap (inline_view S text_of) c.in-TermReference.is ∙ inline_view-TermReference S text_of c.in-TermReference.id c.in-TermReference.attribute c.in-TermReference.arguments ∙ ap (λ a. term_reference (name_of S text_of c.in-TermReference.id) (option_map (name_of S text_of) c.in-TermReference.attribute) (maybe_arguments (option_map (arguments_view S text_of) a))) c.in-Some.is in
     let head = onto-then _ _ _ c.in_ok-write_piece-in-TermReference.ensures (onto-then _ _ _ c.in_ok-write_name-in-TermReference.ensures c.in_ok-write_accessor-in-TermReference.ensures) in
     onto-of (inline_signs c.args.level) _ _ _ is (onto-finish _ _ _ _ _ head c.write_arguments-in-Some.ensures)
 
-pub write_inline-returns-in-None : goal.write_inline-returns-in-None
-write_inline-returns-in-None g t c =
+pub inline::write_inline-returns-in-None : goal.inline::write_inline-returns-in-None
+inline::write_inline-returns-in-None g t c =
     let S = g.row.S.Denot in
     let text_of = g.T.Texts.text in
     let is = ap (inline_view S text_of) c.in-TermReference.is ∙ inline_view-TermReference S text_of c.in-TermReference.id c.in-TermReference.attribute c.in-TermReference.arguments ∙ ap (λ a. term_reference (name_of S text_of c.in-TermReference.id) (option_map (name_of S text_of) c.in-TermReference.attribute) (maybe_arguments (option_map (arguments_view S text_of) a))) c.in-None.is in
     let head = onto-then _ _ _ c.in_ok-write_piece-in-TermReference.ensures (onto-then _ _ _ c.in_ok-write_name-in-TermReference.ensures c.in_ok-write_accessor-in-TermReference.ensures) in
     head ∙ ap (onto _) (sym (ap (inline_signs c.args.level) is ∙ append-nil _))
 
-pub write_inline-returns-in_ok-write_piece-in-VariableReference : goal.write_inline-returns-in_ok-write_piece-in-VariableReference
-write_inline-returns-in_ok-write_piece-in-VariableReference g t c =
+pub inline::write_inline-returns-in_ok-write_piece-in-VariableReference : goal.inline::write_inline-returns-in_ok-write_piece-in-VariableReference
+inline::write_inline-returns-in_ok-write_piece-in-VariableReference g t c =
     let S = g.row.S.Denot in
     let text_of = g.T.Texts.text in
     let is = ap (inline_view S text_of) c.in-VariableReference.is ∙ inline_view-VariableReference S text_of c.in-VariableReference.id in
     onto-of (inline_signs c.args.level) _ _ _ is
     (onto-finish _ _ _ _ _ c.in_ok-write_piece-in-VariableReference.ensures c.write_name-in-VariableReference.ensures)
 
-pub write_inline-returns-in_ok-write_expression-in-Placeable : goal.write_inline-returns-in_ok-write_expression-in-Placeable
-write_inline-returns-in_ok-write_expression-in-Placeable g t c =
+pub inline::write_inline-returns-in_ok-write_expression-in-Placeable : goal.inline::write_inline-returns-in_ok-write_expression-in-Placeable
+inline::write_inline-returns-in_ok-write_expression-in-Placeable g t c =
     let S = g.row.S.Denot in
     let text_of = g.T.Texts.text in
     let is = ap (inline_view S text_of) c.in-Placeable.is ∙ inline_view-Placeable S text_of c.in-Placeable.expression in
@@ -142,8 +142,8 @@ write_inline-returns-in_ok-write_expression-in-Placeable g t c =
     (onto-finish _ _ _ _ _ c.in_ok-write_piece-in-Placeable.ensures
     (onto-finish _ _ _ _ _ (rw c.deref.ensures at c.in_ok-write_expression-in-Placeable.ensures) c.write_piece-in-Placeable-2.ensures))
 
-pub write_inline_placeable-returns-in_ok-write_expression-in-Placeable : goal.write_inline_placeable-returns-in_ok-write_expression-in-Placeable
-write_inline_placeable-returns-in_ok-write_expression-in-Placeable g t c =
+pub expressions::write_inline_placeable-returns-in_ok-write_expression-in-Placeable : goal.expressions::write_inline_placeable-returns-in_ok-write_expression-in-Placeable
+expressions::write_inline_placeable-returns-in_ok-write_expression-in-Placeable g t c =
     let S = g.row.S.Denot in
     let text_of = g.T.Texts.text in
     let is = ap (inline_view S text_of) c.in-Placeable.is ∙ inline_view-Placeable S text_of c.in-Placeable.expression in
@@ -153,16 +153,16 @@ write_inline_placeable-returns-in_ok-write_expression-in-Placeable g t c =
     (onto-finish _ _ _ _ _ c.in_ok-write_piece-in-Placeable.ensures
     (onto-finish _ _ _ _ _ inside closed))
 
-pub write_inline_placeable-returns-in_ok-write_inline-in_default : goal.write_inline_placeable-returns-in_ok-write_inline-in_default
-write_inline_placeable-returns-in_ok-write_inline-in_default g t c =
+pub expressions::write_inline_placeable-returns-in_ok-write_inline-in_default : goal.expressions::write_inline_placeable-returns-in_ok-write_inline-in_default
+expressions::write_inline_placeable-returns-in_ok-write_inline-in_default g t c =
     let S = g.row.S.Denot in
     let text_of = g.T.Texts.text in
     let level = c.args.level in
     let braced = onto-finish _ _ _ _ _ c.in_ok-write_piece-in_default.ensures (onto-finish _ _ _ _ _ c.in_ok-write_inline-in_default.ensures c.write_piece-in_default-2.ensures) in
     onto-of (λ signs. signs) _ _ _ (in_braces-no_placeable S text_of level c.args.inline.now c.in_default.not-Placeable) braced
 
-pub write_pattern-returns : goal.write_pattern-returns
-write_pattern-returns g t c =
+pub expressions::write_pattern-returns : goal.expressions::write_pattern-returns
+expressions::write_pattern-returns g t c =
     let S = g.row.S.Denot in
     let text_of = g.T.Texts.text in
     let pattern = c.args.pattern.now in
@@ -170,8 +170,8 @@ write_pattern-returns g t c =
     let elements = rw (c.deref.ensures.value, ← seen) at c.write_elements.ensures in
     onto-finish _ _ _ _ _ c.in_ok-write_pattern_start.ensures elements
 
-pub write_placeable-returns-in_ok-write_expression-in-Select : goal.write_placeable-returns-in_ok-write_expression-in-Select
-write_placeable-returns-in_ok-write_expression-in-Select g t c =
+pub expressions::write_placeable-returns-in_ok-write_expression-in-Select : goal.expressions::write_placeable-returns-in_ok-write_expression-in-Select
+expressions::write_placeable-returns-in_ok-write_expression-in-Select g t c =
     let S = g.row.S.Denot in
     let text_of = g.T.Texts.text in
     let is = ap (expression_view S text_of) c.in-Select.is ∙ expression_view-Select S text_of c.in-Select.selector c.in-Select.variants in
@@ -180,11 +180,11 @@ write_placeable-returns-in_ok-write_expression-in-Select g t c =
     (onto-finish _ _ _ _ _ c.in_ok-write_piece-in-Select.ensures
     (onto-finish _ _ _ _ _ inside c.write_piece-in-Select.ensures))
 
-pub write_positional-loop-argument-init : goal.write_positional-loop-argument-init
-write_positional-loop-argument-init g t c = (sym (onto-nil _), refl)
+pub inline::write_positional-loop-argument-init : goal.inline::write_positional-loop-argument-init
+inline::write_positional-loop-argument-init g t c = (sym (onto-nil _), refl)
 
-pub write_positional-loop-argument-preserved : goal.write_positional-loop-argument-preserved
-write_positional-loop-argument-preserved g t c =
+pub inline::write_positional-loop-argument-preserved : goal.inline::write_positional-loop-argument-preserved
+inline::write_positional-loop-argument-preserved g t c =
     let S = g.row.S.Denot in
     let text_of = g.T.Texts.text in
     let view = inline_view S text_of in
@@ -198,11 +198,11 @@ write_positional-loop-argument-preserved g t c =
       sym (ap (λ ps. has_positional (inlines_of ps)) more ∙ has_positional-push before (view item)),
     )
 
-pub write_variants-loop-variant-init : goal.write_variants-loop-variant-init
-write_variants-loop-variant-init g t c = sym (onto-nil _)
+pub expressions::write_variants-loop-variant-init : goal.expressions::write_variants-loop-variant-init
+expressions::write_variants-loop-variant-init g t c = sym (onto-nil _)
 
-pub write_variants-loop-variant-preserved : goal.write_variants-loop-variant-preserved
-write_variants-loop-variant-preserved g t c =
+pub expressions::write_variants-loop-variant-preserved : goal.expressions::write_variants-loop-variant-preserved
+expressions::write_variants-loop-variant-preserved g t c =
     let S = g.row.S.Denot in
     let text_of = g.T.Texts.text in
     let view = variant_view S text_of in

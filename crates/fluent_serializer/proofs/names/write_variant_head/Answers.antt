@@ -1,5 +1,5 @@
 use Rattle.fluent_serializer.proofs.Onto.{onto-finish}
-use Rattle.fluent_serializer.proofs.expressions.write_variant_head.Goals as goal
+use Rattle.fluent_serializer.proofs.names.write_variant_head.Goals as goal
 
 pub returns : goal.returns
 returns g c =
