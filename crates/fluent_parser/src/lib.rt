@@ -8,6 +8,7 @@ mod arguments;
 mod blank;
 mod collected;
 mod comment;
+mod elements;
 mod entry;
 pub mod errors;
 mod expected;

@@ -3,7 +3,7 @@ use Rattle.fluent_ast.specs.View.{element_view, elements_of}
 use Rattle.fluent_parser.specs.Pieces.{piece_view}
 use Rattle.fluent_ast.proofs.Views.{pattern_view-roll}
 use Rattle.fluent_parser.proofs.PatternPieces.{alone, blank_alone}
-use Rattle.fluent_parser.proofs.pieces.pattern_of_one.Goals as goal
+use Rattle.fluent_parser.proofs.elements.pattern_of_one.Goals as goal
 
 pub returns-then-is_blank : goal.returns-then-is_blank
 returns-then-is_blank g c = sym (blank_alone (piece_view g.row.S.Denot g.T.Texts.text c.args.piece) (sym c.is_blank.ensures ∙ c.if-is_blank.true))

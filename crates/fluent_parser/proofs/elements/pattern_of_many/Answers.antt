@@ -7,7 +7,7 @@ use Rattle.fluent_parser.specs.Pieces.{piece_view, IsPiece, element_in, element_
 use Rattle.fluent_ast.proofs.Views.{pattern_view-roll}
 use Rattle.fluent_parser.proofs.PatternPieces.{pattern_is, all_front, all_last}
 use Rattle.fluent_grammar.specs.Lines as lines
-use Rattle.fluent_parser.proofs.pieces.pattern_of_many.Goals as goal
+use Rattle.fluent_parser.proofs.elements.pattern_of_many.Goals as goal
 
 pub last_element-requires : goal.last_element-requires
 last_element-requires g c =

@@ -3,7 +3,7 @@ use Rattle.std.specs.Str.{IsUtf8}
 use Rattle.fluent_parser.specs.Pieces.{IsIndented, without_indent, cut_len}
 use Rattle.fluent_parser.proofs.PatternPieces.{cut_indent, dedent_is}
 use Rattle.fluent_words.proofs.Scanned.{take_rest}
-use Rattle.fluent_parser.proofs.pieces.dedented.Goals as goal
+use Rattle.fluent_parser.proofs.elements.dedented.Goals as goal
 
 pub slice-requires-clause-start_boundary : goal.slice-requires-clause-start_boundary
 slice-requires-clause-start_boundary g c =

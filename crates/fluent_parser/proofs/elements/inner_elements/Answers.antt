@@ -5,7 +5,7 @@ use Rattle.std.proofs.lemmas.Iterator.Consumers.{YieldsList-turn, YieldsList-end
 use Rattle.fluent_ast.specs.View.{element_view}
 use Rattle.fluent_parser.specs.Pieces.{piece_view, IsPiece, element_in}
 use Rattle.fluent_parser.proofs.PatternPieces.{piece_turned, all_at}
-use Rattle.fluent_parser.proofs.pieces.inner_elements.Goals as goal
+use Rattle.fluent_parser.proofs.elements.inner_elements.Goals as goal
 
 pub element-requires : goal.element-requires
 element-requires g c =

@@ -1,7 +1,7 @@
 use Rattle.std.proofs.Common.{◌≡◌, map}
 use Rattle.fluent_ast.specs.View.{element_view}
 use Rattle.fluent_parser.specs.Pieces.{piece_view, element_in}
-use Rattle.fluent_parser.proofs.pieces.inner_elements.Given as goal
+use Rattle.fluent_parser.proofs.elements.inner_elements.Given as goal
 
 abbrev pub invariant-loop-piece : goal.invariant-loop-piece
 invariant-loop-piece g l =
