@@ -5,10 +5,13 @@
 #![tactic(auto)]
 
 mod arguments;
+mod blank;
 mod collected;
 mod comment;
+mod elements;
 mod entry;
 pub mod errors;
+mod expected;
 mod expression;
 mod fault;
 mod helper;
@@ -20,6 +23,7 @@ mod pieces;
 mod recovery;
 mod resource;
 mod select;
+mod token;
 
 ghost use Rattle.std.specs.Prelude.{map};
 ghost use Rattle.fluent_grammar.specs.Tiling.{tree, errors, runtime_tree, runtime_errors};

@@ -6,9 +6,10 @@ ghost use Rattle.fluent_grammar.specs.Words as w;
 ghost use Rattle.fluent_grammar.specs.Lines.{in_line, pattern_ends};
 
 use crate::ErrorKind;
+use crate::elements::pattern_of;
 use crate::fault::Fault;
 use crate::helper::Parser;
-use crate::pieces::{Piece, Pieces, pattern_of};
+use crate::pieces::{Piece, Pieces};
 use fluent_ast::Pattern;
 use fluent_slice::Texts;
 use fluent_words as words;

@@ -6,7 +6,9 @@
 
 mod entries;
 mod expressions;
+mod inline;
 pub mod laws;
+mod names;
 mod pieces;
 mod shapes;
 

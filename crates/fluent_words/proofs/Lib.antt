@@ -1,4 +1,4 @@
 pub mod Counted
 pub mod Scanned
-pub mod Strings
+pub mod StringContent
 pub mod Chars

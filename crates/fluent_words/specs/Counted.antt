@@ -6,10 +6,10 @@ use Rattle.fluent_grammar.specs.Words.{Text, begins, is_digit, is_letter, hyphen
 use Rattle.fluent_grammar.specs.Refusal.{Reading, got, refuse}
 use Rattle.fluent_grammar.specs.Refusal as r
 use Rattle.fluent_grammar.specs.Reading.{number_at, text_run, string_content, before, missing_hex, first_char}
-use Rattle.fluent_words.specs.declared.StringEnd.{StringEnd}
-use Rattle.fluent_words.specs.declared.StringEnd.TheVariants as end
-use Rattle.fluent_words.specs.declared.StringStep.{StringStep}
-use Rattle.fluent_words.specs.declared.StringStep.TheVariants as step
+use Rattle.fluent_words.specs.declared.strings.StringEnd.{StringEnd}
+use Rattle.fluent_words.specs.declared.strings.StringEnd.TheVariants as end
+use Rattle.fluent_words.specs.declared.strings.StringStep.{StringStep}
+use Rattle.fluent_words.specs.declared.strings.StringStep.TheVariants as step
 
 -- so many bytes stand at the front, and the text may be cut behind them
 pub record Cuts (text : Text) (count : ℕ) : Type 0 where

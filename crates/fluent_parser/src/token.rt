@@ -1,0 +1,139 @@
+//! Identifiers, numbers and strings.
+#![tactic(auto, using(fluent_words::proofs::Counted::cuts))]
+
+ghost use Rattle.std.specs.Prelude.{◌≡◌, ◌++◌, ◌≤◌, true, length, drop, take};
+ghost use Rattle.std.specs.List.{prefix_len};
+ghost use Rattle.fluent_words.specs.Counted.{Cuts, character_or_space};
+ghost use Rattle.fluent_grammar.specs.Words as w;
+ghost use Rattle.fluent_grammar.specs.Refusal as r;
+ghost use Rattle.fluent_grammar.specs.Reading.{first_char};
+
+use crate::ErrorKind;
+use crate::fault::Fault;
+use crate::helper::{Parser, behind};
+use fluent_ast::Identifier;
+use fluent_slice::Texts;
+use fluent_words as words;
+use fluent_words::StringEnd;
+
+/// The character at the front of a text.
+fn first_char(text: &str) -> &str
+    ensures { result.now ≡ first_char text.now }
+{
+    &text[..words::char_len(text.as_bytes())]
+}
+
+/// So many bytes at the front of a text, and the character behind them.
+fn with_next_char(text: &str, count: usize) -> &str
+    requires { Cuts text.now count }
+    ensures { result.now ≡ take count text.now ++ first_char (drop count text.now) }
+{
+    let end = count + first_char(behind(text, count)).len();
+    &text[..end]
+}
+
+impl<'p, S: Drop, T: Texts<S>> Parser<'p, S, T> {
+    ghost use Rattle.fluent_parser.specs.Reads.{Gives, Tells};
+    ghost use Rattle.fluent_ast.specs.View.{name_of};
+    ghost use Rattle.fluent_grammar.specs.Reading.{identifier_at, number_at, string_content};
+
+    /// Production `Identifier`.
+    #[tactic(auto, using(fluent_words::proofs::Counted::cuts), unfolding(fluent_grammar::specs::Reading::identifier_at))]
+    pub fn get_identifier(&mut self) -> Result<Identifier<S>, Fault>
+        requires { T.text self.old.source.now ≡ self.old.text.now }
+        ensures gives { Gives (name_of S T.text) self.new.rest.now result (identifier_at self.old.rest.now) }
+        ensures source { self.new.source.now ≡ self.old.source.now }
+        ensures text { self.new.text.now ≡ self.old.text.now }
+        ensures onward { length self.new.rest.now ≤ length self.old.rest.now }
+    {
+        let count = words::identifier_len(self.bytes());
+        if count == 0 {
+            return Err(self.expected_letter());
+        }
+        let name = self.take(count)?;
+        Ok(Identifier { name })
+    }
+
+    /// Production `NumberLiteral`.
+    pub fn get_number_literal(&mut self) -> Result<S, Fault>
+        requires { T.text self.old.source.now ≡ self.old.text.now }
+        ensures gives { Gives T.text self.new.rest.now result (number_at self.old.rest.now) }
+        ensures source { self.new.source.now ≡ self.old.source.now }
+        ensures text { self.new.text.now ≡ self.old.text.now }
+        ensures onward { length self.new.rest.now ≤ length self.old.rest.now }
+    {
+        match words::number_len(self.bytes()) {
+            Ok(count) => {
+                let value = self.take(count)?;
+                Ok(value)
+            }
+            Err(count) => {
+                self.advance(count);
+                Err(self.expected_digit())
+            }
+        }
+    }
+
+    /// The content of a string, behind its opening quote, with the closing one. Production `StringLiteral`.
+    pub fn get_string_content(&mut self) -> Result<S, Fault>
+        requires { T.text self.old.source.now ≡ self.old.text.now }
+        ensures gives { Gives T.text self.new.rest.now result (string_content self.old.rest.now) }
+        ensures source { self.new.source.now ≡ self.old.source.now }
+        ensures text { self.new.text.now ≡ self.old.text.now }
+        ensures onward { length self.new.rest.now ≤ length self.old.rest.now }
+    {
+        match words::string_end(self.bytes()) {
+            StringEnd::Quote(count) => {
+                let content = self.take(count)?;
+                self.advance(1);
+                Ok(content)
+            }
+            StringEnd::TextEnd(count) => {
+                self.advance(count);
+                Err(Fault::Refused(ErrorKind::ExpectedToken('"')))
+            }
+            StringEnd::LineFeed(count) => {
+                self.advance(count);
+                Err(Fault::Refused(ErrorKind::UnterminatedStringLiteral))
+            }
+            StringEnd::UnknownEscape(count) => {
+                self.advance(count);
+                Err(self.unknown_escape())
+            }
+            StringEnd::MissingDigit(start, end) => {
+                self.advance(start);
+                let fault = self.missing_digit(end - start);
+                self.advance(end - start);
+                Err(fault)
+            }
+        }
+    }
+
+    /// The refusal of what stands behind a backslash: a character, or a space at the end.
+    fn unknown_escape(&self) -> Fault
+        requires { w.begins_with w.backslash self.now.rest.now ≡ true }
+        ensures { Tells result (r.unknown_escape_sequence (character_or_space (drop 1 self.now.rest.now))) }
+    {
+        let escape = behind(self.rest(), 1);
+        let text = if escape.is_empty() {
+            " "
+        } else {
+            first_char(escape)
+        };
+        match String::from_str(self.alloc, text) {
+            Ok(text) => Fault::Refused(ErrorKind::UnknownEscapeSequence(text)),
+            Err(_) => Fault::Memory,
+        }
+    }
+
+    /// The refusal of an escape with too few hex digits, which are shown with the character behind them.
+    fn missing_digit(&self, digits: usize) -> Fault
+        requires { digits ≡ prefix_len w.is_hex_digit self.now.rest.now }
+        ensures { Tells result (r.invalid_unicode_escape_sequence (take digits self.now.rest.now ++ first_char (drop digits self.now.rest.now))) }
+    {
+        match String::from_str(self.alloc, with_next_char(self.rest(), digits)) {
+            Ok(text) => Fault::Refused(ErrorKind::InvalidUnicodeEscapeSequence(text)),
+            Err(_) => Fault::Memory,
+        }
+    }
+}

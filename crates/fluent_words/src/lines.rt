@@ -1,0 +1,42 @@
+//! Lines and their ends.
+#![tactic(auto, using(crate::proofs::Counted::cuts))]
+
+ghost use Rattle.std.specs.Prelude.{◌≡◌};
+ghost use Rattle.fluent_grammar.specs.Lines.{ends_line};
+ghost use Rattle.fluent_words.specs.Counted.{Cuts, IsLineEnd, IsLine};
+
+use memchr::memchr;
+
+/// How many bytes the line end at the front has, or 0: LF, or CR LF. Production `line_end`.
+pub fn line_end_len(text: &[u8]) -> usize
+    ensures value { IsLineEnd text.now result }
+    ensures cuts { Cuts text.now result }
+{
+    match text {
+        [b'\n', ..] => 1,
+        [b'\r', b'\n', ..] => 2,
+        _ => 0,
+    }
+}
+
+/// How many bytes the line at the front has without its line end.
+pub fn line_len(text: &[u8]) -> usize
+    ensures value { IsLine text.now result }
+    ensures cuts { Cuts text.now result }
+{
+    let Some(end) = memchr(b'\n', text) else {
+        return text.len();
+    };
+    if end > 0 && text[end - 1] == b'\r' {
+        end - 1
+    } else {
+        end
+    }
+}
+
+/// Whether a text ends in a line feed.
+pub fn ends_line(text: &[u8]) -> bool
+    ensures { result ≡ ends_line text.now }
+{
+    !text.is_empty() && text[text.len() - 1] == b'\n'
+}

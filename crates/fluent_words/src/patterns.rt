@@ -1,0 +1,51 @@
+//! The texts of patterns, and where patterns end.
+#![tactic(auto, using(crate::proofs::Counted::cuts))]
+
+ghost use Rattle.std.specs.Prelude.{◌≡◌, ◌<◌, length};
+ghost use Rattle.fluent_grammar.specs.Lines.{pattern_ends};
+ghost use Rattle.fluent_words.specs.Counted.{IsText, line_feed_end};
+
+use crate::{blank_inline_len, from};
+use memchr::memchr3;
+
+/// The text at the front: up to and with the line feed, or up to an opening brace, a CR LF or the end. An `Err` is the
+/// offset of a closing brace, which no text may have.
+pub fn text_len(text: &[u8]) -> Result<usize, usize>
+    ensures { IsText text.now result }
+{
+    let Some(end) = memchr3(b'{', b'}', b'\n', text) else {
+        return Ok(text.len());
+    };
+    if text[end] == b'{' {
+        Ok(end)
+    } else if text[end] == b'}' {
+        Err(end)
+    } else {
+        Ok(line_feed_end(text, end))
+    }
+}
+
+/// The end of the text whose line feed is here: before a CR LF, else behind the line feed.
+fn line_feed_end(text: &[u8], end: usize) -> usize
+    requires { end < length text.now }
+    ensures { result ≡ line_feed_end text.now end }
+{
+    if end > 0 && text[end - 1] == b'\r' {
+        end - 1
+    } else {
+        end + 1
+    }
+}
+
+/// Whether a pattern ends at the line start here.
+pub fn pattern_ends(text: &[u8]) -> bool
+    ensures { result ≡ pattern_ends text.now }
+{
+    let indent = blank_inline_len(text);
+    let behind = from(text, indent);
+    if indent == 0 {
+        !matches!(behind, [b'{' | b'\r' | b'\n', ..])
+    } else {
+        matches!(behind, [b'}' | b'.' | b'[' | b'*', ..])
+    }
+}
