@@ -11,15 +11,15 @@ use Rattle.std.specs.Cmp.Lexicographic.{slice_cmp, nat_list_cmp_total}
 use Rattle.std.proofs.lemmas.Cmp.{alike_right}
 use Rattle.std.proofs.lemmas.Map.Keys.{sorted_tail}
 use Rattle.std.specs.BTreeMap.{insert_entry, is_at}
-use Rattle.std.specs.Map.{lookup}
+use Rattle.std.specs.Map.{lookup, keys_of}
 
 abbrev order : List ℕ → List ℕ → Ordering
 order = slice_cmp nat_cmp
 
-turned : (x y : List ℕ) (o : Ordering) → order y x ≡ o → order x y ≡ ordering_reverse o
+pub turned : (x y : List ℕ) (o : Ordering) → order y x ≡ o → order x y ≡ ordering_reverse o
 turned x y o h = nat_list_cmp_total.antisymm x y ∙ ap ordering_reverse h
 
-first_below : (k : List ℕ) (ks : List (List ℕ)) → IsStrictlySortedBy order (k ∷ ks) → AllByRecursion (λ y. order k y ≡ Less) ks
+pub first_below : (k : List ℕ) (ks : List (List ℕ)) → IsStrictlySortedBy order (k ∷ ks) → AllByRecursion (λ y. order k y ≡ Less) ks
 unfolding IsStrictlySortedBy
 first_below k ks ascending = ascending.0
 
@@ -76,9 +76,10 @@ module _ {B V : Type 0} (key : B → List ℕ) (val : B → V) where
   still_ascend b [] (suc i) ascending below above = (tt, tt)
   still_ascend b (e ∷ es) zero ascending below above =
       (all_from (λ y. order (key b) y ≡ Less) (e ∷ es) (λ k d fits. turned (key b) (key (slice_index_or (e ∷ es) k d)) Greater (above k d (omega arith) fits)), ascending)
-  still_ascend b (e ∷ es) (suc i) ascending below above =
-      (all_put (λ y. order (key e) y ≡ Less) b es i ascending.0 (below 0 e (omega arith) (omega arith)),
-       still_ascend b es i ascending.1 (λ k d low high. below (suc k) d (omega arith) (omega (arith, high))) (λ k d low high. above (suc k) d (omega (arith, low)) (omega (arith, high))))
+  still_ascend b (e ∷ es) (suc i) ascending below above = (
+    all_put (λ y. order (key e) y ≡ Less) b es i ascending.0 (below 0 e (omega arith) (omega arith)),
+    still_ascend b es i ascending.1 (λ k d low high. below (suc k) d (omega arith) (omega (arith, high))) (λ k d low high. above (suc k) d (omega (arith, low)) (omega (arith, high))),
+  )
 
   -- names stay where one is replaced by another of the same name
   pub names_stay : (b : B) (es : List B) (i : ℕ) (d : B) → i < length es → key b ≡ key (slice_index_or es i d) → map key (slice_set es i b) ≡ map key es
@@ -137,6 +138,11 @@ module _ {B V : Type 0} (key : B → List ℕ) (val : B → V) where
       rise name (key e) (key (slice_index_or es j d)) (at_place (λ y. order (key e) y ≡ Less) es j d (first_below (key e) (map key es) ascending) (omega (arith, fits)))
   rises name (e ∷ es) ascending (suc i) zero d le fits = absurd (omega (arith, le))
   rises name (e ∷ es) ascending (suc i) (suc j) d le fits = rises name es (sorted_tail order (key e) (map key es) ascending) i j d (omega (arith, le)) (omega (arith, fits))
+
+-- the names of plain arguments are the names
+pub names_shown : {B V : Type 0} (key : B → List ℕ) (val : B → V) (es : List B) → keys_of (map (λ b. (key b, val b)) es) ≡ map key es
+names_shown key val [] = refl
+names_shown key val (e ∷ es) = ap (λ l. key e ∷ l) (names_shown key val es)
 
 -- what a binary search says where the answers rise
 pub settled : {B : Type 0} (compare : B → Ordering) (es : List B) (r : Result ℕ ℕ) → IsNonDecreasingBy (λ b. ordering_index (compare b)) es → IsBinarySearchResult compare es r → MatchResult r (HoldsAt (λ b. compare b ≡ Equal) es) (IsPartitionPoint (λ b. compare b ≡ Less) (λ b. compare b ≡ Greater) es)

@@ -4,3 +4,6 @@ pub mod Equality
 pub mod Args
 pub mod ArgsNames
 pub mod ArgsView
+pub mod ArgsLeft
+pub mod ArgsOwned
+pub mod Builtins

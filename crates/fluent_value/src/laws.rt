@@ -1,7 +1,9 @@
 //! Laws of values: each function only carries a law, as its contract.
 
-ghost use Rattle.std.specs.Prelude.{◌≡◌, ◌↔◌, IsTrue};
-ghost use Rattle.fluent_value.specs.Value.{Alike, is_comparable};
+ghost use Rattle.std.specs.Prelude.{◌≡◌, ◌↔◌, ℕ, List, Some, IsTrue};
+ghost use Rattle.std.specs.Map.{keys_of};
+ghost use Rattle.fluent_value.specs.Args.{argument, with_argument, IsAscending};
+ghost use Rattle.fluent_value.specs.Value.{Alike, Value, is_comparable};
 ghost use Rattle.fluent_value.specs.View.{value_view};
 ghost use Rattle.fluent_value.specs.declared.value.FluentValue.{FluentValue as Fluent};
 
@@ -22,3 +24,11 @@ pub fn copies_are_equal<'a, C: FluentType>()
 {
     equal_values::<C>();
 }
+
+/// Arguments are a map: the last value of a name stands, those of other names stay, and names stay in the order of their
+/// bytes, each once.
+pub fn arguments_are_a_map<C: FluentType>()
+    ensures last { (args : List (List ℕ × Value C.Meaning)) (name : List ℕ) (value : Value C.Meaning) → argument name (with_argument name value args) ≡ Some value }
+    ensures others { (args : List (List ℕ × Value C.Meaning)) (name other : List ℕ) (value : Value C.Meaning) → (other ≡ name → ⊥) → argument other (with_argument name value args) ≡ argument other args }
+    ensures ascending { (args : List (List ℕ × Value C.Meaning)) (name : List ℕ) (value : Value C.Meaning) → IsAscending (keys_of args) → IsAscending (keys_of (with_argument name value args)) }
+{}

@@ -6,13 +6,14 @@
 //! be [`None`](FluentValue::None) or [`Error`](FluentValue::Error), which are shown as nothing and equal nothing.
 
 mod args;
+pub mod builtins;
 mod custom;
 mod integers;
 pub mod laws;
 mod texts;
 mod value;
 
-pub use args::FluentArgs;
+pub use args::{FluentArgs, IntoIter, Iter};
 pub use custom::{FluentType, NoCustom};
 pub use value::FluentValue;
 

@@ -5,8 +5,13 @@ ghost use Rattle.fluent_value.specs.Args.{IsAscending};
 ghost use Rattle.fluent_value.specs.ArgsNames.{names_of};
 
 mod calls;
+mod into_iter;
+mod iter;
+mod options;
 
 use crate::value::FluentValue;
+pub use into_iter::IntoIter;
+pub use iter::Iter;
 use std::borrow::CowStr;
 
 /// A name and its value.

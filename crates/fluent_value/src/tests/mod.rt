@@ -1,5 +1,7 @@
 //! Values from texts and integers, copies and equality.
 
+mod args;
+mod builtins;
 mod conversions;
 mod copies;
 mod equality;

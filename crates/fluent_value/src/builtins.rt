@@ -1,0 +1,28 @@
+//! The functions that every program may have.
+
+ghost use Rattle.std.specs.Prelude.{◌≡◌, IfOk, map};
+ghost use Rattle.fluent_value.specs.Builtins.{number_called};
+ghost use Rattle.fluent_value.specs.ArgsView.{args_view};
+ghost use Rattle.fluent_value.specs.View.{value_view};
+
+use crate::args::FluentArgs;
+use crate::custom::FluentType;
+use crate::value::FluentValue;
+use std::alloc::{AllocError, Global};
+
+/// The first of the values, if it is a number, with the options that the named ones set; else
+/// [`Error`](FluentValue::Error). The only error is want of memory.
+pub fn NUMBER<'a, 'n, C: FluentType + Drop>(
+    alloc: Global,
+    positional: &[FluentValue<'a, C>],
+    named: &FluentArgs<'n, C>,
+) -> Result<FluentValue<'a, C>, AllocError>
+    ensures { IfOk result (λ value. value_view C C.Meaning C.meaning value ≡ number_called (map (value_view C C.Meaning C.meaning) positional.now) (args_view C C.Meaning C.meaning named.now)) }
+{
+    let Some(FluentValue::Number(number)) = positional.first() else {
+        return Ok(FluentValue::Error);
+    };
+    let mut number = number.try_clone(alloc)?;
+    number.options.merge(alloc, named)?;
+    Ok(FluentValue::Number(number))
+}
