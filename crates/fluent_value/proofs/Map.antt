@@ -1,17 +1,17 @@
 -- Arguments are a map: what is found after one was set.
-use Rattle.std.proofs.Common.{◌≡◌, Bool, true, false, ℕ, List, [], ◌∷◌, map, Option, Some, None, cond, refl, ap, sym, ◌∙◌, rules}
+use Rattle.std.proofs.Common.{◌≡◌, Bool, true, false, ℕ, List, [], ◌∷◌, ◌++◌, map, Some, cond, refl, ap, sym, ◌∙◌}
 use Rattle.std.specs.List.{AllByRecursion}
 use Rattle.std.specs.List.Sorted.{IsStrictlySortedBy}
 use Rattle.std.specs.declared.cmp.Ordering.{Ordering}
 use Rattle.std.specs.declared.cmp.Ordering.TheVariants.{Less, Equal, Greater}
-use Rattle.std.specs.Ordering.{ordering_reverse, match_ordering, is_eq}
-use Rattle.std.specs.Cmp.{IsTotalOrder}
+use Rattle.std.specs.Ordering.{match_ordering, is_eq}
 use Rattle.std.specs.Cmp.Lexicographic.{nat_list_cmp_total, same_text, texts_ties}
 use Rattle.std.proofs.lemmas.Cmp.{alike_right, tied_itself}
 use Rattle.std.specs.BTreeMap.{insert_entry, is_at}
 use Rattle.std.specs.Map.{lookup, keys_of}
-use Rattle.fluent_value.specs.Args.{order, IsAscending}
-use Rattle.fluent_value.proofs.Placed.{turned, first_below}
+use Rattle.fluent_value.specs.Args.{order, all_set, with_argument}
+use Rattle.fluent_value.specs.Value.{Value}
+use Rattle.fluent_value.proofs.Placed.{turned}
 
 module _ {V : Type 0} (name : List ℕ) (v : V) where
   abbrev after : List (List ℕ × V) → List (List ℕ × V)
@@ -81,3 +81,8 @@ differ_by x y false h never = refl
 -- names that differ don't compare as equal
 pub differ : (x y : List ℕ) → (x ≡ y → ⊥) → is_eq (order x y) ≡ false
 differ x y never = differ_by x y (is_eq (order x y)) refl never
+
+-- one pair more is set last
+pub set_last : {S : Type 0} {B : Type 0} (f : B → List ℕ × Value S) (args : List (List ℕ × Value S)) (pairs : List B) (b : B) → all_set args (map f (pairs ++ b ∷ [])) ≡ with_argument (f b).0 (f b).1 (all_set args (map f pairs))
+set_last f args [] b = refl
+set_last f args (p ∷ ps) b = set_last f (with_argument (f p).0 (f p).1 args) ps b

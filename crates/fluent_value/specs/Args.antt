@@ -1,5 +1,5 @@
 -- Arguments as plain data: pairs of a name and a value, in the order of the names' bytes.
-use Rattle.std.specs.Prelude.{ℕ, List, Option, None, Some}
+use Rattle.std.specs.Prelude.{ℕ, List, [], ◌∷◌, Option, None, Some}
 use Rattle.std.specs.declared.cmp.Ordering.{Ordering}
 use Rattle.std.specs.Ordering.{nat_cmp}
 use Rattle.std.specs.Cmp.Lexicographic.{slice_cmp}
@@ -42,3 +42,8 @@ number_of (Some (number n)) = Some n
 number_of (Some (custom c)) = None
 number_of (Some none) = None
 number_of (Some error) = None
+
+-- arguments after some were set, one after the other
+abbrev pub all_set : {S : Type 0} → List (List ℕ × Value S) → List (List ℕ × Value S) → List (List ℕ × Value S)
+all_set args [] = args
+all_set args (pair ∷ pairs) = all_set (with_argument pair.0 pair.1 args) pairs

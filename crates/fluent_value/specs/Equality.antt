@@ -1,5 +1,5 @@
 -- `==` of values holds both ways round, and along a chain, as that of numbers and of a program's own type does.
-use Rattle.std.specs.Prelude.{◌≡◌, Bool, true, false, refl}
+use Rattle.std.specs.Prelude.{◌≡◌, Bool, true, refl}
 use Rattle.std.specs.Cmp.{IsPartialEquivalence, partial_equiv_from_equiv}
 use Rattle.std.specs.Cmp.Lexicographic.{nat_list_eq_equiv}
 use Rattle.std.specs.Cow.{cow_str_bytes}

@@ -1,5 +1,5 @@
 -- The plain value that a value stands for, and what `==` answers.
-use Rattle.std.specs.Prelude.{ℕ, List, Bool, false, nat_eq}
+use Rattle.std.specs.Prelude.{Bool, false, nat_eq}
 use Rattle.std.specs.Cmp.Lexicographic.{pointwise}
 use Rattle.std.specs.Cow.{cow_str_bytes}
 use Rattle.fluent_number.specs.Number.{number_of}

@@ -8,6 +8,7 @@ mod calls;
 mod into_iter;
 mod iter;
 mod options;
+mod pairs;
 
 use crate::value::FluentValue;
 pub use into_iter::IntoIter;

@@ -35,6 +35,21 @@ fn the_last_value_of_a_name_stands(rt: HostRuntime) -> Result<(), Fail> {
 }
 
 #[test]
+fn pairs_are_set_one_after_the_other(rt: HostRuntime) -> Result<(), Fail> {
+    let alloc = rt.alloc();
+    let pairs = thrice(alloc)?.into_iter();
+    let more = [
+        (CowStr::Borrowed("a"), Value::from(4)),
+        (CowStr::Borrowed("c"), Value::from(5)),
+    ];
+    let args = FluentArgs::from_pairs(alloc, pairs.chain(more))?;
+    assert!(rt; args.get("a") == Some(&Value::from(4)));
+    assert!(rt; args.get("b") == Some(&Value::from(3)));
+    assert!(rt; args.get("c") == Some(&Value::from(5)));
+    Ok(())
+}
+
+#[test]
 fn names_are_gone_over_in_order(rt: HostRuntime) -> Result<(), Fail> {
     let args = thrice(rt.alloc())?;
     let mut lent = args.iter();

@@ -1,6 +1,5 @@
-use Rattle.std.proofs.Common.{rules, ◌≡◌, sym, subst, map, []}
-use Rattle.std.specs.List.Sorted.{IsStrictlySortedBy}
-use Rattle.fluent_value.specs.Args.{IsAscending, order}
+use Rattle.std.proofs.Common.{sym, subst}
+use Rattle.fluent_value.specs.Args.{IsAscending}
 use Rattle.fluent_value.specs.ArgsNames.{names_of}
 use Rattle.fluent_value.proofs.Placed.{none_ascend}
 use Rattle.fluent_value.proofs.args.FluentArgs.new.Goals as goal

@@ -1,4 +1,4 @@
-use Rattle.std.proofs.Common.{subst, Global}
+use Rattle.std.proofs.Common.{subst}
 use Rattle.std.specs.List.Sorted.{IsBinarySearchResult}
 use Rattle.std.proofs.Common.{rules}
 use Rattle.std.proofs.lemmas.Fn.{always_returns_same}
