@@ -8,5 +8,6 @@ module _ (C : Type 0) where
   abbrev pub name_of : Argument C → List ℕ
   name_of argument = cow_str_bytes argument.name
 
+  -- the names of arguments, in their order
   abbrev pub names_of : List (Argument C) → List (List ℕ)
   names_of arguments = map name_of arguments

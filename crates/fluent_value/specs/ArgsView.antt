@@ -9,6 +9,7 @@ use Rattle.fluent_value.specs.View.{value_view}
 use Rattle.fluent_value.specs.declared.value.FluentValue.{FluentValue}
 use Rattle.fluent_value.specs.declared.args.FluentArgs.{FluentArgs}
 
+-- the plain arguments, in the order of their names
 abbrev pub args_view : (C : Type 0) (S : Type 0) (meaning : C → S) → FluentArgs C → List (List ℕ × Value S)
 args_view C S meaning args = map (λ it. (name_of C it, value_view C S meaning it.value)) args.arguments.items
 

@@ -10,6 +10,7 @@ pub data Value (S : Type 0) : Type 0 where
   none : Value S
   error : Value S
 
+-- a number, or else the text
 abbrev pub or_text : {S : Type 0} → List ℕ → Option Number → Value S
 or_text s None = text s
 or_text s (Some n) = number n

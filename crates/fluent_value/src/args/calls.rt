@@ -26,6 +26,15 @@ impl<'args, C: FluentType> FluentArgs<'args, C> {
         }
     }
 
+    /// No arguments, with room for so many of them. The error is that memory was refused.
+    pub fn with_capacity(alloc: Global, capacity: usize) -> Result<Self, AllocError>
+        ensures { IfOk result (λ args. args_view C C.Meaning C.meaning args ≡ []) }
+    {
+        Ok(FluentArgs {
+            arguments: Vec::with_capacity(alloc, capacity)?,
+        })
+    }
+
     /// The value of a name.
     pub fn get(&self, name: &str) -> Option<&FluentValue<'args, C>>
         ensures { option_map (value_view C C.Meaning C.meaning) (option_copied result) ≡ argument name.now (args_view C C.Meaning C.meaning self.now) }
@@ -34,15 +43,6 @@ impl<'args, C: FluentType> FluentArgs<'args, C> {
             Ok(index) => Some(&self.arguments[index].value),
             Err(_) => None,
         }
-    }
-
-    /// No arguments, with room for so many. The error is that memory was refused.
-    pub fn with_capacity(alloc: Global, capacity: usize) -> Result<Self, AllocError>
-        ensures { IfOk result (λ args. args_view C C.Meaning C.meaning args ≡ []) }
-    {
-        Ok(FluentArgs {
-            arguments: Vec::with_capacity(alloc, capacity)?,
-        })
     }
 
     /// Where the name stands, or where it would.
