@@ -38,9 +38,9 @@ pub trait FluentType {
     ghost laws: { IsEquivalence same };
 }
 
-/// The type of a program that has no values of its own. There is no value of it.
+/// The type that stands in for a program without values of its own. Its one value is shown as nothing.
 #[derive(Clone, Copy, Debug, PartialEq, Eq)]
-pub enum NoCustom {}
+pub struct NoCustom;
 
 impl FluentType for NoCustom {
     ghost Meaning = { Unit {0} };
