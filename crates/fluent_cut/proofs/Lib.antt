@@ -1,0 +1,24 @@
+pub mod Alike
+pub mod TextParts
+pub mod MovingWords
+pub mod MovingPatterns
+pub mod MovingEntries
+pub mod Clean
+pub mod MovingComments
+pub mod Cutting
+pub mod Slices
+pub mod CutTexts
+pub mod LineFeeds
+pub mod TextEnds
+pub mod LaterPieces
+pub mod LaterPatterns
+pub mod LaterEntries
+pub mod LaterComments
+pub mod Joining
+pub mod GoingOn
+pub mod ReadersGoOn
+pub mod EntriesGoOn
+pub mod InnerStarts
+pub mod CommentsGoOn
+pub mod DamageStays
+mod JoinedRows
