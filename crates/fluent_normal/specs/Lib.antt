@@ -1,0 +1,4 @@
+pub mod Shapes
+pub mod Normal
+pub mod WellFormed
+pub mod NormalLaws
