@@ -19,4 +19,5 @@ pub mod ReadInlines
 pub mod ReadTrees
 pub mod NormalTexts
 mod ShapeRows
+mod TreeShapeRows
 mod WellFormedRows
