@@ -1,12 +1,12 @@
 -- Tilings without junk, and what a tiling lists.
-use Rattle.std.proofs.Common.{◌≡◌, ℕ, Bool, true, false, List, [], ◌∷◌, ◌++◌, Option, Some, None, refl, sym, ap, ◌∙◌}
+use Rattle.std.proofs.Common.{◌≡◌, ℕ, Bool, true, false, List, [], ◌∷◌, ◌++◌, Option, Some, None, refl, sym, ap, ◌∙◌, append_assoc, replicate}
 use Rattle.std.specs.Prelude.{◌≢◌}
 use Rattle.std.proofs.lemmas.List.{append_cancel_right}
-use Rattle.fluent_grammar.specs.Words.{Text, begins, begins_entry, skip_spaces, skip_blank_block, after_line_end}
+use Rattle.fluent_grammar.specs.Words.{Text, begins, begins_entry, skip_spaces, skip_blank_block, after_line_end, space, line_feed, carriage_return}
 use Rattle.fluent_grammar.specs.Tree as t
-use Rattle.fluent_grammar.specs.Blanks.{BlankLines, no_lines, BlankBlock}
+use Rattle.fluent_grammar.specs.Blanks.{BlankLines, no_lines, BlankBlock, ends_lf, ends_crlf}
 use Rattle.fluent_grammar.specs.Spelling.{SpellsEntry}
-use Rattle.fluent_grammar.specs.Tiling.{entries_of, errors_of, waiting, left_alone, listed, list, errors}
+use Rattle.fluent_grammar.specs.Tiling.{entries_of, errors_of, waiting, listed, list, errors}
 use Rattle.fluent_grammar.specs.Tiles.{Mode, full, Part, blank_block, entry, junk, passed_over, Tiles, blank_first, TilesItems, source_ends, an_entry, some_junk, a_line, pieces_of}
 use Rattle.fluent_grammar.proofs.Agreement.{entries_are_unique}
 use Rattle.fluent_grammar.proofs.Blanks.{block-skipped}
@@ -14,6 +14,7 @@ use Rattle.fluent_grammar.proofs.TilesPieces.{tiling_gives_tree_and_errors}
 use Rattle.fluent_cut.proofs.Alike.{Alike, last, more}
 use Rattle.fluent_cut.proofs.MovingWords.{Over, over-no_end}
 use Rattle.fluent_cut.proofs.MovingEntries.{Stops, stops_here, stops-over, entry-some}
+use Rattle.fluent_grammar.proofs.TilesRuntime.{listed-waiting, listed-left}
 
 -- the messages and terms of parts
 abbrev pub list_of : List Part → List t.Entry
@@ -32,23 +33,6 @@ has_junk (passed_over s ∷ parts) = has_junk parts
 
 -- ---- lists and errors by parts
 
-listed-append : (a b : List t.Entry) → listed (a ++ b) ≡ listed a ++ listed b
-listed-append [] b = refl
-listed-append (t.message m ∷ es) b = ap (λ z. t.message (record m { comment = None }) ∷ z) (listed-append es b)
-listed-append (t.term m ∷ es) b = ap (λ z. t.term (record m { comment = None }) ∷ z) (listed-append es b)
-listed-append (t.comment c ∷ es) b = listed-append es b
-listed-append (t.group_comment c ∷ es) b = listed-append es b
-listed-append (t.resource_comment c ∷ es) b = listed-append es b
-listed-append (t.junk s ∷ es) b = listed-append es b
-
-waiting-listed : (held : Option (List Text)) (es : List t.Entry) → listed (waiting held ++ es) ≡ listed es
-waiting-listed None es = refl
-waiting-listed (Some lines) es = refl
-
-alone-listed : (held : Option (List Text)) (apart : Bool) (es : List t.Entry) → listed (left_alone held apart ++ es) ≡ listed es
-alone-listed held true es = waiting-listed held es
-alone-listed held false es = refl
-
 waiting-none : (held : Option (List Text)) → listed (waiting held) ≡ []
 waiting-none None = refl
 waiting-none (Some lines) = refl
@@ -57,13 +41,13 @@ pub entries-listed : (mode : Mode) (held : Option (List Text)) (at : ℕ) (apart
 entries-listed mode held at apart [] = waiting-none held
 entries-listed mode held at apart (blank_block s ∷ ps) = entries-listed mode held _ _ ps
 entries-listed mode held at apart (passed_over s ∷ ps) = entries-listed mode held _ _ ps
-entries-listed mode held at apart (junk s kind place ∷ ps) = waiting-listed held _ ∙ entries-listed mode None _ _ ps
-entries-listed mode held at apart (entry s (t.message m) ∷ ps) = alone-listed held apart _ ∙ ap (λ z. t.message (record m { comment = None }) ∷ z) (entries-listed mode None _ _ ps)
-entries-listed mode held at apart (entry s (t.term m) ∷ ps) = alone-listed held apart _ ∙ ap (λ z. t.term (record m { comment = None }) ∷ z) (entries-listed mode None _ _ ps)
-entries-listed mode held at apart (entry s (t.comment c) ∷ ps) = waiting-listed held _ ∙ entries-listed mode (Some c) _ _ ps
-entries-listed mode held at apart (entry s (t.group_comment c) ∷ ps) = waiting-listed held _ ∙ entries-listed mode None _ _ ps
-entries-listed mode held at apart (entry s (t.resource_comment c) ∷ ps) = waiting-listed held _ ∙ entries-listed mode None _ _ ps
-entries-listed mode held at apart (entry s (t.junk c) ∷ ps) = waiting-listed held _ ∙ entries-listed mode None _ _ ps
+entries-listed mode held at apart (junk s kind place ∷ ps) = listed-waiting held _ ∙ entries-listed mode None _ _ ps
+entries-listed mode held at apart (entry s (t.message m) ∷ ps) = listed-left held apart _ ∙ ap (λ z. t.message (record m { comment = None }) ∷ z) (entries-listed mode None _ _ ps)
+entries-listed mode held at apart (entry s (t.term m) ∷ ps) = listed-left held apart _ ∙ ap (λ z. t.term (record m { comment = None }) ∷ z) (entries-listed mode None _ _ ps)
+entries-listed mode held at apart (entry s (t.comment c) ∷ ps) = listed-waiting held _ ∙ entries-listed mode (Some c) _ _ ps
+entries-listed mode held at apart (entry s (t.group_comment c) ∷ ps) = listed-waiting held _ ∙ entries-listed mode None _ _ ps
+entries-listed mode held at apart (entry s (t.resource_comment c) ∷ ps) = listed-waiting held _ ∙ entries-listed mode None _ _ ps
+entries-listed mode held at apart (entry s (t.junk c) ∷ ps) = listed-waiting held _ ∙ entries-listed mode None _ _ ps
 
 pub errors-none : (ps : List Part) (mode : Mode) (at : ℕ) (apart : Bool) → has_junk ps ≡ false → errors_of (pieces_of mode at apart ps) ≡ []
 errors-none [] mode at apart h = refl
@@ -115,7 +99,7 @@ block-empty {blanks} {s} {rest} o b =
     let e : rest ≡ s = sym (block-skipped blanks s rest b) ∙ over-block o in
     (no-front blanks s (b.split ∙ ap (λ z. blanks ++ z) e), e)
 
-items-at : {parts : List Part} {s u : Text} → s ≡ u → TilesItems full parts u → TilesItems full parts s
+pub items-at : {parts : List Part} {s u : Text} → s ≡ u → TilesItems full parts u → TilesItems full parts s
 items-at e d = rw e d
 
 -- the items of a clean text that stops
@@ -184,3 +168,14 @@ pub alike-is : {a : ℕ} {x x' s s' : Text} (f : Text) → Alike a x x' s s' →
 alike-is {x = x} {x' = x'} f h e =
     let g = alike-fronts h in
     g.2 ∙ ap (λ z. z ++ x') (append_cancel_right g.0 f x (sym g.1 ∙ e))
+
+pub lines-append : {a b : Text} → BlankLines a → BlankLines b → BlankLines (a ++ b)
+lines-append no_lines k = k
+lines-append {b = b} (ends_lf {more = m} n d) k = lines-at (append_assoc (replicate n space) (line_feed ∷ m) b) (ends_lf n (lines-append d k))
+  where
+    lines-at : {s u : Text} → s ≡ u → BlankLines u → BlankLines s
+    lines-at e d = rw e d
+lines-append {b = b} (ends_crlf {more = m} n d) k = lines-at (append_assoc (replicate n space) (carriage_return ∷ line_feed ∷ m) b) (ends_crlf n (lines-append d k))
+  where
+    lines-at : {s u : Text} → s ≡ u → BlankLines u → BlankLines s
+    lines-at e d = rw e d

@@ -6,13 +6,13 @@ use Rattle.fluent_grammar.specs.Refusal.{Kind, Refusal, Reading, got, refused, r
 use Rattle.fluent_grammar.specs.Tree as t
 use Rattle.fluent_grammar.specs.Reading as g
 use Rattle.fluent_grammar.specs.Reading.{entry_at, comment_of}
-use Rattle.fluent_grammar.specs.Spelling.{SpellsCommentText, SpellsCommentLine, SpellsCommentLines, no_more_lines, one_more_line, SpellsComment, some_lines}
+use Rattle.fluent_grammar.specs.Spelling.{SpellsCommentLine, SpellsCommentLines, no_more_lines, one_more_line, SpellsComment, some_lines}
 use Rattle.std.specs.List.{prefix_len}
 use Rattle.fluent_grammar.proofs.Cases.{cases}
 use Rattle.fluent_grammar.proofs.Got.{got_node}
 use Rattle.fluent_grammar.proofs.Comments.{text_sound, text_complete, lines_sound}
 use Rattle.fluent_grammar.proofs.Entries.{entry-of_sign}
-use Rattle.fluent_cut.proofs.MovingComments.{level-capped, level-same}
+use Rattle.fluent_cut.proofs.MovingComments.{level-capped, level-same, content-at}
 use Rattle.fluent_cut.proofs.LineFeeds.{EndsInFeed, lf_last, lf_later, lf-begins}
 use Rattle.fluent_cut.proofs.GoingOn.{before, before-some, before-end, Ends, no_end, some_before, some_end, lf-alike}
 
@@ -82,9 +82,6 @@ signs-drop : {s : Text} (q : Text) → EndsInFeed s → EndsInFeed (drop (commen
 signs-drop {s} q f =
     let d = sign-drop q (comment_level s) (level-capped (prefix_len (λ c. c == number_sign) s) _ refl) f in
     (d.0, ap (λ n. drop n (s ++ q)) (level-same (lf-alike q f)) ∙ d.1)
-
-content-at : {lines : List Text} {s u rest : Text} → s ≡ u → SpellsCommentText lines u rest → SpellsCommentText lines s rest
-content-at e d = rw e d
 
 level-drop : (level : ℕ) (s : Text) → comment_level s ≡ level → drop level s ≡ drop (comment_level s) s
 level-drop level s e = ap (λ n. drop n s) (sym e)

@@ -1,15 +1,15 @@
 -- The cut text has no errors, and the list of the source.
-use Rattle.std.proofs.Common.{◌≡◌, ℕ, ◌<◌, Bool, true, List, [], ◌∷◌, ◌++◌, length, refl, sym, ap, ◌∙◌, arith, inl, inr}
+use Rattle.std.proofs.Common.{◌≡◌, ℕ, ◌<◌, Bool, true, List, [], ◌∷◌, ◌++◌, length, refl, sym, ap, ◌∙◌, arith, inl, inr, false}
 use Rattle.std.specs.Prelude.{◌≢◌}
-use Rattle.fluent_grammar.specs.Words.{Text, line_feed, hyphen, begins, begins_entry, is_letter}
+use Rattle.fluent_grammar.specs.Words.{Text, line_feed, hyphen, begins, begins_entry, is_letter, begins_with, number_sign}
 use Rattle.fluent_grammar.specs.Tree as t
 use Rattle.fluent_grammar.specs.Recovery.{EndsJunk}
 use Rattle.fluent_grammar.specs.Blanks.{no_lines, BlankBlock}
-use Rattle.fluent_grammar.specs.Spelling.{SpellsHead, a_head, SpellsEntry, a_message, a_term, a_comment, a_group_comment, a_resource_comment}
+use Rattle.fluent_grammar.specs.Spelling.{SpellsEntry, a_message, a_term, a_comment, a_group_comment, a_resource_comment}
 use Rattle.fluent_grammar.specs.Tiling.{listed}
 use Rattle.fluent_grammar.specs.Tiles.{full, Part, Tiles, blank_first, TilesItems, source_ends, an_entry, some_junk, a_line}
 use Rattle.fluent_grammar.proofs.Comments.{comment_complete}
-use Rattle.fluent_grammar.proofs.Entries.{entry_complete}
+use Rattle.fluent_grammar.proofs.Entries.{entry_complete, head-letter}
 use Rattle.fluent_grammar.proofs.LawsOfDepth.{entry-took}
 use Rattle.fluent_cut.specs.Cut.{kept}
 use Rattle.fluent_cut.proofs.Alike.{Alike}
@@ -17,21 +17,19 @@ use Rattle.fluent_cut.proofs.MovingWords.{over_end}
 use Rattle.fluent_cut.proofs.MovingEntries.{Stops, stops_empty, stops_here, stops-over, entry-some, IsListed, entry-moves, entry-over}
 use Rattle.fluent_cut.proofs.MovingComments.{comment-clean, sign-begins, entry-front}
 use Rattle.fluent_cut.proofs.Clean.{list_of, Clean, CleanItems, clean-at, clean-items, clean-behind, clean-entry, block-empty, alike-is}
+use Rattle.std.proofs.lemmas.Bool.Decides.{nat_tests}
 
 -- ---- an entry begins with a byte that begins one
 
-letter-begins : (s : Text) → begins is_letter s ≡ true → begins begins_entry s ≡ true
+pub letter-begins : (s : Text) → begins is_letter s ≡ true → begins begins_entry s ≡ true
 letter-begins [] h = absurd cc
 letter-begins (c ∷ cs) h = rw h refl
-
-head-begins : {id : Text} {value : t.Elements} {s rest : Text} → SpellsHead id value s rest → begins is_letter s ≡ true
-head-begins (a_head n e d) = n.letter_first
 
 hyphen-begins : {s u : Text} → s ≡ hyphen ∷ u → begins begins_entry s ≡ true
 hyphen-begins e = rw e refl
 
 pub entry-begins : {e : t.Entry} {s rest : Text} → SpellsEntry e s rest → begins begins_entry s ≡ true
-entry-begins (a_message {s = s} d m h) = letter-begins s (head-begins d)
+entry-begins (a_message {s = s} d m h) = letter-begins s (head-letter d)
 entry-begins (a_term e d m h) = hyphen-begins e
 entry-begins (a_comment {s = s} d) = sign-begins s (comment_complete d 0 refl).0
 entry-begins (a_group_comment {s = s} d) = sign-begins s (comment_complete d 1 refl).0
@@ -139,3 +137,20 @@ mutual
         stops = stops-at (ap (λ z. z ++ kept ps) (block-empty (stops-over (junk-stops ends)) b).0) i.stops;
       }
   items-cut (a_line p l d) = absurd cc
+
+pub letter-sign : (s : Text) → begins is_letter s ≡ true → begins_with number_sign s ≡ false
+letter-sign [] e = refl
+letter-sign (c ∷ cs) e = grind (arith, nat_tests)
+
+pub append-none : (a b : Text) → a ++ b ≡ [] → b ≡ []
+append-none [] b e = e
+append-none (c ∷ cs) b e = absurd cc
+
+pub items-unlisted : {parts : List Part} {s : Text} → TilesItems full parts s → s ≡ [] → list_of parts ≡ []
+items-unlisted source_ends e = refl
+items-unlisted (an_entry {text = text} p spelled w d) e = absurd (entry-some text (entry-begins spelled) e)
+items-unlisted (some_junk p some read at ends w d) e = absurd (some e)
+items-unlisted (a_line p l d) e = absurd cc
+
+pub tiles-unlisted : {parts : List Part} {s : Text} → Tiles full parts s → s ≡ [] → list_of parts ≡ []
+tiles-unlisted (blank_first {blanks = blanks} {rest = rest} b d) e = items-unlisted d (append-none blanks rest (sym b.split ∙ e))

@@ -1,7 +1,6 @@
 -- Damage stays: what stands before an error-free text hides its first entry, at most.
 use Rattle.std.proofs.Common.{◌≡◌, ℕ, zero, suc, ◌≤◌, Bool, true, false, cond, ◌&&◌, List, [], ◌∷◌, ◌++◌, length, drop, take, replicate, refl, sym, ap, ◌∙◌, arith, append_assoc, append-nil, inl, inr}
 use Rattle.std.specs.Prelude.{◌==◌, ◌≢◌, ◌⊎◌}
-use Rattle.std.proofs.lemmas.Bool.Decides.{nat_tests}
 use Rattle.std.specs.List.{prefix_len}
 use Rattle.std.proofs.lemmas.List.{length-append}
 use Rattle.fluent_grammar.specs.Words.{Text, line_feed, carriage_return, space, equals, number_sign, hyphen, is_letter, is_name_byte, begins, begins_with, begins_entry, name_len, skip_spaces}
@@ -26,20 +25,21 @@ use Rattle.fluent_grammar.proofs.Entries.{entry_sound, entry_complete}
 use Rattle.fluent_grammar.proofs.Within.{end-cons}
 use Rattle.fluent_grammar.proofs.TilesJunk.{junk-end, place-end}
 use Rattle.fluent_grammar.proofs.Tiles.{junk-rest}
-use Rattle.fluent_grammar.proofs.TilesRecovery.{junk-ended}
+use Rattle.fluent_grammar.proofs.TilesRecovery.{junk-ended, column-snoc, column-start}
 use Rattle.fluent_grammar.proofs.TilesPieces.{each_text_has_a_tiling, tiling_gives_tree_and_errors}
 use Rattle.fluent_cut.proofs.Alike.{alike-no_end}
 use Rattle.fluent_cut.proofs.MovingWords.{over-no_end, alike-skip_spaces}
 use Rattle.fluent_cut.proofs.MovingEntries.{Stops, stops_empty, stops_here, stops-over, entry-some, IsListed, entry-over}
 use Rattle.fluent_cut.proofs.MovingComments.{entry-front, behind-lines, comment-entry, not_listed}
-use Rattle.fluent_cut.proofs.Clean.{list_of, has_junk, block-empty, Clean, clean-at, list-tiled, errors-some}
-use Rattle.fluent_cut.proofs.Cutting.{entry-begins}
-use Rattle.fluent_cut.proofs.LineFeeds.{EndsInFeed, lf_last, lf_later}
-use Rattle.fluent_cut.proofs.GoingOn.{Head, no_head, sign_head, name_head, term_head, head-stops, Next, Place, in_front, at_equals, at_term_equals, behind_hyphen, RefusedIn, refused_in, before, lf-alike, lf-some, Equal, equal, Goes, same_got, same_refused, crossed_got, crossed_refused}
+use Rattle.fluent_cut.proofs.Clean.{list_of, has_junk, block-empty, Clean, clean-at, list-tiled, errors-some, lines-append}
+use Rattle.fluent_cut.proofs.Cutting.{letter-sign, items-unlisted, tiles-unlisted}
+use Rattle.fluent_cut.proofs.LineFeeds.{EndsInFeed, lf_last, lf_later, lf-some}
+use Rattle.fluent_cut.proofs.GoingOn.{Head, no_head, sign_head, name_head, term_head, head-stops, Next, Place, in_front, at_equals, at_term_equals, behind_hyphen, RefusedIn, refused_in, before, lf-alike, Equal, equal, Goes, same_got, same_refused, crossed_got, crossed_refused}
 use Rattle.fluent_cut.proofs.EntriesGoOn.{entry-goes}
-use Rattle.fluent_cut.proofs.InnerStarts.{through_here, through_byte, column-through, column-snoc, column-start, On_line, EntryFree, free_end, free_byte, free_feed, EntryFreeStart, start_rest, start_quiet, start_refused, free-through, entry-free, name-line, name-through}
+use Rattle.fluent_cut.proofs.InnerStarts.{through_here, through_byte, column-through, On_line, EntryFree, free_end, free_byte, free_feed, EntryFreeStart, start_rest, start_quiet, start_refused, free-through, entry-free, name-line, name-through}
 use Rattle.fluent_cut.proofs.ReadersGoOn.{name-got}
 use Rattle.fluent_grammar.proofs.Words.{name_sound}
+use Rattle.fluent_cut.proofs.TextParts.{append-some}
 
 -- ---- tilings that list these
 
@@ -179,10 +179,6 @@ line-name s v b e = line-to e (name-line (name_sound s (take (name_len s) s) (dr
 
 line-term : (x s v : Text) → x ≡ hyphen ∷ s → begins is_letter s ≡ true → skip_spaces (drop (name_len s) s) ≡ equals ∷ v → On_line (equals ∷ v) x
 line-term x s v h b e = line-to e (record { first = hyphen; more = s; whole = h; no_feed = refl; through = name-through (name_sound s (take (name_len s) s) (drop (name_len s) s) (name-got s b)) })
-
-letter-sign : (s : Text) → begins is_letter s ≡ true → begins_with number_sign s ≡ false
-letter-sign [] e = refl
-letter-sign (c ∷ cs) e = grind (arith, nat_tests)
 
 letter-some : (s : Text) → begins is_letter s ≡ true → s ≢ []
 letter-some [] e k = absurd cc
@@ -468,32 +464,12 @@ junk-step {q} {text} {rest} {fault} k e b f = cases (begins_with number_sign tex
 
 -- ---- all parts
 
-items-empty : {parts : List Part} {s : Text} → TilesItems full parts s → s ≡ [] → list_of parts ≡ []
-items-empty source_ends e = refl
-items-empty (an_entry {text = text} p spelled w d) e = absurd (entry-some text (entry-begins spelled) e)
-items-empty (some_junk p some read at ends w d) e = absurd (some e)
-items-empty (a_line p l d) e = absurd cc
-
 block-rest : {blanks s rest : Text} → BlankBlock blanks s rest → s ≡ [] → rest ≡ []
 block-rest {blanks} {s} {rest} b e = empty blanks rest (sym b.split ∙ e)
   where
     empty : (a b : Text) → a ++ b ≡ [] → b ≡ []
     empty [] b e = e
     empty (c ∷ cs) b e = absurd cc
-
-tiles-empty : {parts : List Part} {s : Text} → Tiles full parts s → s ≡ [] → list_of parts ≡ []
-tiles-empty (blank_first b d) e = items-empty d (block-rest b e)
-
-lines-append : {a b : Text} → BlankLines a → BlankLines b → BlankLines (a ++ b)
-lines-append no_lines k = k
-lines-append {b = b} (ends_lf {more = m} n d) k = lines-at (append_assoc (replicate n space) (line_feed ∷ m) b) (ends_lf n (lines-append d k))
-  where
-    lines-at : {s u : Text} → s ≡ u → BlankLines u → BlankLines s
-    lines-at e d = rw e d
-lines-append {b = b} (ends_crlf {more = m} n d) k = lines-at (append_assoc (replicate n space) (carriage_return ∷ line_feed ∷ m) b) (ends_crlf n (lines-append d k))
-  where
-    lines-at : {s u : Text} → s ≡ u → BlankLines u → BlankLines s
-    lines-at e d = rw e d
 
 blank-lists : {q blanks : Text} (k : Coming q) → BlankLines blanks → Lists (blanks ++ q) (list q)
 blank-lists {q} {blanks} k b =
@@ -538,14 +514,10 @@ fate-junk (first_hidden j b e) = first_hidden refl b e
 grown-blank : {q : Text} {junk : Bool} {s blanks rest : Text} {es : List t.Entry} (k : Coming q) → BlankBlock blanks s rest → rest ≡ [] → es ≡ [] → Grown q junk (s ++ q) es
 grown-blank {q} k b e n = record { more = list q; lists = lists-at (ap (λ z. z ++ q) (block-alone b e)) (lists-to (ap (λ z. z ++ list q) (sym n)) (blank-lists k b.lines)); fate = all_stays refl }
 
-append-some : (s q : Text) → s ≢ [] → s ++ q ≢ []
-append-some [] q h e = h refl
-append-some (c ∷ cs) q h e = absurd cc
-
 mutual
   tiles-grow : {q : Text} (k : Coming q) {parts : List Part} {s : Text} → Tiles full parts s → (s ≡ []) ⊎ EndsInFeed s → Grown q (has_junk parts) (s ++ q) (list_of parts)
   tiles-grow {q} k (blank_first b d) f = elim (block-lf b f) [
-    | inl e ↦ grown-blank k b e (items-empty d e)
+    | inl e ↦ grown-blank k b e (items-unlisted d e)
     | inr g ↦ let i = items-grow k d g in record { more = i.more; lists = lists-behind (grow-block q b g) i.items; fate = i.fate }
   ]
 
@@ -553,11 +525,11 @@ mutual
   items-grow k source_ends f = absurd (lf-some f refl)
   items-grow k (an_entry {e = y} p spelled w d) f = elim (entry-step k spelled f) [
     | step_same g x ↦ grown-entry x (tiles-grow k d (inr g))
-    | step_last e x h l ↦ grown-last y (tiles-empty d e) x h l
+    | step_last e x h l ↦ grown-last y (tiles-unlisted d e) x h l
   ]
   items-grow {q} k (some_junk {text} {rest = rest} {fault = fault} p some read at ends w d) f = elim (junk-step k read (junk-rest text fault rest read ends) f) [
     | junk_same g x b ↦ let i = tiles-grow k d (inr g) in record { more = i.more; items = lists-junk (text ++ q) (append-some text q some) x (lists-at b i.lists); fate = fate-junk i.fate }
-    | junk_last {more = m} e x l fate ↦ record { more = m; items = lists-junk (text ++ q) (append-some text q some) x (lists-to (ap (λ z. z ++ m) (sym (tiles-empty d e))) l); fate = fate }
+    | junk_last {more = m} e x l fate ↦ record { more = m; items = lists-junk (text ++ q) (append-some text q some) x (lists-to (ap (λ z. z ++ m) (sym (tiles-unlisted d e))) l); fate = fate }
   ]
   items-grow k (a_line p l d) f = absurd cc
 

@@ -1,7 +1,7 @@
 -- Reading goes on from a text into the next, which has blank lines and then the end, or the head of an entry: where it stopped
 -- before, it does so again; else it stops where the head begins, or is refused in the head.
-use Rattle.std.proofs.Common.{◌≡◌, ℕ, zero, suc, Bool, true, false, ◌&&◌, ◌||◌, [], ◌∷◌, ◌++◌, length, drop, replicate, Option, Some, None, refl, ◌∙◌, arith, append_assoc}
-use Rattle.std.specs.Prelude.{◌==◌, ◌≢◌}
+use Rattle.std.proofs.Common.{◌≡◌, ℕ, Bool, true, false, ◌&&◌, ◌||◌, [], ◌∷◌, ◌++◌, length, drop, replicate, Option, Some, None, refl, ◌∙◌, arith, append_assoc}
+use Rattle.std.specs.Prelude.{◌==◌}
 use Rattle.std.proofs.lemmas.Bool.Decides.{nat_tests}
 use Rattle.fluent_grammar.specs.Words.{Text, line_feed, carriage_return, space, comma, equals, number_sign, hyphen, is_letter, begins, begins_with, begins_crlf, begins_entry, name_len, spaces, skip_blank, skip_spaces, skip_separator, skip_blank_block, blank_lines, after_line_end}
 use Rattle.fluent_grammar.specs.Refusal.{Kind, Reading, got, refuse, mapped, ◌>>=◌}
@@ -10,9 +10,11 @@ use Rattle.fluent_grammar.specs.Lines.{pattern_ends}
 use Rattle.fluent_grammar.proofs.Cases.{cases}
 use Rattle.fluent_grammar.proofs.Blanks.{block-skipped}
 use Rattle.fluent_cut.proofs.Alike.{Alike, last, more}
-use Rattle.fluent_cut.proofs.MovingWords.{over-no_end, alike-skip_spaces, pattern_ends-moves}
+use Rattle.fluent_cut.proofs.MovingWords.{over-no_end, alike-skip_spaces, pattern_ends-moves, blank-replicate}
 use Rattle.fluent_cut.proofs.MovingEntries.{Stops, stops_empty, stops_here, stops-over, entry-skip}
-use Rattle.fluent_cut.proofs.LineFeeds.{EndsInFeed, lf_last, lf_later, lf-begins, lf-two, lf-run, lf-split}
+use Rattle.fluent_cut.proofs.LineFeeds.{EndsInFeed, lf_last, lf_later, lf-begins, lf-two, lf-run, lf-split, lf-some}
+use Rattle.fluent_cut.proofs.TextParts.{append-some}
+use Rattle.fluent_grammar.proofs.Complete.{some_text}
 
 -- ---- what comes
 
@@ -140,10 +142,6 @@ head-blank {s} h = stops s (head-stops h)
     stops : (s : Text) → Stops s → skip_blank s ≡ s
     stops s stops_empty = refl
     stops s (stops_here h) = here s h
-
-blank-replicate : (k : ℕ) (s : Text) → skip_blank (replicate k space ++ s) ≡ skip_blank s
-blank-replicate zero s = refl
-blank-replicate (suc k) s = blank-replicate k s
 
 blank-lines : {b : Text} (s : Text) → BlankLines b → skip_blank (b ++ s) ≡ skip_blank s
 blank-lines s no_lines = refl
@@ -317,17 +315,5 @@ pub at-spaces : {q next s s' : Text} → Next q next → At q next s s' → At q
 at-spaces n (at_before h) = at_before (before-spaces h)
 at-spaces n at_next = at-equal (head-spaces n.head) at_next
 
-pub nonzero : (s : Text) → s ≢ [] → (length s == 0) ≡ false
-nonzero [] e = absurd (e refl)
-nonzero (c ∷ cs) e = grind arith
-
-pub lf-some : {s : Text} → EndsInFeed s → s ≢ []
-lf-some lf_last e = absurd cc
-lf-some (lf_later c f) e = absurd cc
-
-append-some : (s q : Text) → s ≢ [] → s ++ q ≢ []
-append-some [] q h e = h refl
-append-some (c ∷ cs) q h e = absurd cc
-
 pub before-some : {q s s' : Text} → Before q s s' → ((length s == 0) ≡ false) × ((length s' == 0) ≡ false)
-before-some {q} (before {s} f) = (nonzero s (lf-some f), nonzero (s ++ q) (append-some s q (lf-some f)))
+before-some {q} (before {s} f) = (some_text s (lf-some f), some_text (s ++ q) (append-some s q (lf-some f)))

@@ -1,11 +1,9 @@
 -- Within a message or a term, a place at column 0 where another could begin is within a placeable: there no entry is read, since no
 -- equals sign follows a name, and what is refused stops before the entry's end.
-use Rattle.std.proofs.Common.{◌≡◌, ℕ, zero, suc, ◌-◌, Bool, true, false, ◌&&◌, ◌||◌, List, [], ◌∷◌, ◌++◌, length, drop, replicate, Option, refl, sym, ap, ◌∙◌, arith, append_assoc}
+use Rattle.std.proofs.Common.{◌≡◌, ℕ, zero, suc, Bool, true, false, ◌&&◌, ◌||◌, List, [], ◌∷◌, ◌++◌, drop, replicate, Option, refl, sym, ap, ◌∙◌, arith, append_assoc}
 use Rattle.std.specs.Prelude.{◌==◌}
 use Rattle.std.specs.List.{list_all}
 use Rattle.std.proofs.lemmas.Bool.Decides.{nat_tests}
-use Rattle.std.proofs.lemmas.List.{length-append}
-use Rattle.std.proofs.Math.Seq.{get_or-append_seam}
 use Rattle.fluent_grammar.specs.Words.{Text, line_feed, carriage_return, space, comma, equals, hyphen, dot, colon, dollar, quote, greater, asterisk, backslash, open_paren, close_paren, open_bracket, close_bracket, open_brace, close_brace, small_u, capital_u, is_letter, is_digit, is_name_byte, begins, begins_with, begins_entry, skip_blank, skip_spaces, skip_separator, skip_blank_block}
 use Rattle.fluent_grammar.specs.Refusal.{Refusal, Reading, got, refused, refuse, ◌>>=◌}
 use Rattle.fluent_grammar.specs.Refusal as kinds
@@ -20,13 +18,18 @@ use Rattle.fluent_grammar.specs.Spelling.{SpellsInline, a_string_literal, a_numb
 use Rattle.fluent_grammar.proofs.Cases.{cases, and-left, and-right}
 use Rattle.fluent_grammar.proofs.Got.{same, begins_is}
 use Rattle.fluent_grammar.proofs.BlankWords.{line_end_sound}
-use Rattle.fluent_grammar.proofs.Blanks.{block-at}
+use Rattle.fluent_grammar.proofs.Blanks.{block-at, skip_spaces-other}
 use Rattle.fluent_grammar.proofs.Entries.{entry-of_letter, entry-of_hyphen}
 use Rattle.fluent_grammar.proofs.Words.{name_complete, unsigned-digit}
 use Rattle.fluent_cut.proofs.MovingPatterns.{crlf-text}
-use Rattle.fluent_cut.proofs.MovingWords.{Over, over_end, over_here, skip_spaces-more, skip_spaces-other}
+use Rattle.fluent_cut.proofs.MovingWords.{Over, over_end, over_here, skip_spaces-more, name-feed, digit-feed}
 use Rattle.fluent_cut.proofs.MovingEntries.{stops_here, stops-over, IsListed}
 use Rattle.fluent_cut.proofs.ReadersGoOn.{named-equals}
+use Rattle.fluent_grammar.proofs.Lengths.{letter-in_name}
+use Rattle.fluent_cut.proofs.Alike.{separator-none}
+use Rattle.fluent_grammar.proofs.TilesRecovery.{column-snoc}
+use Rattle.fluent_grammar.proofs.TilesRuntime.{return-begins-none}
+use Rattle.fluent_grammar.proofs.Complete.{digit-no_letter}
 
 -- ---- places
 
@@ -35,23 +38,9 @@ pub data Through (u : Text) : Text → Type 0 where
   through_here : Through u u
   through_byte : {s : Text} (c : ℕ) → (c == line_feed) ≡ false → Through u s → Through u (c ∷ s)
 
-pub column-snoc : (init : Text) (c : ℕ) (place : Text) → at_column_zero ((init ++ (c ∷ [])) ++ place) place ≡ (c == line_feed)
-column-snoc init c place =
-    let whole : (init ++ (c ∷ [])) ++ place ≡ init ++ (c ∷ place) = append_assoc init (c ∷ []) place in
-    let p : length (init ++ (c ∷ place)) - length place ≡ suc (length init) = omega (arith, length-append init (c ∷ place)) in
-    let some : (suc (length init) == 0) ≡ false = nonzero (length init) in
-    let last : suc (length init) - 1 ≡ length init = omega arith in
-    rw (whole, p, some, last, get_or-append_seam init c place 0) refl
-  where
-    nonzero : (n : ℕ) → (suc n == 0) ≡ false
-    nonzero n = grind arith
-
 pub column-through : {u s : Text} (front : Text) (c : ℕ) → (c == line_feed) ≡ false → Through u s → at_column_zero (front ++ (c ∷ s)) u ≡ false
 column-through {u} front c e through_here = ap (λ z. at_column_zero z u) (sym (append_assoc front (c ∷ []) u)) ∙ column-snoc front c u ∙ e
 column-through {u} front c e (through_byte {s} d k h) = ap (λ z. at_column_zero z u) (sym (append_assoc front (c ∷ []) (d ∷ s))) ∙ column-through (front ++ (c ∷ [])) d k h
-
-pub column-start : (place : Text) → at_column_zero place place ≡ true
-column-start place = let none : length place - length place ≡ 0 = omega arith in rw none refl
 
 -- a byte, and others, before a place on the same line
 pub record On_line (u s : Text) : Type 0 where
@@ -121,9 +110,6 @@ spaces-back (d ∷ s) c = cases (d == space)
 blank-first : (c : ℕ) → (c == space || c == line_feed) ≡ true → begins_entry c ≡ false
 blank-first c e = grind (arith, nat_tests)
 
-return-first : (c : ℕ) → (c == carriage_return) ≡ true → begins_entry c ≡ false
-return-first c e = grind (arith, nat_tests)
-
 return-byte : (c : ℕ) → (c == carriage_return) ≡ true → (c == line_feed) ≡ false
 return-byte c e = grind (arith, nat_tests)
 
@@ -143,7 +129,7 @@ blank-place (c ∷ s) i = cases (c == space || c == line_feed)
     (λ f. quiet (blank-first c e) (feed-at c f j.start))
     (λ f. quiet (blank-first c e) (free_byte c f j.free)))
     (λ e. cases (c == carriage_return && begins_with line_feed s)
-    (λ k. let j = blank-place s (place-at (sym (skip-return c s e k)) i) in let r = and-left (c == carriage_return) _ k in quiet (return-first c r) (free_byte c (return-byte c r) j.free))
+    (λ k. let j = blank-place s (place-at (sym (skip-return c s e k)) i) in let r = and-left (c == carriage_return) _ k in quiet (return-begins-none c r) (free_byte c (return-byte c r) j.free))
     (λ k. place-at (sym (skip-none c s e k)) i))
 
 -- what no equals sign follows, behind blank
@@ -182,23 +168,9 @@ spaces-through (c ∷ s) = cases (c == space)
     through-to : {u v s : Text} → u ≡ v → Through v s → Through u s
     through-to e h = rw e h
 
-name-feed : (c : ℕ) → is_name_byte c ≡ true → (c == line_feed) ≡ false
-name-feed c e = grind (arith, nat_tests)
-
-digit-feed : (c : ℕ) → is_digit c ≡ true → (c == line_feed) ≡ false
-digit-feed c e = grind (arith, nat_tests)
-
-letter-name : (s : Text) → begins is_letter s ≡ true → begins is_name_byte s ≡ true
-letter-name [] e = absurd cc
-letter-name (c ∷ cs) e = rw e refl
-
 digit-quiet : (s : Text) → begins is_digit s ≡ true → begins begins_entry s ≡ false
 digit-quiet [] e = refl
 digit-quiet (c ∷ cs) e = grind (arith, nat_tests)
-
-digit-letter : (s : Text) → begins is_digit s ≡ true → begins is_letter s ≡ false
-digit-letter [] e = refl
-digit-letter (c ∷ cs) e = grind (arith, nat_tests)
 
 name-free : {rest name s u : Text} → SpellsName name s u → EntryFree rest u → EntryFree rest s
 name-free {name = name} d c = free-at d.run.split (run-free is_name_byte name-feed name d.run.passing c)
@@ -213,7 +185,7 @@ pub name-line : {name s u : Text} → SpellsName name s u → On_line (skip_spac
 name-line {name} {s} {u} d = by_name name d.run.split d.run.passing
   where
     by_name : (name : Text) → s ≡ name ++ u → list_all is_name_byte name ≡ true → On_line (skip_spaces u) s
-    by_name [] e p = absurd (let k : begins is_name_byte u ≡ true = ap (begins is_name_byte) (sym e) ∙ letter-name s d.letter_first in let m = d.run.longest in cc)
+    by_name [] e p = absurd (let k : begins is_name_byte u ≡ true = ap (begins is_name_byte) (sym e) ∙ letter-in_name s d.letter_first in let m = d.run.longest in cc)
     by_name (c ∷ cs) e p = record {
       first = c;
       more = cs ++ u;
@@ -266,7 +238,7 @@ unsigned-free (decimal d f) c = digits-free d (free_byte dot refl (digits-free f
 
 number-place : {rest x s u : Text} → SpellsNumber x s u → EntryFree rest u → EntryFreePlace rest s
 number-place {s = s} (unsigned d) c = quiet (digit-quiet s (unsigned-digit d)) (unsigned-free d c)
-number-place (negative {s = s} d) c = minus-place (digit-letter s (unsigned-digit d)) (unsigned-free d c)
+number-place (negative {s = s} d) c = minus-place (digit-no_letter s (unsigned-digit d)) (unsigned-free d c)
 
 plain-feed : (c : ℕ) → is_plain c ≡ true → (c == line_feed) ≡ false
 plain-feed c e = grind arith
@@ -322,9 +294,6 @@ inline-equals (a_placeable (in_braces b d c)) = equals-at b refl
 
 separator-comma : (u : Text) → begins_with comma (skip_blank u) ≡ true → skip_separator u ≡ skip_blank (drop 1 (skip_blank u))
 separator-comma u e = rw e refl
-
-separator-none : (u : Text) → begins_with comma (skip_blank u) ≡ false → skip_separator u ≡ skip_blank (skip_blank u)
-separator-none u e = rw e refl
 
 separator-place : (u : Text) {rest : Text} → EntryFreePlace rest (skip_separator u) → EntryFreePlace rest u
 separator-place u i = cases (begins_with comma (skip_blank u))
@@ -490,7 +459,7 @@ attributes-start (one_more_attribute {s = s} d m) k = attribute-start d (attribu
     attribute-start : {rest s r : Text} {a : t.Attribute} → SpellsAttribute a s r → EntryFreeStart rest r → EntryFreeStart rest s
     attribute-start (an_attribute {s = s} b d n) k = start_quiet (spaces-quiet s (ap (begins begins_entry) b)) (spaces-back s (free-at b (free_byte dot refl (head-free d k))))
 
--- A MESSAGE OR A TERM IS CALM UP TO WHAT FOLLOWS IT.
+-- Up to what follows a message or a term, no entry is read at a line start within it.
 pub entry-free : {e : t.Entry} {s rest : Text} → SpellsEntry e s rest → IsListed e → EntryFree rest s
 entry-free (a_message {u = u} d m h) l = head-free d (skipped-start u (attributes-start m start_rest))
 entry-free (a_term {v = v} b d m h) l = free-at b (free_byte hyphen refl (head-free d (skipped-start v (attributes-start m start_rest))))

@@ -15,10 +15,10 @@ use Rattle.fluent_grammar.proofs.TilesPieces.{each_text_has_a_tiling}
 use Rattle.fluent_cut.specs.Cut.{cut}
 use Rattle.fluent_cut.specs.Joined.{line_ended, joined, lists, HasNoReturn, HaveNoReturn, AreUtf8}
 use Rattle.fluent_cut.specs.CutLaws.{JoinedTextsKeepLists}
-use Rattle.fluent_cut.proofs.MovingEntries.{Stops, stops_empty, stops_here, entry-some, IsListed, entry-over}
+use Rattle.fluent_cut.proofs.MovingEntries.{Stops, stops_empty, stops_here, IsListed, entry-over}
 use Rattle.fluent_cut.proofs.MovingComments.{comment-clean, entry-front}
-use Rattle.fluent_cut.proofs.Clean.{list_of, has_junk, Clean, clean-list, clean-errors, clean-at, CleanItems, clean-items, clean-behind, clean-entry, block-empty, list-tiled}
-use Rattle.fluent_cut.proofs.Cutting.{entry-begins, listed-clean, tiles-cut}
+use Rattle.fluent_cut.proofs.Clean.{list_of, has_junk, Clean, clean-list, clean-errors, clean-at, CleanItems, clean-items, clean-behind, clean-entry, block-empty, list-tiled, lines-append}
+use Rattle.fluent_cut.proofs.Cutting.{entry-begins, listed-clean, tiles-cut, items-unlisted, tiles-unlisted}
 use Rattle.fluent_cut.proofs.Slices.{cut_keeps_parts}
 use Rattle.fluent_cut.proofs.CutTexts.{cut_texts_have_no_return, cut_texts_are_utf8}
 use Rattle.fluent_cut.proofs.TextEnds.{Joint, ended, unended, Lined, lined-some, lined-at, joint-at, alike-append, joint-suffix, lf-from}
@@ -69,19 +69,6 @@ items-begin (an_entry p spelled w d) h some = entry-begins spelled
 items-begin (some_junk p some read at ends w d) h k = absurd cc
 items-begin (a_line p l d) h some = absurd cc
 
-items-none : {parts : List Part} {s : Text} → TilesItems full parts s → s ≡ [] → list_of parts ≡ []
-items-none source_ends e = refl
-items-none (an_entry {text = text} p spelled w d) e = absurd (entry-some text (entry-begins spelled) e)
-items-none (some_junk p some read at ends w d) e = absurd (some e)
-items-none (a_line p l d) e = absurd cc
-
-append-none : (a b : Text) → a ++ b ≡ [] → b ≡ []
-append-none [] b e = e
-append-none (c ∷ cs) b e = absurd cc
-
-tiles-none : {parts : List Part} {s : Text} → Tiles full parts s → s ≡ [] → list_of parts ≡ []
-tiles-none (blank_first {blanks = blanks} {rest = rest} b d) e = items-none d (append-none blanks rest (sym b.split ∙ e))
-
 -- an ASCII byte
 record Begins (s : Text) : Type 0 where
   first : ℕ
@@ -120,16 +107,11 @@ stops-behind {rest = rest} t d (blank_first {rest = r} b items) h some k =
 
 -- ---- a clean text before another
 
-lines-append : {a b : Text} → BlankLines a → BlankLines b → BlankLines (a ++ b)
-lines-append no_lines k = k
-lines-append {b = b} (ends_lf {more = m} n d) k = rw (append_assoc (replicate n space) (line_feed ∷ m) b) (ends_lf n (lines-append d k))
-lines-append {b = b} (ends_crlf {more = m} n d) k = rw (append_assoc (replicate n space) (carriage_return ∷ line_feed ∷ m) b) (ends_crlf n (lines-append d k))
-
 blank-joins : {parts : List Part} {s b0 rest blanks x : Text} {es : List Entry} → BlankBlock b0 s rest → TilesItems full parts rest → rest ≡ [] → BlankLines blanks → Stops x → CleanItems x es →
     Clean (s ++ (blanks ++ x)) (list_of parts ++ es)
 blank-joins {s = s} {b0 = b0} {blanks = blanks} {x = x} {es = es} b d e l stops c =
     let w : s ≡ b0 = b.split ∙ ap (λ z. b0 ++ z) e ∙ append-nil b0 in
-    lists-same (ap (λ z. z ++ es) (sym (items-none d e))) (clean-at (ap (λ z. z ++ (blanks ++ x)) w ∙ sym (append_assoc b0 blanks x)) (clean-behind (lines-append b.lines l) stops c))
+    lists-same (ap (λ z. z ++ es) (sym (items-unlisted d e))) (clean-at (ap (λ z. z ++ (blanks ++ x)) w ∙ sym (append_assoc b0 blanks x)) (clean-behind (lines-append b.lines l) stops c))
 
 lined-rest : {blanks s b0 rest : Text} → BlankBlock b0 s rest → Lined blanks s → Lined blanks rest
 lined-rest {rest = rest} b j = blanks-lined b.lines rest (lined-at b.split j)
@@ -157,7 +139,7 @@ mutual
   items-join source_ends h some j l stops c = absurd (some refl)
   items-join (an_entry {front = front} {rest = rest} {e = e} {parts = ps} p spelled w d) {blanks} {x} {es} h some j l stops c =
       elim (empty_or rest) [
-        | inl k ↦ lists-same (ap (λ z. (listed (e ∷ []) ++ z) ++ es) (sym (tiles-none d k))) (lists-same (ap (λ z. z ++ es) (sym (append-nil (listed (e ∷ []))))) (entry-ends spelled k j l stops c))
+        | inl k ↦ lists-same (ap (λ z. (listed (e ∷ []) ++ z) ++ es) (sym (tiles-unlisted d k))) (lists-same (ap (λ z. z ++ es) (sym (append-nil (listed (e ∷ []))))) (entry-ends spelled k j l stops c))
         | inr more ↦
             let i = tiles-join d h (rest-lined front w d h more j) l stops c in
             lists-same (sym (append_assoc (listed (e ∷ [])) (list_of ps) es)) (entry-goes (blanks ++ x) spelled more (λ k. stops-behind (blanks ++ x) spelled d h more k) i)

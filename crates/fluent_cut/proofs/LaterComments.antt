@@ -12,10 +12,10 @@ use Rattle.fluent_grammar.proofs.Got.{same}
 use Rattle.fluent_grammar.proofs.Comments.{lines_sound}
 use Rattle.fluent_cut.specs.Joined.{HasNoReturn}
 use Rattle.fluent_cut.proofs.Alike.{Alike, none-spelled}
-use Rattle.fluent_cut.proofs.MovingComments.{none-of, level-capped, level-le, line-moves, line-clean, comment-begins, comment-entry, not_listed, behind-lines, entry-clean}
+use Rattle.fluent_cut.proofs.MovingComments.{none-of, level-capped, level-le, line-moves, line-clean, comment-begins, comment-entry, not_listed, behind-lines, entry-clean, content-at}
 use Rattle.fluent_cut.proofs.Clean.{Clean, clean-at}
-use Rattle.fluent_cut.proofs.LineFeeds.{EndsInFeed}
-use Rattle.fluent_cut.proofs.TextEnds.{Whole, lf-some, lf-other, lf-suffix, alike-lf, alike-no_return, alike-append, no_end-append}
+use Rattle.fluent_cut.proofs.LineFeeds.{EndsInFeed, lf-some}
+use Rattle.fluent_cut.proofs.TextEnds.{Whole, lf-other, lf-suffix, alike-lf, alike-no_return, alike-append, no_end-append}
 use Rattle.fluent_cut.proofs.LaterEntries.{line_end-append}
 use Rattle.fluent_cut.proofs.TextParts.{empty_or, no_return-tail, no_return-right}
 
@@ -114,9 +114,6 @@ line-joins k {y = y} h d c =
     let m = lines_sound (length y) k y (omega arith) in
     let whole = some_lines d m in
     entry-clean (comment-begins whole) (not_listed k _ h) (comment-entry k h whole) (behind-lines k h m c)
-
-content-at : {lines : List Text} {a b r : Text} → a ≡ b → SpellsCommentText lines b r → SpellsCommentText lines a r
-content-at h d = rw h d
 
 last-line : (k : ℕ) {lines : List Text} {s r t : Text} {es : List Entry} → suc k ≤ 3 → SpellsCommentLine (suc k) lines s r → r ≡ [] → Meets es t s → Clean t es → Clean (s ++ t) es
 last-line k {s = s} {t = t} h d e j c =

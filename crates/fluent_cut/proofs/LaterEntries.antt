@@ -12,7 +12,7 @@ use Rattle.fluent_grammar.proofs.Blanks.{block-at, block-skipped}
 use Rattle.fluent_cut.proofs.Alike.{last, alike-some, back-spaces}
 use Rattle.fluent_cut.proofs.MovingWords.{Over, over_end, over_here, name-moves}
 use Rattle.fluent_cut.proofs.MovingPatterns.{pieces-at, line-at, alike-at, placeable-moves}
-use Rattle.fluent_cut.proofs.MovingEntries.{Stops, stops_empty, stops-over, stops-no_attribute, head-over, head-moves, attribute-over, attribute-moves, attributes-at, IsListed}
+use Rattle.fluent_cut.proofs.MovingEntries.{Stops, stops_empty, stops-over, stops-no_attribute, head-over, head-moves, attribute-over, attribute-moves, attributes-at, IsListed, head-at}
 use Rattle.fluent_cut.proofs.Clean.{over-block}
 use Rattle.fluent_cut.proofs.TextEnds.{Joint, Lined, lined-some, lined-at, lined-tail, alike-append, alike-lined, alike-joint, joint-whole, no_end-append, spaces-lined, skip_spaces-append, pattern_ends-append}
 use Rattle.fluent_cut.proofs.LaterPieces.{later-same}
@@ -87,9 +87,6 @@ pattern-later {blanks = blanks} {x = x} (on_the_next {s = s} {u = u} n d e) z v 
     on_the_next (ap after_line_end (skip_spaces-append s t some) ∙ end-append (skip_spaces s) u t n) (line-at (block-append u t more (lined-some more (spaces-lined w lined))) r.spelled) (e ∙ sym (later-same r.later))
 
 -- ---- heads and attributes
-
-head-at : {id : Text} {value : t.Elements} {s u rest : Text} → s ≡ u → SpellsHead id value u rest → SpellsHead id value s rest
-head-at e d = rw e d
 
 attribute-at : {a : t.Attribute} {s u rest : Text} → s ≡ u → SpellsAttribute a u rest → SpellsAttribute a s rest
 attribute-at e d = rw e d

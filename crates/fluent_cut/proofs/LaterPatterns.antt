@@ -1,6 +1,6 @@
 -- A pattern that ends at the end of a text is spelled where blank lines and a rest at which patterns are over are put behind that
 -- text, as the same pattern.
-use Rattle.std.proofs.Common.{◌≡◌, ℕ, zero, suc, ◌<◌, Bool, true, false, List, [], ◌∷◌, ◌++◌, replicate, refl, sym, ap, ◌∙◌, arith, append_assoc, inl, inr, subst, append-nil, drop}
+use Rattle.std.proofs.Common.{◌≡◌, ℕ, suc, ◌<◌, Bool, true, false, List, [], ◌∷◌, ◌++◌, replicate, refl, sym, ap, ◌∙◌, arith, append_assoc, inl, inr, subst, append-nil, drop}
 use Rattle.std.specs.Str.{IsUtf8}
 use Rattle.std.specs.Prelude.{◌==◌, ◌≢◌}
 use Rattle.fluent_grammar.specs.Words.{Text, space, line_feed, carriage_return, open_brace, begins, begins_crlf, spaces, skip_spaces}
@@ -10,12 +10,13 @@ use Rattle.fluent_grammar.specs.Blanks.{BlankLines, no_lines, ends_lf, ends_crlf
 use Rattle.fluent_grammar.specs.Spelling.{BeginsText, SpellsPieces, nothing_left, crlf_piece, text_piece, placeable_piece, SpellsLine, only_spaces_left, pattern_over, line_of_text, line_of_placeable, line_of_crlf, SpellsBehindText, next_line, same_line}
 use Rattle.fluent_grammar.proofs.Cases.{cases}
 use Rattle.fluent_cut.proofs.Alike.{alike-some}
-use Rattle.fluent_cut.proofs.MovingWords.{Over, zero-spaces, skip_spaces-more, text-ended, here, not_feed}
+use Rattle.fluent_cut.proofs.MovingWords.{Over, zero-spaces, skip_spaces-more, text-ended, here, not_feed, text-split}
 use Rattle.fluent_cut.proofs.MovingPatterns.{over-line, crlf-text, pieces-at, line-at, line-text, line-placeable, placeable-at, text-at, begins-at, placeable-moves}
-use Rattle.fluent_cut.proofs.LineFeeds.{EndsInFeed, lf_last, lf_later}
-use Rattle.fluent_cut.proofs.TextEnds.{Trims, trims, Joint, ended, unended, Lined, lined-some, joint-at, lined-tail, alike-append, alike-lined, alike-joint, Whole, joint-whole, whole-tail, crlf-append, crlf-kept, joint-suffix, lf-ends, lf-some, spaces-lined, skip_spaces-append, spaces-append, pattern_ends-append}
+use Rattle.fluent_cut.proofs.LineFeeds.{EndsInFeed, lf_last, lf_later, lf-some}
+use Rattle.fluent_cut.proofs.TextEnds.{Trims, trims, Joint, ended, unended, Lined, lined-some, joint-at, lined-tail, alike-append, alike-lined, alike-joint, Whole, joint-whole, whole-tail, crlf-append, crlf-kept, joint-suffix, lf-ends, spaces-lined, skip_spaces-append, spaces-append, pattern_ends-append}
 use Rattle.fluent_cut.proofs.LaterPieces.{Blanks, no_blanks, blank_line, blank_end, grown_start, grown_in, Later, behind, alike, grown}
 use Rattle.fluent_cut.proofs.TextParts.{append-some, begins-append}
+use Rattle.fluent_grammar.proofs.Blanks.{skip_spaces-spaced}
 
 -- ---- blank lines are blank pieces
 
@@ -38,10 +39,6 @@ feed-line s m e d = line_of_text (line-goes_on s m line_feed e refl refl) (begin
 crlf-line : {qs : List Piece} {x : Text} (s m : Text) → skip_spaces s ≡ carriage_return ∷ line_feed ∷ m → SpellsLine qs m x → SpellsLine (in_line (line_feed ∷ []) ∷ qs) s x
 crlf-line s m e d = line_of_crlf (line-goes_on s (line_feed ∷ m) carriage_return e refl refl) (rw e refl) (pieces-at e (crlf_piece refl d))
 
-skip-spaced : (n : ℕ) (s : Text) → skip_spaces (replicate n space ++ s) ≡ skip_spaces s
-skip-spaced zero s = refl
-skip-spaced (suc n) s = skip_spaces-more space (replicate n space ++ s) refl ∙ skip-spaced n s
-
 record BlankLater (s x : Text) : Type 0 where
   pieces : List Piece
   spelled : SpellsLine pieces s x
@@ -54,7 +51,7 @@ blank-later {x = x} (ends_lf {more = m} n d) o =
     let s = (replicate n space ++ line_feed ∷ m) ++ x in
     record {
       pieces = at_line_start (spaces s) (line_feed ∷ []) ∷ l.pieces;
-      spelled = feed-line s (m ++ x) (ap skip_spaces (append_assoc (replicate n space) (line_feed ∷ m) x) ∙ skip-spaced n (line_feed ∷ (m ++ x))) l.spelled;
+      spelled = feed-line s (m ++ x) (ap skip_spaces (append_assoc (replicate n space) (line_feed ∷ m) x) ∙ skip_spaces-spaced n (line_feed ∷ (m ++ x))) l.spelled;
       blank = blank_line (spaces s) l.blank;
     }
 blank-later {x = x} (ends_crlf {more = m} n d) o =
@@ -62,7 +59,7 @@ blank-later {x = x} (ends_crlf {more = m} n d) o =
     let s = (replicate n space ++ carriage_return ∷ line_feed ∷ m) ++ x in
     record {
       pieces = in_line (line_feed ∷ []) ∷ l.pieces;
-      spelled = crlf-line s (m ++ x) (ap skip_spaces (append_assoc (replicate n space) (carriage_return ∷ line_feed ∷ m) x) ∙ skip-spaced n (carriage_return ∷ line_feed ∷ (m ++ x))) l.spelled;
+      spelled = crlf-line s (m ++ x) (ap skip_spaces (append_assoc (replicate n space) (carriage_return ∷ line_feed ∷ m) x) ∙ skip_spaces-spaced n (carriage_return ∷ line_feed ∷ (m ++ x))) l.spelled;
       blank = blank_end l.blank;
     }
 
@@ -82,13 +79,6 @@ spaced-lines s {more} e l = let w = spaces-only s e in rw w.1 (ends_lf w.0 l)
         (λ k. absurd (let h : c ∷ cs ≡ [] = rw k at e in cc))
 
 -- ---- texts
-
-text-split : {piece s u : Text} → SpellsText piece s u → s ≡ piece ++ u
-text-split to_line_feed = refl
-text-split to_brace = refl
-text-split (to_crlf k) = refl
-text-split to_end = refl
-text-split (text_byte {c} k b d) = ap (λ z. c ∷ z) (text-split d)
 
 unended-tail : (c : ℕ) (piece : Text) → ends_line (c ∷ piece) ≡ false → ends_line piece ≡ false
 unended-tail c [] e = refl

@@ -1,11 +1,12 @@
 -- Pieces that end later: blank pieces follow, and the last text may have a line feed more. They give the same elements.
-use Rattle.std.proofs.Common.{◌≡◌, ℕ, suc, Bool, true, false, ◌&&◌, ◌||◌, cond, List, [], ◌∷◌, ◌++◌, length, replicate, Option, Some, None, refl, sym, ap, ◌∙◌, arith, append_assoc}
+use Rattle.std.proofs.Common.{◌≡◌, ℕ, suc, Bool, true, false, ◌&&◌, cond, List, [], ◌∷◌, ◌++◌, length, replicate, Option, Some, None, refl, sym, ap, ◌∙◌, arith, append_assoc}
 use Rattle.std.specs.Prelude.{◌==◌, ◌-◌}
 use Rattle.std.specs.Str.{trim_end}
 use Rattle.fluent_grammar.specs.Words.{Text, space, line_feed}
 use Rattle.fluent_grammar.specs.Tree.{placeable}
-use Rattle.fluent_grammar.specs.Lines.{Piece, at_line_start, in_line, placed, is_blank_text, is_blank, lesser, indent_of, common_indent, dedented, without_blank_end, trimmed_if_last, elements_from, elements_of}
+use Rattle.fluent_grammar.specs.Lines.{Piece, at_line_start, in_line, placed, is_blank, lesser, indent_of, common_indent, dedented, without_blank_end, trimmed_if_last, elements_from, elements_of}
 use Rattle.fluent_cut.proofs.TextEnds.{Trims}
+use Rattle.fluent_cut.proofs.TextParts.{blank-grown}
 
 -- blank pieces, each a line feed
 pub data Blanks : List Piece → Type 0 where
@@ -29,10 +30,6 @@ blanks-indent : {qs : List Piece} → Blanks qs → common_indent qs ≡ None
 blanks-indent no_blanks = refl
 blanks-indent (blank_line n b) = blanks-indent b
 blanks-indent (blank_end b) = blanks-indent b
-
-blank-grown : (s : Text) → is_blank_text (s ++ line_feed ∷ []) ≡ is_blank_text s
-blank-grown [] = refl
-blank-grown (c ∷ cs) = ap (λ z. (c == space || c == line_feed) && z) (blank-grown cs)
 
 grown-blank : {p p' : Piece} → Grown p p' → is_blank p' ≡ is_blank p
 grown-blank (grown_start {s} n h) = blank-grown s

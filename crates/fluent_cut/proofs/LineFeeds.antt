@@ -1,6 +1,6 @@
 -- Texts that end in a line feed, and the same texts when they go on.
 use Rattle.std.proofs.Common.{◌≡◌, ℕ, Bool, true, false, ◌&&◌, ◌∷◌, ◌++◌, [], drop, take, refl, ap}
-use Rattle.std.specs.Prelude.{◌==◌}
+use Rattle.std.specs.Prelude.{◌==◌, ◌≢◌}
 use Rattle.std.specs.List.{prefix_len}
 use Rattle.fluent_grammar.specs.Words.{Text, line_feed, begins, begins_with}
 use Rattle.fluent_grammar.proofs.Taken.{one-plus}
@@ -33,3 +33,7 @@ pub lf-split : {s : Text} (p : ℕ → Bool) (q : Text) → p line_feed ≡ fals
     EndsInFeed (drop (prefix_len p s) s) × (take (prefix_len p s) (s ++ q) ≡ take (prefix_len p s) s) × (drop (prefix_len p s) (s ++ q) ≡ drop (prefix_len p s) s ++ q)
 lf-split p q n lf_last = rw n (lf_last, refl, refl)
 lf-split p q n (lf_later {s} c f) = run-step p q c s (p c) refl (lf_later c f) (lf-split p q n f)
+
+pub lf-some : {s : Text} → EndsInFeed s → s ≢ []
+lf-some lf_last e = absurd cc
+lf-some (lf_later c f) e = absurd cc

@@ -60,6 +60,9 @@ drop-taken level s y h =
     let k : length (take level s) ≡ level = omega (arith, length-take level s) in
     ap (λ n. drop n (take level s ++ y)) (sym k) ∙ drop-append_seam (take level s) y
 
+pub content-at : {lines : List Text} {a b r : Text} → a ≡ b → SpellsCommentText lines b r → SpellsCommentText lines a r
+content-at h d = rw h d
+
 pub line-moves : {level : ℕ} {lines : List Text} {s r : Text} → SpellsCommentLine level lines s r → (r' : Text) → r ≢ [] →
     (s' : Text) × Alike line_feed r r' s s' × SpellsCommentLine level lines s' r'
 line-moves {level} {lines} {s} {r} d r' some =
@@ -67,9 +70,6 @@ line-moves {level} {lines} {s} {r} d r' some =
     let h : Alike line_feed r r' s (take level s ++ e.0) = alike-split s (take level s) (sym (take-append-drop level s)) e.1 in
     let k : level ≤ length s = omega (arith, level-le s, d.sign) in
     (take level s ++ e.0, h, record { sign = level-same h ∙ d.sign; content = content-at (drop-taken level s e.0 k) e.2 })
-  where
-    content-at : {lines : List Text} {a b r : Text} → a ≡ b → SpellsCommentText lines b r → SpellsCommentText lines a r
-    content-at h d = rw h d
 
 -- ---- a line before a clean text
 

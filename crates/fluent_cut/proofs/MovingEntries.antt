@@ -1,16 +1,16 @@
 -- A message or a term is spelled by the same front before any rest that stops.
-use Rattle.std.proofs.Common.{◌≡◌, ℕ, true, false, List, [], ◌∷◌, None, refl, sym, ◌∙◌, arith}
+use Rattle.std.proofs.Common.{◌≡◌, ℕ, true, false, List, [], ◌∷◌, refl, sym, ◌∙◌, arith}
 use Rattle.std.specs.Prelude.{◌==◌, ◌≢◌}
 use Rattle.std.proofs.lemmas.Bool.Decides.{nat_tests}
-use Rattle.fluent_grammar.specs.Words.{Text, space, line_feed, equals, dot, hyphen, begins, begins_entry, spaces, skip_spaces, skip_blank_block, after_line_end}
+use Rattle.fluent_grammar.specs.Words.{Text, space, line_feed, equals, dot, hyphen, begins, begins_entry, spaces, skip_spaces, skip_blank_block}
 use Rattle.fluent_grammar.specs.Tree as t
 use Rattle.fluent_grammar.specs.Lines.{pattern_ends, goes_on_at_column_zero}
 use Rattle.fluent_grammar.specs.Spelling.{SpellsHead, a_head, SpellsAttribute, an_attribute, SpellsAttributes, no_more_attributes, one_more_attribute, SpellsEntry, a_message, a_term, a_comment, a_group_comment, a_resource_comment}
 use Rattle.fluent_grammar.specs.Blanks.{no_lines}
-use Rattle.fluent_grammar.proofs.Blanks.{block-at, block-skipped}
+use Rattle.fluent_grammar.proofs.Blanks.{block-skipped}
 use Rattle.fluent_cut.proofs.Alike.{Alike, more, alike-then, alike-some, back-spaces}
 use Rattle.fluent_cut.proofs.MovingWords.{name-moves, Same, here, there, Over, over_end, over_here, over-no_end, alike-over, block-onto, same-no_end}
-use Rattle.fluent_cut.proofs.MovingPatterns.{pattern-over, pattern-moves, alike-at}
+use Rattle.fluent_cut.proofs.MovingPatterns.{pattern-over, pattern-moves, alike-at, block-none}
 
 -- A text stops: it is empty, or begins with a byte that begins an entry.
 pub data Stops : Text → Type 0 where
@@ -101,9 +101,6 @@ attributes-moves (one_more_attribute d m) rest' some stops =
 pub attributes-at : {attributes : List t.Attribute} {s s' u : Text} → s ≡ s' → SpellsAttributes attributes s' u → SpellsAttributes attributes s u
 attributes-at h d = rw h d
 
-block-none : (u : Text) → after_line_end (skip_spaces (skip_blank_block u)) ≡ None
-block-none u = (block-at u).1.longest
-
 -- a head with the attributes behind it
 pub body-moves : {id : Text} {value : t.Elements} {attributes : List t.Attribute} {s u rest : Text} → SpellsHead id value s u → SpellsAttributes attributes (skip_blank_block u) rest →
     (rest' : Text) → rest ≢ [] → Stops rest' →
@@ -123,7 +120,7 @@ IsListed (t.group_comment c) = ⊥
 IsListed (t.resource_comment c) = ⊥
 IsListed (t.junk s) = ⊥
 
--- WHAT ENDS AN ENTRY ENDS IT ANYWHERE.
+-- What ends an entry ends it anywhere.
 pub entry-moves : {e : t.Entry} {s rest : Text} → SpellsEntry e s rest → IsListed e → (rest' : Text) → rest ≢ [] → Stops rest' →
     (s' : Text) × Alike line_feed rest rest' s s' × SpellsEntry e s' rest'
 entry-moves (a_message d m h) k rest' some stops = let b = body-moves d m rest' some stops in (b.0, b.1, a_message b.3 b.4 h)
@@ -146,3 +143,6 @@ entry-over (a_term {v = v} e d m h) k = attributes-over m (block-over v (head-ov
 entry-over (a_comment d) k = absurd k
 entry-over (a_group_comment d) k = absurd k
 entry-over (a_resource_comment d) k = absurd k
+
+pub head-at : {id : Text} {value : t.Elements} {s u rest : Text} → s ≡ u → SpellsHead id value u rest → SpellsHead id value s rest
+head-at e d = rw e d

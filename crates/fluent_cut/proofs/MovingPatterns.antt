@@ -80,9 +80,6 @@ pieces-at h d = rw h d
 pub line-at : {ps : List Piece} {s s' u : Text} → s ≡ s' → SpellsLine ps s' u → SpellsLine ps s u
 line-at h d = rw h d
 
-inline-at : {e : t.Inline} {s s' u : Text} → s ≡ s' → SpellsInline e s' u → SpellsInline e s u
-inline-at h d = rw h d
-
 arguments-at : {names : List Text} {a : t.Arguments} {s s' u : Text} → s ≡ s' → SpellsArguments names a s' u → SpellsArguments names a s u
 arguments-at h d = rw h d
 

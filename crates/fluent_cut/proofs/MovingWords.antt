@@ -1,7 +1,7 @@
 -- A word that is spelled is spelled by the same front before any rest that is alike.
-use Rattle.std.proofs.Common.{◌≡◌, ℕ, Bool, true, false, not, [], ◌∷◌, ◌++◌, Option, Some, None, refl, sym, ◌∙◌, arith, replicate, append_assoc}
+use Rattle.std.proofs.Common.{◌≡◌, ℕ, true, false, [], ◌∷◌, ◌++◌, Option, Some, None, refl, sym, ◌∙◌, arith, replicate, append_assoc, ap, suc, zero}
 use Rattle.std.specs.Prelude.{◌==◌, ◌≢◌}
-use Rattle.fluent_grammar.specs.Words.{Text, space, line_feed, carriage_return, quote, hyphen, dot, colon, open_brace, is_letter, is_digit, is_name_byte, is_hex_digit, begins, begins_with, spaces, skip_spaces, skip_blank_block, after_line_end, hex_digits}
+use Rattle.fluent_grammar.specs.Words.{Text, space, line_feed, carriage_return, quote, hyphen, dot, colon, open_brace, is_letter, is_digit, is_name_byte, is_hex_digit, begins, begins_with, spaces, skip_spaces, skip_blank_block, after_line_end, hex_digits, skip_blank}
 use Rattle.fluent_grammar.specs.Tree as t
 use Rattle.fluent_grammar.specs.Lexical.{SpellsLineEnd, lf, crlf, SpellsName, SpellsDigits, SpellsUnsigned, whole, decimal, SpellsNumber, unsigned, negative, SpellsString, closing_quote, plain_byte, escaped_backslash, escaped_quote, four_digits, six_digits, SpellsAccessor, no_accessor, an_accessor, SpellsKey, number_key, identifier_key, SpellsLiteral, a_string, a_number, SpellsText, to_line_feed, to_brace, to_crlf, to_end, text_byte, is_text_byte}
 use Rattle.fluent_grammar.specs.Lines.{ends_line, pattern_ends, goes_on_at_column_zero, ends_behind_spaces}
@@ -11,8 +11,9 @@ use Rattle.fluent_grammar.proofs.Got.{begins_is}
 use Rattle.fluent_grammar.proofs.Cases.{cases}
 use Rattle.fluent_grammar.proofs.Taken.{one-plus}
 use Rattle.fluent_grammar.proofs.BlankWords.{line_end_sound, line_end_complete}
-use Rattle.fluent_grammar.proofs.Blanks.{block-at, block-skipped}
+use Rattle.fluent_grammar.proofs.Blanks.{block-at, block-skipped, skip_spaces-other, not-false}
 use Rattle.fluent_cut.proofs.Alike.{Alike, last, more, alike-front, alike-split, alike-begins, alike-some, alike-other, alike-crlf, alike-run, alike-no_end}
+use Rattle.std.proofs.lemmas.Bool.Decides.{nat_tests}
 
 pub name-moves : {name s r : Text} → SpellsName name s r → {a : ℕ} {x x' r' : Text} → Alike a x x' r r' → (s' : Text) × Alike a x x' s s' × SpellsName name s' r'
 name-moves {name} {s} d {r' = r'} h =
@@ -148,9 +149,6 @@ pub data Over : Text → Type 0 where
 pub skip_spaces-more : (c : ℕ) (s : Text) → (c == space) ≡ true → skip_spaces (c ∷ s) ≡ skip_spaces s
 skip_spaces-more c s e = rw (e, one-plus (spaces s)) refl
 
-pub skip_spaces-other : (c : ℕ) (s : Text) → (c == space) ≡ false → skip_spaces (c ∷ s) ≡ c ∷ s
-skip_spaces-other c s e = rw e refl
-
 pub alike-skip_spaces : {a : ℕ} {x x' s s' : Text} → (a == space) ≡ false → Alike a x x' s s' → Alike a x x' (skip_spaces s) (skip_spaces s')
 alike-skip_spaces {a} {x} {x'} n last = rw (skip_spaces-other a x n, skip_spaces-other a x' n) last
 alike-skip_spaces n (more {s} {s'} c h) = cases (c == space)
@@ -159,10 +157,6 @@ alike-skip_spaces n (more {s} {s'} c h) = cases (c == space)
 
 pub zero-spaces : (s : Text) → (spaces s == 0) ≡ true → skip_spaces s ≡ s
 zero-spaces s e = let z : spaces s ≡ 0 = grind arith in rw z refl
-
-pub not-true : (b : Bool) → not b ≡ true → b ≡ false
-not-true true e = absurd cc
-not-true false e = refl
 
 -- what the bytes at a line's start aren't
 no_end-at_zero : (s : Text) → begins goes_on_at_column_zero s ≡ false → after_line_end s ≡ None
@@ -180,7 +174,7 @@ no_end-behind (c ∷ cs) e =
     rw (f, r) refl
 
 ends-zero : (s : Text) → (spaces s == 0) ≡ true → pattern_ends s ≡ true → begins goes_on_at_column_zero s ≡ false
-ends-zero s z e = not-true _ (rw z at e)
+ends-zero s z e = not-false _ (rw z at e)
 
 ends-behind : (s : Text) → (spaces s == 0) ≡ false → pattern_ends s ≡ true → begins ends_behind_spaces (skip_spaces s) ≡ true
 ends-behind s z e = rw z at e
@@ -226,3 +220,20 @@ end-onto s u e h = let d = line_end-onto (line_end_sound s u e) h in (d.0, d.1, 
 pub same-no_end : {x x' s s' : Text} → Over x' → Same x x' s s' → after_line_end (skip_spaces s) ≡ None → after_line_end (skip_spaces s') ≡ None
 same-no_end o here e = over-no_end o
 same-no_end o (there h) e = alike-no_end refl (alike-skip_spaces refl h) e
+
+pub blank-replicate : (k : ℕ) (s : Text) → skip_blank (replicate k space ++ s) ≡ skip_blank s
+blank-replicate zero s = refl
+blank-replicate (suc k) s = blank-replicate k s
+
+pub name-feed : (c : ℕ) → is_name_byte c ≡ true → (c == line_feed) ≡ false
+name-feed c e = grind (arith, nat_tests)
+
+pub digit-feed : (c : ℕ) → is_digit c ≡ true → (c == line_feed) ≡ false
+digit-feed c e = grind (arith, nat_tests)
+
+pub text-split : {piece s u : Text} → SpellsText piece s u → s ≡ piece ++ u
+text-split to_line_feed = refl
+text-split to_brace = refl
+text-split (to_crlf k) = refl
+text-split to_end = refl
+text-split (text_byte {c} k b d) = ap (λ z. c ∷ z) (text-split d)

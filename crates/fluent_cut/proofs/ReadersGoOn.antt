@@ -16,9 +16,11 @@ use Rattle.fluent_grammar.proofs.Taken.{one-plus}
 use Rattle.fluent_grammar.specs.Blanks.{BlankLines, no_lines, ends_lf, ends_crlf}
 use Rattle.fluent_grammar.proofs.Cases.{cases, and-left, and-right}
 use Rattle.fluent_cut.proofs.LineFeeds.{EndsInFeed, lf_last, lf_later, lf-begins, lf-two, lf-run, lf-split}
-use Rattle.fluent_cut.proofs.MovingWords.{skip_spaces-more, skip_spaces-other, Over, over_end, over_here}
+use Rattle.fluent_cut.proofs.MovingWords.{skip_spaces-more, Over, over_end, over_here}
 use Rattle.fluent_cut.proofs.MovingEntries.{stops-over}
-use Rattle.fluent_cut.proofs.GoingOn.{Head, no_head, sign_head, name_head, term_head, Next, Place, in_front, at_equals, at_term_equals, behind_hyphen, RefusedIn, refused_in, Before, before, At, at_before, at_next, LineAt, line_before, line_next, Equal, equal, Never, Goes, same_got, same_refused, crossed_got, crossed_refused, Missed, missed, doomed, at-byte, at-drop, at-some, before-begins, before-drop, before-spaces, at-blank, at-separator, before-block, Ends, no_end, some_before, some_end, before-end, lf-crlf, got-at, refuse-at, end-next, goes-mapped, mapped-equal, mapped-never, goes-never, refused-mapped, goes-bind, goes-then, missed-bind, missed-refused, line-end, crlf-line, before-count, before-ends, before-some, nonzero, next-block, head-stops, at-equal}
+use Rattle.fluent_cut.proofs.GoingOn.{Head, no_head, sign_head, name_head, term_head, Next, Place, in_front, at_equals, at_term_equals, behind_hyphen, RefusedIn, refused_in, Before, before, At, at_before, at_next, LineAt, line_before, line_next, Equal, equal, Never, Goes, same_got, same_refused, crossed_got, crossed_refused, Missed, missed, doomed, at-byte, at-drop, at-some, before-begins, before-drop, before-spaces, at-blank, at-separator, before-block, Ends, no_end, some_before, some_end, before-end, lf-crlf, got-at, refuse-at, end-next, goes-mapped, mapped-equal, mapped-never, goes-never, refused-mapped, goes-bind, goes-then, missed-bind, missed-refused, line-end, crlf-line, before-count, before-ends, before-some, next-block, head-stops, at-equal}
+use Rattle.fluent_grammar.proofs.Blanks.{skip_spaces-other}
+use Rattle.fluent_grammar.proofs.Complete.{some_text}
 
 -- ---- words
 
@@ -523,7 +525,7 @@ module _ {q next : Text} (n : Next q next) (inside : Readers) (k : Goers q next 
 
   arguments-equals : (names : List Text) (v : Text) → Place next (equals ∷ v) → RefusedIn next (g.arguments_at inside names (equals ∷ v))
   unfolding g.arguments_at
-  arguments-equals names v p = rw (nonzero (equals ∷ v) (λ e. absurd cc), inline-equals v) (refused_in p)
+  arguments-equals names v p = rw (some_text (equals ∷ v) (λ e. absurd cc), inline-equals v) (refused_in p)
 
   arguments-none : (names : List Text) → g.arguments_at inside names [] ≡ refuse (r.expected_token close_paren) []
   unfolding g.arguments_at
@@ -537,7 +539,7 @@ module _ {q next : Text} (n : Next q next) (inside : Readers) (k : Goers q next 
   arguments-next : (names : List Text) (x : Text) → x ≡ next → RefusedIn next (g.arguments_at inside names x)
   arguments-next names [] e = rw (arguments-none names) (refused_in (place-at [] e))
   arguments-next names (c ∷ cs) e =
-      rw (arguments-at names (c ∷ cs) (nonzero (c ∷ cs) (λ z. absurd cc)) (ap (begins_with close_paren) e ∙ at-byte {q = q} n close_paren refl at_next))
+      rw (arguments-at names (c ∷ cs) (some_text (c ∷ cs) (λ z. absurd cc)) (ap (begins_with close_paren) e ∙ at-byte {q = q} n close_paren refl at_next))
       (rw e (missed-refused _ inline-next (λ a rest v h p. argument-doomed_at names a rest v h p)))
 
   arguments-before : (names : List Text) {s s' : Text} → Before q s s' → Goes q next Never (g.arguments_at inside names s) (g.arguments_at inside names s')
@@ -603,7 +605,7 @@ module _ {q next : Text} (n : Next q next) (inside : Readers) (k : Goers q next 
   line-over : {s : Text} → Over s → g.line_at inside s ≡ got [] s
   unfolding g.line_at
   line-over over_end = refl
-  line-over (over_here {s} e p) = rw (nonzero (skip_spaces s) e, p) refl
+  line-over (over_here {s} e p) = rw (some_text (skip_spaces s) e, p) refl
 
   line-text : (s u : Text) (m : ℕ) → skip_spaces s ≡ u → spaces s ≡ m → pattern_ends s ≡ false → (length u == 0) ≡ false → begins_with open_brace u ≡ false → begins_crlf u ≡ false →
       g.line_at inside s ≡ g.text_piece_at inside (at_line_start m) u
@@ -629,17 +631,17 @@ module _ {q next : Text} (n : Next q next) (inside : Readers) (k : Goers q next 
 
   crlf-piece : (x : Text) → g.pieces_at inside (carriage_return ∷ line_feed ∷ x) ≡ mapped (λ ps. in_line (line_feed ∷ []) ∷ ps) (inside.line x)
   unfolding g.pieces_at
-  crlf-piece x = rw (nonzero (carriage_return ∷ line_feed ∷ x) (λ e. absurd cc)) refl
+  crlf-piece x = rw (some_text (carriage_return ∷ line_feed ∷ x) (λ e. absurd cc)) refl
 
   line-feed : (m : ℕ) (x : Text) → g.line_at inside (replicate m space ++ (line_feed ∷ x)) ≡ mapped (λ ps. at_line_start m (line_feed ∷ []) ∷ ps) (inside.line x)
   line-feed m x =
       line-text (replicate m space ++ (line_feed ∷ x)) (line_feed ∷ x) m (skip-replicate m line_feed x refl) (count-replicate m line_feed x refl) (goes_on-replicate m line_feed x refl refl refl)
-      (nonzero (line_feed ∷ x) (λ e. absurd cc)) refl refl ∙ feed-piece m x
+      (some_text (line_feed ∷ x) (λ e. absurd cc)) refl refl ∙ feed-piece m x
 
   line-crlf : (m : ℕ) (x : Text) → g.line_at inside (replicate m space ++ (carriage_return ∷ line_feed ∷ x)) ≡ mapped (λ ps. in_line (line_feed ∷ []) ∷ ps) (inside.line x)
   line-crlf m x =
       line-to_crlf (replicate m space ++ (carriage_return ∷ line_feed ∷ x)) (carriage_return ∷ line_feed ∷ x) (skip-replicate m carriage_return (line_feed ∷ x) refl) (goes_on-replicate m carriage_return (line_feed ∷ x) refl refl refl)
-      (nonzero (carriage_return ∷ line_feed ∷ x) (λ e. absurd cc)) refl refl ∙ crlf-piece x
+      (some_text (carriage_return ∷ line_feed ∷ x) (λ e. absurd cc)) refl refl ∙ crlf-piece x
 
   line-next : {b : Text} → BlankLines b → LineEnds next (g.line_at inside (b ++ next))
   line-next no_lines = rw (line-over (stops-over (head-stops n.head))) (line_ends refl)

@@ -8,10 +8,11 @@ use Rattle.fluent_grammar.specs.Blanks.{BlankLines}
 use Rattle.fluent_grammar.proofs.Cases.{cases, and-left}
 use Rattle.fluent_cut.specs.Joined.{HasNoReturn}
 use Rattle.fluent_cut.proofs.Alike.{Alike, last, more, alike-some, no_end-tests, tests-no_end}
-use Rattle.fluent_cut.proofs.MovingWords.{skip_spaces-more, skip_spaces-other, not-true}
+use Rattle.fluent_cut.proofs.MovingWords.{skip_spaces-more}
 use Rattle.fluent_cut.proofs.MovingPatterns.{crlf-text}
-use Rattle.fluent_cut.proofs.LineFeeds.{EndsInFeed, lf_last, lf_later}
+use Rattle.fluent_cut.proofs.LineFeeds.{EndsInFeed, lf_last, lf_later, lf-some}
 use Rattle.fluent_cut.proofs.TextParts.{begins-append, no_return-right, no_return-tail, utf8-from, utf8-behind, utf8-tail, spaced-utf8, feed_is_trimmed}
+use Rattle.fluent_grammar.proofs.Blanks.{skip_spaces-other, not-false}
 
 -- ---- a line feed is trimmed
 
@@ -52,10 +53,6 @@ lf-behind (lf_later {s} d f) c u e = let k : s ≡ u = cc in inr (rw k at f)
 pub lf-other : {s : Text} → EndsInFeed s → (c : ℕ) (u : Text) → s ≡ c ∷ u → (c == line_feed) ≡ false → EndsInFeed u
 lf-other lf_last c u e n = absurd (let k : line_feed ≡ c = cc in let m : (line_feed == line_feed) ≡ false = rw (← k) at n in cc)
 lf-other (lf_later {s} d f) c u e n = let k : s ≡ u = cc in rw k at f
-
-pub lf-some : {s : Text} → EndsInFeed s → s ≢ []
-lf-some lf_last e = absurd cc
-lf-some (lf_later c f) e = absurd cc
 
 pub lf-from : (s : Text) → ends_line s ≡ true → EndsInFeed s
 lf-from [] e = absurd cc
@@ -116,7 +113,7 @@ lf-one c lf_last e = let k : line_feed ≡ c = cc in rw (← k) refl
 lf-one c (lf_later d f) e = absurd (lf-some f cc)
 
 no_return-one : (c : ℕ) → HasNoReturn (c ∷ []) → (c == carriage_return) ≡ false
-no_return-one c n = not-true _ (and-left (not (c == carriage_return)) _ n)
+no_return-one c n = not-false _ (and-left (not (c == carriage_return)) _ n)
 
 whole-one : (c : ℕ) → Whole (c ∷ []) → (c == carriage_return) ≡ false
 whole-one c (inl f) = lf-one c f refl

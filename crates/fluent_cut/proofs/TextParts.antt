@@ -1,5 +1,5 @@
--- Parts of a text: how it begins, carriage returns, where UTF-8 may be cut, and the line feed behind a trimmed text.
-use Rattle.std.proofs.Common.{◌≡◌, ℕ, zero, suc, ◌+◌, ◌<◌, false, not, List, [], ◌∷◌, ◌++◌, length, drop, get_or, replicate, refl, sym, ap, ◌∙◌, arith, append_assoc, inl, inr, subst}
+-- Parts of a text: where it is empty, how it begins, carriage returns, where UTF-8 may be cut, and the line feed that trimming takes.
+use Rattle.std.proofs.Common.{◌≡◌, ℕ, zero, suc, ◌+◌, ◌<◌, not, List, [], ◌∷◌, ◌++◌, length, drop, get_or, replicate, refl, sym, ap, ◌∙◌, arith, append_assoc, inl, inr, subst}
 use Rattle.std.specs.Prelude.{◌==◌, ◌≢◌, ◌⊎◌, Bool}
 use Rattle.std.specs.List.{list_all}
 use Rattle.std.specs.Str.{IsUtf8, trim_end, chars, is_utf8, drop_trailing_whitespace, encode_utf8_all}
@@ -11,16 +11,13 @@ use Rattle.std.proofs.Math.Seq.{take-append_seam, drop-append_seam, get_or-appen
 use Rattle.fluent_grammar.specs.Words.{Text, space, line_feed, carriage_return, begins}
 use Rattle.fluent_grammar.proofs.Cases.{and-left, and-right}
 use Rattle.fluent_cut.specs.Joined.{HasNoReturn}
+use Rattle.fluent_grammar.specs.Lines.{is_blank_text}
 
 -- ---- how it begins
 
 pub empty_or : (s : Text) → (s ≡ []) ⊎ (s ≢ [])
 empty_or [] = inl refl
 empty_or (c ∷ cs) = inr (λ e. cc)
-
-pub some-length : (s : Text) → s ≢ [] → (length s == 0) ≡ false
-some-length [] some = absurd (some refl)
-some-length (c ∷ cs) some = grind arith
 
 pub append-some : (s t : Text) → s ≢ [] → s ++ t ≢ []
 append-some [] t some e = some refl
@@ -88,3 +85,7 @@ unfolding trim_end chars
 feed_is_trimmed s u =
     ap (λ z. encode_utf8_all (drop_trailing_whitespace z)) (chars-append s (line_feed ∷ []) u)
     ∙ ap encode_utf8_all (feed-dropped (chars s))
+
+pub blank-grown : (s : Text) → is_blank_text (s ++ line_feed ∷ []) ≡ is_blank_text s
+blank-grown [] = refl
+blank-grown (c ∷ cs) = rw (blank-grown cs) refl

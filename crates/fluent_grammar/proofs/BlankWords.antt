@@ -100,7 +100,7 @@ blank_sound (c ∷ cs) rest e = elim (which (c == space || c == line_feed) _ _ _
   ]
 ]
 
-no_line_feed : (c : ℕ) (cs : Text) → ((more : Text) → SpellsLineEnd (c ∷ cs) more → ⊥) → (c == line_feed) ≡ false
+pub no_line_feed : (c : ℕ) (cs : Text) → ((more : Text) → SpellsLineEnd (c ∷ cs) more → ⊥) → (c == line_feed) ≡ false
 no_line_feed c cs none = elim (decide (c == line_feed)) [
   | inl p ↦ absurd (none cs (lf-at (ap (λ x. x ∷ cs) (same c line_feed p))))
   | inr p ↦ p

@@ -12,14 +12,14 @@ use Rattle.fluent_grammar.proofs.Taken.{one-plus}
 skip_spaces-more : (s : Text) → skip_spaces (space ∷ s) ≡ skip_spaces s
 skip_spaces-more s = rw (one-plus (spaces s)) refl
 
-skip_spaces-other : (c : ℕ) (s : Text) → (c == space) ≡ false → skip_spaces (c ∷ s) ≡ c ∷ s
+pub skip_spaces-other : (c : ℕ) (s : Text) → (c == space) ≡ false → skip_spaces (c ∷ s) ≡ c ∷ s
 skip_spaces-other c s e = rw e refl
 
 spaced-snoc : (n : ℕ) (s : Text) → replicate n space ++ space ∷ s ≡ replicate (suc n) space ++ s
 spaced-snoc zero s = refl
 spaced-snoc (suc n) s = ap (λ z. space ∷ z) (spaced-snoc n s)
 
-skip_spaces-spaced : (n : ℕ) (s : Text) → skip_spaces (replicate n space ++ s) ≡ skip_spaces s
+pub skip_spaces-spaced : (n : ℕ) (s : Text) → skip_spaces (replicate n space ++ s) ≡ skip_spaces s
 skip_spaces-spaced zero s = refl
 skip_spaces-spaced (suc n) s = skip_spaces-more (replicate n space ++ s) ∙ skip_spaces-spaced n s
 
@@ -130,7 +130,7 @@ block-at text = found text text (inl (0, refl))
 abbrev Unended : Text → Type 0
 Unended bytes = list_all (λ c. not (c == line_feed)) bytes ≡ true
 
-not-false : (b : Bool) → not b ≡ true → b ≡ false
+pub not-false : (b : Bool) → not b ≡ true → b ≡ false
 not-false true e = absurd cc
 not-false false e = refl
 
@@ -138,7 +138,7 @@ false-not : (b : Bool) → b ≡ false → not b ≡ true
 false-not true e = absurd cc
 false-not false e = refl
 
-both-and : (a b : Bool) → a ≡ true → b ≡ true → (a && b) ≡ true
+pub both-and : (a b : Bool) → a ≡ true → b ≡ true → (a && b) ≡ true
 both-and true b e h = h
 both-and false b e h = absurd cc
 

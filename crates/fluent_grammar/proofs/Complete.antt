@@ -38,7 +38,7 @@ no_fault (t.term_reference s (Some a) c) h = refl
 no_fault (t.variable_reference s) h = refl
 no_fault (t.nested e) h = absurd cc
 
-some_text : (s : Text) → s ≢ [] → (length s == 0) ≡ false
+pub some_text : (s : Text) → s ≢ [] → (length s == 0) ≡ false
 some_text [] h = absurd (h refl)
 some_text (c ∷ cs) h = grind arith
 
@@ -52,7 +52,7 @@ letter-no : (s : Text) → begins is_letter s ≡ true → (begins_with quote s 
 letter-no [] h = absurd cc
 letter-no (c ∷ cs) h = (grind (arith, nat_tests), grind (arith, nat_tests), grind (arith, nat_tests), grind (arith, nat_tests), grind (arith, nat_tests))
 
-digit-no_letter : (s : Text) → begins is_digit s ≡ true → begins is_letter s ≡ false
+pub digit-no_letter : (s : Text) → begins is_digit s ≡ true → begins is_letter s ≡ false
 digit-no_letter [] h = refl
 digit-no_letter (c ∷ cs) h = grind (arith, nat_tests)
 

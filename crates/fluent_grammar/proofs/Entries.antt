@@ -103,7 +103,7 @@ letter-no_sign : (s : Text) → begins is_letter s ≡ true → (begins_with num
 letter-no_sign [] h = absurd cc
 letter-no_sign (c ∷ cs) h = (grind (arith, nat_tests), grind (arith, nat_tests))
 
-head-letter : {id : Text} {value : t.Elements} {s rest : Text} → SpellsHead id value s rest → begins is_letter s ≡ true
+pub head-letter : {id : Text} {value : t.Elements} {s rest : Text} → SpellsHead id value s rest → begins is_letter s ≡ true
 head-letter (a_head n e p) = n.letter_first
 
 as_message : (s : Text) (e : t.Entry) (rest : Text) → begins is_letter s ≡ true → message_at s ≡ got e rest → entry_at s ≡ got e rest

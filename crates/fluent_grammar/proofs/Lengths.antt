@@ -56,7 +56,7 @@ run-shorter : {p : ℕ → Bool} {run s rest : Text} → IsLongestRun p run s re
 run-shorter {p} {run = []} {s} {rest} r h = let e : s ≡ rest = r.split in let k : begins p s ≡ false = rw e r.longest in absurd cc
 run-shorter {p} {run = c ∷ cs} {s} {rest} r h = omega (arith, ap length r.split, length-append (c ∷ cs) rest)
 
-letter-in_name : (s : Text) → begins is_letter s ≡ true → begins is_name_byte s ≡ true
+pub letter-in_name : (s : Text) → begins is_letter s ≡ true → begins is_name_byte s ≡ true
 letter-in_name [] h = absurd cc
 letter-in_name (c ∷ cs) h = rw h refl
 

@@ -73,10 +73,10 @@ snoc-view (d ∷ ds) = elim (snoc-view ds) [
   | inr e ↦ inr (d ∷ e.0, e.1, ap (λ z. d ∷ z) e.2)
 ]
 
-column-start : (place : Text) → at_column_zero place place ≡ true
+pub column-start : (place : Text) → at_column_zero place place ≡ true
 column-start place = let none : length place - length place ≡ 0 = omega arith in rw none refl
 
-column-snoc : (init : Text) (c : ℕ) (place : Text) → at_column_zero ((init ++ (c ∷ [])) ++ place) place ≡ (c == line_feed)
+pub column-snoc : (init : Text) (c : ℕ) (place : Text) → at_column_zero ((init ++ (c ∷ [])) ++ place) place ≡ (c == line_feed)
 column-snoc init c place =
     let whole : (init ++ (c ∷ [])) ++ place ≡ init ++ (c ∷ place) = append_assoc init (c ∷ []) place in
     let p : length (init ++ (c ∷ place)) - length place ≡ suc (length init) = omega (arith, length-append init (c ∷ place)) in

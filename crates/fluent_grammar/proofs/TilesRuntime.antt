@@ -31,7 +31,7 @@ line_feed-begins-none c e = rw (eqb-true c line_feed e) refl
 space-begins-none : (c : ℕ) → (c == space) ≡ true → begins_entry c ≡ false
 space-begins-none c e = rw (eqb-true c space e) refl
 
-return-begins-none : (c : ℕ) → (c == carriage_return) ≡ true → begins_entry c ≡ false
+pub return-begins-none : (c : ℕ) → (c == carriage_return) ≡ true → begins_entry c ≡ false
 return-begins-none c e = rw (eqb-true c carriage_return e) refl
 
 resume-past : (b : Bool) (c : ℕ) (cs : Text) → begins_entry c ≡ false → resume b (c ∷ cs) ≡ resume (c == line_feed) cs
@@ -340,11 +340,11 @@ mutual
   items-follow (a_line p l d) = absurd cc
 
 -- the list of a tree is that of its parts
-listed-waiting : (held : Option (List Text)) (es : List t.Entry) → listed (waiting held ++ es) ≡ listed es
+pub listed-waiting : (held : Option (List Text)) (es : List t.Entry) → listed (waiting held ++ es) ≡ listed es
 listed-waiting None es = refl
 listed-waiting (Some lines) es = refl
 
-listed-left : (held : Option (List Text)) (apart : Bool) (es : List t.Entry) → listed (left_alone held apart ++ es) ≡ listed es
+pub listed-left : (held : Option (List Text)) (apart : Bool) (es : List t.Entry) → listed (left_alone held apart ++ es) ≡ listed es
 listed-left held true es = listed-waiting held es
 listed-left held false es = refl
 

@@ -1,7 +1,7 @@
 pub mod WrittenWords
 pub mod WrittenSoFar
 pub mod WrittenInline
-pub mod LineAlgebra
+pub mod WrittenPieces
 pub mod WrittenLines
 pub mod WrittenPatterns
 pub mod WrittenSelects
@@ -11,7 +11,7 @@ pub mod WrittenGaps
 pub mod WrittenComments
 pub mod WrittenMessages
 pub mod WrittenTree
-pub mod ReadTexts
+pub mod TrimmedTexts
 pub mod ReadLines
 pub mod ReadPatterns
 pub mod ReadWords

@@ -2,19 +2,21 @@
 use Rattle.std.proofs.Common.{◌≡◌, ℕ, zero, suc, ◌-◌, Bool, true, false, cond, not, ◌&&◌, ◌||◌, List, [], ◌∷◌, ◌++◌, length, replicate, Option, Some, None, refl, sym, ap, ◌∙◌, arith}
 use Rattle.std.specs.Prelude.{◌==◌, ◌≢◌}
 use Rattle.std.specs.Str.{IsUtf8, trim_end}
-use Rattle.std.proofs.lemmas.Str.{IsUtf8-append, encode_ascii}
 use Rattle.fluent_grammar.specs.Words.{Text, line_feed, carriage_return, space, begins, spaces, skip_spaces}
 use Rattle.fluent_grammar.specs.Tree as t
 use Rattle.fluent_grammar.specs.Lexical.{is_text_byte}
 use Rattle.fluent_grammar.specs.Lines.{Piece, at_line_start, in_line, placed, ends_line, is_blank_text, kept_spaces, dedented, trimmed_if_last, elements_from, ends_behind_spaces}
 use Rattle.fluent_grammar.specs.LineLaws.{Tells, first_tells, later_tells}
 use Rattle.fluent_grammar.proofs.Cases.{cases, and-left, and-right, or-left, or-right}
-use Rattle.fluent_grammar.proofs.Got.{same}
+use Rattle.fluent_grammar.proofs.Got.{same, not_end}
 use Rattle.fluent_normal.specs.Shapes.{ends_empty, elements_shaped, expression_shaped}
 use Rattle.fluent_normal.specs.WellFormed.{is_line, may_start, has_margin, has_no_line, are_lines, EndsWell, WellFormedExpression, WellFormedElements}
-use Rattle.fluent_cut.proofs.MovingWords.{skip_spaces-more, skip_spaces-other}
-use Rattle.fluent_normal.proofs.LineAlgebra.{spaces-first}
-use Rattle.fluent_normal.proofs.ReadTexts.{Trimmed, trimmed-of, trimmed-rest, feed-trimmed, trimmed-not_blank, trimmed-no_end}
+use Rattle.fluent_cut.proofs.MovingWords.{skip_spaces-more}
+use Rattle.fluent_normal.proofs.WrittenPieces.{spaces-first, no-spaces}
+use Rattle.fluent_normal.proofs.TrimmedTexts.{Trimmed, trimmed-of, trimmed-rest, feed-trimmed, trimmed-not_blank, trimmed-no_end}
+use Rattle.fluent_grammar.proofs.Blanks.{skip_spaces-spaced, skip_spaces-other}
+use Rattle.fluent_cut.proofs.TextParts.{spaced-utf8}
+use Rattle.fluent_grammar.proofs.Complete.{some_text}
 
 -- ---- what pieces are
 
@@ -39,14 +41,6 @@ Lined behind at (placed z e ∷ ps) = (z ≡ false) × (expression_shaped e ≡ 
 
 -- ---- texts
 
-pub some-length : (s : Text) → s ≢ [] → (length s == 0) ≡ false
-some-length [] h = absurd (h refl)
-some-length (c ∷ cs) h = grind arith
-
-length-some : (s : Text) → (length s == 0) ≡ false → s ≢ []
-length-some [] h = absurd cc
-length-some (c ∷ cs) h = λ e. cc
-
 pub flush-none : (c : ℕ) (cs : Text) → spaces (c ∷ cs) ≡ 0 → (c == space) ≡ false
 flush-none c cs h = cases (c == space)
     (λ k. absurd (omega (arith, spaces-first c cs k)))
@@ -69,9 +63,6 @@ blank-front [] b h = absurd cc
 blank-front (c ∷ cs) b h = cases (c == space || c == line_feed)
     (λ k. let m : is_blank_text cs ≡ false = rw k at h in rw k (blank-front cs b m))
     (λ k. rw k refl)
-
-not-space : (c : ℕ) → (c == space || c == line_feed) ≡ false → (c == space) ≡ false
-not-space c h = or-left _ _ h
 
 spaces-front : (a b : Text) → is_blank_text a ≡ false → spaces (a ++ b) ≡ spaces a
 spaces-front [] b h = absurd cc
@@ -110,14 +101,6 @@ indented-blank : (k : ℕ) (s : Text) → is_blank_text (replicate k space ++ s)
 indented-blank zero s = refl
 indented-blank (suc k) s = indented-blank k s
 
-indented-skip : (k : ℕ) (s : Text) → skip_spaces (replicate k space ++ s) ≡ skip_spaces s
-indented-skip zero s = refl
-indented-skip (suc k) s = skip_spaces-more space (replicate k space ++ s) refl ∙ indented-skip k s
-
-indented-utf8 : (k : ℕ) (s : Text) → IsUtf8 s → IsUtf8 (replicate k space ++ s)
-indented-utf8 zero s u = u
-indented-utf8 (suc k) s u = IsUtf8-append (space ∷ []) (replicate k space ++ s) (space ∷ [], (refl, ap (λ z. z ++ []) (encode_ascii space (omega arith)))) (indented-utf8 k s u)
-
 -- ---- a text of an element, before the last is trimmed
 
 pub record Fit (at : Bool) (s : Text) : Type 0 where
@@ -141,19 +124,16 @@ blank-ended (c ∷ d ∷ ds) l some f b =
     no-feed : (c : ℕ) → (c == line_feed) ≡ true → is_text_byte c ≡ true → ⊥
     no-feed c n o = let e = same c line_feed n in let m : is_text_byte line_feed ≡ true = rw e at o in absurd cc
 
-pub no-skip : (s : Text) → spaces s ≡ 0 → skip_spaces s ≡ s
-no-skip s e = rw e refl
-
 pub part-fit : (s : Text) → IsPart s → Fit false s
 part-fit s p = record { utf8 = p.utf8; line = p.line; some = p.some; ended = λ h b. absurd cc; goes_on = λ h. absurd cc }
 
 start-fit : (k : ℕ) (s : Text) → IsStart s → Fit true (replicate k space ++ s)
 start-fit k s p = record {
-  utf8 = indented-utf8 k s p.part.utf8;
+  utf8 = spaced-utf8 k s p.part.utf8;
   line = indented-line k s p.part.line p.part.some;
   some = indented-some k s p.part.some;
   ended = λ h b. indented-ends k s p.part.some ∙ blank-ended s p.part.line p.part.some p.flush (sym (indented-blank k s) ∙ b);
-  goes_on = λ h. ap (begins ends_behind_spaces) (indented-skip k s ∙ no-skip s p.flush) ∙ p.goes_on;
+  goes_on = λ h. ap (begins ends_behind_spaces) (skip_spaces-spaced k s ∙ no-spaces s p.flush) ∙ p.goes_on;
 }
 
 -- the spaces that a text keeps
@@ -188,11 +168,11 @@ pub record Left (s x : Text) : Type 0 where
   pub ends : is_blank_text s ≡ true → ends_line x ≡ ends_line s
 
 left-same : (s : Text) → s ≢ [] → Left s s
-left-same s some = record { line = λ h. h; some = some-length s some; blank = refl; margin = refl; begun = λ p. refl; ends = λ h. refl }
+left-same s some = record { line = λ h. h; some = some_text s some; blank = refl; margin = refl; begun = λ p. refl; ends = λ h. refl }
 
 left-trimmed : (s x : Text) → Trimmed s x → (length x == 0) ≡ false → Left s x
 left-trimmed s x d some =
-    let b = trimmed-not_blank d (length-some x some) in
+    let b = trimmed-not_blank d (not_end x some) in
     let r = trimmed-rest d in
     let f : is_blank_text s ≡ false = ap is_blank_text r.1 ∙ blank-front x r.0 b in
     record {
@@ -263,7 +243,7 @@ ends-text : (c : Option ℕ) (ps : List Piece) (s : Text) → IsUtf8 s → ends_
     ((ps ≢ []) → EndsWell (elements_from c ps)) → EndsWell (t.text (trimmed_if_last ps s) (elements_from c ps))
 ends-text c [] s u h more =
     let d = trimmed-of s u in
-    (feed-trimmed d, trimmed-not_blank d (length-some (trim_end s) h), trimmed-no_end d)
+    (feed-trimmed d, trimmed-not_blank d (not_end (trim_end s) h), trimmed-no_end d)
 ends-text c (p ∷ ps) s u h more = ends-behind c s p ps (more (λ e. cc))
 
 pub ends-of : (c : Option ℕ) (ks : List Piece) (behind at : Bool) → Lined behind at ks → ends_empty (elements_from c ks) ≡ false → ks ≢ [] → EndsWell (elements_from c ks)

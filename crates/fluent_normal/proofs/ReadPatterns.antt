@@ -6,13 +6,14 @@ use Rattle.fluent_grammar.specs.Words.{Text, dot, open_bracket, asterisk, begins
 use Rattle.fluent_grammar.specs.Tree as t
 use Rattle.fluent_grammar.specs.Lines.{Piece, at_line_start, in_line, placed, ends_line, is_blank_text, is_blank, indent_of, common_indent, dedented, without_blank_end, trimmed_if_last, elements_from, elements_of, ends_behind_spaces}
 use Rattle.fluent_grammar.specs.LineLaws.{Tells, first_tells, later_tells, IsLeastIndent}
-use Rattle.fluent_grammar.specs.Written.{is_many_lined, holds_line_feed}
+use Rattle.fluent_grammar.specs.Written.{is_many_lined}
 use Rattle.fluent_grammar.proofs.Cases.{and-left, and-right, or-left, or-right}
 use Rattle.fluent_grammar.proofs.Got.{either, same}
 use Rattle.fluent_grammar.proofs.LineLaws.{common_indent_is_least, blank_end_is_cut}
 use Rattle.fluent_normal.specs.Shapes.{begins_badly, ends_empty, pattern_shaped}
 use Rattle.fluent_normal.specs.WellFormed.{is_line, may_start, has_margin, has_no_line, are_lines, first_is_not_blank, begins_flush, are_texts, WellFormedPattern}
-use Rattle.fluent_normal.proofs.ReadLines.{Lined, text-left, dedented-fit, dedented-blank, part-fit, no-skip, lines-of, ends-of, placed-of, margin-of, no_line-of}
+use Rattle.fluent_normal.proofs.ReadLines.{Lined, text-left, dedented-fit, dedented-blank, part-fit, lines-of, ends-of, placed-of, margin-of, no_line-of}
+use Rattle.fluent_normal.proofs.WrittenPieces.{no-spaces, no_feed-ends}
 
 -- ---- the pieces that are kept
 
@@ -114,14 +115,9 @@ lines-within b (t.text s es) h = by (not b) (is_line s) (not (length s == 0)) (m
     by false c d e f h = absurd cc
 lines-within b (t.placeable e es) h = h
 
-no_feed-end : (s : Text) → holds_line_feed s ≡ false → ends_line s ≡ false
-no_feed-end [] h = refl
-no_feed-end (c ∷ []) h = or-left _ _ h
-no_feed-end (c ∷ d ∷ ds) h = no_feed-end (d ∷ ds) (or-right _ _ h)
-
 no-margin : (es : t.Elements) → is_many_lined es ≡ false → has_margin false es ≡ false
 no-margin t.no_elements h = refl
-no-margin (t.text s es) h = rw (no_feed-end s (or-left _ _ h)) (no-margin es (or-right _ _ h))
+no-margin (t.text s es) h = rw (no_feed-ends s (or-left _ _ h)) (no-margin es (or-right _ _ h))
 no-margin (t.placeable e es) h = no-margin es (or-right _ _ h)
 
 one-of : (a z m : Bool) → ((true && (a && z)) || m) ≡ true → m ≡ false → z ≡ true
@@ -132,7 +128,7 @@ one-of false false m h k = absurd cc
 flush-margin : (es : t.Elements) → is_many_lined es ≡ false → (has_margin true es || has_no_line true es) ≡ true → begins_flush es ≡ true
 flush-margin t.no_elements h m = refl
 flush-margin (t.text s es) h m = elim (either _ _ m) [
-  | inl k ↦ one-of (not (is_blank_text s)) (spaces s == 0) (has_margin (ends_line s) es) k (ap (λ b. has_margin b es) (no_feed-end s (or-left _ _ h)) ∙ no-margin es (or-right _ _ h))
+  | inl k ↦ one-of (not (is_blank_text s)) (spaces s == 0) (has_margin (ends_line s) es) k (ap (λ b. has_margin b es) (no_feed-ends s (or-left _ _ h)) ∙ no-margin es (or-right _ _ h))
   | inr k ↦ and-right (is_blank_text s) _ (and-left _ _ k)
 ]
 flush-margin (t.placeable e es) h m = refl
@@ -155,7 +151,7 @@ lines-start (t.text s es) m b f z h =
     let a = and-four true (is_line s) (not (length s == 0)) _ h in
     let n : begins (λ c. c == dot || (c == open_bracket || c == asterisk)) s ≡ false = rw m at b in
     let g : begins ends_behind_spaces s ≡ false = goes-on s a.1 n in
-    let k : begins ends_behind_spaces (skip_spaces s) ≡ false = ap (begins ends_behind_spaces) (no-skip s (same (spaces s) 0 z)) ∙ g in
+    let k : begins ends_behind_spaces (skip_spaces s) ≡ false = ap (begins ends_behind_spaces) (no-spaces s (same (spaces s) 0 z)) ∙ g in
     let w : is_blank_text s ≡ false = not-true (is_blank_text s) f in
     rw (a.1, a.2, w, k) (a.3)
   where
@@ -205,7 +201,7 @@ kept-well_formed at c ps ks ds least e b l f some h =
     let k : ks ≢ [] = λ z. some (ap (elements_from c) z) in
     (texts-of at c ks l f k h (margins-of c ps ks ds at false least e b l n), ends-of c ks false at l n k, placed-of c ks false at l (or-right _ _ (or-right (begins_badly (elements_from c ks)) _ h)))
 
--- THE PIECES OF AN UNMARKED PATTERN WITHOUT A SHAPE GIVE A WELL-FORMED ONE.
+-- The pieces of an unmarked pattern without a shape give a well-formed one.
 pub pattern-well_formed : (at : Bool) (ps : List Piece) (es : t.Elements) → es ≡ elements_of ps → Lined false at ps → Shows ps → es ≢ t.no_elements → pattern_shaped es ≡ false → WellFormedPattern es
 pattern-well_formed at ps es e l f some h =
     let d = blank_end_is_cut ps in

@@ -7,13 +7,12 @@ use Rattle.fluent_grammar.specs.Words.{Text, line_feed, carriage_return, equals}
 use Rattle.fluent_grammar.specs.Tree as t
 use Rattle.fluent_grammar.specs.Ends.{EndsIn}
 use Rattle.fluent_grammar.specs.Lines.{value_of}
-use Rattle.fluent_grammar.specs.Lexical.{SpellsLineEnd, lf, SpellsRestOfLine, line_ends, text_ends, line_byte}
+use Rattle.fluent_grammar.specs.Lexical.{SpellsRestOfLine, line_ends, text_ends, line_byte}
 use Rattle.fluent_grammar.specs.Spelling.{SpellsHead, a_head, SpellsAttribute, an_attribute, SpellsAttributes, no_more_attributes, one_more_attribute, SpellsCommentText, at_end, empty_line, some_line, SpellsCommentLine, SpellsCommentLines, no_more_lines, one_more_line, SpellsComment, some_lines, SpellsEntry, a_message, a_term, a_comment, a_group_comment, a_resource_comment}
 use Rattle.fluent_grammar.specs.Tiling as p
 use Rattle.fluent_grammar.specs.Tiling.{entries_of, attached, waiting, left_alone, tree, errors}
 use Rattle.fluent_grammar.specs.Tiles.{full, Part, Tiles, blank_first, TilesItems, source_ends, an_entry, some_junk, a_line, pieces_of, lies_apart}
 use Rattle.fluent_grammar.proofs.Cases.{cases, and-left, and-right, or-left, or-right}
-use Rattle.fluent_grammar.proofs.Got.{same}
 use Rattle.fluent_grammar.proofs.Within.{end-same, end-trans, end-cons, end-tail, end-drop, end-blank_block, end-spaces, attribute-fair, comment_line-fair}
 use Rattle.fluent_grammar.proofs.Attributes.{attribute_complete}
 use Rattle.fluent_grammar.proofs.Comments.{text_complete}
@@ -24,6 +23,7 @@ use Rattle.fluent_normal.specs.WellFormed.{IsName, WellFormedPattern, WellFormed
 use Rattle.fluent_cut.proofs.Clean.{has_junk, errors-some}
 use Rattle.fluent_normal.proofs.ReadWords.{name-well_formed, Sound, sound-end, sound-behind, sound-no_return}
 use Rattle.fluent_normal.proofs.ReadInlines.{got-end, end-is, name-end, pattern-end, value-well_formed}
+use Rattle.fluent_grammar.proofs.BlankWords.{no_line_feed}
 
 -- ---- a text is an end of itself
 
@@ -65,19 +65,11 @@ is_plain_line s = list_all (λ c. not (c == line_feed || c == carriage_return)) 
 plain-byte : (c : ℕ) → (c == line_feed) ≡ false → not (c == carriage_return) ≡ true → not (c == line_feed || c == carriage_return) ≡ true
 plain-byte c h k = rw h k
 
-not-feed : (c : ℕ) (s : Text) → ((more : Text) → SpellsLineEnd (c ∷ s) more → ⊥) → (c == line_feed) ≡ false
-not-feed c s none = cases (c == line_feed)
-    (λ h. absurd (none s (feed-at c s h)))
-    (λ h. h)
-  where
-    feed-at : (c : ℕ) (s : Text) → (c == line_feed) ≡ true → SpellsLineEnd (c ∷ s) s
-    feed-at c s h = let e : c ≡ line_feed = same c line_feed h in rw e lf
-
 rest-plain : {line s rest : Text} → SpellsRestOfLine line s rest → HasNoReturn s → is_plain_line line ≡ true
 rest-plain (line_ends e) r = refl
 rest-plain text_ends r = refl
 rest-plain (line_byte {c} {s = s} none d) r =
-    let k : not (c == line_feed || c == carriage_return) ≡ true = plain-byte c (not-feed c s none) (and-left _ _ r) in
+    let k : not (c == line_feed || c == carriage_return) ≡ true = plain-byte c (no_line_feed c s none) (and-left _ _ r) in
     rw k (rest-plain d (and-right _ _ r))
 
 text-plain : {lines : List Text} {s rest : Text} → SpellsCommentText lines s rest → HasNoReturn s → list_all is_plain_line lines ≡ true
@@ -169,11 +161,6 @@ none-plain = tt
 some-plain : (lines : List Text) → list_all is_plain_line lines ≡ true → Plain (Some lines)
 unfolding Plain
 some-plain lines h = h
-
-of-none : (value : t.Elements) → value_of value ≡ None → value ≡ t.no_elements
-of-none t.no_elements e = refl
-of-none (t.text x es) e = absurd cc
-of-none (t.placeable x es) e = absurd cc
 
 -- a message that has a value, or attributes
 message-well_formed : (id : Text) (value : t.Elements) (attributes : List t.Attribute) (own : Option (List Text)) → IsName id → (value ≢ t.no_elements → pattern_shaped value ≡ false → WellFormedPattern value) →

@@ -22,24 +22,20 @@ use Rattle.fluent_grammar.proofs.Within.{end-trans}
 use Rattle.fluent_cut.specs.Joined.{HasNoReturn}
 use Rattle.fluent_normal.specs.WellFormed.{IsName, IsNumber, IsRaw, IsAttribute, IsKey, WellFormedLiteral, is_line}
 use Rattle.fluent_normal.proofs.WrittenWords.{number-onto, string-split}
-use Rattle.fluent_normal.proofs.ReadTexts.{utf8-from, utf8-before, utf8-behind, utf8-tail, ended}
-use Rattle.fluent_cut.proofs.MovingWords.{skip_spaces-more, skip_spaces-other}
-use Rattle.fluent_normal.proofs.ReadLines.{IsPart, IsStart, no-skip}
+use Rattle.fluent_normal.proofs.TrimmedTexts.{ended}
+use Rattle.fluent_cut.proofs.MovingWords.{skip_spaces-more, text-split}
+use Rattle.fluent_normal.proofs.ReadLines.{IsPart, IsStart}
+use Rattle.fluent_grammar.proofs.Lengths.{letter-in_name}
+use Rattle.fluent_grammar.proofs.Blanks.{skip_spaces-other}
+use Rattle.fluent_cut.proofs.TextParts.{begins-append, no_return-right, utf8-from, utf8-before, utf8-behind, utf8-tail}
+use Rattle.fluent_normal.proofs.WrittenPieces.{no-spaces}
 
 -- ---- words
-
-first-of : (p : ℕ → Bool) (a b : Text) → a ≢ [] → begins p (a ++ b) ≡ begins p a
-first-of p [] b some = absurd (some refl)
-first-of p (c ∷ cs) b some = refl
-
-letter-name : (s : Text) → begins is_letter s ≡ true → begins is_name_byte s ≡ true
-letter-name [] h = absurd cc
-letter-name (c ∷ cs) h = rw h refl
 
 some-name : {name s rest : Text} → SpellsName name s rest → name ≢ []
 some-name {name} {s} {rest} d e =
     let k : s ≡ rest = d.run.split ∙ ap (λ z. z ++ rest) e in
-    let m : begins is_name_byte rest ≡ true = ap (begins is_name_byte) (sym k) ∙ letter-name s d.letter_first in
+    let m : begins is_name_byte rest ≡ true = ap (begins is_name_byte) (sym k) ∙ letter-in_name s d.letter_first in
     let n : begins is_name_byte rest ≡ false = d.run.longest in
     absurd (apart m n)
   where
@@ -48,7 +44,7 @@ some-name {name} {s} {rest} d e =
 
 pub name-well_formed : {name s rest : Text} → SpellsName name s rest → IsName name
 name-well_formed {name} {s} {rest} d = record {
-  letter_first = sym (first-of is_letter name rest (some-name d)) ∙ ap (begins is_letter) (sym d.run.split) ∙ d.letter_first;
+  letter_first = sym (begins-append is_letter name rest (some-name d)) ∙ ap (begins is_letter) (sym d.run.split) ∙ d.letter_first;
   bytes = d.run.passing;
 }
 
@@ -99,19 +95,12 @@ pub record Sound (s : Text) : Type 0 where
 pub sound-end : {s u : Text} → EndsIn u s → Sound s → Sound u
 sound-end e d = record { source = d.source; utf8 = d.utf8; no_return = d.no_return; within = end-trans e d.within }
 
-pub sound-at : {s u : Text} → s ≡ u → Sound s → Sound u
-sound-at e d = rw (← e) d
-
 -- behind an ASCII byte
 pub sound-behind : (c : ℕ) (s : Text) → Sound (c ∷ s) → c < 128 → IsUtf8 s
 sound-behind c s d lt = let u : IsUtf8 (d.within.front ++ c ∷ s) = rw (← d.within.whole) d.utf8 in utf8-behind d.within.front c s u lt
 
-return-end : (a b : Text) → HasNoReturn (a ++ b) → HasNoReturn b
-return-end [] b h = h
-return-end (c ∷ cs) b h = return-end cs b (and-right _ _ h)
-
 pub sound-no_return : {s : Text} → Sound s → HasNoReturn s
-sound-no_return {s} d = let h : HasNoReturn (d.within.front ++ s) = rw (← d.within.whole) d.no_return in return-end d.within.front s h
+sound-no_return {s} d = let h : HasNoReturn (d.within.front ++ s) = rw (← d.within.whole) d.no_return in no_return-right d.within.front s h
 
 pub no-crlf : (s : Text) → HasNoReturn s → begins_crlf s ≡ false
 no-crlf [] h = refl
@@ -122,13 +111,6 @@ no-crlf (c ∷ cs) h = by (c == carriage_return) (and-left _ _ h)
     by false h = refl
 
 -- ---- the text of a piece
-
-pub text-split : {x s u : Text} → SpellsText x s u → s ≡ x ++ u
-text-split to_line_feed = refl
-text-split to_brace = refl
-text-split (to_crlf h) = refl
-text-split to_end = refl
-text-split (text_byte {c} h n d) = ap (λ z. c ∷ z) (text-split d)
 
 line-cons : (c : ℕ) (x : Text) → is_text_byte c ≡ true → not (c == carriage_return) ≡ true → is_line x ≡ true → is_line (c ∷ x) ≡ true
 line-cons c [] h k l = rw (h, k) (or-true (c == line_feed))
@@ -271,7 +253,7 @@ pattern-on : (s : Text) → pattern_ends s ≡ false → begins ends_behind_spac
 pattern-on s h = by (spaces s == 0) refl h
   where
     by : (b : Bool) → (spaces s == 0) ≡ b → cond b (not (begins goes_on_at_column_zero s)) (begins ends_behind_spaces (skip_spaces s)) ≡ false → begins ends_behind_spaces (skip_spaces s) ≡ false
-    by true e k = ap (begins ends_behind_spaces) (no-skip s (same (spaces s) 0 e)) ∙ goes-on-here s (not-false (begins goes_on_at_column_zero s) k)
+    by true e k = ap (begins ends_behind_spaces) (no-spaces s (same (spaces s) 0 e)) ∙ goes-on-here s (not-false (begins goes_on_at_column_zero s) k)
       where
         not-false : (x : Bool) → not x ≡ false → x ≡ true
         not-false true h = refl
@@ -286,5 +268,5 @@ pub start-read : {x u : Text} (s : Text) → TextRead x (skip_spaces s) u → pa
 start-read {x} {u} s d h = record {
   part = d.part;
   flush = start-flush x u d.part.some (ap (begins_with space) (sym d.split) ∙ spaces-over s);
-  goes_on = sym (first-of ends_behind_spaces x u d.part.some) ∙ ap (begins ends_behind_spaces) (sym d.split) ∙ pattern-on s h;
+  goes_on = sym (begins-append ends_behind_spaces x u d.part.some) ∙ ap (begins ends_behind_spaces) (sym d.split) ∙ pattern-on s h;
 }

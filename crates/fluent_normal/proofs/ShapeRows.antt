@@ -2,17 +2,16 @@
 -- row stands what is spelled; what is marked is told from the rule, by hand.
 use Rattle.std.specs.Prelude.{◌≡◌, ◌≢◌, true, false, List, [], ◌∷◌, ◌++◌, ℕ, codes, None, Some}
 use Rattle.std.proofs.Common.{refl, inl, inr}
-use Rattle.fluent_grammar.specs.Words.{Text, begins_with, begins_crlf, open_brace}
+use Rattle.fluent_grammar.specs.Words.{Text}
 use Rattle.fluent_grammar.specs.Tree as t
-use Rattle.fluent_grammar.specs.Lines.{Piece, at_line_start, in_line, placed, elements_of}
-use Rattle.fluent_grammar.specs.Blanks.{BlankBlock, no_lines}
-use Rattle.fluent_grammar.specs.Lexical.{SpellsName, SpellsNumber, unsigned, whole, identifier_key, SpellsText, to_line_feed, to_brace, to_end, text_byte}
-use Rattle.fluent_grammar.specs.Spelling.{BeginsText, a_number_literal, a_function_reference, a_placeable, no_more, positional, SpellsPlaceable, in_braces, an_inline, a_select, SpellsVariants, all_read, lone_mark, the_default, SpellsVariant, keyed, SpellsPattern, on_the_next, on_the_line, nothing_left, text_piece, placeable_piece, pattern_over, line_of_text, line_of_placeable, next_line, same_line, SpellsHead, a_head, SpellsAttribute, an_attribute, SpellsAttributes, no_more_attributes, one_more_attribute, SpellsEntry, a_message, a_term}
+use Rattle.fluent_grammar.specs.Lines.{at_line_start, in_line, placed, elements_of}
+use Rattle.fluent_grammar.specs.Blanks.{no_lines}
+use Rattle.fluent_grammar.specs.Lexical.{SpellsName, SpellsNumber, unsigned, whole, identifier_key, SpellsText, to_line_feed, to_brace, text_byte}
+use Rattle.fluent_grammar.specs.Spelling.{BeginsText, a_number_literal, a_function_reference, a_placeable, no_more, positional, SpellsPlaceable, in_braces, an_inline, a_select, all_read, lone_mark, the_default, keyed, SpellsPattern, on_the_next, on_the_line, nothing_left, text_piece, placeable_piece, pattern_over, line_of_text, line_of_placeable, next_line, same_line, SpellsHead, a_head, SpellsAttribute, an_attribute, SpellsAttributes, no_more_attributes, one_more_attribute, SpellsEntry, a_message, a_term}
 use Rattle.fluent_grammar.specs.Tiles.{full, entry, blank_block, blank_first, source_ends, an_entry, Tiles}
-use Rattle.fluent_grammar.specs.Tiling.{tree}
 use Rattle.fluent_grammar.proofs.Computing.{computing}
 use Rattle.fluent_cut.specs.Cut.{cut}
-use Rattle.fluent_normal.specs.Shapes.{placeable_marked, pattern_marked, entry_marked, tiles_marked, IsShaped}
+use Rattle.fluent_normal.specs.Shapes.{placeable_marked, pattern_marked, entry_marked, IsShaped}
 
 -- ---- what the rows are made of, before any rest
 

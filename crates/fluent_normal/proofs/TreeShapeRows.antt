@@ -1,6 +1,6 @@
 -- The first, the fourth and the fifth shape on worked sources, by computing. Above each row stands the source where `codes` can't hold it;
 -- what is shaped is told from the rule, by hand.
-use Rattle.std.specs.Prelude.{◌≡◌, Bool, true, false, [], ◌∷◌, ◌++◌, codes}
+use Rattle.std.specs.Prelude.{◌≡◌, Bool, true, false, ◌∷◌, ◌++◌, codes}
 use Rattle.std.proofs.Common.{refl}
 use Rattle.fluent_grammar.specs.Words.{Text}
 use Rattle.fluent_grammar.specs.Tiling.{tree}

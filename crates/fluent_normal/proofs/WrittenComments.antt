@@ -5,13 +5,14 @@ use Rattle.std.specs.List.{list_all}
 use Rattle.std.specs.Str.{trim_end}
 use Rattle.fluent_grammar.specs.Words.{Text, line_feed, carriage_return, space, number_sign, begins, begins_entry, begins_with, comment_level}
 use Rattle.fluent_grammar.specs.Lexical.{SpellsLineEnd, lf, crlf, SpellsRestOfLine, line_ends, line_byte}
-use Rattle.fluent_grammar.specs.Spelling.{SpellsCommentText, empty_line, some_line, SpellsCommentLine, SpellsCommentLines, no_more_lines, one_more_line, SpellsComment, some_lines}
+use Rattle.fluent_grammar.specs.Spelling.{empty_line, some_line, SpellsCommentLine, SpellsCommentLines, no_more_lines, one_more_line, SpellsComment, some_lines}
 use Rattle.fluent_grammar.specs.Written.{Sign, sign, laid_out, ends_line, new_line, comment_text_signs, comment_signs}
 use Rattle.fluent_grammar.proofs.Cases.{cases, and-left, and-right}
 use Rattle.fluent_normal.specs.Shapes.{is_white_line}
 use Rattle.fluent_normal.specs.WellFormed.{is_comment_line, WellFormedComment}
-use Rattle.fluent_cut.proofs.MovingWords.{not-true}
 use Rattle.fluent_normal.proofs.WrittenInline.{within}
+use Rattle.fluent_grammar.proofs.Blanks.{not-false}
+use Rattle.fluent_cut.proofs.MovingComments.{content-at}
 
 -- ---- signs
 
@@ -62,9 +63,6 @@ rest-written (c ∷ cs) rest h =
     let m : IsPlain cs = grind arith in
     line_byte (λ z d. no-end c _ z k l d) (rest-written cs rest m)
 
-content-at : {lines : List Text} {a b r : Text} → a ≡ b → SpellsCommentText lines b r → SpellsCommentText lines a r
-content-at h d = rw h d
-
 line-is : {level : ℕ} {lines : List Text} {s u rest : Text} → s ≡ u → SpellsCommentLine level lines u rest → SpellsCommentLine level lines s rest
 line-is h d = rw h d
 
@@ -95,7 +93,7 @@ module _ (k : ℕ) (marks : Text) (m : Marks k marks) where
   line-written : (line : Text) (behind : List Sign) → is_comment_line line ≡ true → SpellsCommentLine (suc k) (line ∷ []) (laid_out true (line_signs line behind)) (laid_out true behind)
   line-written line behind f =
       let plain = and-left (list_all (λ c. not (c == line_feed || c == carriage_return)) line) _ f in
-      let white = not-true _ (and-right (list_all (λ c. not (c == line_feed || c == carriage_return)) line) _ f) in
+      let white = not-false _ (and-right (list_all (λ c. not (c == line_feed || c == carriage_return)) line) _ f) in
       cases (length (trim_end line) == 0)
       (λ e. line-is (empty-at line behind e) (empty-is line (no-text line white e) (empty-written (laid_out true behind))))
       (λ e. line-is (text-at line behind plain e) (text-written line (laid_out true behind) plain))
@@ -120,7 +118,7 @@ module _ (k : ℕ) (marks : Text) (m : Marks k marks) where
       let more = and-right (is_comment_line line) _ f in
       one_more_line (first-written line lines behind first) (lines-written lines behind more h)
 
-  -- A WELL-FORMED COMMENT IS SPELLED BY WHAT IS WRITTEN OF IT.
+  -- A well-formed comment is spelled by what is written of it.
   pub comment-written : (lines : List Text) (behind : List Sign) → WellFormedComment lines → begins_with number_sign (laid_out true behind) ≡ false →
       SpellsComment (suc k) lines (laid_out true (comment_signs marks lines ++ behind)) (laid_out true behind)
   comment-written [] behind f h = absurd (f.0 refl)

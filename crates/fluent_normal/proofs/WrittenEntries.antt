@@ -8,13 +8,14 @@ use Rattle.fluent_grammar.specs.Spelling.{SpellsPattern, on_the_next, SpellsHead
 use Rattle.fluent_grammar.specs.Written.{Sign, sign, laid_out, new_line, pattern_signs, elements_signs, pattern_start, value_signs, attributes_signs}
 use Rattle.fluent_normal.specs.WellFormed.{IsName, WellFormedPattern, WellFormedAttributes}
 use Rattle.fluent_cut.proofs.MovingWords.{Over}
-use Rattle.fluent_cut.proofs.MovingEntries.{Stops, stops-over, stops-no_attribute}
+use Rattle.fluent_cut.proofs.MovingEntries.{Stops, stops-over, stops-no_attribute, head-at}
 use Rattle.fluent_cut.proofs.MovingPatterns.{over-line, line-at}
 use Rattle.fluent_cut.proofs.Clean.{over-block}
 use Rattle.fluent_normal.proofs.WrittenWords.{name-written, name-line}
-use Rattle.fluent_normal.proofs.WrittenInline.{within, indent-over, indented-skip}
+use Rattle.fluent_normal.proofs.WrittenInline.{within, indent-over}
 use Rattle.fluent_normal.proofs.WrittenPatterns.{ends-some}
 use Rattle.fluent_normal.proofs.WrittenSelects.{pattern_is_written}
+use Rattle.fluent_grammar.proofs.Blanks.{skip_spaces-spaced}
 
 -- attributes behind the line feed before them
 abbrev attribute_signs : t.Attribute → List Sign → List Sign
@@ -30,9 +31,6 @@ attributes-are (a ∷ more) behind =
     ap (λ z. new_line ∷ sign 1 (dot ∷ []) ∷ sign 1 a.id ∷ sign 1 (space ∷ equals ∷ []) ∷ pattern_start 2 a.value ∷ z)
     (append_assoc (elements_signs 2 a.value) (attributes_signs more) (new_line ∷ behind) ∙ ap (λ z. elements_signs 2 a.value ++ z) (attributes-are more behind))
 
-pub head-is : {id : Text} {value : t.Elements} {s u rest : Text} → s ≡ u → SpellsHead id value u rest → SpellsHead id value s rest
-head-is h d = rw h d
-
 pub attributes-is : {attributes : List t.Attribute} {s u rest : Text} → s ≡ u → SpellsAttributes attributes u rest → SpellsAttributes attributes s rest
 attributes-is h d = rw h d
 
@@ -40,7 +38,7 @@ attributes-is h d = rw h d
 pub head-written : (id : Text) (value : t.Elements) (level : ℕ) (more : List Sign) (rest : Text) → IsName id → SpellsPattern value (laid_out false more) rest →
     SpellsHead id value (laid_out false (sign level id ∷ sign level (space ∷ equals ∷ []) ∷ more)) rest
 head-written id value level more rest n d =
-    head-is (within level id (sign level (space ∷ equals ∷ []) ∷ more) (name-line id n.bytes)) (a_head (name-written id (space ∷ equals ∷ laid_out false more) n refl) refl d)
+    head-at (within level id (sign level (space ∷ equals ∷ []) ∷ more) (name-line id n.bytes)) (a_head (name-written id (space ∷ equals ∷ laid_out false more) n refl) refl d)
 
 pub attributes-over : (attributes : List t.Attribute) (behind : List Sign) → Stops (laid_out true behind) → Over (laid_out true (attributes_from attributes behind))
 attributes-over [] behind s = stops-over s
@@ -52,7 +50,7 @@ attributes-written [] behind f s = no_more_attributes (λ a rest d. stops-no_att
 attributes-written (a ∷ more) behind f s =
     let p = pattern_is_written a.value 2 (attributes_from more behind) (omega arith) f.1 (attributes-over more behind s) in
     let h = head-written a.id a.value 1 (pattern_signs 2 a.value ++ new_line ∷ attributes_from more behind) _ f.0 p in
-    one_more_attribute (an_attribute (indented-skip 4 (dot ∷ laid_out false (sign 1 a.id ∷ sign 1 (space ∷ equals ∷ []) ∷ (pattern_signs 2 a.value ++ new_line ∷ attributes_from more behind)))) h (ends-some a.value f.1.1))
+    one_more_attribute (an_attribute (skip_spaces-spaced 4 (dot ∷ laid_out false (sign 1 a.id ∷ sign 1 (space ∷ equals ∷ []) ∷ (pattern_signs 2 a.value ++ new_line ∷ attributes_from more behind)))) h (ends-some a.value f.1.1))
     (attributes-written more behind f.2 s)
 
 -- the elements of a value that may be absent
@@ -84,7 +82,7 @@ message-is : {id : Text} {v w : Option t.Elements} {attributes : List t.Attribut
     SpellsEntry (t.message (record { id = id; value = v; attributes = attributes; comment = None })) s rest → SpellsEntry (t.message (record { id = id; value = w; attributes = attributes; comment = None })) s rest
 message-is h d = rw (← h) d
 
--- A WELL-FORMED MESSAGE IS SPELLED BY WHAT IS WRITTEN OF IT.
+-- A well-formed message is spelled by what is written of it.
 pub message-written : (id : Text) (value : Option t.Elements) (attributes : List t.Attribute) (behind : List Sign) → IsName id → WellFormedValue value attributes → WellFormedAttributes attributes → Stops (laid_out true behind) →
     SpellsEntry (t.message (record { id = id; value = value; attributes = attributes; comment = None }))
     (laid_out false (sign 0 id ∷ sign 0 (space ∷ equals ∷ []) ∷ (value_signs value ++ (attributes_signs attributes ++ new_line ∷ behind)))) (laid_out true behind)
@@ -92,5 +90,5 @@ message-written id value attributes behind n f g s =
     let v = value-written value attributes behind f s in
     let h = head-written id (elements_or_none value) 0 (value_signs value ++ new_line ∷ attributes_from attributes behind) _ n v in
     message-is (value-same value attributes f)
-    (a_message (head-is (ap (λ z. laid_out false (sign 0 id ∷ sign 0 (space ∷ equals ∷ []) ∷ (value_signs value ++ z))) (attributes-are attributes behind)) h)
+    (a_message (head-at (ap (λ z. laid_out false (sign 0 id ∷ sign 0 (space ∷ equals ∷ []) ∷ (value_signs value ++ z))) (attributes-are attributes behind)) h)
     (attributes-is (over-block (attributes-over attributes behind s)) (attributes-written attributes behind g s)) (value-some value attributes f))

@@ -9,7 +9,7 @@ use Rattle.fluent_grammar.specs.Spelling.{SpellsPattern, on_the_line, on_the_nex
 use Rattle.fluent_cut.proofs.Alike.{Alike, more, alike-then, alike-some, alike-crlf, alike-no_end, back-spaces, back-block}
 use Rattle.fluent_cut.proofs.MovingWords.{name-moves, Same, here, there, same-feed, text-ended, text-moves, begins_text-moves, pattern_ends-moves, Over, over_here, alike-over, alike-skip_spaces, block-onto, end-onto}
 use Rattle.fluent_cut.proofs.MovingPatterns.{over-line, alike-at, alike-end, crlf-text, block-none, line-placeable, line-text, text-at, begins-at, placeable-at, pieces-at, line-at, placeable-moves}
-use Rattle.fluent_cut.proofs.MovingEntries.{head-over, head-moves, attribute-over, attribute-moves, IsListed}
+use Rattle.fluent_cut.proofs.MovingEntries.{head-over, head-moves, attribute-over, attribute-moves, IsListed, attributes-at}
 use Rattle.fluent_cut.proofs.Clean.{over-block}
 
 -- the piece that an empty line is
@@ -124,9 +124,6 @@ attributes-gap (one_more_attribute d (one_more_attribute e m)) k some =
     let d' = attribute-moves d m'.0 (alike-some m'.1) (alike-over refl m'.1 (attribute-over d)) in
     (d'.0, alike-then d'.1 m'.1, one_more_attribute d'.2 m'.2)
 
-attributes-at : {attributes : List t.Attribute} {s s' u : Text} → s ≡ s' → SpellsAttributes attributes s' u → SpellsAttributes attributes s u
-attributes-at h d = rw h d
-
 gap-at : {u v s s' : Text} → u ≡ v → Alike line_feed u (line_feed ∷ u) s s' → Alike line_feed v (line_feed ∷ v) s s'
 gap-at e h = rw (← e) h
 
@@ -145,7 +142,7 @@ body-gap {u = u} d (one_more_attribute a m) k some =
     let d' = head-moves d u'.0 (alike-some u'.1) (alike-over refl u'.1 (head-over d)) in
     (d'.0, alike-then {s' = d'.0} d'.1 u'.1, u'.0, d'.2, attributes-at u'.2 m'.2)
 
--- A MESSAGE OR A TERM TAKES AN EMPTY LINE BEHIND IT.
+-- A message or a term takes an empty line behind it.
 pub entry-gap : {e : t.Entry} {s rest : Text} → SpellsEntry e s rest → IsListed e → rest ≢ [] →
     (s' : Text) × Alike line_feed rest (line_feed ∷ rest) s s' × SpellsEntry e s' rest
 entry-gap (a_message d m h) k some = let b = body-gap d m h some in (b.0, b.1, a_message b.3 b.4 h)

@@ -12,10 +12,11 @@ use Rattle.fluent_grammar.proofs.Words.{number-begins}
 use Rattle.fluent_grammar.specs.Lines.{goes_on_at_column_zero, ends_behind_spaces}
 use Rattle.fluent_grammar.proofs.Cases.{cases}
 use Rattle.fluent_grammar.proofs.Got.{same}
-use Rattle.fluent_cut.proofs.MovingWords.{Over, over_here, skip_spaces-more}
+use Rattle.fluent_cut.proofs.MovingWords.{Over, over_here, blank-replicate}
 use Rattle.fluent_normal.specs.WellFormed.{IsName, IsAttribute}
 use Rattle.fluent_normal.proofs.WrittenSoFar.{Enclosed, WellFormedInline, WellFormedMaybe, WellFormedArguments, WellFormedInlines, WellFormedNameds, WellFormedLiteral, WellFormedExpression}
 use Rattle.fluent_normal.proofs.WrittenWords.{Follows, name-written, name-line, accessor-written, number-written, number-line, string-written, raw-line}
+use Rattle.fluent_grammar.proofs.Blanks.{skip_spaces-spaced}
 
 -- ---- signs within a line
 
@@ -47,16 +48,6 @@ no_blank-first c s h k = rw (h, k) refl
 separator-same : (s u : Text) → skip_blank s ≡ skip_blank u → skip_separator s ≡ skip_separator u
 separator-same s u h = ap (λ z. skip_blank (cond (begins_with comma z) (drop 1 z) z)) h
 
-positional-of : (e : t.Inline) (u : Text) → begins_with colon u ≡ false → IsPositional e u
-positional-of (t.string_literal s) u h = tt
-positional-of (t.number_literal s) u h = tt
-positional-of (t.function_reference s a) u h = tt
-positional-of (t.message_reference s None) u h = h
-positional-of (t.message_reference s (Some a)) u h = tt
-positional-of (t.term_reference s a c) u h = tt
-positional-of (t.variable_reference s) u h = tt
-positional-of (t.nested e) u h = tt
-
 -- what follows directly: a comma, a closing parenthesis, a closing brace
 pub follows-comma : (s : Text) → Follows (comma ∷ s)
 follows-comma s = record { no_name = refl; no_dot = refl; no_attribute = refl; no_call = refl; no_colon = refl }
@@ -69,9 +60,6 @@ follows-brace s = record { no_name = refl; no_dot = refl; no_attribute = refl; n
 
 pub follows-space_brace : (s : Text) → Follows (space ∷ close_brace ∷ s)
 follows-space_brace s = record { no_name = refl; no_dot = refl; no_attribute = refl; no_call = refl; no_colon = refl }
-
-follows-at : {s u : Text} → s ≡ u → Follows u → Follows s
-follows-at h f = rw h f
 
 -- ---- references
 
@@ -127,9 +115,6 @@ literal-no_blank : {e : t.Inline} {s rest : Text} → SpellsLiteral e s rest →
 literal-no_blank (a_string d) = refl
 literal-no_blank (a_number {s = s} d) = number-no_blank s (number-begins d)
 
-inline-moved : {e : t.Inline} {s u rest : Text} → s ≡ u → SpellsInline e u rest → SpellsInline e s rest
-inline-moved h d = rw h d
-
 arguments-moved : {names : List Text} {a : t.Arguments} {s u rest : Text} → s ≡ u → SpellsArguments names a u rest → SpellsArguments names a s rest
 arguments-moved h d = rw h d
 
@@ -153,29 +138,21 @@ SelectsAreWritten = (i : t.Inline) (vs : t.Variants) (level : ℕ) (more : List 
 pub selects_are_written : SelectsAreWritten
 selects_are_written i vs level more rest f k o = f.4 level more rest k o
 
-enclosed-at : {e : t.Expression} {s u rest : Text} → s ≡ u → Enclosed e u rest → Enclosed e s rest
+pub enclosed-at : {e : t.Expression} {s u rest : Text} → s ≡ u → Enclosed e u rest → Enclosed e s rest
 enclosed-at h d = rw h d
 
-pub spaces-skipped : (n : ℕ) (s : Text) → skip_blank (replicate n space ++ s) ≡ skip_blank s
-spaces-skipped zero s = refl
-spaces-skipped (suc n) s = spaces-skipped n s
-
 -- a brace behind an indent ends a pattern
-indented-spaces : (n : ℕ) (s : Text) → spaces (replicate n space ++ s) ≡ n + spaces s
+pub indented-spaces : (n : ℕ) (s : Text) → spaces (replicate n space ++ s) ≡ n + spaces s
 indented-spaces zero s = omega arith
 indented-spaces (suc n) s = ap (λ k. cond true (1 + k) 0) (indented-spaces n s) ∙ omega arith
-
-pub indented-skip : (n : ℕ) (s : Text) → skip_spaces (replicate n space ++ s) ≡ skip_spaces s
-indented-skip zero s = refl
-indented-skip (suc n) s = skip_spaces-more space (replicate n space ++ s) refl ∙ indented-skip n s
 
 pub indented-over : (n : ℕ) (s : Text) → begins goes_on_at_column_zero s ≡ false → begins ends_behind_spaces (skip_spaces s) ≡ true → Over (replicate n space ++ s)
 indented-over n s h k = over_here some (cases (spaces (replicate n space ++ s) == 0)
     (λ z. rw z (zero-over n s h (same _ 0 z)))
-    (λ z. rw (z, indented-skip n s) k))
+    (λ z. rw (z, skip_spaces-spaced n s) k))
   where
     some : skip_spaces (replicate n space ++ s) ≢ []
-    some e = let m : begins ends_behind_spaces (skip_spaces s) ≡ false = ap (begins ends_behind_spaces) (sym (indented-skip n s) ∙ e) in absurd cc
+    some e = let m : begins ends_behind_spaces (skip_spaces s) ≡ false = ap (begins ends_behind_spaces) (sym (skip_spaces-spaced n s) ∙ e) in absurd cc
 
     zero-over : (n : ℕ) (s : Text) → begins goes_on_at_column_zero s ≡ false → spaces (replicate n space ++ s) ≡ 0 → not (begins goes_on_at_column_zero (replicate n space ++ s)) ≡ true
     zero-over zero s h z = rw h refl
@@ -203,10 +180,6 @@ pub follows-inlines : (ps : t.Inlines) (ns : t.Nameds) (level : ℕ) (more : Lis
     Follows (laid_out false (inlines_signs level true ps ++ (nameds_signs level true ns ++ sign level (close_paren ∷ []) ∷ more)))
 follows-inlines t.no_inlines ns level more = follows-nameds ns level more
 follows-inlines (t.positional e ps) ns level more = follows-comma _
-
--- signs, put together another way
-signs-at : {a b : List Sign} → a ≡ b → laid_out false a ≡ laid_out false b
-signs-at e = ap (laid_out false) e
 
 -- call arguments that are written, or none
 pub record MaybeSpelled (c : t.MaybeArguments) (s rest : Text) : Type 0 where
@@ -304,7 +277,7 @@ module _ (selects : SelectsAreWritten) where
           is_positional = tt;
         })
     inline-written (t.nested e) level more n f =
-        let d = expression-written e level (sign level (close_brace ∷ []) ∷ more) (laid_out false more) n (follows-brace _) refl (spaces-skipped (4 * level) (close_brace ∷ laid_out false more)) (indent-over level (close_brace ∷ laid_out false more) refl refl) in
+        let d = expression-written e level (sign level (close_brace ∷ []) ∷ more) (laid_out false more) n (follows-brace _) refl (blank-replicate (4 * level) (close_brace ∷ laid_out false more)) (indent-over level (close_brace ∷ laid_out false more) refl refl) in
         spelled-at (ap (λ z. open_brace ∷ laid_out false z) (append_assoc (expression_signs level e) (sign level (close_brace ∷ []) ∷ []) more))
         (record { end = laid_out false more; spells = a_placeable (placeable-of d); same = refl; is_positional = tt })
 

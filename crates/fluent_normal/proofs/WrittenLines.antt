@@ -1,5 +1,5 @@
 -- What is written of a pattern in lines is spelled, as the pieces that give its elements back.
-use Rattle.std.proofs.Common.{◌≡◌, ℕ, zero, suc, ◌+◌, ◌*◌, ◌<◌, Bool, true, false, not, ◌&&◌, ◌||◌, List, [], ◌∷◌, ◌++◌, length, replicate, refl, sym, ap, ◌∙◌, arith, append_assoc}
+use Rattle.std.proofs.Common.{◌≡◌, ℕ, ◌+◌, ◌*◌, ◌<◌, Bool, true, false, not, ◌&&◌, ◌||◌, List, [], ◌∷◌, ◌++◌, length, replicate, refl, sym, ap, ◌∙◌, arith, append_assoc}
 use Rattle.std.specs.Prelude.{◌==◌, ◌≢◌}
 use Rattle.std.specs.List.{list_all}
 use Rattle.fluent_grammar.specs.Words.{Text, line_feed, carriage_return, space, open_brace, close_brace, begins, begins_with, begins_crlf, spaces, skip_spaces}
@@ -13,10 +13,11 @@ use Rattle.fluent_grammar.proofs.Cases.{cases, and-left, and-right}
 use Rattle.fluent_grammar.proofs.Got.{same, not_end}
 use Rattle.fluent_normal.specs.WellFormed.{is_line, may_start, are_lines}
 use Rattle.fluent_normal.proofs.WrittenSoFar.{Enclosed, WellFormedExpression, WellFormedElements}
-use Rattle.fluent_cut.proofs.MovingWords.{Over, not-true, skip_spaces-more, skip_spaces-other}
+use Rattle.fluent_cut.proofs.MovingWords.{Over, skip_spaces-more, blank-replicate}
 use Rattle.fluent_cut.proofs.MovingPatterns.{over-line}
-use Rattle.fluent_normal.proofs.WrittenInline.{SelectsAreWritten, follows-space_brace, follows-brace, expression-written, placeable-of, placeable-spaced, spaces-skipped, indent-over, indented-over}
-use Rattle.fluent_normal.proofs.LineAlgebra.{EndsRight, ends-more, with_feed, behind_text, pieces_for, skip-blank, spaces-first, spaces-none}
+use Rattle.fluent_normal.proofs.WrittenInline.{SelectsAreWritten, follows-space_brace, follows-brace, expression-written, placeable-of, placeable-spaced, indent-over, indented-over, indented-spaces}
+use Rattle.fluent_normal.proofs.WrittenPieces.{EndsRight, ends-more, with_feed, behind_text, pieces_for, skip-blank, spaces-none}
+use Rattle.fluent_grammar.proofs.Blanks.{skip_spaces-spaced, skip_spaces-other, not-false, both-and}
 
 -- ---- texts
 
@@ -39,9 +40,6 @@ plain-to-brace (c ∷ cs) x h =
     let a = and-left (is_text_byte c && not (c == carriage_return)) _ h in
     text_byte (and-left _ _ a) (no_crlf c (cs ++ open_brace ∷ x) (and-right (is_text_byte c) _ a)) (plain-to-brace cs x (and-right (is_text_byte c && not (c == carriage_return)) _ h))
 
-both-true : (a b : Bool) → a ≡ true → b ≡ true → (a && b) ≡ true
-both-true a b h k = rw (h, k) refl
-
 or-second : (a b : Bool) → (a || b) ≡ true → a ≡ false → b ≡ true
 or-second true b h k = absurd cc
 or-second false b h k = h
@@ -51,16 +49,16 @@ one-plain c h k = or-second (c == line_feed) _ h k
 
 plain-of : (s : Text) → is_line s ≡ true → ends_line s ≡ false → is_plain_text s ≡ true
 plain-of [] h k = refl
-plain-of (c ∷ []) h k = both-true _ _ (one-plain c h k) refl
+plain-of (c ∷ []) h k = both-and _ _ (one-plain c h k) refl
 plain-of (c ∷ d ∷ ds) h k =
-    both-true (is_text_byte c && not (c == carriage_return)) _ (and-left (is_text_byte c && not (c == carriage_return)) _ h) (plain-of (d ∷ ds) (and-right (is_text_byte c && not (c == carriage_return)) _ h) k)
+    both-and (is_text_byte c && not (c == carriage_return)) _ (and-left (is_text_byte c && not (c == carriage_return)) _ h) (plain-of (d ∷ ds) (and-right (is_text_byte c && not (c == carriage_return)) _ h) k)
 
 line-of : (s : Text) → is_line s ≡ true → ends_line s ≡ true → (p : Text) × (s ≡ p ++ line_feed ∷ []) × (is_plain_text p ≡ true)
 line-of [] h k = absurd cc
 line-of (c ∷ []) h k = ([], ap (λ z. z ∷ []) (same c line_feed k), refl)
 line-of (c ∷ d ∷ ds) h k =
     let m = line-of (d ∷ ds) (and-right (is_text_byte c && not (c == carriage_return)) _ h) k in
-    (c ∷ m.0, ap (λ z. c ∷ z) m.1, both-true (is_text_byte c && not (c == carriage_return)) _ (and-left (is_text_byte c && not (c == carriage_return)) _ h) m.2)
+    (c ∷ m.0, ap (λ z. c ∷ z) m.1, both-and (is_text_byte c && not (c == carriage_return)) _ (and-left (is_text_byte c && not (c == carriage_return)) _ h) m.2)
 
 ended-text : (s x : Text) → is_line s ≡ true → ends_line s ≡ true → SpellsText s (s ++ x) x
 ended-text s x h k =
@@ -101,19 +99,11 @@ written-ends before (c ∷ d ∷ ds) h = written-ends (c == line_feed) (d ∷ ds
 
 -- ---- an indent
 
-indent-spaces : (n : ℕ) (s : Text) → spaces (replicate n space ++ s) ≡ n + spaces s
-indent-spaces zero s = omega arith
-indent-spaces (suc n) s = spaces-first space (replicate n space ++ s) refl ∙ omega (arith, indent-spaces n s)
-
-pub indent-skip : (n : ℕ) (s : Text) → skip_spaces (replicate n space ++ s) ≡ skip_spaces s
-indent-skip zero s = refl
-indent-skip (suc n) s = skip_spaces-more space (replicate n space ++ s) refl ∙ indent-skip n s
-
 -- behind at least one space a pattern ends before these bytes alone
 goes-on : (n : ℕ) (s : Text) → 0 < n → begins ends_behind_spaces (skip_spaces s) ≡ false → pattern_ends (replicate n space ++ s) ≡ false
 goes-on n s h k =
-    let z : (spaces (replicate n space ++ s) == 0) ≡ false = let e = indent-spaces n s in grind arith in
-    rw (z, indent-skip n s) k
+    let z : (spaces (replicate n space ++ s) == 0) ≡ false = let e = indented-spaces n s in grind arith in
+    rw (z, skip_spaces-spaced n s) k
 
 -- a brace behind an indent and a space
 pub spaced-over : (level : ℕ) (s : Text) → begins ends_behind_spaces (skip_spaces s) ≡ true → Over (indent level ++ (space ∷ s))
@@ -133,23 +123,23 @@ module _ (selects : SelectsAreWritten) where
   braces-written i level more f =
       placeable-is (ap (λ z. open_brace ∷ space ∷ laid_out false z) (append_assoc (inline_signs level i) (sign level (space ∷ close_brace ∷ []) ∷ []) more))
       (placeable-spaced (expression-written selects (t.inline i) level (sign level (space ∷ close_brace ∷ []) ∷ more) (laid_out false more) f (follows-space_brace _) refl
-      (spaces-skipped (4 * level) (space ∷ close_brace ∷ laid_out false more)) (spaced-over level (close_brace ∷ laid_out false more) refl)))
+      (blank-replicate (4 * level) (space ∷ close_brace ∷ laid_out false more)) (spaced-over level (close_brace ∷ laid_out false more) refl)))
 
   nested-written : (e : t.Expression) (level : ℕ) (more : List Sign) → WellFormedExpression e →
       Enclosed e (laid_out false (expression_signs level e ++ sign level (closing_nested e) ∷ more)) (close_brace ∷ laid_out false more)
   nested-written (t.select i vs) level more f =
       expression-written selects (t.select i vs) level (sign level (close_brace ∷ close_brace ∷ []) ∷ more) (close_brace ∷ laid_out false more) f (follows-brace _) refl
-      (spaces-skipped (4 * level) (close_brace ∷ close_brace ∷ laid_out false more)) (indent-over level (close_brace ∷ close_brace ∷ laid_out false more) refl refl)
+      (blank-replicate (4 * level) (close_brace ∷ close_brace ∷ laid_out false more)) (indent-over level (close_brace ∷ close_brace ∷ laid_out false more) refl refl)
   nested-written (t.inline i) level more f =
       expression-written selects (t.inline i) level (sign level (space ∷ close_brace ∷ close_brace ∷ []) ∷ more) (close_brace ∷ laid_out false more) f (follows-space_brace _) refl
-      (spaces-skipped (4 * level) (space ∷ close_brace ∷ close_brace ∷ laid_out false more)) (spaced-over level (close_brace ∷ close_brace ∷ laid_out false more) refl)
+      (blank-replicate (4 * level) (space ∷ close_brace ∷ close_brace ∷ laid_out false more)) (spaced-over level (close_brace ∷ close_brace ∷ laid_out false more) refl)
 
   pub placeable-written : (e : t.Expression) (level : ℕ) (more : List Sign) → WellFormedExpression e →
       SpellsPlaceable e (laid_out false (placeable_signs level e ++ more)) (laid_out false more)
   placeable-written (t.select i vs) level more f =
       placeable-is (ap (λ z. open_brace ∷ space ∷ laid_out false z) (append_assoc (expression_signs level (t.select i vs)) (sign level (close_brace ∷ []) ∷ []) more))
       (placeable-spaced (expression-written selects (t.select i vs) level (sign level (close_brace ∷ []) ∷ more) (laid_out false more) f (follows-brace _) refl
-      (spaces-skipped (4 * level) (close_brace ∷ laid_out false more)) (indent-over level (close_brace ∷ laid_out false more) refl refl)))
+      (blank-replicate (4 * level) (close_brace ∷ laid_out false more)) (indent-over level (close_brace ∷ laid_out false more) refl refl)))
   placeable-written (t.inline (t.nested e)) level more f =
       placeable-is (ap (λ z. open_brace ∷ open_brace ∷ space ∷ laid_out false z) (append_assoc (expression_signs level e) (sign level (closing_nested e) ∷ []) more))
       (placeable-of (nested-enclosed (placeable-spaced (nested-written e level more f.0))))
@@ -242,7 +232,7 @@ starts s h = cases (is_blank_text s)
     (λ b.
     let e : not (begins ends_behind_spaces (skip_spaces s)) ≡ true = rw b at h in (
       (λ k. let m : is_blank_text (skip_spaces s) ≡ true = ap is_blank_text k in let n : is_blank_text (skip_spaces s) ≡ false = skip-blank s ∙ b in absurd cc),
-      not-true _ e,
+      not-false _ e,
     ))
 
 begins-line : (s x : Text) → is_line s ≡ true → skip_spaces s ≢ [] → BeginsText (skip_spaces (s ++ x))
@@ -274,8 +264,8 @@ text-at_start : (n : ℕ) (s x : Text) (piece : Text) (ps : List Piece) (rest : 
 unfolding TextBehind
 text-at_start n s x piece ps rest h l m d =
     let st = starts s m in
-    let e : spaces (replicate n space ++ (s ++ x)) ≡ n + spaces piece = indent-spaces n (s ++ x) ∙ ap (λ k. n + k) (text-spaces d.1) in
-    let k : skip_spaces (replicate n space ++ (s ++ x)) ≡ skip_spaces (s ++ x) = indent-skip n (s ++ x) in
+    let e : spaces (replicate n space ++ (s ++ x)) ≡ n + spaces piece = indented-spaces n (s ++ x) ∙ ap (λ k. n + k) (text-spaces d.1) in
+    let k : skip_spaces (replicate n space ++ (s ++ x)) ≡ skip_spaces (s ++ x) = skip_spaces-spaced n (s ++ x) in
     line-is e (goes-on n (s ++ x) h (bare-begins ends_behind_spaces s x st.0 ∙ st.1)) (begins-is k (begins-line s x l st.0)) (text-is k (text-bare d.1)) (behind-is (ends-bare piece) d.2)
   where
     line-is : {k : ℕ} {piece : Text} {ps : List Piece} {s u rest : Text} → spaces s ≡ k → pattern_ends s ≡ false → BeginsText (skip_spaces s) → SpellsText piece (skip_spaces s) u →
@@ -352,9 +342,9 @@ line-parts behind at s es h =
     let b = and-right (not behind) _ a in
     let c = and-right (is_line s) _ b in
     record {
-      apart = not-true behind (and-left (not behind) _ a);
+      apart = not-false behind (and-left (not behind) _ a);
       line = and-left (is_line s) _ b;
-      some = not_end s (not-true (length s == 0) (and-left (not (length s == 0)) _ c));
+      some = not_end s (not-false (length s == 0) (and-left (not (length s == 0)) _ c));
       may = implied at (may_start s) (and-right (not (length s == 0)) _ c);
       others = and-right (not behind && (is_line s && (not (length s == 0) && (not at || may_start s)))) _ h;
     }
@@ -387,8 +377,8 @@ placeable-line : {e : t.Expression} {ps : List Piece} {u rest : Text} (n : ℕ) 
 placeable-line n [] h b d m = absurd cc
 placeable-line n (c ∷ cs) h b d m =
     let o : c ∷ cs ≡ open_brace ∷ cs = ap (λ z. z ∷ cs) (same c open_brace b) in
-    let k : skip_spaces (replicate n space ++ c ∷ cs) ≡ c ∷ cs = indent-skip n (c ∷ cs) ∙ skip_spaces-other c cs (grind arith) in
-    let z : (spaces (replicate n space ++ c ∷ cs) == 0) ≡ false = let e = indent-spaces n (c ∷ cs) in grind arith in
+    let k : skip_spaces (replicate n space ++ c ∷ cs) ≡ c ∷ cs = skip_spaces-spaced n (c ∷ cs) ∙ skip_spaces-other c cs (grind arith) in
+    let z : (spaces (replicate n space ++ c ∷ cs) == 0) ≡ false = let e = indented-spaces n (c ∷ cs) in grind arith in
     placed-is z (line_of_placeable (goes-on n (c ∷ cs) h (ap (begins ends_behind_spaces) (skip_spaces-other c cs (grind arith)) ∙ ap (begins ends_behind_spaces) o)) (spelled-is k d) m)
   where
     placed-is : {b : Bool} {e : t.Expression} {ps : List Piece} {s rest : Text} → b ≡ false → SpellsLine (placed b e ∷ ps) s rest → SpellsLine (placed false e ∷ ps) s rest
@@ -456,7 +446,7 @@ module _ (selects : SelectsAreWritten) (level : ℕ) (deep : 0 < 4 * level) (beh
       at-is true _ _ _ _ _ refl (ap (laid_out true) (append_assoc (placeable_signs level x) (elements_signs level es) (new_line ∷ behind)) ∙ placeable-indent selects x level (signs_from es))
       (at-line (placeable-line (4 * level) _ deep (ap (begins_with open_brace) (placeable-brace selects x level (signs_from es)).1) (placeable-written selects x level (signs_from es) f) (from-piece d)))
 
-  -- A PATTERN IN LINES IS SPELLED BY WHAT IS WRITTEN OF IT, as its pieces: from the start of a line on, or from within one.
+  -- A pattern in lines is spelled by what is written of it, as its pieces: from the start of a line on, or from within one.
   pub lines-written : (es : t.Elements) (at after : Bool) → are_lines after at es ≡ true → EndsRight es → WellFormedElements es → (at ≡ true → es ≢ t.no_elements) →
       At at (pieces_for at (4 * level) es) (laid_out at (signs_from es)) left
   lines-written t.no_elements true after l e f n = absurd (n refl refl)

@@ -1,16 +1,15 @@
 -- What is written of a well-formed message or term spells it; where it has a comment, that is spelled before it.
-use Rattle.std.proofs.Common.{◌≡◌, ℕ, Bool, true, false, cond, List, [], ◌∷◌, ◌++◌, Option, Some, None, refl, sym, ap, ◌∙◌, arith, append_assoc}
+use Rattle.std.proofs.Common.{◌≡◌, ℕ, Bool, true, false, cond, List, [], ◌∷◌, ◌++◌, Option, Some, None, refl, sym, ap, ◌∙◌, append_assoc}
 use Rattle.std.specs.Prelude.{◌==◌}
-use Rattle.std.proofs.lemmas.Bool.Decides.{nat_tests}
-use Rattle.fluent_grammar.specs.Words.{Text, line_feed, space, number_sign, hyphen, equals, is_letter, begins, begins_with, begins_entry}
+use Rattle.fluent_grammar.specs.Words.{Text, line_feed, space, number_sign, hyphen, equals, begins, begins_with, begins_entry}
 use Rattle.fluent_grammar.specs.Tree as t
-use Rattle.fluent_grammar.specs.Spelling.{SpellsComment, SpellsEntry}
+use Rattle.fluent_grammar.specs.Spelling.{SpellsEntry}
 use Rattle.fluent_grammar.specs.Written.{Sign, sign, ends_line, takes_indent, indent_before, laid_out, new_line, pattern_signs, value_signs, attributes_signs, own_comment_signs, message_signs, term_signs}
 use Rattle.fluent_normal.specs.WellFormed.{IsName, WellFormedComment, WellFormedOwn, WellFormedEntry}
 use Rattle.fluent_cut.proofs.MovingEntries.{Stops}
 use Rattle.fluent_normal.proofs.WrittenEntries.{message-written}
 use Rattle.fluent_normal.proofs.WrittenTerms.{term-written}
-use Rattle.fluent_normal.proofs.WrittenComments.{one_mark, comment-written}
+use Rattle.fluent_cut.proofs.Cutting.{letter-begins, letter-sign}
 
 -- ---- names at the start of a line
 
@@ -25,14 +24,6 @@ flat s = chosen-none (takes_indent s) _ refl
 pub name-flat : (id : Text) (more : List Sign) → IsName id → laid_out true (sign 0 id ∷ more) ≡ laid_out false (sign 0 id ∷ more)
 name-flat [] more n = absurd (let h : false ≡ true = n.letter_first in cc)
 name-flat (c ∷ cs) more n = ap (λ z. z ++ ((c ∷ cs) ++ laid_out (ends_line (c == line_feed) cs) more)) (flat (c ∷ cs))
-
-letter-begins : (s : Text) → begins is_letter s ≡ true → begins begins_entry s ≡ true
-letter-begins [] h = absurd cc
-letter-begins (c ∷ cs) h = grind (arith, nat_tests)
-
-letter-no_sign : (s : Text) → begins is_letter s ≡ true → begins_with number_sign s ≡ false
-letter-no_sign [] h = absurd cc
-letter-no_sign (c ∷ cs) h = grind (arith, nat_tests)
 
 name-first : (p : ℕ → Bool) (id : Text) (more : List Sign) → IsName id → begins p (laid_out true (sign 0 id ∷ more)) ≡ begins p id
 name-first p [] more n = absurd (let h : false ≡ true = n.letter_first in cc)
@@ -65,14 +56,8 @@ term-signs-are m behind =
 pub own-well_formed : (c : Option (List Text)) (lines : List Text) → c ≡ Some lines → WellFormedOwn c → WellFormedComment lines
 own-well_formed c lines e f = rw e at f
 
-spelled-at : {e : t.Entry} {s u rest : Text} → s ≡ u → SpellsEntry e u rest → SpellsEntry e s rest
+pub spelled-at : {e : t.Entry} {s u rest : Text} → s ≡ u → SpellsEntry e u rest → SpellsEntry e s rest
 spelled-at h d = rw h d
-
-spelled-as : {e d : t.Entry} {s rest : Text} → e ≡ d → SpellsEntry d s rest → SpellsEntry e s rest
-spelled-as h d = rw h d
-
-comment-at : {lines : List Text} {s u rest : Text} → s ≡ u → SpellsComment 1 lines u rest → SpellsComment 1 lines s rest
-comment-at h d = rw h d
 
 -- ---- messages
 
@@ -83,7 +68,7 @@ pub message-first : (m : t.Message) (behind : List Sign) → IsName m.id → beg
 message-first m behind n = name-of-message m behind begins_entry n ∙ letter-begins m.id n.letter_first
 
 pub message-no_sign : (m : t.Message) (behind : List Sign) → IsName m.id → begins_with number_sign (laid_out true (bare_message_signs m ++ new_line ∷ behind)) ≡ false
-message-no_sign m behind n = name-of-message m behind (λ c. c == number_sign) n ∙ letter-no_sign m.id n.letter_first
+message-no_sign m behind n = name-of-message m behind (λ c. c == number_sign) n ∙ letter-sign m.id n.letter_first
 
 pub message-start : (m : t.Message) (behind : List Sign) → IsName m.id → laid_out false (bare_message_signs m ++ new_line ∷ behind) ≡ laid_out true (bare_message_signs m ++ new_line ∷ behind)
 message-start m behind n = sym (name-flat m.id (sign 0 (space ∷ equals ∷ []) ∷ ((value_signs m.value ++ attributes_signs m.attributes) ++ new_line ∷ behind)) n)
@@ -95,23 +80,6 @@ bare-message-written m behind f s =
     (sym (message-start m behind f.0) ∙ ap (λ z. laid_out false (sign 0 m.id ∷ sign 0 (space ∷ equals ∷ []) ∷ z)) (append_assoc (value_signs m.value) (attributes_signs m.attributes) (new_line ∷ behind)))
     (message-written m.id m.value m.attributes behind f.0 f.1 f.2 s)
 
--- A WELL-FORMED MESSAGE WITHOUT A COMMENT IS SPELLED BY WHAT IS WRITTEN OF IT.
-pub messages_are_written : (m : t.Message) (behind : List Sign) → WellFormedEntry (t.message m) → m.comment ≡ None → Stops (laid_out true behind) →
-    SpellsEntry (t.message m) (laid_out true (message_signs m ++ behind)) (laid_out true behind)
-messages_are_written m behind f c s =
-    spelled-as (ap (λ z. t.message (record m { comment = z })) c)
-    (spelled-at (ap (laid_out true) (message-signs-are m behind ∙ ap (λ z. own_comment_signs z ++ (bare_message_signs m ++ new_line ∷ behind)) c)) (bare-message-written m behind f s))
-
--- One with a comment is spelled as two: the comment, and right behind it the message.
-pub messages_with_comments_are_written : (m : t.Message) (behind : List Sign) (lines : List Text) → WellFormedEntry (t.message m) → m.comment ≡ Some lines → Stops (laid_out true behind) →
-    (u : Text) × SpellsComment 1 lines (laid_out true (message_signs m ++ behind)) u × SpellsEntry (t.message (record m { comment = None })) u (laid_out true behind)
-messages_with_comments_are_written m behind lines f c s = (
-  laid_out true (bare_message_signs m ++ new_line ∷ behind),
-  comment-at (ap (laid_out true) (message-signs-are m behind ∙ ap (λ z. own_comment_signs z ++ (bare_message_signs m ++ new_line ∷ behind)) c))
-      (comment-written 0 (number_sign ∷ []) one_mark lines (bare_message_signs m ++ new_line ∷ behind) (own-well_formed m.comment lines c f.3) (message-no_sign m behind f.0)),
-  bare-message-written m behind f s,
-)
-
 -- ---- terms
 
 pub bare-term-written : (m : t.Term) (behind : List Sign) → WellFormedEntry (t.term m) → Stops (laid_out true behind) →
@@ -120,19 +88,3 @@ bare-term-written m behind f s =
     spelled-at
     (ap (λ z. hyphen ∷ laid_out false (sign 0 m.id ∷ sign 0 (space ∷ equals ∷ []) ∷ z)) (append_assoc (pattern_signs 1 m.value) (attributes_signs m.attributes) (new_line ∷ behind)))
     (term-written m.id m.value m.attributes behind f.0 f.1 f.2 s)
-
--- SO WITH TERMS.
-pub terms_are_written : (m : t.Term) (behind : List Sign) → WellFormedEntry (t.term m) → m.comment ≡ None → Stops (laid_out true behind) →
-    SpellsEntry (t.term m) (laid_out true (term_signs m ++ behind)) (laid_out true behind)
-terms_are_written m behind f c s =
-    spelled-as (ap (λ z. t.term (record m { comment = z })) c)
-    (spelled-at (ap (laid_out true) (term-signs-are m behind ∙ ap (λ z. own_comment_signs z ++ (bare_term_signs m ++ new_line ∷ behind)) c)) (bare-term-written m behind f s))
-
-pub terms_with_comments_are_written : (m : t.Term) (behind : List Sign) (lines : List Text) → WellFormedEntry (t.term m) → m.comment ≡ Some lines → Stops (laid_out true behind) →
-    (u : Text) × SpellsComment 1 lines (laid_out true (term_signs m ++ behind)) u × SpellsEntry (t.term (record m { comment = None })) u (laid_out true behind)
-terms_with_comments_are_written m behind lines f c s = (
-  laid_out true (bare_term_signs m ++ new_line ∷ behind),
-  comment-at (ap (laid_out true) (term-signs-are m behind ∙ ap (λ z. own_comment_signs z ++ (bare_term_signs m ++ new_line ∷ behind)) c))
-      (comment-written 0 (number_sign ∷ []) one_mark lines (bare_term_signs m ++ new_line ∷ behind) (own-well_formed m.comment lines c f.3) refl),
-  bare-term-written m behind f s,
-)

@@ -4,20 +4,20 @@ use Rattle.std.specs.Prelude.{◌==◌, ◌≢◌}
 use Rattle.fluent_grammar.specs.Words.{Text, line_feed, carriage_return, space, dot, open_brace, begins, begins_with, spaces, skip_spaces, skip_blank_block, after_line_end}
 use Rattle.fluent_grammar.specs.Tree as t
 use Rattle.fluent_grammar.specs.Blanks.{no_lines}
-use Rattle.fluent_grammar.specs.Lines.{ends_line, is_blank_text, ends_behind_spaces}
+use Rattle.fluent_grammar.specs.Lines.{is_blank_text, ends_behind_spaces}
 use Rattle.fluent_grammar.specs.Spelling.{SpellsPattern, on_the_line, on_the_next}
 use Rattle.fluent_grammar.specs.Written as w
 use Rattle.fluent_grammar.specs.Written.{Sign, sign, laid_out, new_line, indent, takes_indent, holds_line_feed, elements_signs, placeable_signs, pattern_signs, pattern_start, is_many_lined, is_select, begins_with_dot}
-use Rattle.fluent_grammar.proofs.Blanks.{block-skipped}
+use Rattle.fluent_grammar.proofs.Blanks.{block-skipped, skip_spaces-spaced, skip_spaces-other, not-false}
 use Rattle.fluent_grammar.proofs.Cases.{cases, and-left, and-right, or-left, or-right}
 use Rattle.fluent_grammar.proofs.Got.{same, either}
 use Rattle.fluent_normal.specs.WellFormed.{is_line, may_start, are_lines, are_texts, has_margin, has_no_line, first_is_not_blank, begins_flush, EndsWell}
 use Rattle.fluent_normal.proofs.WrittenSoFar.{WellFormedPattern, WellFormedElements}
-use Rattle.fluent_cut.proofs.MovingWords.{Over, not-true, skip_spaces-more, skip_spaces-other}
+use Rattle.fluent_cut.proofs.MovingWords.{Over, skip_spaces-more}
 use Rattle.fluent_cut.proofs.MovingPatterns.{line-at, pieces-at}
 use Rattle.fluent_normal.proofs.WrittenInline.{SelectsAreWritten}
-use Rattle.fluent_normal.proofs.LineAlgebra.{EndsRight, all_lines, elements-back, line-blank, skip-blank, spaces-first}
-use Rattle.fluent_normal.proofs.WrittenLines.{lines-written, from-line, from-piece, line-parts, placeable-indent, placeable-brace, bare-begins, line-bare, line-first, no_return-crlf, indent-skip, starts}
+use Rattle.fluent_normal.proofs.WrittenPieces.{EndsRight, all_lines, elements-back, line-blank, skip-blank, spaces-first, no_feed-ends}
+use Rattle.fluent_normal.proofs.WrittenLines.{lines-written, from-line, from-piece, line-parts, placeable-indent, placeable-brace, bare-begins, line-bare, line-first, no_return-crlf, starts}
 
 -- ---- what is said of patterns, in parts
 
@@ -42,11 +42,6 @@ pub ends-some : (es : t.Elements) → EndsWell es → es ≢ t.no_elements
 ends-some t.no_elements h e = absurd h
 ends-some (t.text s es) h e = absurd cc
 ends-some (t.placeable x es) h e = absurd cc
-
-no_feed-ends : (s : Text) → holds_line_feed s ≡ false → ends_line s ≡ false
-no_feed-ends [] h = refl
-no_feed-ends (c ∷ []) h = or-left (c == line_feed) _ h
-no_feed-ends (c ∷ d ∷ ds) h = no_feed-ends (d ∷ ds) (or-right (c == line_feed) _ h)
 
 -- on one line no text stands at a line's start
 one-line : (es : t.Elements) → is_many_lined es ≡ false → has_no_line false es ≡ true
@@ -93,7 +88,7 @@ dot-first (c ∷ cs) h k = cases (c == dot)
 
 no_dot : (es : t.Elements) → first_is_not_blank es ≡ true → are_lines false true es ≡ true → begins_with_dot es ≡ false
 no_dot t.no_elements h l = refl
-no_dot (t.text s es) h l = let p = line-parts false true s es l in dot-first s (not-true _ h) (p.may refl)
+no_dot (t.text s es) h l = let p = line-parts false true s es l in dot-first s (not-false _ h) (p.may refl)
 no_dot (t.placeable x es) h l = refl
 
 module _ (selects : SelectsAreWritten) (level : ℕ) (deep : 0 < 4 * level) (behind : List Sign) (over : Over (laid_out true behind)) where
@@ -105,13 +100,13 @@ module _ (selects : SelectsAreWritten) (level : ℕ) (deep : 0 < 4 * level) (beh
   first-shown t.no_elements h l = absurd cc
   first-shown (t.text s es) h l =
       let p = line-parts false true s es l in
-      let b = not-true _ h in
-      rw (takes s p.line b) (ap after_line_end (indent-skip (4 * level) (s ++ laid_out (w.ends_line true s) (signs_of es))) ∙ shown s _ p.line b (nonblank-starts s b))
+      let b = not-false _ h in
+      rw (takes s p.line b) (ap after_line_end (skip_spaces-spaced (4 * level) (s ++ laid_out (w.ends_line true s) (signs_of es))) ∙ shown s _ p.line b (nonblank-starts s b))
   first-shown (t.placeable x es) h l =
       let a = placeable-brace selects x level (signs_of es) in
       ap (λ z. after_line_end (skip_spaces (laid_out true z))) (append_assoc (placeable_signs level x) (elements_signs level es) (new_line ∷ behind))
       ∙ ap (λ z. after_line_end (skip_spaces z)) (placeable-indent selects x level (signs_of es))
-      ∙ ap after_line_end (indent-skip (4 * level) (laid_out false (placeable_signs level x ++ signs_of es)))
+      ∙ ap after_line_end (skip_spaces-spaced (4 * level) (laid_out false (placeable_signs level x ++ signs_of es)))
       ∙ brace-no_end _ a.0 a.1
 
   next-written : (es : t.Elements) → are_texts true es ≡ true → EndsWell es → WellFormedElements es → SpellsPattern es (line_feed ∷ laid_out true (signs_of es)) (laid_out true behind)
@@ -129,7 +124,7 @@ module _ (selects : SelectsAreWritten) (level : ℕ) (deep : 0 < 4 * level) (beh
   flush-first t.no_elements h l k = absurd cc
   flush-first (t.text s es) h l k =
       let p = line-parts false false s es l in
-      let b = not-true _ h in
+      let b = not-false _ h in
       let z = flush-text s (laid_out (w.ends_line false s) (signs_of es)) b k in
       (z, ap after_line_end (sym z) ∙ shown s _ p.line b (nonblank-starts s b))
     where
@@ -162,6 +157,6 @@ module _ (selects : SelectsAreWritten) (level : ℕ) (deep : 0 < 4 * level) (beh
       rw (m, no_dot es first lines) (next-written es h e f)
   by-lines es false m h e f = rw m (line-written es m h e f)
 
-  -- A WELL-FORMED PATTERN IS SPELLED BY WHAT IS WRITTEN OF IT, with the line feed behind it.
+  -- A well-formed pattern is spelled by what is written of it, with the line feed behind it.
   pub pattern-written : (es : t.Elements) → WellFormedPattern es → SpellsPattern es (laid_out false (pattern_signs level es ++ new_line ∷ behind)) (laid_out true behind)
   pattern-written es f = by-lines es (is_many_lined es) refl f.0 f.1 f.2

@@ -8,10 +8,10 @@ use Rattle.fluent_grammar.specs.Written.{Sign, sign, default_mark, laid_out, new
 use Rattle.fluent_grammar.proofs.Words.{number-begins}
 use Rattle.fluent_normal.specs.WellFormed.{IsName, IsNumber, IsKey, EndsWell, default_count}
 use Rattle.fluent_normal.specs.WellFormed as s
-use Rattle.fluent_normal.proofs.WrittenSoFar.{Enclosed, SelectIsWritten, WellFormedInline, WellFormedMaybe, WellFormedArguments, WellFormedInlines, WellFormedNameds, WellFormedLiteral, WellFormedExpression, WellFormedPattern, WellFormedVariants, WellFormedElements}
-use Rattle.fluent_cut.proofs.MovingWords.{Over}
+use Rattle.fluent_normal.proofs.WrittenSoFar.{SelectIsWritten, WellFormedInline, WellFormedMaybe, WellFormedArguments, WellFormedInlines, WellFormedNameds, WellFormedLiteral, WellFormedExpression, WellFormedPattern, WellFormedVariants, WellFormedElements}
+use Rattle.fluent_cut.proofs.MovingWords.{Over, blank-replicate}
 use Rattle.fluent_normal.proofs.WrittenWords.{Follows, name-written, name-line, number-written, number-line}
-use Rattle.fluent_normal.proofs.WrittenInline.{selects_are_written, blank-twice, inline-written, within, letter-no_blank, number-no_blank, spaces-skipped, indented-over, indent-over}
+use Rattle.fluent_normal.proofs.WrittenInline.{selects_are_written, blank-twice, inline-written, within, letter-no_blank, number-no_blank, indented-over, indent-over, enclosed-at}
 use Rattle.fluent_normal.proofs.WrittenPatterns.{pattern-written, ends-some}
 
 -- the signs of variants behind their first line feed, up to those that follow
@@ -51,9 +51,6 @@ key-is h d = rw h d
 variants-is : {marked : Bool} {vs : t.Variants} {s u rest : Text} → s ≡ u → SpellsVariants marked vs u rest → SpellsVariants marked vs s rest
 variants-is h d = rw h d
 
-over-is : {s u : Text} → s ≡ u → Over u → Over s
-over-is h d = rw h d
-
 variant-is : {key : t.VariantKey} {es : t.Elements} {s u rest : Text} → s ≡ u → SpellsVariant key es u rest → SpellsVariant key es s rest
 variant-is h d = rw h d
 
@@ -82,20 +79,17 @@ variants-written t.no_variants true level more rest f c o h = all-read _ rest h
 variants-written t.no_variants false level more rest f c o h = absurd (omega (arith, c))
 variants-written (t.variant key es true vs) true level more rest f c o h = absurd (omega (arith, c))
 variants-written (t.variant key es true vs) false level more rest f c o h =
-    variants-is (spaces-skipped (4 * (level + 1) - 1) (asterisk ∷ laid_out false (key_signs level key (pattern_signs (level + 2) es ++ new_line ∷ variants_from level vs more))))
+    variants-is (blank-replicate (4 * (level + 1) - 1) (asterisk ∷ laid_out false (key_signs level key (pattern_signs (level + 2) es ++ new_line ∷ variants_from level vs more))))
     (the_default refl (variant-written key es level (variants_from level vs more) f.0 f.1 (from-over vs level more o))
     (variants-written vs true level more rest f.2 (omega (arith, c)) o h))
 variants-written (t.variant key es false vs) marked level more rest f c o h =
-    variants-is (spaces-skipped (4 * (level + 1)) (laid_out false (key_signs level key (pattern_signs (level + 2) es ++ new_line ∷ variants_from level vs more))))
+    variants-is (blank-replicate (4 * (level + 1)) (laid_out false (key_signs level key (pattern_signs (level + 2) es ++ new_line ∷ variants_from level vs more))))
     (a_variant (variant-written key es level (variants_from level vs more) f.0 f.1 (from-over vs level more o))
     (variants-written vs marked level more rest f.2 c o h))
 
 -- a select is written so that it is spelled, where those inside are
 arrow-follows : (s : Text) → Follows (space ∷ hyphen ∷ greater ∷ s)
 arrow-follows s = record { no_name = refl; no_dot = refl; no_attribute = refl; no_call = refl; no_colon = refl }
-
-enclosed-is : {e : t.Expression} {s u rest : Text} → s ≡ u → Enclosed e u rest → Enclosed e s rest
-enclosed-is h d = rw h d
 
 select-signs : (i : t.Inline) (vs : t.Variants) (level : ℕ) (more : List Sign) → expression_signs level (t.select i vs) ++ more ≡ inline_signs level i ++ sign level (space ∷ hyphen ∷ greater ∷ []) ∷ new_line ∷ variants_from level vs more
 select-signs i vs level more =
@@ -105,7 +99,7 @@ select-signs i vs level more =
 select-written : (i : t.Inline) (vs : t.Variants) → WellFormedInline i → may_be_selector i ≡ true → WellFormedVariants vs → default_count vs ≡ 1 → SelectIsWritten i vs
 select-written i vs f m g c level more rest h o =
     let d = inline-written selects_are_written i level (sign level (space ∷ hyphen ∷ greater ∷ []) ∷ new_line ∷ variants_from level vs more) f (arrow-follows _) in
-    enclosed-is (ap (laid_out false) (select-signs i vs level more))
+    enclosed-at (ap (laid_out false) (select-signs i vs level more))
     (skip_blank (laid_out true more), a_select d.spells d.same m refl (variants-written vs false level more rest g c o h), blank-twice (laid_out true more) ∙ h)
 
 -- ---- every well-formed tree is
@@ -160,7 +154,7 @@ mutual
   elements-well_formed (t.text x es) f = elements-well_formed es f
   elements-well_formed (t.placeable e es) f = (expression-well_formed e f.0, elements-well_formed es f.1)
 
--- A WELL-FORMED PATTERN IS SPELLED BY WHAT IS WRITTEN OF IT, at any level and before any place where a pattern is over.
+-- A well-formed pattern is spelled by what is written of it, at any level and before any place where a pattern is over.
 pub pattern_is_written : (es : t.Elements) (level : ℕ) (behind : List Sign) → 0 < level → s.WellFormedPattern es → Over (laid_out true behind) →
     SpellsPattern es (laid_out false (pattern_signs level es ++ new_line ∷ behind)) (laid_out true behind)
 pattern_is_written es level behind h f o = pattern-written selects_are_written level (omega (arith, h)) behind o es (f.0, f.1, elements-well_formed es f.2)

@@ -14,7 +14,7 @@ use Rattle.fluent_normal.specs.NormalLaws.{WellFormedIsCanonical}
 use Rattle.fluent_cut.proofs.MovingEntries.{Stops, stops_empty, stops_here, entry-some, IsListed}
 use Rattle.fluent_cut.proofs.MovingComments.{entry-front}
 use Rattle.fluent_cut.proofs.Clean.{has_junk, errors-none, stops-no_end, alike-is}
-use Rattle.fluent_normal.proofs.WrittenMessages.{bare_message_signs, bare_term_signs, message-signs-are, term-signs-are, own-well_formed, message-first, message-no_sign, message-start, bare-message-written, bare-term-written}
+use Rattle.fluent_normal.proofs.WrittenMessages.{bare_message_signs, bare_term_signs, message-signs-are, term-signs-are, own-well_formed, message-first, message-no_sign, message-start, bare-message-written, bare-term-written, spelled-at}
 use Rattle.fluent_normal.proofs.WrittenComments.{Marks, one_mark, two_marks, three_marks, comment-written, comment-first, comment-start}
 use Rattle.fluent_normal.proofs.WrittenGaps.{entry-gap}
 
@@ -53,9 +53,6 @@ record Whole (s : Text) (es : List t.Entry) : Type 0 where
   stops : Stops s
   some : es ≢ [] → s ≢ []
 
-items-at : {parts : List Part} {s u : Text} → s ≡ u → TilesItems full parts u → TilesItems full parts s
-items-at e d = rw e d
-
 -- directly behind an entry
 tiled-behind : {parts : List Part} {s : Text} → TilesItems full parts s → Stops s → Tiles full (blank_block [] ∷ parts) s
 tiled-behind d h = blank_first (record { split = refl; lines = no_lines; longest = stops-no_end h }) d
@@ -77,9 +74,6 @@ held-alone (some_junk p some read at ends w more) lines x = refl
 held-alone (a_line p l more) lines at = absurd cc
 
 -- ---- messages and terms
-
-spelled-at : {e : t.Entry} {s u rest : Text} → s ≡ u → SpellsEntry e u rest → SpellsEntry e s rest
-spelled-at h d = rw h d
 
 -- before the line feed of a comment that follows
 listed-gap : {e : t.Entry} (signs behind : List Sign) → IsListed e → laid_out true behind ≢ [] → SpellsEntry e (laid_out true (signs ++ new_line ∷ behind)) (laid_out true behind) →
@@ -126,9 +120,6 @@ same-message m c h = ap (λ z. t.message (record m { comment = z })) (sym h)
 
 same-term : (m : t.Term) (c : Option (List Text)) → m.comment ≡ c → t.term (record m { comment = c }) ≡ t.term m
 same-term m c h = ap (λ z. t.term (record m { comment = z })) (sym h)
-
-whole-at : {s u : Text} {es : List t.Entry} → s ≡ u → Whole u es → Whole s es
-whole-at e w = rw e w
 
 cons-same : (e d : t.Entry) (es fs : List t.Entry) → e ≡ d → es ≡ fs → e ∷ es ≡ d ∷ fs
 cons-same e d es fs h k = rw (h, k) refl
@@ -320,7 +311,7 @@ entries-start (t.message m ∷ es) f = same-signs (message-signs-are m (signs_be
 entries-start (t.term m ∷ es) f = same-signs (term-signs-are m (signs_behind es)) (own-start m.comment (bare_term_signs m ++ new_line ∷ signs_behind es) f.0.3 refl)
 entries-start (t.junk s ∷ es) f = absurd f.0
 
--- A TREE OF WELL-FORMED ENTRIES IS CANONICAL.
+-- A tree of well-formed entries is canonical.
 pub well_formed_trees_are_canonical : WellFormedIsCanonical
 well_formed_trees_are_canonical es f =
     let w = entries-whole es f in

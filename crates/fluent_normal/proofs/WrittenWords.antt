@@ -9,6 +9,8 @@ use Rattle.fluent_grammar.specs.Written.{ends_line}
 use Rattle.fluent_grammar.proofs.Words.{number_sound}
 use Rattle.fluent_grammar.proofs.Strings.{string_sound}
 use Rattle.fluent_normal.specs.WellFormed.{IsName, IsNumber, IsRaw}
+use Rattle.fluent_cut.proofs.MovingWords.{name-feed, digit-feed}
+use Rattle.fluent_grammar.proofs.LaidOut.{ends_line-append}
 
 -- what may follow a name, a number or an expression that is written
 pub record Follows (rest : Text) : Type 0 where
@@ -30,16 +32,12 @@ name-written name rest n h = record {
   run = record { split = refl; passing = n.bytes; longest = h };
 }
 
--- names hold no line feed
-no_feed : (c : ℕ) → is_name_byte c ≡ true → (c == line_feed) ≡ false
-no_feed c h = grind (arith, nat_tests)
-
 pub name-line : (name : Text) → list_all is_name_byte name ≡ true → ends_line false name ≡ false
 name-line [] h = refl
 name-line (c ∷ cs) h =
     let k : is_name_byte c ≡ true = grind arith in
     let m : list_all is_name_byte cs ≡ true = grind arith in
-    rw (no_feed c k) (name-line cs m)
+    rw (name-feed c k) (name-line cs m)
 
 pub accessor-written : (name rest : Text) → IsName name → begins is_name_byte rest ≡ false → SpellsAccessor (Some name) (dot ∷ (name ++ rest)) rest
 accessor-written name rest n h = an_accessor (name-written name rest n h)
@@ -127,23 +125,16 @@ string-line (six_digits h d) = string-line d
 pub raw-line : (raw : Text) → IsRaw raw → ends_line false raw ≡ false
 raw-line raw n = string-line (string_sound _ _ _ n.read)
 
-digit-no_feed : (c : ℕ) → is_digit c ≡ true → (c == line_feed) ≡ false
-digit-no_feed c h = grind (arith, nat_tests)
-
 digits-line : (before : Bool) (digits : Text) → list_all is_digit digits ≡ true → before ≡ false → ends_line before digits ≡ false
 digits-line before [] h e = e
 digits-line before (c ∷ cs) h e =
     let k : is_digit c ≡ true = grind arith in
     let m : list_all is_digit cs ≡ true = grind arith in
-    digits-line (c == line_feed) cs m (digit-no_feed c k)
-
-ends-append : (before : Bool) (s more : Text) → ends_line before (s ++ more) ≡ ends_line (ends_line before s) more
-ends-append before [] more = refl
-ends-append before (c ∷ cs) more = ends-append (c == line_feed) cs more
+    digits-line (c == line_feed) cs m (digit-feed c k)
 
 unsigned-line : {number s u : Text} → SpellsUnsigned number s u → ends_line false number ≡ false
 unsigned-line (whole {digits} d n) = digits-line false digits d.run.passing refl
-unsigned-line (decimal {digits} {fraction} d f) = ends-append false digits (dot ∷ fraction) ∙ digits-line false fraction f.run.passing refl
+unsigned-line (decimal {digits} {fraction} d f) = ends_line-append false digits (dot ∷ fraction) ∙ digits-line false fraction f.run.passing refl
 
 number-line-of : {number s u : Text} → SpellsNumber number s u → ends_line false number ≡ false
 number-line-of (unsigned d) = unsigned-line d

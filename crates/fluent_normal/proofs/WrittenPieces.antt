@@ -5,12 +5,14 @@ use Rattle.std.specs.Str.{trim_end}
 use Rattle.fluent_grammar.specs.Words.{Text, line_feed, space, spaces, skip_spaces}
 use Rattle.fluent_grammar.specs.Tree as t
 use Rattle.fluent_grammar.specs.Lines.{Piece, at_line_start, in_line, placed, ends_line, is_blank_text, is_blank, lesser, indent_of, common_indent, dedented, without_blank_end, trimmed_if_last, elements_from, elements_of}
-use Rattle.fluent_grammar.specs.Written.{takes_indent}
-use Rattle.fluent_grammar.proofs.Cases.{cases, and-left, and-right}
+use Rattle.fluent_grammar.specs.Written.{takes_indent, holds_line_feed}
+use Rattle.fluent_grammar.proofs.Cases.{cases, and-left, and-right, or-left, or-right}
 use Rattle.fluent_grammar.proofs.Got.{either, same}
 use Rattle.fluent_grammar.proofs.Taken.{one-plus}
 use Rattle.fluent_normal.specs.WellFormed.{is_line, has_margin, has_no_line}
-use Rattle.fluent_cut.proofs.MovingWords.{skip_spaces-more, skip_spaces-other}
+use Rattle.fluent_cut.proofs.MovingWords.{skip_spaces-more}
+use Rattle.fluent_cut.proofs.TextParts.{blank-grown}
+use Rattle.fluent_grammar.proofs.Blanks.{skip_spaces-other}
 
 -- ---- the pieces of what is written of a pattern, whose lines are indented by so many spaces
 
@@ -50,10 +52,6 @@ EndsRight (t.text s (t.placeable e es)) = EndsRight (t.placeable e es)
 EndsRight (t.placeable e es) = EndsRight es
 
 -- ---- texts
-
-blank-more : (s : Text) → is_blank_text (s ++ line_feed ∷ []) ≡ is_blank_text s
-blank-more [] = refl
-blank-more (c ∷ cs) = rw (blank-more cs) refl
 
 spaces-more : (s : Text) → spaces (s ++ line_feed ∷ []) ≡ spaces s
 spaces-more [] = refl
@@ -121,12 +119,12 @@ least-then n a c (inr h) e = let k : min (n + h.0) n ≡ n = omega arith in rw (
 -- of one text
 feed-ok : (es : t.Elements) (s : Text) → is_line s ≡ true → takes_indent (with_feed es s) ≡ false → is_blank_text (with_feed es s) ≡ true
 feed-ok t.no_elements [] h k = refl
-feed-ok t.no_elements (c ∷ cs) h k = blank-more (c ∷ cs) ∙ line-blank (c ∷ cs) h k
+feed-ok t.no_elements (c ∷ cs) h k = blank-grown (c ∷ cs) ∙ line-blank (c ∷ cs) h k
 feed-ok (t.text x es) s h k = line-blank s h k
 feed-ok (t.placeable x es) s h k = line-blank s h k
 
 feed-blank : (es : t.Elements) (s : Text) → is_blank_text (with_feed es s) ≡ is_blank_text s
-feed-blank t.no_elements s = blank-more s
+feed-blank t.no_elements s = blank-grown s
 feed-blank (t.text x es) s = refl
 feed-blank (t.placeable x es) s = refl
 
@@ -244,7 +242,7 @@ some-kept p ps q qs e =
 text-kept : (at : Bool) (n : ℕ) (s : Text) (es : t.Elements) (ps : List Piece) → Holds es s → without_blank_end ps ≡ kept_for (ends_line s) n es →
     without_blank_end (line_piece at n (with_feed es s) ∷ ps) ≡ line_piece at n (with_feed es s) ∷ kept_for (ends_line s) n es
 unfolding Holds
-text-kept at n s t.no_elements ps h e = rw (blank-piece at n (s ++ line_feed ∷ []), blank-more s, h, e) refl
+text-kept at n s t.no_elements ps h e = rw (blank-piece at n (s ++ line_feed ∷ []), blank-grown s, h, e) refl
 text-kept at n s (t.text x es) ps h e = some-kept (line_piece at n s) ps _ _ e
 text-kept at n s (t.placeable x es) ps h e = some-kept (line_piece at n s) ps _ _ e
 
@@ -268,7 +266,7 @@ kept-pieces (t.placeable e es) at n h = ap (λ z. placed false e ∷ z) (kept-pi
 abbrev Fits : Option ℕ → Bool → ℕ → Text → Type 0
 Fits c at n s = (c ≡ Some n) ⊎ ((c ≡ None) × (at ≡ true → spaces s ≡ 0))
 
-no-spaces : (s : Text) → spaces s ≡ 0 → skip_spaces s ≡ s
+pub no-spaces : (s : Text) → spaces s ≡ 0 → skip_spaces s ≡ s
 no-spaces s e = rw e refl
 
 spaced-back : (c : Option ℕ) (n : ℕ) (s : Text) → Fits c true n s → dedented c (n + spaces s) (skip_spaces s) ≡ s
@@ -315,9 +313,14 @@ kept-back (t.text s es) c at n h f =
     ∙ ap (λ z. t.text s z) (kept-back es c (ends_line s) n (ends-more s es h) (fits-more c at n s es f))
 kept-back (t.placeable e es) c at n h f = ap (λ z. t.placeable e z) (kept-back es c false n h f)
 
--- WHAT IS WRITTEN OF A PATTERN GIVES ITS ELEMENTS BACK: by its pieces.
+-- What is written of a pattern gives its elements back: by its pieces.
 pub elements-back : (es : t.Elements) (at : Bool) (n : ℕ) → all_lines es ≡ true → EndsRight es → (has_margin at es ≡ true) ⊎ (has_no_line at es ≡ true) → elements_of (pieces_for at n es) ≡ es
 elements-back es at n h k (inl m) =
     ap (elements_from (common_indent (pieces_for at n es))) (kept-pieces es at n k) ∙ kept-back es _ at n k (inl (margin-common es at n h m))
 elements-back es at n h k (inr m) =
     ap (elements_from (common_indent (pieces_for at n es))) (kept-pieces es at n k) ∙ kept-back es _ at n k (inr (none-common es at n h m, m))
+
+pub no_feed-ends : (s : Text) → holds_line_feed s ≡ false → ends_line s ≡ false
+no_feed-ends [] h = refl
+no_feed-ends (c ∷ []) h = or-left (c == line_feed) _ h
+no_feed-ends (c ∷ d ∷ ds) h = no_feed-ends (d ∷ ds) (or-right (c == line_feed) _ h)
