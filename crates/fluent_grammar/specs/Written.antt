@@ -1,5 +1,5 @@
 -- The written text of a tree: signs at their levels, one after the other, and how they are laid out (docs/written-text.md).
-use Rattle.std.specs.Prelude.{ℕ, ◌+◌, ◌-◌, ◌*◌, Bool, true, false, not, ◌&&◌, ◌||◌, ◌==◌, if◌then◌else◌, List, [], ◌∷◌, ◌++◌, length, replicate, Option, Some, None}
+use Rattle.std.specs.Prelude.{ℕ, zero, suc, ◌+◌, ◌-◌, ◌*◌, Bool, true, false, not, ◌&&◌, ◌||◌, ◌==◌, if◌then◌else◌, List, [], ◌∷◌, ◌++◌, length, replicate, Option, Some, None}
 use Rattle.std.specs.List.{list_any}
 use Rattle.std.specs.Str.{trim_end}
 use Rattle.fluent_grammar.specs.Words.{Text, line_feed, space, quote, number_sign, dollar, open_paren, close_paren, asterisk, comma, hyphen, dot, colon, equals, greater, open_bracket, close_bracket, open_brace, close_brace, begins_with}
