@@ -176,8 +176,8 @@ WellFormedEntry (t.group_comment c) = WellFormedComment c
 WellFormedEntry (t.resource_comment c) = WellFormedComment c
 WellFormedEntry (t.junk s) = ⊥
 
--- Neither may two entries run together: a comment before a message or a term would be its own, and one before a comment of its kind
--- is parted from it by a line feed, which writing puts there.
+-- Of neighbours nothing is asked: writing puts an empty line behind a free comment, and one before it, so that no message takes it and
+-- no other comment runs on into it.
 abbrev pub WellFormedTree : List t.Entry → Type 0
 WellFormedTree [] = Unit {0}
 WellFormedTree (e ∷ es) = WellFormedEntry e × WellFormedTree es
