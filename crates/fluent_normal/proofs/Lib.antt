@@ -18,6 +18,7 @@ pub mod ReadWords
 pub mod ReadInlines
 pub mod ReadTrees
 pub mod NormalTexts
+pub mod TidiedSources
 mod ShapeRows
 mod TreeShapeRows
 mod WellFormedRows

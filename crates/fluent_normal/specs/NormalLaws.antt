@@ -6,10 +6,11 @@ use Rattle.fluent_grammar.specs.Tree as t
 use Rattle.fluent_grammar.specs.Tiling.{tree, list}
 use Rattle.fluent_grammar.specs.Written.{written}
 use Rattle.fluent_cut.specs.Cut.{cut}
-use Rattle.fluent_cut.specs.Joined.{HasNoReturn}
+use Rattle.fluent_cut.specs.Joined.{lists, HasNoReturn}
 use Rattle.fluent_normal.specs.Shapes.{IsShaped}
 use Rattle.fluent_normal.specs.Normal.{IsCanonical, IsNormalText, HasNoNormalText}
 use Rattle.fluent_normal.specs.WellFormed.{WellFormedTree}
+use Rattle.fluent_normal.specs.Tidied.{Tidied}
 
 -- ---- which sources have a normal text
 
@@ -38,3 +39,9 @@ NormalTextsKeepTheList = (source text : Text) → IsNormalText source text → l
 -- Canonical trees with the same written text are the same.
 abbrev pub CanonicalTreesAreToldApart : Type 0
 CanonicalTreesAreToldApart = (one other : List t.Entry) → IsCanonical one → IsCanonical other → written one ≡ written other → one ≡ other
+
+-- ---- several sources
+
+-- Sources that were tidied have the messages and terms that they had, one source after the other.
+abbrev pub TidiedSourcesKeepLists : Type 0
+TidiedSourcesKeepLists = (sources others : List Text) → Tidied sources others → lists others ≡ lists sources

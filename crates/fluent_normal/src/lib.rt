@@ -10,6 +10,8 @@
 //!   of five shapes (`laws::reading_is_unique`). `specs/Shapes.antt` says what they are: a pattern of many lines that begins
 //!   with `.`, `[` or `*`; a placeable at column 0 that starts a line of a pattern; a lone `*` in a select; a comment without
 //!   lines or with a line of white space; a last text of white space alone.
+//! - So the files of a program can be cut, tidied and joined, one after the other and as often as one likes, and the list of
+//!   all their messages and terms stays (`laws::tidied_sources_keep_lists`).
 //! - Trees that come from elsewhere, as from JSON, can be told by their written text, if it is read back as the tree
 //!   (`laws::canonical_trees_are_told_apart`); and it is, wherever the tree is well formed
 //!   (`laws::well_formed_trees_are_canonical`).
