@@ -2,8 +2,8 @@
 
 ghost use Rattle.fluent_cut.specs.CutLaws.{CutKeepsParts, CutTextsAreUtf8, CutTextsHaveNoReturn, DamageIsLocal, DamageStays, JoinedTextsKeepLists};
 
-/// The cut text has no errors, and the messages and terms of the source. A source without errors is its cut text. What the
-/// slices of the errors leave is what the tiling keeps.
+/// The cut text has no errors, and the messages and terms of the source. A source without errors is its cut text. What
+/// the slices of the errors leave is what the tiling keeps.
 pub fn damage_is_local()
     ensures local { DamageIsLocal }
     ensures parts { CutKeepsParts }
@@ -15,14 +15,14 @@ pub fn cut_texts_are_texts()
     ensures no_return { CutTextsHaveNoReturn }
 {}
 
-/// The joined text of sources without carriage returns has no errors, and the messages and terms of the sources, one source
-/// after the other.
+/// The joined text of sources without carriage returns has no errors, and the messages and terms of the sources, one
+/// source after the other.
 pub fn joined_texts_keep_lists()
     ensures { JoinedTextsKeepLists }
 {}
 
-/// Behind lines of any kind a text without errors keeps its messages and terms, or loses the first. It keeps all where it
-/// begins with `#`, or where those lines have no errors.
+/// Behind lines of any kind a text without errors keeps its messages and terms, or loses the first. It keeps all where
+/// it begins with `#`, or where those lines have no errors.
 pub fn damage_stays()
     ensures { DamageStays }
 {}

@@ -2,8 +2,8 @@
 
 ghost use Rattle.fluent_normal.specs.NormalLaws.{CanonicalTreesAreToldApart, NoNormalTextMeansShaped, NormalTextsAreFixed, NormalTextsKeepTheList, TidiedSourcesKeepLists, UnshapedIsCanonical, WellFormedIsCanonical};
 
-/// The tree of a cut text without a shape is canonical, for sources of UTF-8 without carriage returns. So where such a source
-/// has no normal text, its cut text has a shape.
+/// The tree of a cut text without a shape is canonical, for sources of UTF-8 without carriage returns. So where such a
+/// source has no normal text, its cut text has a shape.
 pub fn reading_is_unique()
     ensures unshaped { UnshapedIsCanonical }
     ensures shaped { NoNormalTextMeansShaped }
@@ -25,8 +25,8 @@ pub fn canonical_trees_are_told_apart()
     ensures { CanonicalTreesAreToldApart }
 {}
 
-/// Sources have the messages and terms that they had, one source after the other, when one is replaced by its cut text or by
-/// its normal text, or neighbours by their joined text.
+/// Sources have the messages and terms that they had, one source after the other, when one is replaced by its cut text
+/// or by its normal text, or neighbours by their joined text.
 pub fn tidied_sources_keep_lists()
     ensures { TidiedSourcesKeepLists }
 {}
