@@ -1,4 +1,4 @@
-//! Tests of rows that were worked out by hand, and of calls that take memory.
+//! Numbers, their options and their plural operands.
 
 mod conversions;
 mod memory;
