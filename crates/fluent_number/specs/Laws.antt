@@ -1,12 +1,14 @@
 -- The laws of numbers.
-use Rattle.std.specs.Prelude.{◌≡◌, ◌↔◌, Bool, true, ℕ, ◌^◌, ◌<◌, min, ◌&&◌, ◌==◌, nat_lt, nat_le, if◌then◌else◌, List, [], ◌∷◌, ◌++◌, length, take, Option, Some, None, is_none, unwrap_or}
+use Rattle.std.specs.Prelude.{◌≡◌, ◌↔◌, Bool, true, ℕ, ℤ, ◌^◌, ◌<◌, min, ◌&&◌, ◌==◌, nat_lt, nat_le, if◌then◌else◌, List, [], ◌∷◌, ◌++◌, length, take, Option, Some, None, is_none, unwrap_or}
+use Rattle.fluent_number.specs.Conversion.{signed_of, unsigned_of}
 use Rattle.fluent_number.specs.Decimal.{whole_of}
 use Rattle.fluent_number.specs.Digits.{Text, digits_worth, without_end_zeros}
-use Rattle.fluent_number.specs.Number.{Number}
+use Rattle.fluent_number.specs.Number.{Number, number_of, number_from_integer}
 use Rattle.fluent_number.specs.Operands.{operands_of}
 use Rattle.fluent_number.specs.Reading.{read_number, number_read, numeral_of, without_sign, begins_with_minus}
 use Rattle.fluent_number.specs.Spelling.{Spells, point_text}
 use Rattle.fluent_number.specs.Text.{number_text, fraction_text, filled_up}
+use Rattle.fluent_number.specs.declared.number.FluentNumber.{FluentNumber}
 
 -- A text is read as a number exactly where it spells that number.
 abbrev pub ReadsWhatIsSpelled : Type 0
@@ -78,3 +80,15 @@ EqualWhereSeenSame {A} equal seen = (x y : A) → (equal x y ≡ true) ↔ (seen
 -- what a test finds equal is fed to a hasher alike
 abbrev pub HashesEqualAlike : {A : Type 0} → (A → A → Bool) → (A → List (List ℕ)) → Type 0
 HashesEqualAlike {A} equal fed = (x y : A) → equal x y ≡ true → fed x ≡ fed y
+
+-- Whatever a conversion from integers gives is the number that the integer is, with default options.
+abbrev pub BecomesNumber : {A : Type 0} → (A → FluentNumber → Type 0) → (A → ℤ) → Type 0
+BecomesNumber {A} gives integer = (x : A) (number : FluentNumber) → gives x number → number_of number ≡ number_from_integer (integer x)
+
+-- Whatever a conversion to a signed type of so many bits gives is the type's integer nearest to the number's whole part.
+abbrev pub BecomesSigned : {A : Type 0} → ℕ → (A → ℤ → Type 0) → (A → ℤ) → Type 0
+BecomesSigned {A} bits gives value = (x : A) (n : ℤ) → gives x n → n ≡ signed_of bits (value x)
+
+-- the same of an unsigned type
+abbrev pub BecomesUnsigned : {A : Type 0} → ℕ → (A → ℕ → Type 0) → (A → ℤ) → Type 0
+BecomesUnsigned {A} bits gives value = (x : A) (n : ℕ) → gives x n → n ≡ unsigned_of bits (value x)

@@ -23,6 +23,3 @@ pub use options::{
 };
 pub use plural::{PluralCategory, PluralOperands, PluralRuleType, english_category};
 pub use source::OptionSource;
-
-#[cfg(test)]
-mod tests;
