@@ -1,6 +1,0 @@
-use Rattle.std.proofs.Common.{◌≡◌, map, take, string_bytes}
-use Rattle.ftl.specs.CatalogView.{texts}
-use Rattle.ftl.proofs.borrowed.borrow_texts.Given as goal
-
-abbrev pub invariant-loop-text : goal.invariant-loop-text
-invariant-loop-text l = texts l.borrowed.items ≡ map string_bytes (take l.text-index l.owned)

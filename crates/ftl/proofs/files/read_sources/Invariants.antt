@@ -1,7 +1,0 @@
-use Rattle.std.proofs.Common.{map, take, string_bytes}
-use Rattle.ftl.specs.CatalogView.{texts}
-use Rattle.ftl.specs.Program.{AreHeld}
-use Rattle.ftl.proofs.files.read_sources.Given as goal
-
-abbrev pub invariant-loop-file : goal.invariant-loop-file
-invariant-loop-file g l = AreHeld (g.F.Folder.contents l.folder) (texts (take l.file-index l.files)) (map string_bytes l.sources.items)

@@ -1,6 +1,0 @@
-//! Tests of the program as a whole.
-
-mod devices;
-mod memory;
-mod program;
-mod rows;

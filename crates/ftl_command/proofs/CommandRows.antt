@@ -1,0 +1,30 @@
+-- What some words ask for, by computing.
+use Rattle.std.specs.Prelude.{◌≡◌, [], ◌∷◌, true, false, Some, None, codes, refl}
+use Rattle.ftl_command.specs.Words.{command_of}
+
+no_words : command_of [] ≡ None
+no_words = refl
+
+no_file : command_of (codes "run" ∷ []) ≡ None
+no_file = refl
+
+no_file_behind_the_option : command_of (codes "run" ∷ codes "--no-isolating" ∷ []) ≡ None
+no_file_behind_the_option = refl
+
+another_command : command_of (codes "walk" ∷ codes "a" ∷ []) ≡ None
+another_command = refl
+
+an_unknown_option : command_of (codes "run" ∷ codes "-x" ∷ []) ≡ None
+an_unknown_option = refl
+
+an_option_behind_a_file : command_of (codes "run" ∷ codes "a" ∷ codes "--no-isolating" ∷ []) ≡ None
+an_option_behind_a_file = refl
+
+an_option_twice : command_of (codes "run" ∷ codes "--no-isolating" ∷ codes "--no-isolating" ∷ codes "a" ∷ []) ≡ None
+an_option_twice = refl
+
+two_files : command_of (codes "run" ∷ codes "a" ∷ codes "b-" ∷ []) ≡ Some (record { isolating = true; files = codes "a" ∷ codes "b-" ∷ [] })
+two_files = refl
+
+with_the_option : command_of (codes "run" ∷ codes "--no-isolating" ∷ codes "run" ∷ []) ≡ Some (record { isolating = false; files = codes "run" ∷ [] })
+with_the_option = refl

@@ -1,0 +1,4 @@
+mod CommandRows
+pub mod FilesOfCommands
+pub mod FaultLemmas
+pub mod RunLemmas

@@ -1,0 +1,58 @@
+-- The program's faults, and the status that it ends with.
+use Rattle.std.specs.Prelude.{ℕ, List, Contains, Option, IfSome, IsUtf8}
+use Rattle.ftl_engine.specs.Text.{Text}
+use Rattle.ftl_command.specs.declared.fault.Fault.{Fault}
+use Rattle.ftl_command.specs.declared.fault.Fault.TheVariants.{CommandLine, FileUnreadable, FileNotUtf8, Input, Output, Memory}
+use Rattle.ftl_engine.specs.declared.serve.RunError.{RunError}
+use Rattle.ftl_engine.specs.declared.serve.RunError.TheVariants.{Memory as RunMemory, Read as RunRead, Write as RunWrite}
+
+-- bad words are 2, what cannot be read or written is 3, and want of memory is 4
+abbrev pub status_of : Fault → ℕ
+status_of CommandLine = 2
+status_of (FileUnreadable file) = 3
+status_of (FileNotUtf8 file) = 3
+status_of Input = 3
+status_of Output = 3
+status_of Memory = 4
+
+-- a file that the fault names is one of these
+abbrev pub NamesOneOf : List Text → Fault → Type 0
+NamesOneOf names CommandLine = Unit {0}
+NamesOneOf names (FileUnreadable file) = Contains names file.now
+NamesOneOf names (FileNotUtf8 file) = Contains names file.now
+NamesOneOf names Input = Unit {0}
+NamesOneOf names Output = Unit {0}
+NamesOneOf names Memory = Unit {0}
+
+-- where the fault says that a file is no UTF-8, what the file holds is none, if that is known
+abbrev pub SaysNoUtf8 : (Text → Option Text) → Fault → Type 0
+SaysNoUtf8 contents CommandLine = Unit {0}
+SaysNoUtf8 contents (FileUnreadable file) = Unit {0}
+SaysNoUtf8 contents (FileNotUtf8 file) = IfSome (contents file.now) (λ held. IsUtf8 held → ⊥)
+SaysNoUtf8 contents Input = Unit {0}
+SaysNoUtf8 contents Output = Unit {0}
+SaysNoUtf8 contents Memory = Unit {0}
+
+-- a fault that comes while files are read
+abbrev pub IsOfFiles : Fault → Type 0
+IsOfFiles CommandLine = ⊥
+IsOfFiles (FileUnreadable file) = Unit {0}
+IsOfFiles (FileNotUtf8 file) = Unit {0}
+IsOfFiles Input = ⊥
+IsOfFiles Output = ⊥
+IsOfFiles Memory = Unit {0}
+
+-- the words or a file are at fault
+abbrev pub IsBeforeInput : Fault → Type 0
+IsBeforeInput CommandLine = Unit {0}
+IsBeforeInput (FileUnreadable file) = Unit {0}
+IsBeforeInput (FileNotUtf8 file) = Unit {0}
+IsBeforeInput Input = ⊥
+IsBeforeInput Output = ⊥
+IsBeforeInput Memory = ⊥
+
+-- what a run's end is told as: its reader is standard input, and its writer standard output
+abbrev pub run_fault : RunError → Fault
+run_fault RunMemory = Memory
+run_fault RunRead = Input
+run_fault RunWrite = Output

@@ -1,0 +1,4 @@
+pub mod Words
+pub mod CommandView
+pub mod Faults
+pub mod Program

@@ -1,0 +1,76 @@
+//! What ends the program before the end of its input.
+ghost use Rattle.std.specs.Prelude.{◌≡◌};
+ghost use Rattle.ftl_command.specs.Faults.{status_of, run_fault};
+ghost use Rattle.ftl_command.specs.declared.fault.Fault.TheVariants.{Memory};
+
+use ftl_engine::serve::RunError;
+use std::alloc::{AllocError, AllocFailed};
+use thiserror::Error;
+
+/// Why the program stops, as it is told on standard error: see `docs/protocol.md`.
+#[derive(Clone, Copy, Debug, PartialEq, Eq, Error)]
+pub enum Fault<'words> {
+    /// The words are no command.
+    #[error("bad command line")]
+    CommandLine,
+    /// The file could not be opened, or a read of it failed.
+    #[error("{file}: cannot read")]
+    FileUnreadable { file: &'words str },
+    /// The file's bytes are no UTF-8.
+    #[error("{file}: not UTF-8")]
+    FileNotUtf8 { file: &'words str },
+    /// A read of standard input failed, or it did not end.
+    #[error("standard input: cannot read")]
+    Input,
+    /// A write to standard output failed, or took nothing.
+    #[error("standard output: cannot write")]
+    Output,
+    /// A growth was refused.
+    #[error("out of memory")]
+    Memory,
+}
+
+impl Fault<'_> {
+    /// The status that the program ends with.
+    pub fn status(&self) -> u8
+        ensures { result ≡ status_of self.now }
+    {
+        match self {
+            Fault::CommandLine => 2,
+            Fault::FileUnreadable { .. }
+            | Fault::FileNotUtf8 { .. }
+            | Fault::Input
+            | Fault::Output => 3,
+            Fault::Memory => 4,
+        }
+    }
+}
+
+impl From<AllocError> for Fault<'_> {
+    ghost from_gives = { λ _ fault. fault ≡ Memory };
+
+    fn from(_error: AllocError) -> Self {
+        Fault::Memory
+    }
+}
+
+impl<T: Drop> From<AllocFailed<T>> for Fault<'_> {
+    ghost from_gives = { λ _ fault. fault ≡ Memory };
+
+    fn from(_error: AllocFailed<T>) -> Self {
+        Fault::Memory
+    }
+}
+
+/// The program's reader is standard input, and its writer standard output.
+impl From<RunError> for Fault<'_> {
+    ghost from_gives = { λ error fault. fault ≡ run_fault error };
+
+    fn from(error: RunError) -> Self {
+        match error {
+            RunError::Memory => Fault::Memory,
+            RunError::Read => Fault::Input,
+            RunError::Write => Fault::Output,
+        }
+    }
+}

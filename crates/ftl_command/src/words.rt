@@ -1,0 +1,65 @@
+//! The words behind the program's name.
+ghost use Rattle.std.specs.Prelude.{◌≡◌, option_map};
+ghost use Rattle.std.specs.List.{list_all};
+ghost use Rattle.ftl_command.specs.Words.{command_of, run_command, files_command, is_file};
+ghost use Rattle.ftl_engine.specs.CatalogView.{texts};
+ghost use Rattle.ftl_command.specs.CommandView.{command_view};
+
+/// What the words ask for.
+#[derive(Clone, Copy, Debug, PartialEq, Eq)]
+pub enum Command<'words> {
+    /// Answer the request lines of standard input.
+    Run {
+        /// Whether the values of variables are isolated by U+2068 and U+2069.
+        isolating: bool,
+        /// The names of the sources' files, at least one.
+        files: &'words [&'words str],
+    },
+}
+
+/// Reads the words: `run`, then `--no-isolating` or nothing, then one or more files. A word that begins with `-` is no
+/// file. `None` for all other words.
+pub fn read_command<'words>(words: &'words [&'words str]) -> Option<Command<'words>>
+    ensures { option_map command_view result ≡ command_of (texts words.now) }
+{
+    match words.split_first() {
+        Some((command, rest)) if *command == "run" => read_run(rest),
+        _ => None,
+    }
+}
+
+/// `run` with these words behind it.
+fn read_run<'words>(words: &'words [&'words str]) -> Option<Command<'words>>
+    ensures { option_map command_view result ≡ run_command (texts words.now) }
+{
+    match words.split_first() {
+        Some((option, files)) if *option == "--no-isolating" => read_files(false, files),
+        _ => read_files(true, words),
+    }
+}
+
+/// `run` with these words as its files.
+#[tactic(auto, using(crate::proofs::FilesOfCommands::files_command_at))]
+fn read_files<'words>(isolating: bool, files: &'words [&'words str]) -> Option<Command<'words>>
+    ensures { option_map command_view result ≡ files_command isolating (texts files.now) }
+{
+    if !files.is_empty() && are_files(files) {
+        Some(Command::Run { isolating, files })
+    } else {
+        None
+    }
+}
+
+/// Whether no word begins with `-`.
+fn are_files(words: &[&str]) -> bool
+    ensures { result ≡ list_all (λ w. is_file w.now) words.now }
+{
+    words.iter().all(|word| is_file(word))
+}
+
+/// Whether the word does not begin with `-`.
+fn is_file(word: &str) -> bool
+    ensures { result ≡ is_file word.now }
+{
+    !word.starts_with('-')
+}

@@ -1,0 +1,17 @@
+pub mod Text
+pub mod Lines
+pub mod Requests
+pub mod RequestView
+pub mod Frames
+pub mod AnswerView
+pub mod Devices
+pub mod Exchange
+pub mod Waiting
+pub mod ThinEntries
+pub mod EntryView
+pub mod TreeView
+pub mod ThinText
+pub mod ReplyView
+pub mod Thin
+pub mod CatalogView
+pub mod EngineView

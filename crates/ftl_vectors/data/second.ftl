@@ -1,0 +1,2 @@
+intro = Later
+hello-world = Hello, world!

@@ -1,0 +1,33 @@
+//! Runs the command `ftl`, and the engine behind it, on the rows of `data/rows.jsonl` and `data/runs.jsonl`, and over
+//! devices that fail or move little at a time, and prints of each kind how many runs there were and how many were wrong.
+#![tactic(auto)]
+
+mod devices;
+mod faults;
+mod memory;
+mod parts;
+mod rows;
+mod runs;
+mod tally;
+
+use anyhow::Result;
+use tally::Tally;
+
+fn main(rt: HostRuntime) -> Result<()> {
+    let alloc = rt.alloc();
+    tell(&rt, "memory", memory::try_memory(alloc))?;
+    tell(&rt, "parts", parts::try_parts(alloc)?)?;
+    tell(&rt, "rows", rows::try_rows(&rt)?)?;
+    tell(&rt, "pieces", devices::try_pieces(alloc)?)?;
+    tell(&rt, "failed reads", devices::try_failed_reads(alloc)?)?;
+    tell(&rt, "failed writes", devices::try_failed_writes(alloc)?)?;
+    tell(&rt, "faults", faults::try_faults(alloc))?;
+    tell(&rt, "runs", runs::try_runs(&rt)?)?;
+    tell(&rt, "runs over devices", runs::try_devices(&rt))?;
+    Ok(())
+}
+
+fn tell(rt: &HostRuntime, name: &str, tally: Tally) -> Result<()> {
+    println!(rt; "{name}: {} runs, {} wrong", tally.runs, tally.wrong)?;
+    Ok(())
+}

@@ -1,0 +1,28 @@
+//! Want of memory: `rt try --fail-alloc N` refuses an allocation, as `docs/CHECKS.md` says.
+use crate::devices::{ANSWERS, REQUESTS, SOURCE, are_whole};
+use crate::tally::Tally;
+use ftl_engine::run_thin;
+use ftl_engine::serve::RunError;
+use ftl_engine::stream::{FromRead, FromWrite};
+use std::alloc::Global;
+
+/// Room for the answers, in bytes.
+const ROOM: usize = 256;
+
+/// With any one allocation refused the answers are whole. It takes no memory of its own.
+pub fn try_memory(alloc: Global) -> Tally {
+    let mut room = [0; ROOM];
+    let mut rest = room.as_mut_slice();
+    let mut reader = FromRead::new(REQUESTS);
+    let mut writer = FromWrite::new(&mut rest);
+    let ended = run_thin(alloc, &[SOURCE], true, &mut reader, &mut writer);
+    let left = rest.len();
+    let given = &room[..ROOM.saturating_sub(left)];
+    let is_right = match ended {
+        Ok(()) => given.ends_with(ANSWERS[4].as_bytes()),
+        Err(error) => error == RunError::Memory,
+    };
+    let mut tally = Tally::new();
+    tally.add(is_right && are_whole(given));
+    tally
+}
