@@ -1,2 +1,16 @@
 pub mod InTurn
 mod IdsRows
+pub mod Falls
+pub mod Fixpoint
+pub mod Writing
+pub mod Weights
+mod Rows
+pub mod SameDecides
+pub mod Reached
+pub mod UnlimitedStays
+pub mod Bounded
+pub mod ToldOnce
+pub mod EqualEnvironments
+pub mod UnlimitedOpen
+pub mod OnPath
+mod BoundRows
