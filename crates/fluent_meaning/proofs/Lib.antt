@@ -1,4 +1,5 @@
 pub mod InTurn
+pub mod Stays
 mod IdsRows
 pub mod Falls
 pub mod Fixpoint

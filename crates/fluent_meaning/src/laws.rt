@@ -1,7 +1,7 @@
 //! Laws of what the ids of a bundle stand for and of what a pattern gives: each function only carries a law, as its contract.
 
 ghost use Rattle.fluent_meaning.specs.EnvironmentLaws.{EqualEnvironments};
-ghost use Rattle.fluent_meaning.specs.IdsLaws.{IdsInTurn, NoticesInTurn};
+ghost use Rattle.fluent_meaning.specs.IdsLaws.{FirstStays, IdsAscend, IdsInTurn, LastStays, NoticesInTurn};
 ghost use Rattle.fluent_meaning.specs.ReachLaws.{PatternReachSame, ReachSame};
 ghost use Rattle.fluent_meaning.specs.SameLaws.{SameDecides};
 ghost use Rattle.fluent_meaning.specs.UnlimitedLaws.{LimitStays, OpenIsUnlimited, UnlimitedIsOne};
@@ -14,6 +14,14 @@ use fluent_value::FluentType;
 pub fn ids_in_turn<F>()
     ensures ids { IdsInTurn F }
     ensures notices { NoticesInTurn F }
+{}
+
+/// An id stands for the first entry that was put in under it, or for the last where later ones override. The ids stay in the order
+/// of their bytes, each once.
+pub fn one_entry_stays<F>()
+    ensures first { FirstStays F }
+    ensures last { LastStays F }
+    ensures ascending { IdsAscend F }
 {}
 
 /// Patterns are compared by content: the test holds exactly where they are equal.
