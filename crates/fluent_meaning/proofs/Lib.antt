@@ -3,6 +3,7 @@ pub mod Stays
 mod IdsRows
 pub mod Falls
 pub mod Fixpoint
+pub mod Equations
 pub mod Writing
 pub mod Weights
 mod Rows

@@ -9,6 +9,7 @@ pub mod Fallback
 pub mod Steps
 pub mod Substitution
 pub mod Weight
+pub mod WeightLaws
 pub mod Unlimited
 pub mod Reach
 pub mod Work

@@ -268,9 +268,15 @@ module _ {S F : Type 0} (env : Environment S F) where
   abbrev pub value_found : Inline → Place S → Budget → Done (Value S)
   value_found = value_with pattern_written
 
-  -- call arguments, where there are any
+  -- call arguments, where there are any; positional ones, and named ones
   abbrev pub arguments_found : MaybeArguments → Place S → Budget → Done (Called S)
   arguments_found = maybe_arguments_with pattern_written
+
+  abbrev pub positional_found : Inlines → Place S → Budget → Done (List (Value S))
+  positional_found = positional_with pattern_written
+
+  abbrev pub named_found : Nameds → Place S → Budget → Done (List (Text × Value S))
+  named_found = named_with pattern_written
 
   -- a reference to a pattern, by this expression
   abbrev pub reference_written : Inline → Writer Elements

@@ -5,6 +5,7 @@ ghost use Rattle.fluent_meaning.specs.IdsLaws.{FirstStays, IdsAscend, IdsInTurn,
 ghost use Rattle.fluent_meaning.specs.ReachLaws.{PatternReachSame, ReachSame};
 ghost use Rattle.fluent_meaning.specs.SameLaws.{SameDecides};
 ghost use Rattle.fluent_meaning.specs.UnlimitedLaws.{LimitStays, OpenIsUnlimited, UnlimitedIsOne};
+ghost use Rattle.fluent_meaning.specs.WeightLaws.{MessagesWeigh, TermsWeigh, VariantsWeigh};
 ghost use Rattle.fluent_meaning.specs.WorkLaws.{EntersWithinBound, OpensWithinBudget};
 
 use fluent_value::FluentType;
@@ -54,4 +55,12 @@ pub fn limit_stays<C: FluentType, F>()
 pub fn work_is_bounded<C: FluentType, F>()
     ensures entered { EntersWithinBound C.Meaning F }
     ensures opened { OpensWithinBudget C.Meaning F }
+{}
+
+/// The pattern that a message or term reference means weighs no more than the map of ids, and the pattern of the variant that is
+/// chosen less than its select: so resolving ends.
+pub fn entered_patterns_weigh_less<C: FluentType, F>()
+    ensures messages { MessagesWeigh F }
+    ensures terms { TermsWeigh F }
+    ensures variants { VariantsWeigh C.Meaning }
 {}
