@@ -5,6 +5,8 @@ pub mod Falls
 pub mod Fixpoint
 pub mod Equations
 pub mod Writing
+pub mod States
+pub mod Opening
 pub mod Weights
 mod Rows
 pub mod SameDecides
@@ -15,4 +17,5 @@ pub mod ToldOnce
 pub mod EqualEnvironments
 pub mod UnlimitedOpen
 pub mod OnPath
+pub mod Looking
 mod BoundRows
