@@ -15,7 +15,7 @@ use Rattle.fluent_number.specs.declared.plural.PluralCategory.{PluralCategory}
 use Rattle.fluent_value.specs.Value as v
 use Rattle.fluent_value.specs.Value.{Value}
 use Rattle.fluent_meaning.specs.Choice.{chosen, first_match, first_default, key_value, is_choice, or_else}
-use Rattle.fluent_meaning.specs.Matching.{matches}
+use Rattle.fluent_value.specs.Matching.{matches}
 use Rattle.fluent_meaning.specs.Environment.{Environment}
 use Rattle.fluent_meaning.specs.Fallback.{braced, fallback}
 use Rattle.fluent_meaning.specs.Ids.{Ids, Meaning, number_function, function, message, term, find, attribute_named}

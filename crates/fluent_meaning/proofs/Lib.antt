@@ -7,6 +7,7 @@ pub mod Equations
 pub mod Writing
 pub mod States
 pub mod Opening
+pub mod Refusals
 pub mod Weights
 mod Rows
 pub mod SameDecides

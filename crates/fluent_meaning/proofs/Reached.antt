@@ -12,7 +12,7 @@ use Rattle.fluent_number.specs.declared.plural.PluralCategory.{PluralCategory}
 use Rattle.fluent_value.specs.Value as v
 use Rattle.fluent_value.specs.Value.{Value}
 use Rattle.fluent_meaning.specs.Choice.{chosen, first_match, first_default, key_value, is_choice, or_else}
-use Rattle.fluent_meaning.specs.Matching.{matches}
+use Rattle.fluent_value.specs.Matching.{matches}
 use Rattle.fluent_meaning.specs.Environment.{Environment}
 use Rattle.fluent_meaning.specs.Ids.{Meaning, number_function, function, message, term, find, attribute_named}
 use Rattle.fluent_meaning.specs.Reach.{elements_ids, expression_ids, variants_ids, inline_ids, maybe_ids, arguments_ids, inlines_ids, nameds_ids, value_ids, meaning_ids, IsIn, first, later, Reaches, itself, named_by}

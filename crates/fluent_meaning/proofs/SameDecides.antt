@@ -1,14 +1,13 @@
 -- The test by which two patterns are the same holds exactly where they are equal.
-use Rattle.std.proofs.Common.{◌≡◌, Bool, true, false, Option, Some, None, refl, sym, ◌∙◌, Decides}
+use Rattle.std.proofs.Common.{◌≡◌, Bool, false, refl, sym, ◌∙◌, Decides}
 use Rattle.std.specs.Prelude.{◌&&◌}
 use Rattle.std.proofs.lemmas.Bool.{false≢true}
 use Rattle.std.proofs.lemmas.Bool.Decides.{Decides-and}
 use Rattle.std.proofs.lemmas.Slice.Eq.{bytes_eq-Decides}
-use Rattle.fluent_grammar.specs.Words.{Text}
 use Rattle.fluent_grammar.specs.Tree as t
 use Rattle.fluent_grammar.specs.Tree.{Elements, no_elements, text, placeable, Expression, select, inline, Variants, no_variants, variant, Inline, Arguments, arguments, Inlines, no_inlines, positional, Nameds, no_nameds, named, VariantKey, identifier_key, number_key, MaybeArguments, no_arguments, with_arguments}
 use Rattle.std.specs.Str.{bytes_eq}
-use Rattle.fluent_meaning.specs.Matching.{same_bool, same_option}
+use Rattle.fluent_value.proofs.Decided.{option-decides, bool-decides}
 use Rattle.fluent_meaning.specs.Same.{same_key, same_elements, same_expression, same_variants, same_inline, same_maybe, same_arguments, same_inlines, same_nameds}
 
 -- a test that fails decides what can't be
@@ -21,18 +20,6 @@ by_one a d to from = (λ holds. to (d.0 holds), λ r. d.1 (from r))
 
 by_two : {P Q R : Type 0} (a b : Bool) → Decides a P → Decides b Q → (P → Q → R) → (R → P) → (R → Q) → Decides (a && b) R
 by_two a b d e to first second = let both = Decides-and a b d e in (λ holds. let p = both.0 holds in to p.0 p.1, λ r. both.1 (first r, second r))
-
-pub option-decides : (a b : Option Text) → Decides (same_option bytes_eq a b) (a ≡ b)
-option-decides None None = (λ _. refl, λ _. refl)
-option-decides None (Some s) = apart _ refl (λ h. cc)
-option-decides (Some s) None = apart _ refl (λ h. cc)
-option-decides (Some s) (Some x) = by_one _ (bytes_eq-Decides s x) (λ p. cc) (λ h. cc)
-
-pub bool-decides : (a b : Bool) → Decides (same_bool a b) (a ≡ b)
-bool-decides true true = (λ _. refl, λ _. refl)
-bool-decides true false = apart _ refl (λ h. cc)
-bool-decides false true = apart _ refl (λ h. cc)
-bool-decides false false = (λ _. refl, λ _. refl)
 
 pub key-decides : (a b : VariantKey) → Decides (same_key a b) (a ≡ b)
 key-decides (identifier_key s) (identifier_key x) = by_one _ (bytes_eq-Decides s x) (λ p. cc) (λ h. cc)
@@ -65,9 +52,9 @@ mutual
   inline-decides (t.string_literal s) (t.string_literal x) = by_one _ (bytes_eq-Decides s x) (λ p. cc) (λ h. cc)
   inline-decides (t.number_literal s) (t.number_literal x) = by_one _ (bytes_eq-Decides s x) (λ p. cc) (λ h. cc)
   inline-decides (t.function_reference s a) (t.function_reference x b) = by_two _ _ (bytes_eq-Decides s x) (arguments-decides a b) (λ p q. cc) (λ h. cc) (λ h. cc)
-  inline-decides (t.message_reference s a) (t.message_reference x b) = by_two _ _ (bytes_eq-Decides s x) (option-decides a b) (λ p q. cc) (λ h. cc) (λ h. cc)
+  inline-decides (t.message_reference s a) (t.message_reference x b) = by_two _ _ (bytes_eq-Decides s x) (option-decides bytes_eq bytes_eq-Decides a b) (λ p q. cc) (λ h. cc) (λ h. cc)
   inline-decides (t.term_reference s a c) (t.term_reference x b d) =
-      by_two _ _ (bytes_eq-Decides s x) (Decides-and _ _ (option-decides a b) (maybe-decides c d))
+      by_two _ _ (bytes_eq-Decides s x) (Decides-and _ _ (option-decides bytes_eq bytes_eq-Decides a b) (maybe-decides c d))
       (λ p q. let a = q.0 in let b = q.1 in cc) (λ h. cc) (λ h. (cc, cc))
   inline-decides (t.variable_reference s) (t.variable_reference x) = by_one _ (bytes_eq-Decides s x) (λ p. cc) (λ h. cc)
   inline-decides (t.nested e) (t.nested f) = by_one _ (expression-decides e f) (λ p. cc) (λ h. cc)

@@ -23,7 +23,7 @@ none_more n = omega arith
 none_of_both : (n : ℕ) → n + (0 + 0) ≡ n
 none_of_both n = omega arith
 
-nothing_told : (o : Option (List Reported)) → option_map (λ es. es ++ map unresolved []) o ≡ o
+pub nothing_told : (o : Option (List Reported)) → option_map (λ es. es ++ map unresolved []) o ≡ o
 nothing_told None = refl
 nothing_told (Some es) = ap Some (append-nil es)
 

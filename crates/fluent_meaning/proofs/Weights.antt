@@ -10,7 +10,7 @@ use Rattle.fluent_grammar.specs.Tree.{Elements}
 use Rattle.fluent_errors.specs.Errors.{Unresolved, no_value, unknown, to_message, to_term}
 use Rattle.fluent_value.specs.Value.{Value}
 use Rattle.fluent_meaning.specs.Choice.{chosen, first_match, first_default, key_value, is_choice, or_else}
-use Rattle.fluent_meaning.specs.Matching.{Plurals, matches}
+use Rattle.fluent_value.specs.Matching.{Plurals, matches}
 use Rattle.fluent_meaning.specs.Ids.{Ids, Meaning, number_function, function, message, term, find, attribute_named}
 use Rattle.fluent_meaning.specs.Substitution.{Target, there, missing, there_or, message_target, term_target}
 use Rattle.fluent_meaning.specs.WeightLaws.{MessagesWeigh, TermsWeigh, VariantsWeigh}

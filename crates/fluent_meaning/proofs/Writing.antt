@@ -23,7 +23,7 @@ byte-byte p m n k l e h = omega (arith, h)
 bytes-then : (p m n : ℕ) (xs ys : List Unresolved) → in_byte (in_byte (p + (m + times_too_many xs)) + (n + times_too_many ys)) ≡ in_byte (p + ((m + n) + times_too_many (xs ++ ys)))
 bytes-then p m n xs ys = byte-byte p m n (times_too_many xs) (times_too_many ys) (times_too_many (xs ++ ys)) (times-append xs ys)
 
-told-told : (o : Option (List Reported)) (xs ys : List Unresolved) → option_map (λ es. es ++ map unresolved ys) (option_map (λ es. es ++ map unresolved xs) o) ≡ option_map (λ es. es ++ map unresolved (xs ++ ys)) o
+pub told-told : (o : Option (List Reported)) (xs ys : List Unresolved) → option_map (λ es. es ++ map unresolved ys) (option_map (λ es. es ++ map unresolved xs) o) ≡ option_map (λ es. es ++ map unresolved (xs ++ ys)) o
 told-told None xs ys = refl
 told-told (Some es) xs ys = ap Some (append_assoc es (map unresolved xs) (map unresolved ys) ∙ ap (λ z. es ++ z) (sym (map-append unresolved xs ys)))
 

@@ -2,7 +2,7 @@
 use Rattle.std.specs.Prelude.{Bool, true, false, if◌then◌else◌, Option, Some, None}
 use Rattle.fluent_grammar.specs.Tree.{Elements, Variants, no_variants, variant, VariantKey, identifier_key, number_key}
 use Rattle.fluent_value.specs.Value.{Value, text, number, custom, none, error, number_or_text}
-use Rattle.fluent_meaning.specs.Matching.{Plurals, matches}
+use Rattle.fluent_value.specs.Matching.{Plurals, matches}
 
 -- what a variant's key stands for: a number is read as texts are, and is else a text
 abbrev pub key_value : {S : Type 0} → VariantKey → Value S

@@ -3,8 +3,8 @@ use Rattle.std.specs.Prelude.{Bool, List, Option}
 use Rattle.fluent_grammar.specs.Words.{Text}
 use Rattle.fluent_value.specs.Value.{Value}
 use Rattle.fluent_meaning.specs.Ids.{Meaning}
-use Rattle.fluent_meaning.specs.Matching.{Plurals}
-use Rattle.fluent_meaning.specs.Shown.{shown_text}
+use Rattle.fluent_value.specs.Matching.{Plurals}
+use Rattle.fluent_value.specs.Shown.{shown_text}
 
 -- S is what a value of a program's own type means, and F what a function of the program means.
 pub record Environment (S : Type 0) (F : Type 0) : Type 0 where

@@ -1,7 +1,5 @@
 pub mod Ids
 pub mod IdsLaws
-pub mod Matching
-pub mod Shown
 pub mod Environment
 pub mod Same
 pub mod Choice
@@ -14,6 +12,7 @@ pub mod Unlimited
 pub mod Reach
 pub mod Work
 pub mod Told
+pub mod Refused
 pub mod ReachLaws
 pub mod UnlimitedLaws
 pub mod WorkLaws

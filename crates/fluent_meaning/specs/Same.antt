@@ -3,7 +3,7 @@ use Rattle.std.specs.Prelude.{Bool, true, false, ◌&&◌}
 use Rattle.std.specs.Str.{bytes_eq}
 use Rattle.fluent_grammar.specs.Tree as t
 use Rattle.fluent_grammar.specs.Tree.{Elements, no_elements, text, placeable, Expression, select, inline, Variants, no_variants, variant, Inline, Arguments, arguments, Inlines, no_inlines, positional, Nameds, no_nameds, named, VariantKey, identifier_key, number_key, MaybeArguments, no_arguments, with_arguments}
-use Rattle.fluent_meaning.specs.Matching.{same_bool, same_option}
+use Rattle.fluent_value.specs.Matching.{same_bool, same_option}
 
 abbrev pub same_key : VariantKey → VariantKey → Bool
 same_key (identifier_key s) (identifier_key x) = bytes_eq s x

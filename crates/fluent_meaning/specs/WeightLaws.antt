@@ -5,7 +5,7 @@ use Rattle.fluent_grammar.specs.Tree.{Elements, Variants, Inline, select}
 use Rattle.fluent_value.specs.Value.{Value}
 use Rattle.fluent_meaning.specs.Choice.{chosen}
 use Rattle.fluent_meaning.specs.Ids.{Ids, find}
-use Rattle.fluent_meaning.specs.Matching.{Plurals}
+use Rattle.fluent_value.specs.Matching.{Plurals}
 use Rattle.fluent_meaning.specs.Substitution.{there, message_target, term_target}
 use Rattle.fluent_meaning.specs.Weight.{elements_weight, expression_weight, ids_weight}
 
