@@ -19,7 +19,7 @@ use Rattle.std.specs.Fmt.{digits}
 use Rattle.fluent_number.specs.Text.{number_text}
 use Rattle.fluent_number.specs.Reading.{read_number}
 use Rattle.fluent_number.specs.Operands.{operands_of}
-use Rattle.fluent_meaning.specs.Substitution.{answer_written, answer_handed, arguments_found, reference_written, unmarked_written, outset, most_placeables}
+use Rattle.fluent_meaning.specs.Substitution.{answer_written, answer_handed, arguments_found, missed_written, reference_written, unmarked_written, outset, most_placeables}
 use Rattle.fluent_meaning.specs.Work.{placeables_of}
 
 -- opens the definitions of reading, of numbers and of resolving
@@ -271,6 +271,14 @@ arguments_by_place_and_by_name :
     ≡ record { positional = number (number_from_integer (pos 1)) ∷ []; named = (codes "v", number (number_from_integer (pos 2))) ∷ [] }
 unfolding resolving
 arguments_by_place_and_by_name = refl
+
+an_attribute_that_is_missed_is_told : told (missed_written nowhere (t.term_reference (codes "b") (Some (codes "c")) t.no_arguments) (may_open most_placeables)) ≡ (codes "{-b.c}", codes "Unknown attribute: -b.c" ∷ [])
+unfolding resolving
+an_attribute_that_is_missed_is_told = refl
+
+a_text_refers_to_nothing : told (missed_written nowhere (t.string_literal (codes "x")) (may_open most_placeables)) ≡ (codes "{\"x\"}", [])
+unfolding resolving
+a_text_refers_to_nothing = refl
 
 abbrev letter : t.Expression
 letter = t.inline (t.string_literal (codes "y"))

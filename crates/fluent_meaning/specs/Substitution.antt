@@ -5,7 +5,7 @@ use Rattle.fluent_grammar.specs.Words.{Text, dollar}
 use Rattle.fluent_grammar.specs.Escapes.{unescaped}
 use Rattle.fluent_grammar.specs.Tree as t
 use Rattle.fluent_grammar.specs.Tree.{Elements, no_elements, text, placeable, Expression, select, inline, Variants, Inline, Arguments, arguments, Inlines, no_inlines, positional, Nameds, no_nameds, named, MaybeArguments, no_arguments, with_arguments}
-use Rattle.fluent_errors.specs.Errors.{to_function, to_message, to_term, to_variable, Unresolved, unknown, no_value, missing_default, cyclic, too_many_placeables}
+use Rattle.fluent_errors.specs.Errors.{Reference, reference_of, to_function, to_message, to_term, to_variable, Unresolved, unknown, no_value, missing_default, cyclic, too_many_placeables}
 use Rattle.fluent_value.specs.Args.{argument, all_set}
 use Rattle.fluent_value.specs.Builtins.{number_called}
 use Rattle.fluent_value.specs.Value as v
@@ -31,9 +31,11 @@ pub record Place (S : Type 0) : Type 0 where
 abbrev pub outset : {S : Type 0} → List (Text × Value S) → Place S
 outset args = record { arguments = args; locals = None; path = [] }
 
+-- whether a pattern of this content is being written
 abbrev pub is_on_path : Elements → List Elements → Bool
 is_on_path es path = list_any (same_elements es) path
 
+-- with a pattern more on the path
 abbrev pub deeper : {S : Type 0} → Elements → Place S → Place S
 deeper es place = record { arguments = place.arguments; locals = place.locals; path = place.path ++ es ∷ [] }
 
@@ -45,6 +47,7 @@ rooted_path whole (es ∷ path) = es ∷ path
 abbrev pub rooted : {S : Type 0} → Elements → Place S → Place S
 rooted whole place = record { arguments = place.arguments; locals = place.locals; path = rooted_path whole place.path }
 
+-- inside a term that was given these arguments
 abbrev pub in_term : {S : Type 0} → List (Text × Value S) → Place S → Place S
 in_term given place = record { arguments = place.arguments; locals = Some given; path = place.path }
 
@@ -118,6 +121,14 @@ module _ {S F : Type 0} (env : Environment S F) where
   -- the fallback in braces
   abbrev pub fallen_back : Inline → Unresolved → Budget → Done Text
   fallen_back i e b = faulty (braced (inline_fallback i)) e b
+
+  -- the fallback in braces, told where the expression refers to something
+  abbrev pub missed : Inline → Option Reference → Budget → Done Text
+  missed i None b = done (braced (inline_fallback i)) b
+  missed i (Some r) b = fallen_back i (unknown r) b
+
+  abbrev pub missed_written : Inline → Budget → Done Text
+  missed_written i b = missed i (reference_of i) b
 
   -- a reference to a pattern, by the expression that refers to it
   abbrev pub referred : Writer Elements → Inline → Elements → Place S → Budget → Done Text
@@ -239,6 +250,7 @@ module _ {S F : Type 0} (env : Environment S F) where
   placeable_with write whole e place (may_open zero) = faulty [] too_many_placeables shut
   placeable_with write whole e place (may_open (suc k)) = opening (surrounded (is_isolated whole e) (unmarked_with write whole e place (may_open k)))
 
+  -- a text of a pattern: nothing once shut
   abbrev pub text_written : Text → Budget → Done Text
   text_written s (may_open k) = done (env.transformed s) (may_open k)
   text_written s shut = done [] shut
