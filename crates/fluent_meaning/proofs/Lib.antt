@@ -9,6 +9,7 @@ pub mod States
 pub mod Opening
 pub mod Refusals
 pub mod Weights
+pub mod Measures
 mod Rows
 pub mod SameDecides
 pub mod Reached
