@@ -1,6 +1,5 @@
 mod Rows
 mod Lists
-mod Same
 mod NoTree
 mod Injective
 mod OneTree

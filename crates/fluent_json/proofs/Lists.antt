@@ -3,12 +3,12 @@ use Rattle.std.proofs.Common.{◌≡◌, ℕ, ◌+◌, ◌<◌, ◌≤◌, List,
 use Rattle.std.proofs.lemmas.List.{take_more, take_all, map-append}
 use Rattle.serde_json.specs.Data.{Data, item}
 use Rattle.serde_json.specs.View.{items_of}
-use Rattle.fluent_syntax.specs.Tree as t
+use Rattle.fluent_grammar.specs.Tree as t
 use Rattle.fluent_ast.specs.declared.InlineExpression.{InlineExpression}
 use Rattle.fluent_ast.specs.declared.PatternElement.{PatternElement}
 use Rattle.fluent_ast.specs.declared.Variant.{Variant as VariantOf}
 use Rattle.fluent_ast.specs.declared.NamedArgument.{NamedArgument}
-use Rattle.fluent_syntax.specs.View.{Element, text, placeable, Variant, Named, elements_of, variants_of, inlines_of, nameds_of, element_view, variant_view, inline_view, named_view}
+use Rattle.fluent_ast.specs.View.{Element, text, placeable, Variant, Named, elements_of, variants_of, inlines_of, nameds_of, element_view, variant_view, inline_view, named_view}
 use Rattle.fluent_json.specs.Json.{each, json_elements, json_variants, json_positional, json_named, json_inline}
 use Rattle.fluent_json.specs.Parts.{json_element, json_variant, json_one_named, element_json, elements_json, variant_json, variants_json, inline_json, positional_json, named_json, nameds_json}
 

@@ -6,8 +6,8 @@ use Rattle.serde_json.specs.Data.{Data, string, Items, item, depth, items_depth}
 use Rattle.serde_json.specs.Find.{as_null, as_str}
 use Rattle.serde_json.specs.View.{view, items_of, items_view}
 use Rattle.serde_json.specs.declared.value.Value.{Value}
-use Rattle.fluent_syntax.specs.Tree as t
-use Rattle.fluent_syntax.specs.View as v
+use Rattle.fluent_grammar.specs.Tree as t
+use Rattle.fluent_ast.specs.View as v
 use Rattle.fluent_json.specs.declared.error.FromValueError.{FromValueError}
 use Rattle.fluent_json.specs.declared.error.FromValueError.TheVariants.{Shape}
 use Rattle.fluent_json.specs.Json.{HasNone, json, resource, message, term, comment, group_comment, resource_comment, junk, json_entry, each, or_null, json_key, json_elements, json_expression, json_variants, json_inline, json_arguments, json_maybe_arguments, json_positional, json_named, identifier, text_element, placeable, select, string_literal, number_literal, function_reference, message_reference, term_reference, variable_reference, call_arguments}

@@ -2,7 +2,7 @@
 use Rattle.std.proofs.Common.{◌≡◌, List, Result, Ok, Err, String, Global, sym, ◌∙◌}
 use Rattle.std.specs.Prelude.{IfOk}
 use Rattle.serde_json.specs.Data.{Data}
-use Rattle.fluent_syntax.specs.Tree.{Entry}
+use Rattle.fluent_grammar.specs.Tree.{Entry}
 use Rattle.fluent_ast.specs.declared.Resource.{Resource}
 use Rattle.fluent_json.specs.declared.error.FromValueError.{FromValueError}
 use Rattle.fluent_json.specs.Json.{json}

@@ -3,8 +3,8 @@ use Rattle.std.specs.Prelude.{◌≡◌, List, [], ◌∷◌, Some, None, codes,
 use Rattle.serde_json.specs.Data.{string, array, object, no_items, no_members, member}
 use Rattle.serde_json.specs.Written.{compact_text}
 use Rattle.serde_json.proofs.OnLiterals.{serde_json_on_literals}
-use Rattle.fluent_syntax.specs.Tree as t
-use Rattle.fluent_syntax.specs.Tree.{Entry}
+use Rattle.fluent_grammar.specs.Tree as t
+use Rattle.fluent_grammar.specs.Tree.{Entry}
 use Rattle.fluent_json.specs.Json.{json}
 
 empty : json [] ≡ object (member (codes "body") (array no_items) (member (codes "type") (string (codes "Resource")) no_members))

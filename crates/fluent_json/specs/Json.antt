@@ -1,8 +1,8 @@
 -- The JSON value of a tree, as `docs/json.md` has it in a table.
 use Rattle.std.specs.Prelude.{◌≡◌, ◌≢◌, ℕ, Bool, List, [], ◌∷◌, Option, Some, None, codes}
 use Rattle.serde_json.specs.Data.{Data, null, boolean, string, array, object, Items, no_items, item, Members, no_members, put}
-use Rattle.fluent_syntax.specs.Tree as t
-use Rattle.fluent_syntax.specs.Tree.{VariantKey, Elements, Expression, Variants, Inline, MaybeArguments, Arguments, Inlines, Nameds, Attribute, Entry}
+use Rattle.fluent_grammar.specs.Tree as t
+use Rattle.fluent_grammar.specs.Tree.{VariantKey, Elements, Expression, Variants, Inline, MaybeArguments, Arguments, Inlines, Nameds, Attribute, Entry}
 
 -- a key and its value
 abbrev pub Member : Type 0

@@ -1,9 +1,9 @@
 -- The JSON values of the parts of a tree whose texts are `String`s.
-use Rattle.std.specs.Prelude.{List, Option, option_map, map, String, string_bytes}
+use Rattle.std.specs.Prelude.{ℕ, List, [], ◌∷◌, Option, option_map, map, String, string_bytes, codes}
 use Rattle.std.specs.declared.alloc.Global.{Global}
-use Rattle.serde_json.specs.Data.{Data, string, Items}
-use Rattle.fluent_syntax.specs.Tree as t
-use Rattle.fluent_syntax.specs.View as v
+use Rattle.serde_json.specs.Data.{Data, string, array, Items}
+use Rattle.fluent_grammar.specs.Tree as t
+use Rattle.fluent_ast.specs.View as v
 use Rattle.fluent_ast.specs.declared.Resource.{Resource}
 use Rattle.fluent_ast.specs.declared.Entry.{Entry}
 use Rattle.fluent_ast.specs.declared.Message.{Message}
@@ -19,7 +19,7 @@ use Rattle.fluent_ast.specs.declared.Pattern.{Pattern}
 use Rattle.fluent_ast.specs.declared.Variant.{Variant}
 use Rattle.fluent_ast.specs.declared.CallArguments.{CallArguments}
 use Rattle.fluent_ast.specs.declared.NamedArgument.{NamedArgument}
-use Rattle.fluent_json.specs.Json.{each, or_null, json_maybe_arguments, json_key, json_expression, json_inline, json_arguments, json_pattern, json_attribute, json_comment, json_entry, json_elements, json_variants, json_positional, json_named, identifier, text_element, placeable, variant, named_argument}
+use Rattle.fluent_json.specs.Json.{each, or_null, json_maybe_arguments, json_key, json_expression, json_inline, json_arguments, json_pattern, json_attribute, json_comment, json_entry, json_elements, json_variants, json_positional, json_named, node, identifier, variable_reference, text_element, placeable, variant, named_argument}
 
 abbrev Text : Type 0
 Text = String Global
@@ -75,6 +75,17 @@ attribute_json a = json_attribute (v.attribute_view Text string_bytes a)
 abbrev pub comment_json : Comment Text → Data
 comment_json c = json_comment (v.comment_view Text string_bytes c)
 
+-- a comment of some type
+abbrev pub commented_json : List ℕ → Comment Text → Data
+commented_json kind c = node kind ((codes "content", array (each string (v.comment_view Text string_bytes c))) ∷ [])
+
+-- an object of some type, whose value is a text
+abbrev pub text_json : List ℕ → List ℕ → Data
+text_json kind text = node kind ((codes "value", string text) ∷ [])
+
+abbrev pub variable_json : Identifier Text → Data
+variable_json i = variable_reference (identifier_json i)
+
 abbrev pub entry_json : Entry Text → Data
 entry_json e = json_entry (v.entry_view Text string_bytes e)
 
@@ -89,6 +100,9 @@ lines_json lines = each string (map string_bytes lines)
 
 abbrev pub attributes_json : List (Attribute Text) → Items
 attributes_json list = each json_attribute (map (v.attribute_view Text string_bytes) list)
+
+abbrev pub entries_json : List (Entry Text) → Items
+entries_json es = each json_entry (map (v.entry_view Text string_bytes) es)
 
 abbrev pub elements_json : List (PatternElement Text) → Items
 elements_json es = json_elements (v.elements_of (map (v.element_view Text string_bytes) es))

@@ -8,7 +8,7 @@
 mod error;
 pub mod laws;
 mod members;
-mod objects;
+mod object;
 mod parts;
 mod read;
 mod write;

@@ -8,18 +8,16 @@ ghost use Rattle.serde_json.specs.Data.{Data, Items};
 ghost use Rattle.serde_json.specs.View.{view, items_view};
 ghost use Rattle.fluent_json.specs.Json as object;
 
-use crate::members::Members;
+use crate::members::{five, four, is_text, three, two};
 use serde_json::Value;
 
 pub(crate) fn resource(value: &Value) -> Option<&[Value]>
     ensures some { IfSome result (λ part. view value.now ≡ object.resource (items_view part.now)) }
     ensures none { IfNone result ((body : Items) → view value.now ≢ object.resource body) }
 {
-    let mut members = Members::of(value)?;
-    let body = members.take_array("body")?;
-    members.take_type("Resource")?;
-    members.end()?;
-    Some(body)
+    let (body, kind) = two(value, "body", "type")?;
+    is_text(kind, "Resource")?;
+    Some(body.as_array()?.as_slice())
 }
 
 pub(crate) fn message(value: &Value) -> Option<(&Value, &Value, &[Value], &Value)>
@@ -28,14 +26,16 @@ pub(crate) fn message(value: &Value) -> Option<(&Value, &Value, &[Value], &Value
     ensures none { IfNone result ((id : Data) (value' : Data) (attributes : Items) (comment : Data)
         → view value.now ≢ object.message id value' attributes comment) }
 {
-    let mut members = Members::of(value)?;
-    let attributes = members.take_array("attributes")?;
-    let comment = members.take("comment")?;
-    let id = members.take("id")?;
-    members.take_type("Message")?;
-    let inner = members.take("value")?;
-    members.end()?;
-    Some((id, inner, attributes, comment))
+    let (attributes, comment, id, kind, inner) = five(
+        value,
+        "attributes",
+        "comment",
+        "id",
+        "type",
+        "value",
+    )?;
+    is_text(kind, "Message")?;
+    Some((id, inner, attributes.as_array()?.as_slice(), comment))
 }
 
 pub(crate) fn term(value: &Value) -> Option<(&Value, &Value, &[Value], &Value)>
@@ -44,25 +44,25 @@ pub(crate) fn term(value: &Value) -> Option<(&Value, &Value, &[Value], &Value)>
     ensures none { IfNone result ((id : Data) (value' : Data) (attributes : Items) (comment : Data)
         → view value.now ≢ object.term id value' attributes comment) }
 {
-    let mut members = Members::of(value)?;
-    let attributes = members.take_array("attributes")?;
-    let comment = members.take("comment")?;
-    let id = members.take("id")?;
-    members.take_type("Term")?;
-    let inner = members.take("value")?;
-    members.end()?;
-    Some((id, inner, attributes, comment))
+    let (attributes, comment, id, kind, inner) = five(
+        value,
+        "attributes",
+        "comment",
+        "id",
+        "type",
+        "value",
+    )?;
+    is_text(kind, "Term")?;
+    Some((id, inner, attributes.as_array()?.as_slice(), comment))
 }
 
 pub(crate) fn comment(value: &Value) -> Option<&[Value]>
     ensures some { IfSome result (λ part. view value.now ≡ object.comment (items_view part.now)) }
     ensures none { IfNone result ((content : Items) → view value.now ≢ object.comment content) }
 {
-    let mut members = Members::of(value)?;
-    let content = members.take_array("content")?;
-    members.take_type("Comment")?;
-    members.end()?;
-    Some(content)
+    let (content, kind) = two(value, "content", "type")?;
+    is_text(kind, "Comment")?;
+    Some(content.as_array()?.as_slice())
 }
 
 pub(crate) fn group_comment(value: &Value) -> Option<&[Value]>
@@ -71,11 +71,9 @@ pub(crate) fn group_comment(value: &Value) -> Option<&[Value]>
     ensures none { IfNone result ((content : Items)
         → view value.now ≢ object.group_comment content) }
 {
-    let mut members = Members::of(value)?;
-    let content = members.take_array("content")?;
-    members.take_type("GroupComment")?;
-    members.end()?;
-    Some(content)
+    let (content, kind) = two(value, "content", "type")?;
+    is_text(kind, "GroupComment")?;
+    Some(content.as_array()?.as_slice())
 }
 
 pub(crate) fn resource_comment(value: &Value) -> Option<&[Value]>
@@ -84,33 +82,27 @@ pub(crate) fn resource_comment(value: &Value) -> Option<&[Value]>
     ensures none { IfNone result ((content : Items)
         → view value.now ≢ object.resource_comment content) }
 {
-    let mut members = Members::of(value)?;
-    let content = members.take_array("content")?;
-    members.take_type("ResourceComment")?;
-    members.end()?;
-    Some(content)
+    let (content, kind) = two(value, "content", "type")?;
+    is_text(kind, "ResourceComment")?;
+    Some(content.as_array()?.as_slice())
 }
 
 pub(crate) fn junk(value: &Value) -> Option<&str>
     ensures some { IfSome result (λ part. view value.now ≡ object.junk part.now) }
     ensures none { IfNone result ((content : List ℕ) → view value.now ≢ object.junk content) }
 {
-    let mut members = Members::of(value)?;
-    let content = members.take_text("content")?;
-    members.take_type("Junk")?;
-    members.end()?;
-    Some(content)
+    let (content, kind) = two(value, "content", "type")?;
+    is_text(kind, "Junk")?;
+    content.as_str()
 }
 
 pub(crate) fn identifier(value: &Value) -> Option<&str>
     ensures some { IfSome result (λ part. view value.now ≡ object.identifier part.now) }
     ensures none { IfNone result ((name : List ℕ) → view value.now ≢ object.identifier name) }
 {
-    let mut members = Members::of(value)?;
-    let name = members.take_text("name")?;
-    members.take_type("Identifier")?;
-    members.end()?;
-    Some(name)
+    let (name, kind) = two(value, "name", "type")?;
+    is_text(kind, "Identifier")?;
+    name.as_str()
 }
 
 pub(crate) fn attribute(value: &Value) -> Option<(&Value, &Value)>
@@ -119,11 +111,8 @@ pub(crate) fn attribute(value: &Value) -> Option<(&Value, &Value)>
     ensures none { IfNone result ((id : Data) (value' : Data)
         → view value.now ≢ object.attribute id value') }
 {
-    let mut members = Members::of(value)?;
-    let id = members.take("id")?;
-    members.take_type("Attribute")?;
-    let inner = members.take("value")?;
-    members.end()?;
+    let (id, kind, inner) = three(value, "id", "type", "value")?;
+    is_text(kind, "Attribute")?;
     Some((id, inner))
 }
 
@@ -131,22 +120,18 @@ pub(crate) fn pattern(value: &Value) -> Option<&[Value]>
     ensures some { IfSome result (λ part. view value.now ≡ object.pattern (items_view part.now)) }
     ensures none { IfNone result ((elements : Items) → view value.now ≢ object.pattern elements) }
 {
-    let mut members = Members::of(value)?;
-    let elements = members.take_array("elements")?;
-    members.take_type("Pattern")?;
-    members.end()?;
-    Some(elements)
+    let (elements, kind) = two(value, "elements", "type")?;
+    is_text(kind, "Pattern")?;
+    Some(elements.as_array()?.as_slice())
 }
 
 pub(crate) fn text_element(value: &Value) -> Option<&str>
     ensures some { IfSome result (λ part. view value.now ≡ object.text_element part.now) }
     ensures none { IfNone result ((value' : List ℕ) → view value.now ≢ object.text_element value') }
 {
-    let mut members = Members::of(value)?;
-    members.take_type("TextElement")?;
-    let inner = members.take_text("value")?;
-    members.end()?;
-    Some(inner)
+    let (kind, inner) = two(value, "type", "value")?;
+    is_text(kind, "TextElement")?;
+    inner.as_str()
 }
 
 pub(crate) fn placeable(value: &Value) -> Option<&Value>
@@ -154,10 +139,8 @@ pub(crate) fn placeable(value: &Value) -> Option<&Value>
     ensures none { IfNone result ((expression : Data)
         → view value.now ≢ object.placeable expression) }
 {
-    let mut members = Members::of(value)?;
-    let expression = members.take("expression")?;
-    members.take_type("Placeable")?;
-    members.end()?;
+    let (expression, kind) = two(value, "expression", "type")?;
+    is_text(kind, "Placeable")?;
     Some(expression)
 }
 
@@ -167,12 +150,9 @@ pub(crate) fn select(value: &Value) -> Option<(&Value, &[Value])>
     ensures none { IfNone result ((selector : Data) (variants : Items)
         → view value.now ≢ object.select selector variants) }
 {
-    let mut members = Members::of(value)?;
-    let selector = members.take("selector")?;
-    members.take_type("Select")?;
-    let variants = members.take_array("variants")?;
-    members.end()?;
-    Some((selector, variants))
+    let (selector, kind, variants) = three(value, "selector", "type", "variants")?;
+    is_text(kind, "Select")?;
+    Some((selector, variants.as_array()?.as_slice()))
 }
 
 pub(crate) fn variant(value: &Value) -> Option<(&Value, &Value, bool)>
@@ -181,13 +161,9 @@ pub(crate) fn variant(value: &Value) -> Option<(&Value, &Value, bool)>
     ensures none { IfNone result ((key : Data) (value' : Data) (default : Bool)
         → view value.now ≢ object.variant key value' default) }
 {
-    let mut members = Members::of(value)?;
-    let default = members.take_bool("default")?;
-    let key = members.take("key")?;
-    members.take_type("Variant")?;
-    let inner = members.take("value")?;
-    members.end()?;
-    Some((key, inner, default))
+    let (default, key, kind, inner) = four(value, "default", "key", "type", "value")?;
+    is_text(kind, "Variant")?;
+    Some((key, inner, default.as_bool()?))
 }
 
 pub(crate) fn string_literal(value: &Value) -> Option<&str>
@@ -195,11 +171,9 @@ pub(crate) fn string_literal(value: &Value) -> Option<&str>
     ensures none { IfNone result ((value' : List ℕ)
         → view value.now ≢ object.string_literal value') }
 {
-    let mut members = Members::of(value)?;
-    members.take_type("StringLiteral")?;
-    let inner = members.take_text("value")?;
-    members.end()?;
-    Some(inner)
+    let (kind, inner) = two(value, "type", "value")?;
+    is_text(kind, "StringLiteral")?;
+    inner.as_str()
 }
 
 pub(crate) fn number_literal(value: &Value) -> Option<&str>
@@ -207,11 +181,9 @@ pub(crate) fn number_literal(value: &Value) -> Option<&str>
     ensures none { IfNone result ((value' : List ℕ)
         → view value.now ≢ object.number_literal value') }
 {
-    let mut members = Members::of(value)?;
-    members.take_type("NumberLiteral")?;
-    let inner = members.take_text("value")?;
-    members.end()?;
-    Some(inner)
+    let (kind, inner) = two(value, "type", "value")?;
+    is_text(kind, "NumberLiteral")?;
+    inner.as_str()
 }
 
 pub(crate) fn function_reference(value: &Value) -> Option<(&Value, &Value)>
@@ -220,11 +192,8 @@ pub(crate) fn function_reference(value: &Value) -> Option<(&Value, &Value)>
     ensures none { IfNone result ((id : Data) (arguments : Data)
         → view value.now ≢ object.function_reference id arguments) }
 {
-    let mut members = Members::of(value)?;
-    let arguments = members.take("arguments")?;
-    let id = members.take("id")?;
-    members.take_type("FunctionReference")?;
-    members.end()?;
+    let (arguments, id, kind) = three(value, "arguments", "id", "type")?;
+    is_text(kind, "FunctionReference")?;
     Some((id, arguments))
 }
 
@@ -234,11 +203,8 @@ pub(crate) fn message_reference(value: &Value) -> Option<(&Value, &Value)>
     ensures none { IfNone result ((id : Data) (attribute : Data)
         → view value.now ≢ object.message_reference id attribute) }
 {
-    let mut members = Members::of(value)?;
-    let attribute = members.take("attribute")?;
-    let id = members.take("id")?;
-    members.take_type("MessageReference")?;
-    members.end()?;
+    let (attribute, id, kind) = three(value, "attribute", "id", "type")?;
+    is_text(kind, "MessageReference")?;
     Some((id, attribute))
 }
 
@@ -248,12 +214,8 @@ pub(crate) fn term_reference(value: &Value) -> Option<(&Value, &Value, &Value)>
     ensures none { IfNone result ((id : Data) (attribute : Data) (arguments : Data)
         → view value.now ≢ object.term_reference id attribute arguments) }
 {
-    let mut members = Members::of(value)?;
-    let arguments = members.take("arguments")?;
-    let attribute = members.take("attribute")?;
-    let id = members.take("id")?;
-    members.take_type("TermReference")?;
-    members.end()?;
+    let (arguments, attribute, id, kind) = four(value, "arguments", "attribute", "id", "type")?;
+    is_text(kind, "TermReference")?;
     Some((id, attribute, arguments))
 }
 
@@ -262,10 +224,8 @@ pub(crate) fn variable_reference(value: &Value) -> Option<&Value>
         ≡ object.variable_reference (view part.now)) }
     ensures none { IfNone result ((id : Data) → view value.now ≢ object.variable_reference id) }
 {
-    let mut members = Members::of(value)?;
-    let id = members.take("id")?;
-    members.take_type("VariableReference")?;
-    members.end()?;
+    let (id, kind) = two(value, "id", "type")?;
+    is_text(kind, "VariableReference")?;
     Some(id)
 }
 
@@ -275,12 +235,12 @@ pub(crate) fn call_arguments(value: &Value) -> Option<(&[Value], &[Value])>
     ensures none { IfNone result ((positional : Items) (named : Items)
         → view value.now ≢ object.call_arguments positional named) }
 {
-    let mut members = Members::of(value)?;
-    let named = members.take_array("named")?;
-    let positional = members.take_array("positional")?;
-    members.take_type("CallArguments")?;
-    members.end()?;
-    Some((positional, named))
+    let (named, positional, kind) = three(value, "named", "positional", "type")?;
+    is_text(kind, "CallArguments")?;
+    Some((
+        positional.as_array()?.as_slice(),
+        named.as_array()?.as_slice(),
+    ))
 }
 
 pub(crate) fn named_argument(value: &Value) -> Option<(&Value, &Value)>
@@ -289,10 +249,7 @@ pub(crate) fn named_argument(value: &Value) -> Option<(&Value, &Value)>
     ensures none { IfNone result ((name : Data) (value' : Data)
         → view value.now ≢ object.named_argument name value') }
 {
-    let mut members = Members::of(value)?;
-    let name = members.take("name")?;
-    members.take_type("NamedArgument")?;
-    let inner = members.take("value")?;
-    members.end()?;
+    let (name, kind, inner) = three(value, "name", "type", "value")?;
+    is_text(kind, "NamedArgument")?;
     Some((name, inner))
 }

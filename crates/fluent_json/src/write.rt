@@ -1,12 +1,14 @@
-//! From a tree to its JSON value.
+//! From a tree to its JSON value, object by object: each function makes those of a row of `docs/json.md`.
 
-ghost use Rattle.std.specs.Prelude.{◌≡◌, IfOk};
+ghost use Rattle.std.specs.Prelude.{◌≡◌, [], ◌∷◌, IfOk, codes};
+ghost use Rattle.serde_json.specs.Data.{string, array};
 ghost use Rattle.serde_json.specs.View.{view, items_view};
-ghost use Rattle.fluent_json.specs.Json.{json};
-ghost use Rattle.fluent_json.specs.Parts.{plain, accessor_json, maybe_comment_json, lines_json, identifier_json, key_json, pattern_json, element_json, expression_json, inline_json, variant_json, variants_json, arguments_json, positional_json, named_json, nameds_json, attributes_json, comment_json, message_json, term_json, entry_json};
+ghost use Rattle.fluent_json.specs.Json.{json, members, placeable, message_reference};
+ghost use Rattle.fluent_json.specs.Object.{given};
+ghost use Rattle.fluent_json.specs.Parts.{plain, accessor_json, text_json, variable_json, maybe_comment_json, commented_json, lines_json, identifier_json, key_json, pattern_json, maybe_pattern_json, element_json, elements_json, expression_json, inline_json, variant_json, variants_json, arguments_json, positional_json, named_json, nameds_json, attribute_json, attributes_json, message_json, term_json, entry_json, entries_json};
 
-use crate::objects;
-use fluent_syntax::ast::{
+use crate::object::Object;
+use fluent_ast::{
     Attribute, CallArguments, Comment, Entry, Expression, Identifier, InlineExpression, Message,
     NamedArgument, Pattern, PatternElement, Resource, Term, Variant, VariantKey,
 };
@@ -22,11 +24,18 @@ use std::alloc::{AllocError, Global};
 pub fn to_value(alloc: Global, resource: &Resource<String>) -> Result<Value, AllocError>
     ensures { IfOk result (λ value. view value ≡ json (plain resource.now)) }
 {
-    let mut body = Vec::new(alloc);
-    for entry in &resource.body {
-        body.push(entry_value(alloc, entry)?)?;
+    let body = entry_values(alloc, &resource.body)?;
+    Object::of_type(alloc, "Resource")?.finish("body", Value::Array(body))
+}
+
+fn entry_values(alloc: Global, entries: &[Entry<String>]) -> Result<Vec<Value>, AllocError>
+    ensures { IfOk result (λ values. items_view values.items ≡ entries_json entries.now) }
+{
+    let mut values = Vec::new(alloc);
+    for entry in entries {
+        values.push(entry_value(alloc, entry)?)?;
     }
-    objects::resource(alloc, body)
+    Ok(values)
 }
 
 fn entry_value(alloc: Global, entry: &Entry<String>) -> Result<Value, AllocError>
@@ -35,40 +44,67 @@ fn entry_value(alloc: Global, entry: &Entry<String>) -> Result<Value, AllocError
     match entry {
         Entry::Message(message) => message_value(alloc, message),
         Entry::Term(term) => term_value(alloc, term),
-        Entry::Comment(comment) => comment_value(alloc, comment),
-        Entry::GroupComment(comment) => {
-            let content = line_values(alloc, &comment.content)?;
-            objects::group_comment(alloc, content)
+        Entry::Comment(comment) => comment_value(alloc, "Comment", comment),
+        Entry::GroupComment(comment) => comment_value(alloc, "GroupComment", comment),
+        Entry::ResourceComment(comment) => comment_value(alloc, "ResourceComment", comment),
+        Entry::Junk { content } => {
+            Object::of_type(alloc, "Junk")?.finish_text("content", content.as_str())
         }
-        Entry::ResourceComment(comment) => {
-            let content = line_values(alloc, &comment.content)?;
-            objects::resource_comment(alloc, content)
-        }
-        Entry::Junk { content } => objects::junk(alloc, content.as_str()),
     }
 }
 
 fn message_value(alloc: Global, message: &Message<String>) -> Result<Value, AllocError>
     ensures { IfOk result (λ value. view value ≡ message_json message.now) }
 {
-    let id = identifier_value(alloc, &message.id)?;
-    let value = match &message.value {
-        Some(pattern) => pattern_value(alloc, pattern)?,
-        None => Value::Null,
-    };
-    let attributes = attribute_values(alloc, &message.attributes)?;
-    let comment = comment_or_null(alloc, &message.comment)?;
-    objects::message(alloc, id, value, attributes, comment)
+    let Message {
+        id,
+        value,
+        attributes,
+        comment,
+    } = message;
+    let object = entry_object(alloc, "Message", id, attributes, comment)?;
+    object.finish("value", pattern_or_null(alloc, value)?)
 }
 
 fn term_value(alloc: Global, term: &Term<String>) -> Result<Value, AllocError>
     ensures { IfOk result (λ value. view value ≡ term_json term.now) }
 {
-    let id = identifier_value(alloc, &term.id)?;
-    let value = pattern_value(alloc, &term.value)?;
-    let attributes = attribute_values(alloc, &term.attributes)?;
-    let comment = comment_or_null(alloc, &term.comment)?;
-    objects::term(alloc, id, value, attributes, comment)
+    let Term {
+        id,
+        value,
+        attributes,
+        comment,
+    } = term;
+    let object = entry_object(alloc, "Term", id, attributes, comment)?;
+    object.finish("value", pattern_value(alloc, value)?)
+}
+
+/// The object of a message or a term, without its value.
+fn entry_object(
+    alloc: Global,
+    kind: &str,
+    id: &Identifier<String>,
+    attributes: &[Attribute<String>],
+    comment: &Option<Comment<String>>,
+) -> Result<Object, AllocError>
+    ensures { IfOk result (λ made. given made
+        ≡ members ((codes "type", string kind.now) ∷ (codes "id", identifier_json id.now)
+        ∷ (codes "attributes", array (attributes_json attributes.now))
+        ∷ (codes "comment", maybe_comment_json comment.now) ∷ [])) }
+{
+    let object = identified(alloc, kind, id)?;
+    let object = object.with("comment", comment_or_null(alloc, comment)?)?;
+    let attributes = attribute_values(alloc, attributes)?;
+    object.with("attributes", Value::Array(attributes))
+}
+
+/// An object of this `type` with the identifier of its part.
+fn identified(alloc: Global, kind: &str, id: &Identifier<String>) -> Result<Object, AllocError>
+    ensures { IfOk result (λ made. given made
+        ≡ members ((codes "type", string kind.now) ∷ (codes "id", identifier_json id.now) ∷ [])) }
+{
+    let object = Object::of_type(alloc, kind)?;
+    object.with("id", identifier_value(alloc, id)?)
 }
 
 fn attribute_values(
@@ -79,27 +115,33 @@ fn attribute_values(
 {
     let mut values = Vec::new(alloc);
     for attribute in attributes {
-        let id = identifier_value(alloc, &attribute.id)?;
-        let value = pattern_value(alloc, &attribute.value)?;
-        values.push(objects::attribute(alloc, id, value)?)?;
+        values.push(attribute_value(alloc, attribute)?)?;
     }
     Ok(values)
+}
+
+fn attribute_value(alloc: Global, attribute: &Attribute<String>) -> Result<Value, AllocError>
+    ensures { IfOk result (λ value. view value ≡ attribute_json attribute.now) }
+{
+    let object = identified(alloc, "Attribute", &attribute.id)?;
+    object.finish("value", pattern_value(alloc, &attribute.value)?)
 }
 
 fn comment_or_null(alloc: Global, comment: &Option<Comment<String>>) -> Result<Value, AllocError>
     ensures { IfOk result (λ value. view value ≡ maybe_comment_json comment.now) }
 {
     match comment {
-        Some(comment) => comment_value(alloc, comment),
+        Some(comment) => comment_value(alloc, "Comment", comment),
         None => Ok(Value::Null),
     }
 }
 
-fn comment_value(alloc: Global, comment: &Comment<String>) -> Result<Value, AllocError>
-    ensures { IfOk result (λ value. view value ≡ comment_json comment.now) }
+/// A comment of this `type`.
+fn comment_value(alloc: Global, kind: &str, comment: &Comment<String>) -> Result<Value, AllocError>
+    ensures { IfOk result (λ value. view value ≡ commented_json kind.now comment.now) }
 {
     let content = line_values(alloc, &comment.content)?;
-    objects::comment(alloc, content)
+    Object::of_type(alloc, kind)?.finish("content", Value::Array(content))
 }
 
 fn line_values(alloc: Global, lines: &[String]) -> Result<Vec<Value>, AllocError>
@@ -115,7 +157,7 @@ fn line_values(alloc: Global, lines: &[String]) -> Result<Vec<Value>, AllocError
 fn identifier_value(alloc: Global, id: &Identifier<String>) -> Result<Value, AllocError>
     ensures { IfOk result (λ value. view value ≡ identifier_json id.now) }
 {
-    objects::identifier(alloc, id.name.as_str())
+    Object::of_type(alloc, "Identifier")?.finish_text("name", id.name.as_str())
 }
 
 fn identifier_or_null(alloc: Global, id: &Option<Identifier<String>>) -> Result<Value, AllocError>
@@ -131,8 +173,21 @@ fn key_value(alloc: Global, key: &VariantKey<String>) -> Result<Value, AllocErro
     ensures { IfOk result (λ value. view value ≡ key_json key.now) }
 {
     match key {
-        VariantKey::Identifier { name } => { objects::identifier(alloc, name.as_str()) }
-        VariantKey::NumberLiteral { value } => { objects::number_literal(alloc, value.as_str()) }
+        VariantKey::Identifier { name } => {
+            Object::of_type(alloc, "Identifier")?.finish_text("name", name.as_str())
+        }
+        VariantKey::NumberLiteral { value } => {
+            text_value(alloc, "NumberLiteral", value.as_str())
+        }
+    }
+}
+
+fn pattern_or_null(alloc: Global, pattern: &Option<Pattern<String>>) -> Result<Value, AllocError>
+    ensures { IfOk result (λ value. view value ≡ maybe_pattern_json pattern.now) }
+{
+    match pattern {
+        Some(pattern) => pattern_value(alloc, pattern),
+        None => Ok(Value::Null),
     }
 }
 
@@ -140,11 +195,22 @@ fn key_value(alloc: Global, key: &VariantKey<String>) -> Result<Value, AllocErro
 fn pattern_value(alloc: Global, pattern: &Pattern<String>) -> Result<Value, AllocError>
     ensures { IfOk result (λ value. view value ≡ pattern_json pattern.now) }
 {
-    let mut elements = Vec::new(alloc);
-    for element in &pattern.elements {
-        elements.push(element_value(alloc, element)?)?;
+    let elements = element_values(alloc, &pattern.elements)?;
+    Object::of_type(alloc, "Pattern")?.finish("elements", Value::Array(elements))
+}
+
+#[cycle(write)]
+fn element_values(
+    alloc: Global,
+    elements: &[PatternElement<String>],
+) -> Result<Vec<Value>, AllocError>
+    ensures { IfOk result (λ values. items_view values.items ≡ elements_json elements.now) }
+{
+    let mut values = Vec::new(alloc);
+    for element in elements {
+        values.push(element_value(alloc, element)?)?;
     }
-    objects::pattern(alloc, elements)
+    Ok(values)
 }
 
 #[cycle(write)]
@@ -152,11 +218,10 @@ fn element_value(alloc: Global, element: &PatternElement<String>) -> Result<Valu
     ensures { IfOk result (λ value. view value ≡ element_json element.now) }
 {
     match element {
-        PatternElement::TextElement { value } => { objects::text_element(alloc, value.as_str()) }
-        PatternElement::Placeable { expression } => {
-            let expression = expression_value(alloc, expression)?;
-            objects::placeable(alloc, expression)
+        PatternElement::TextElement { value } => {
+            text_value(alloc, "TextElement", value.as_str())
         }
+        PatternElement::Placeable { expression } => placeable_value(alloc, expression),
     }
 }
 
@@ -166,9 +231,9 @@ fn expression_value(alloc: Global, expression: &Expression<String>) -> Result<Va
 {
     match expression {
         Expression::Select { selector, variants } => {
-            let selector = inline_value(alloc, selector)?;
-            let variants = variant_values(alloc, variants)?;
-            objects::select(alloc, selector, variants)
+            let object = Object::of_type(alloc, "Select")?;
+            let object = object.with("selector", inline_value(alloc, selector)?)?;
+            object.finish("variants", Value::Array(variant_values(alloc, variants)?))
         }
         Expression::Inline(inline) => inline_value(alloc, inline),
     }
@@ -189,10 +254,10 @@ fn variant_values(alloc: Global, variants: &[Variant<String>]) -> Result<Vec<Val
 fn variant_value(alloc: Global, variant: &Variant<String>) -> Result<Value, AllocError>
     ensures { IfOk result (λ value. view value ≡ variant_json variant.now) }
 {
-    let key = key_value(alloc, &variant.key)?;
-    let value = pattern_value(alloc, &variant.value)?;
-    let default = variant.default;
-    objects::variant(alloc, key, value, default)
+    let object = Object::of_type(alloc, "Variant")?;
+    let object = object.with("default", Value::Bool(variant.default))?;
+    let object = object.with("key", key_value(alloc, &variant.key)?)?;
+    object.finish("value", pattern_value(alloc, &variant.value)?)
 }
 
 #[cycle(write)]
@@ -201,52 +266,93 @@ fn inline_value(alloc: Global, inline: &InlineExpression<String>) -> Result<Valu
 {
     match inline {
         InlineExpression::StringLiteral { value } => {
-            objects::string_literal(alloc, value.as_str())
+            text_value(alloc, "StringLiteral", value.as_str())
         }
         InlineExpression::NumberLiteral { value } => {
-            objects::number_literal(alloc, value.as_str())
+            text_value(alloc, "NumberLiteral", value.as_str())
         }
         InlineExpression::FunctionReference { id, arguments } => {
-            let id = identifier_value(alloc, id)?;
-            let arguments = arguments_value(alloc, arguments)?;
-            objects::function_reference(alloc, id, arguments)
+            let object = identified(alloc, "FunctionReference", id)?;
+            object.finish("arguments", arguments_value(alloc, arguments)?)
         }
         InlineExpression::MessageReference { id, attribute } => {
-            let id = identifier_value(alloc, id)?;
-            let attribute = identifier_or_null(alloc, attribute)?;
-            objects::message_reference(alloc, id, attribute)
+            message_reference_value(alloc, id, attribute)
         }
         InlineExpression::TermReference {
             id,
             attribute,
             arguments,
         } => {
-            let id = identifier_value(alloc, id)?;
-            let attribute = identifier_or_null(alloc, attribute)?;
-            let arguments = match arguments {
-                Some(arguments) => arguments_value(alloc, arguments)?,
-                None => Value::Null,
-            };
-            objects::term_reference(alloc, id, attribute, arguments)
+            let object = term_reference_object(alloc, id, attribute)?;
+            match arguments {
+                Some(call) => object.finish("arguments", arguments_value(alloc, call)?),
+                None => object.finish("arguments", Value::Null),
+            }
         }
-        InlineExpression::VariableReference { id } => {
-            let id = identifier_value(alloc, id)?;
-            objects::variable_reference(alloc, id)
-        }
-        InlineExpression::Placeable { expression } => {
-            let expression = expression_value(alloc, expression)?;
-            objects::placeable(alloc, expression)
-        }
+        InlineExpression::VariableReference { id } => variable_value(alloc, id),
+        InlineExpression::Placeable { expression } => placeable_value(alloc, expression),
     }
+}
+
+/// An object of this `type` whose value is a text.
+fn text_value(alloc: Global, kind: &str, text: &str) -> Result<Value, AllocError>
+    ensures { IfOk result (λ value. view value ≡ text_json kind.now text.now) }
+{
+    Object::of_type(alloc, kind)?.finish_text("value", text)
+}
+
+#[cycle(write)]
+fn placeable_value(alloc: Global, expression: &Expression<String>) -> Result<Value, AllocError>
+    ensures { IfOk result (λ value. view value ≡ placeable (expression_json expression.now)) }
+{
+    let expression = expression_value(alloc, expression)?;
+    Object::of_type(alloc, "Placeable")?.finish("expression", expression)
+}
+
+fn message_reference_value(
+    alloc: Global,
+    id: &Identifier<String>,
+    attribute: &Option<Identifier<String>>,
+) -> Result<Value, AllocError>
+    ensures { IfOk result (λ value. view value
+        ≡ message_reference (identifier_json id.now) (accessor_json attribute.now)) }
+{
+    let object = identified(alloc, "MessageReference", id)?;
+    object.finish("attribute", identifier_or_null(alloc, attribute)?)
+}
+
+/// The object of a reference to a term, without its arguments.
+fn term_reference_object(
+    alloc: Global,
+    id: &Identifier<String>,
+    attribute: &Option<Identifier<String>>,
+) -> Result<Object, AllocError>
+    ensures { IfOk result (λ made. given made
+        ≡ members ((codes "type", string (codes "TermReference")) ∷ (codes "id", identifier_json id.now)
+        ∷ (codes "attribute", accessor_json attribute.now) ∷ [])) }
+{
+    let object = identified(alloc, "TermReference", id)?;
+    object.with("attribute", identifier_or_null(alloc, attribute)?)
+}
+
+fn variable_value(alloc: Global, id: &Identifier<String>) -> Result<Value, AllocError>
+    ensures { IfOk result (λ value. view value ≡ variable_json id.now) }
+{
+    let object = Object::of_type(alloc, "VariableReference")?;
+    object.finish("id", identifier_value(alloc, id)?)
 }
 
 #[cycle(write)]
 fn arguments_value(alloc: Global, arguments: &CallArguments<String>) -> Result<Value, AllocError>
     ensures { IfOk result (λ value. view value ≡ arguments_json arguments.now) }
 {
+    let object = Object::of_type(alloc, "CallArguments")?;
     let positional = positional_values(alloc, &arguments.positional)?;
-    let named = named_values(alloc, &arguments.named)?;
-    objects::call_arguments(alloc, positional, named)
+    let object = object.with("positional", Value::Array(positional))?;
+    object.finish(
+        "named",
+        Value::Array(named_values(alloc, &arguments.named)?),
+    )
 }
 
 #[cycle(write)]
@@ -281,7 +387,7 @@ fn named_values(
 fn named_value(alloc: Global, argument: &NamedArgument<String>) -> Result<Value, AllocError>
     ensures { IfOk result (λ value. view value ≡ named_json argument.now) }
 {
-    let name = identifier_value(alloc, &argument.name)?;
-    let value = inline_value(alloc, &argument.value)?;
-    objects::named_argument(alloc, name, value)
+    let object = Object::of_type(alloc, "NamedArgument")?;
+    let object = object.with("name", identifier_value(alloc, &argument.name)?)?;
+    object.finish("value", inline_value(alloc, &argument.value)?)
 }

@@ -3,7 +3,7 @@
 ghost use Rattle.std.specs.Prelude.{◌≡◌, List, IfOk, IfErr};
 ghost use Rattle.serde_json.specs.Data.{string};
 ghost use Rattle.serde_json.specs.View.{view, items_view};
-ghost use Rattle.fluent_syntax.specs.Tree.{Entry as PlainEntry};
+ghost use Rattle.fluent_grammar.specs.Tree.{Entry as PlainEntry};
 ghost use Rattle.fluent_json.specs.Json.{json, message, term, HasNone, each, or_null, json_pattern, json_attribute, json_comment, json_entry};
 ghost use Rattle.fluent_json.specs.Parts.{plain, lines_json, attributes_json, attribute_json, maybe_pattern_json, maybe_comment_json, entry_json};
 
@@ -11,7 +11,7 @@ mod patterns;
 
 use crate::error::FromValueError;
 use crate::parts;
-use fluent_syntax::ast::{Attribute, Comment, Entry, Message, Pattern, Resource, Term};
+use fluent_ast::{Attribute, Comment, Entry, Message, Pattern, Resource, Term};
 use patterns::{read_identifier, read_pattern};
 use serde_json::Value;
 use std::alloc::Global;

@@ -4,12 +4,12 @@
 
 ghost use Rattle.std.specs.Prelude.{◌≡◌, IfOk, IfErr};
 ghost use Rattle.serde_json.specs.View.{view, items_view};
-ghost use Rattle.fluent_json.specs.Json.{term_reference, HasNone, or_null, identifier, json_key, json_pattern, json_elements, json_expression, json_variants, json_inline, json_arguments, json_maybe_arguments, json_positional, json_named};
+ghost use Rattle.fluent_json.specs.Json.{placeable, function_reference, message_reference, term_reference, HasNone, or_null, identifier, json_key, json_pattern, json_elements, json_expression, json_variants, json_inline, json_arguments, json_maybe_arguments, json_positional, json_named};
 ghost use Rattle.fluent_json.specs.Parts.{accessor_json, maybe_arguments_json, identifier_json, key_json, pattern_json, element_json, json_element, expression_json, inline_json, variant_json, json_variant, variants_json, elements_json, arguments_json, positional_json, named_json, json_one_named, nameds_json};
 
 use crate::error::FromValueError;
 use crate::parts;
-use fluent_syntax::ast::{
+use fluent_ast::{
     CallArguments, Expression, Identifier, InlineExpression, NamedArgument, Pattern,
     PatternElement, Variant, VariantKey,
 };
@@ -169,23 +169,65 @@ fn read_inline(alloc: Global, value: &Value) -> Result<InlineExpression<String>,
         return Ok(InlineExpression::VariableReference { id });
     }
     if let Some((id, attribute)) = parts::message_reference(value) {
-        let id = read_identifier(alloc, id)?;
-        let attribute = read_accessor(alloc, attribute)?;
-        return Ok(InlineExpression::MessageReference { id, attribute });
+        return read_message_reference(alloc, id, attribute);
     }
     if let Some((id, attribute, arguments)) = parts::term_reference(value) {
         return read_term_reference(alloc, id, attribute, arguments);
     }
     if let Some((id, arguments)) = parts::function_reference(value) {
-        let id = read_identifier(alloc, id)?;
-        let arguments = read_arguments(alloc, arguments)?;
-        return Ok(InlineExpression::FunctionReference { id, arguments });
+        return read_function_reference(alloc, id, arguments);
     }
     if let Some(expression) = parts::placeable(value) {
-        let expression = Box::new(alloc, read_expression(alloc, expression)?)?;
-        return Ok(InlineExpression::Placeable { expression });
+        return read_nested(alloc, expression);
     }
     Err(FromValueError::Shape)
+}
+
+/// A placeable inside a placeable, from its expression.
+#[cycle(read)]
+fn read_nested(
+    alloc: Global,
+    expression: &Value,
+) -> Result<InlineExpression<String>, FromValueError>
+    ensures ok { IfOk result (λ inline. inline_json inline ≡ placeable (view expression.now)) }
+    ensures shape { IfErr result (λ e. e ≡ FromValueError.Shape
+        → HasNone json_inline (placeable (view expression.now))) }
+{
+    let expression = Box::new(alloc, read_expression(alloc, expression)?)?;
+    Ok(InlineExpression::Placeable { expression })
+}
+
+/// A message reference from its parts.
+fn read_message_reference(
+    alloc: Global,
+    id: &Value,
+    attribute: &Value,
+) -> Result<InlineExpression<String>, FromValueError>
+    ensures ok { IfOk result (λ inline. inline_json inline
+        ≡ message_reference (view id.now) (view attribute.now)) }
+    ensures shape { IfErr result (λ e. e ≡ FromValueError.Shape
+        → HasNone json_inline (message_reference (view id.now) (view attribute.now))) }
+{
+    let id = read_identifier(alloc, id)?;
+    let attribute = read_accessor(alloc, attribute)?;
+    Ok(InlineExpression::MessageReference { id, attribute })
+}
+
+/// A function reference from its parts.
+#[cycle(read)]
+fn read_function_reference(
+    alloc: Global,
+    id: &Value,
+    arguments: &Value,
+) -> Result<InlineExpression<String>, FromValueError>
+    ensures ok { IfOk result (λ inline. inline_json inline
+        ≡ function_reference (view id.now) (view arguments.now)) }
+    ensures shape { IfErr result (λ e. e ≡ FromValueError.Shape
+        → HasNone json_inline (function_reference (view id.now) (view arguments.now))) }
+{
+    let id = read_identifier(alloc, id)?;
+    let arguments = read_arguments(alloc, arguments)?;
+    Ok(InlineExpression::FunctionReference { id, arguments })
 }
 
 /// A term reference from its parts.

@@ -1,6 +1,6 @@
 use Rattle.std.proofs.Common.{String, Global, string_bytes, ◌∙◌}
 use Rattle.serde_json.specs.View.{view}
-use Rattle.fluent_syntax.specs.View.{attribute_view}
+use Rattle.fluent_ast.specs.View.{attribute_view}
 use Rattle.fluent_json.specs.Json.{json_attribute}
 use Rattle.fluent_json.specs.Parts.{attribute_json}
 use Rattle.fluent_json.proofs.Lists.{each-map, items_of-made}

@@ -1,6 +1,6 @@
 use Rattle.std.proofs.Common.{String, Global, string_bytes, sym, ap, ◌∙◌}
 use Rattle.serde_json.specs.View.{view}
-use Rattle.fluent_syntax.specs.View.{entry_view}
+use Rattle.fluent_ast.specs.View.{entry_view}
 use Rattle.fluent_json.specs.Json.{resource, json_entry}
 use Rattle.fluent_json.specs.Parts.{entry_json}
 use Rattle.fluent_json.proofs.Lists.{each-map, items_of-made}

@@ -3,8 +3,8 @@ use Rattle.serde_json.specs.View.{view}
 use Rattle.fluent_json.specs.Parts.{element_json, variant_json, inline_json, named_json}
 use Rattle.fluent_json.proofs.write.+write.Given as goal
 
-abbrev pub invariant-pattern_value-loop-element : goal.invariant-pattern_value-loop-element
-invariant-pattern_value-loop-element l = map view l.elements.items ≡ map element_json (take l.element-index l.element-items)
+abbrev pub invariant-element_values-loop-element : goal.invariant-element_values-loop-element
+invariant-element_values-loop-element l = map view l.values.items ≡ map element_json (take l.element-index l.elements)
 
 abbrev pub invariant-variant_values-loop-variant : goal.invariant-variant_values-loop-variant
 invariant-variant_values-loop-variant l = map view l.values.items ≡ map variant_json (take l.variant-index l.variants)

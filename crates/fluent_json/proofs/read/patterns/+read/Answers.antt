@@ -1,9 +1,9 @@
-use Rattle.std.proofs.Common.{◌≤◌, sym, ◌∙◌, rules}
+use Rattle.std.proofs.Common.{◌≤◌, refl, sym, ◌∙◌, rules}
 use Rattle.serde_json.specs.Data.{depth, items_depth}
 use Rattle.serde_json.specs.View.{view, items_view}
 use Rattle.fluent_json.specs.Parts.{element_json, variant_json, inline_json, named_json}
 use Rattle.fluent_json.proofs.Lists.{items_of-made, elements_json-items, variants_json-items, positional_json-items, nameds_json-items}
-use Rattle.fluent_json.proofs.NoTree.{passed_on, depth-item, no_elements, no_variants, no_positional, no_named, no_element, no_selector, no_select_variants, no_expression, no_variable, no_message_id, no_message_attribute, no_term_id, no_term_attribute, no_term_arguments, no_function_id, no_function_arguments, no_nested, no_inline, no_maybe_arguments, no_call, no_call_positional, no_call_named}
+use Rattle.fluent_json.proofs.NoTree.{passed_on, depth-item, no_elements, no_variants, no_positional, no_named, no_element, no_selector, no_select_variants, no_expression, no_variable, no_term_id, no_term_attribute, no_term_arguments, no_function_id, no_function_arguments, no_nested, no_inline, no_maybe_arguments, no_call, no_call_positional, no_call_named}
 use Rattle.fluent_json.proofs.read.patterns.+read.Goals as goal
 
 pub read_elements-read_element-requires : goal.read_elements-read_element-requires
@@ -120,22 +120,14 @@ pub read_inline-returns-in_err-id-clause-shape : goal.read_inline-returns-in_err
 read_inline-returns-in_err-id-clause-shape t c =
     passed_on c.from_residual-in_err-id.result c.from_residual-in_err-id.ensures.1 c.in_err-id.ensures.shape (no_variable _ _ c.in-Some-variable_reference.ensures.some)
 
-pub read_inline-returns-in_err-id-2-clause-shape : goal.read_inline-returns-in_err-id-2-clause-shape
-read_inline-returns-in_err-id-2-clause-shape t c =
-    passed_on c.from_residual-in_err-id-2.result c.from_residual-in_err-id-2.ensures.1 c.in_err-id-2.ensures.shape (no_message_id _ _ _ c.in-Some-message_reference.ensures.some)
+pub read_function_reference-returns-in_err-id-clause-shape : goal.read_function_reference-returns-in_err-id-clause-shape
+read_function_reference-returns-in_err-id-clause-shape t c =
+    passed_on c.from_residual.result c.from_residual.ensures.1 c.in_err-id.ensures.shape (no_function_id _ _ _ refl)
 
-pub read_inline-returns-in_err-attribute-clause-shape : goal.read_inline-returns-in_err-attribute-clause-shape
-read_inline-returns-in_err-attribute-clause-shape t c =
-    passed_on c.from_residual-in_err-attribute.result c.from_residual-in_err-attribute.ensures.1 c.in_err-attribute.ensures.shape (no_message_attribute _ _ _ c.in-Some-message_reference.ensures.some)
+pub read_function_reference-returns-in_err-arguments-clause-shape : goal.read_function_reference-returns-in_err-arguments-clause-shape
+read_function_reference-returns-in_err-arguments-clause-shape t c =
+    passed_on c.from_residual-in_err-arguments.result c.from_residual-in_err-arguments.ensures.1 c.in_err-arguments.ensures.shape (no_function_arguments _ _ _ refl)
 
-pub read_inline-returns-in_err-id-3-clause-shape : goal.read_inline-returns-in_err-id-3-clause-shape
-read_inline-returns-in_err-id-3-clause-shape t c =
-    passed_on c.from_residual-in_err-id-3.result c.from_residual-in_err-id-3.ensures.1 c.in_err-id-3.ensures.shape (no_function_id _ _ _ c.in-Some-function_reference.ensures.some)
-
-pub read_inline-returns-in_err-arguments-clause-shape : goal.read_inline-returns-in_err-arguments-clause-shape
-read_inline-returns-in_err-arguments-clause-shape t c =
-    passed_on c.from_residual-in_err-arguments.result c.from_residual-in_err-arguments.ensures.1 c.in_err-arguments.ensures.shape (no_function_arguments _ _ _ c.in-Some-function_reference.ensures.some)
-
-pub read_inline-returns-in_err-read_expression-clause-shape : goal.read_inline-returns-in_err-read_expression-clause-shape
-read_inline-returns-in_err-read_expression-clause-shape t c =
-    passed_on c.from_residual-in_err-read_expression.result c.from_residual-in_err-read_expression.ensures.1 c.in_err-read_expression.ensures.shape (no_nested _ _ c.in-Some-placeable.ensures.some)
+pub read_nested-returns-in_err-read_expression-clause-shape : goal.read_nested-returns-in_err-read_expression-clause-shape
+read_nested-returns-in_err-read_expression-clause-shape t c =
+    passed_on c.from_residual.result c.from_residual.ensures.1 c.in_err-read_expression.ensures.shape (no_nested _ _ refl)

@@ -26,6 +26,12 @@ decreases-read_variant l = 3 * depth (view l.value.now)
 abbrev pub decreases-read_inline : goal.decreases-read_inline
 decreases-read_inline l = 3 * depth (view l.value.now)
 
+abbrev pub decreases-read_nested : goal.decreases-read_nested
+decreases-read_nested l = 3 * depth (view l.expression.now) + 2
+
+abbrev pub decreases-read_function_reference : goal.decreases-read_function_reference
+decreases-read_function_reference l = 3 * depth (view l.arguments.now) + 1
+
 abbrev pub decreases-read_term_reference : goal.decreases-read_term_reference
 decreases-read_term_reference l = 3 * depth (view l.arguments.now) + 2
 
