@@ -3,6 +3,7 @@ use Rattle.std.proofs.Common.{◌≡◌, ℕ, Bool, List, [], ◌∷◌, Option,
 use Rattle.std.specs.Cmp.Lexicographic.{pointwise}
 use Rattle.std.proofs.lemmas.Bool.Decides.{Decides-and, same_from_decides}
 use Rattle.std.specs.Cmp.{IsEquivalence}
+use Rattle.fluent_ast.specs.Equality.{Compares}
 use Rattle.std.specs.declared.cmp.PartialEq
 use Rattle.std.specs.contracts.cmp.PartialEq.TheBound
 use Rattle.std.specs.contracts.prelude.OptionPartialEq.TheImpl as option_impl
@@ -44,20 +45,23 @@ option_decides R G d view each (Some x) None = apart _ refl (λ h. cc)
 option_decides R G d view each (Some x) (Some y) = renamed _ _ refl (λ p. cc) (λ h. cc) (each x y)
 
 -- a test that decides whether two values are seen alike is an equivalence
-pub equivalence_from_view : {A V : Type 0} (test : A → A → Bool) (view : A → V) → ((x y : A) → Decides (test x y) (view x ≡ view y)) → IsEquivalence test
+equivalence_from_view : {A V : Type 0} (test : A → A → Bool) (view : A → V) → ((x y : A) → Decides (test x y) (view x ≡ view y)) → IsEquivalence test
 equivalence_from_view test view tells = record {
   refl = λ x. (tells x x).1 refl;
   symm = λ x y. same_from_decides (test x y) (test y x) (tells x y) (renamed _ _ refl sym sym (tells y x));
   congr = λ x y z alike. let is = (tells x y).0 alike in same_from_decides (test x z) (test y z) (tells x z) (renamed _ _ refl (λ p. is ∙ p) (λ p. sym is ∙ p) (tells y z));
 }
 
+pub compares : {A V : Type 0} (test : A → A → Bool) (view : A → V) → ((x y : A) → Decides (test x y) (view x ≡ view y)) → Compares test view
+compares test view tells = record { equivalence = equivalence_from_view test view tells; plain = tells }
+
 module _ (T : RattleType) (E : PartialEq.Ghosts T.Denot) (dict : Dict) (lawful : TheBound.Lawful T E dict) (text_of : T.Denot → List ℕ) (leaf : (x y : T.Denot) → E.eq x y ≡ pointwise nat_eq (text_of x) (text_of y)) where
-  attribute_decides : (x y : Attribute T.Denot) → Decides ((attribute_impl.ghosts T E dict).eq x y) (attribute_view T.Denot text_of x ≡ attribute_view T.Denot text_of y)
+  pub attribute_decides : (x y : Attribute T.Denot) → Decides ((attribute_impl.ghosts T E dict).eq x y) (attribute_view T.Denot text_of x ≡ attribute_view T.Denot text_of y)
   attribute_decides x y =
       renamed _ _ refl (λ p. λ i. record { id = p.0 i; value = p.1 i }) (λ h. (ap (λ (r : t.Attribute). r.id) h, ap (λ (r : t.Attribute). r.value) h))
       (Decides-and _ _ (name_decides T E dict lawful text_of leaf x.id y.id) (pattern_decides T E dict lawful text_of leaf x.value y.value))
 
-  comment_decides : (x y : Comment T.Denot) → Decides ((comment_impl.ghosts T E dict).eq x y) (comment_view T.Denot text_of x ≡ comment_view T.Denot text_of y)
+  pub comment_decides : (x y : Comment T.Denot) → Decides ((comment_impl.ghosts T E dict).eq x y) (comment_view T.Denot text_of x ≡ comment_view T.Denot text_of y)
   comment_decides x y = list_decides E.eq text_of (leaf_decides T E dict lawful text_of leaf) x.content.items y.content.items
 
   own_comment_decides : (x y : Option (Comment T.Denot)) → Decides ((option_impl.ghosts (comment_type.the_row T) (comment_impl.ghosts T E dict) (comment_impl.dict T E dict)).eq x y) (option_map (comment_view T.Denot text_of) x ≡ option_map (comment_view T.Denot text_of) y)
@@ -66,7 +70,7 @@ module _ (T : RattleType) (E : PartialEq.Ghosts T.Denot) (dict : Dict) (lawful :
   attributes_decide : (xs ys : List (Attribute T.Denot)) → Decides (pointwise (attribute_impl.ghosts T E dict).eq xs ys) (map (attribute_view T.Denot text_of) xs ≡ map (attribute_view T.Denot text_of) ys)
   attributes_decide = list_decides (attribute_impl.ghosts T E dict).eq (attribute_view T.Denot text_of) attribute_decides
 
-  message_decides : (x y : Message T.Denot) → Decides ((message_impl.ghosts T E dict).eq x y) (message_view T.Denot text_of x ≡ message_view T.Denot text_of y)
+  pub message_decides : (x y : Message T.Denot) → Decides ((message_impl.ghosts T E dict).eq x y) (message_view T.Denot text_of x ≡ message_view T.Denot text_of y)
   message_decides x y =
       renamed _ _ refl (λ p. λ i. record { id = p.0 i; value = p.1.0 i; attributes = p.1.1.0 i; comment = p.1.1.1 i })
       (λ h. (ap (λ (r : t.Message). r.id) h, (ap (λ (r : t.Message). r.value) h, (ap (λ (r : t.Message). r.attributes) h, ap (λ (r : t.Message). r.comment) h))))
@@ -74,7 +78,7 @@ module _ (T : RattleType) (E : PartialEq.Ghosts T.Denot) (dict : Dict) (lawful :
       (Decides-and _ _ (option_decides (pattern_type.the_row T) (pattern_impl.ghosts T E dict) (pattern_impl.dict T E dict) (pattern_view T.Denot text_of) (pattern_decides T E dict lawful text_of leaf) x.value y.value)
       (Decides-and _ _ (attributes_decide x.attributes.items y.attributes.items) (own_comment_decides x.comment y.comment))))
 
-  term_decides : (x y : Term T.Denot) → Decides ((term_impl.ghosts T E dict).eq x y) (term_view T.Denot text_of x ≡ term_view T.Denot text_of y)
+  pub term_decides : (x y : Term T.Denot) → Decides ((term_impl.ghosts T E dict).eq x y) (term_view T.Denot text_of x ≡ term_view T.Denot text_of y)
   term_decides x y =
       renamed _ _ refl (λ p. λ i. record { id = p.0 i; value = p.1.0 i; attributes = p.1.1.0 i; comment = p.1.1.1 i })
       (λ h. (ap (λ (r : t.Term). r.id) h, (ap (λ (r : t.Term). r.value) h, (ap (λ (r : t.Term). r.attributes) h, ap (λ (r : t.Term). r.comment) h))))
@@ -82,7 +86,7 @@ module _ (T : RattleType) (E : PartialEq.Ghosts T.Denot) (dict : Dict) (lawful :
       (Decides-and _ _ (pattern_decides T E dict lawful text_of leaf x.value y.value)
       (Decides-and _ _ (attributes_decide x.attributes.items y.attributes.items) (own_comment_decides x.comment y.comment))))
 
-  entry_decides : (x y : Entry T.Denot) → Decides ((entry_impl.ghosts T E dict).eq x y) (entry_view T.Denot text_of x ≡ entry_view T.Denot text_of y)
+  pub entry_decides : (x y : Entry T.Denot) → Decides ((entry_impl.ghosts T E dict).eq x y) (entry_view T.Denot text_of x ≡ entry_view T.Denot text_of y)
   entry_decides (e.Message m) (e.Message m') = renamed _ _ refl (λ p. cc) (λ h. cc) (message_decides m m')
   entry_decides (e.Message m) (e.Term m') = apart _ refl (λ h. cc)
   entry_decides (e.Message m) (e.Comment c') = apart _ refl (λ h. cc)

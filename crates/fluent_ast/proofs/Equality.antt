@@ -13,17 +13,17 @@ use mir.Syntax as syntax
 use mir.Syntax.{Dict}
 use Rattle.fluent_grammar.specs.Tree as t
 use Rattle.fluent_ast.specs.declared.Expression.TheBlock as b
-use Rattle.fluent_ast.specs.declared.Expression.{Expression, roll-Expression, map-Expression}
+use Rattle.fluent_ast.specs.declared.Expression.{Expression, roll-Expression, map-Expression, ind-Expression}
 use Rattle.fluent_ast.specs.declared.Expression.TheOpen as o
 use Rattle.fluent_ast.specs.declared.Expression.TheVariants.{Select, Inline, rolls-Select, rolls-Inline}
-use Rattle.fluent_ast.specs.declared.InlineExpression.{InlineExpression, roll-InlineExpression, map-InlineExpression}
+use Rattle.fluent_ast.specs.declared.InlineExpression.{InlineExpression, roll-InlineExpression, map-InlineExpression, ind-InlineExpression}
 use Rattle.fluent_ast.specs.declared.InlineExpression.TheVariants.{StringLiteral, NumberLiteral, FunctionReference, MessageReference, TermReference, VariableReference, Placeable as Nested, rolls-StringLiteral, rolls-NumberLiteral, rolls-FunctionReference, rolls-MessageReference, rolls-TermReference, rolls-VariableReference, rolls-Placeable as rolls-Nested}
-use Rattle.fluent_ast.specs.declared.PatternElement.{PatternElement, roll-PatternElement, map-PatternElement}
+use Rattle.fluent_ast.specs.declared.PatternElement.{PatternElement, roll-PatternElement, map-PatternElement, ind-PatternElement}
 use Rattle.fluent_ast.specs.declared.PatternElement.TheVariants.{TextElement, Placeable, rolls-TextElement, rolls-Placeable}
-use Rattle.fluent_ast.specs.declared.CallArguments.{CallArguments, out-CallArguments, roll-CallArguments, out-roll-CallArguments, map-CallArguments}
-use Rattle.fluent_ast.specs.declared.NamedArgument.{NamedArgument, out-NamedArgument, roll-NamedArgument, map-NamedArgument}
+use Rattle.fluent_ast.specs.declared.CallArguments.{CallArguments, out-CallArguments, roll-CallArguments, out-roll-CallArguments, map-CallArguments, ind-CallArguments}
+use Rattle.fluent_ast.specs.declared.NamedArgument.{NamedArgument, out-NamedArgument, roll-NamedArgument, map-NamedArgument, ind-NamedArgument}
 use Rattle.fluent_ast.specs.declared.Pattern.{Pattern, out-Pattern, roll-Pattern, map-Pattern, ind-Pattern}
-use Rattle.fluent_ast.specs.declared.Variant.{Variant, out-Variant, roll-Variant, map-Variant}
+use Rattle.fluent_ast.specs.declared.Variant.{Variant, out-Variant, roll-Variant, map-Variant, ind-Variant}
 use Rattle.fluent_ast.specs.declared.Identifier.{Identifier}
 use Rattle.fluent_ast.specs.contracts.Identifier as identifier
 use Rattle.fluent_ast.specs.contracts.IdentifierPartialEq.TheImpl as identifier_impl
@@ -219,7 +219,7 @@ module _ (T : RattleType) (E : PartialEq.Ghosts T.Denot) (dict : Dict) (lawful :
   abbrev same_maybe : Option (CallArguments T.Denot) → Option (CallArguments T.Denot) → Bool
   same_maybe = (option_impl.ghosts (arguments_type.the_row T) (record { eq = same_arguments }) (syntax.impl [] syntax.tnil syntax.dnil)).eq
 
-  key_decides : (x y : VariantKey T.Denot) → Decides ((key_impl.ghosts T E dict).eq x y) (key_of T.Denot text_of x ≡ key_of T.Denot text_of y)
+  pub key_decides : (x y : VariantKey T.Denot) → Decides ((key_impl.ghosts T E dict).eq x y) (key_of T.Denot text_of x ≡ key_of T.Denot text_of y)
   key_decides (key.Identifier s) (key.Identifier r) = renamed _ _ refl (λ p. cc) (λ h. cc) (leaf_decides s r)
   key_decides (key.Identifier s) (key.NumberLiteral r) = apart _ refl (λ h. cc)
   key_decides (key.NumberLiteral s) (key.Identifier r) = apart _ refl (λ h. cc)
@@ -422,6 +422,24 @@ module _ (T : RattleType) (E : PartialEq.Ghosts T.Denot) (dict : Dict) (lawful :
   step-variant : (x : o.Variant-F T.Denot (Expression T.Denot) (InlineExpression T.Denot) (PatternElement T.Denot) (CallArguments T.Denot) (NamedArgument T.Denot) (Pattern T.Denot) (Variant T.Denot)) (y : o.Variant-F T.Denot Such-expression Such-inline Such-element Such-arguments Such-named Such-pattern Such-variant) → map-Variant T.Denot Such-expression Such-inline Such-element Such-arguments Such-named Such-pattern Such-variant (Expression T.Denot) (InlineExpression T.Denot) (PatternElement T.Denot) (CallArguments T.Denot) (NamedArgument T.Denot) (Pattern T.Denot) (Variant T.Denot) (λ e. e.0) (λ e. e.0) (λ e. e.0) (λ e. e.0) (λ e. e.0) (λ e. e.0) (λ e. e.0) y ≡ x → Tells-variant (roll-Variant T.Denot x)
   step-variant x y is = subst (λ z. Tells-variant (roll-Variant T.Denot z)) is (tells-Variant _ y.value.1)
 
-  -- `==` of two patterns says whether their plain trees are the same
+  -- `==` of two nodes of the cycle says whether they are the same plain data
+  pub expression_decides : (x y : Expression T.Denot) → Decides (same_expression x y) (expression_view T.Denot text_of x ≡ expression_view T.Denot text_of y)
+  expression_decides = ind-Expression T.Denot Tells-expression Tells-inline Tells-element Tells-arguments Tells-named Tells-pattern Tells-variant step-expression step-inline step-element step-arguments step-named step-pattern step-variant
+
+  pub inline_decides : (x y : InlineExpression T.Denot) → Decides (same_inline x y) (inline_view T.Denot text_of x ≡ inline_view T.Denot text_of y)
+  inline_decides = ind-InlineExpression T.Denot Tells-expression Tells-inline Tells-element Tells-arguments Tells-named Tells-pattern Tells-variant step-expression step-inline step-element step-arguments step-named step-pattern step-variant
+
+  pub element_decides : (x y : PatternElement T.Denot) → Decides (same_element x y) (element_view T.Denot text_of x ≡ element_view T.Denot text_of y)
+  element_decides = ind-PatternElement T.Denot Tells-expression Tells-inline Tells-element Tells-arguments Tells-named Tells-pattern Tells-variant step-expression step-inline step-element step-arguments step-named step-pattern step-variant
+
+  pub arguments_decides : (x y : CallArguments T.Denot) → Decides (same_arguments x y) (arguments_view T.Denot text_of x ≡ arguments_view T.Denot text_of y)
+  arguments_decides = ind-CallArguments T.Denot Tells-expression Tells-inline Tells-element Tells-arguments Tells-named Tells-pattern Tells-variant step-expression step-inline step-element step-arguments step-named step-pattern step-variant
+
+  pub named_decides : (x y : NamedArgument T.Denot) → Decides (same_named x y) (named_view T.Denot text_of x ≡ named_view T.Denot text_of y)
+  named_decides = ind-NamedArgument T.Denot Tells-expression Tells-inline Tells-element Tells-arguments Tells-named Tells-pattern Tells-variant step-expression step-inline step-element step-arguments step-named step-pattern step-variant
+
   pub pattern_decides : (x y : Pattern T.Denot) → Decides (same_pattern x y) (pattern_view T.Denot text_of x ≡ pattern_view T.Denot text_of y)
   pattern_decides = ind-Pattern T.Denot Tells-expression Tells-inline Tells-element Tells-arguments Tells-named Tells-pattern Tells-variant step-expression step-inline step-element step-arguments step-named step-pattern step-variant
+
+  pub variant_decides : (x y : Variant T.Denot) → Decides (same_variant x y) (variant_view T.Denot text_of x ≡ variant_view T.Denot text_of y)
+  variant_decides = ind-Variant T.Denot Tells-expression Tells-inline Tells-element Tells-arguments Tells-named Tells-pattern Tells-variant step-expression step-inline step-element step-arguments step-named step-pattern step-variant

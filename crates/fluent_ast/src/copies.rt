@@ -3,6 +3,7 @@
 //! The functions on patterns and expressions call each other, so they take the text type as a value under [`Texts`].
 
 ghost use Rattle.std.specs.Prelude.{◌≡◌, IfOk, map, option_map};
+ghost use Rattle.fluent_ast.specs.declared.InlineExpression.TheVariants.{FunctionReference, MessageReference, TermReference};
 ghost use Rattle.fluent_ast.specs.View.{pattern_view, element_view, expression_view, inline_view, variant_view, arguments_view, named_view, key_of, name_of};
 
 use crate::{
@@ -159,32 +160,16 @@ pub(crate) fn clone_inline<S: Drop, T: Texts<S>>(
             Ok(InlineExpression::NumberLiteral { value })
         }
         InlineExpression::FunctionReference { id, arguments } => {
-            let id = clone_identifier(texts, alloc, id)?;
-            let arguments = clone_arguments(texts, alloc, arguments)?;
-            Ok(InlineExpression::FunctionReference { id, arguments })
+            clone_call(texts, alloc, id, arguments)
         }
         InlineExpression::MessageReference { id, attribute } => {
-            let id = clone_identifier(texts, alloc, id)?;
-            let attribute = clone_accessor(texts, alloc, attribute)?;
-            Ok(InlineExpression::MessageReference { id, attribute })
+            clone_message_reference(texts, alloc, id, attribute)
         }
         InlineExpression::TermReference {
             id,
             attribute,
             arguments,
-        } => {
-            let id = clone_identifier(texts, alloc, id)?;
-            let attribute = clone_accessor(texts, alloc, attribute)?;
-            let arguments = match arguments {
-                Some(arguments) => Some(clone_arguments(texts, alloc, arguments)?),
-                None => None,
-            };
-            Ok(InlineExpression::TermReference {
-                id,
-                attribute,
-                arguments,
-            })
-        }
+        } => clone_term_reference(texts, alloc, id, attribute, arguments),
         InlineExpression::VariableReference { id } => {
             let id = clone_identifier(texts, alloc, id)?;
             Ok(InlineExpression::VariableReference { id })
@@ -194,6 +179,56 @@ pub(crate) fn clone_inline<S: Drop, T: Texts<S>>(
             Ok(InlineExpression::Placeable { expression })
         }
     }
+}
+
+#[cycle(copies)]
+fn clone_call<S: Drop, T: Texts<S>>(
+    texts: &T,
+    alloc: Global,
+    id: &Identifier<S>,
+    arguments: &CallArguments<S>,
+) -> Result<InlineExpression<S>, AllocError>
+    ensures { IfOk result (λ copy. inline_view S T.text copy ≡ inline_view S T.text (FunctionReference id.now arguments.now)) }
+{
+    let id = clone_identifier(texts, alloc, id)?;
+    let arguments = clone_arguments(texts, alloc, arguments)?;
+    Ok(InlineExpression::FunctionReference { id, arguments })
+}
+
+fn clone_message_reference<S: Drop, T: Texts<S>>(
+    texts: &T,
+    alloc: Global,
+    id: &Identifier<S>,
+    attribute: &Option<Identifier<S>>,
+) -> Result<InlineExpression<S>, AllocError>
+    ensures { IfOk result (λ copy. inline_view S T.text copy ≡ inline_view S T.text (MessageReference id.now attribute.now)) }
+{
+    let id = clone_identifier(texts, alloc, id)?;
+    let attribute = clone_accessor(texts, alloc, attribute)?;
+    Ok(InlineExpression::MessageReference { id, attribute })
+}
+
+#[cycle(copies)]
+fn clone_term_reference<S: Drop, T: Texts<S>>(
+    texts: &T,
+    alloc: Global,
+    id: &Identifier<S>,
+    attribute: &Option<Identifier<S>>,
+    arguments: &Option<CallArguments<S>>,
+) -> Result<InlineExpression<S>, AllocError>
+    ensures { IfOk result (λ copy. inline_view S T.text copy ≡ inline_view S T.text (TermReference id.now attribute.now arguments.now)) }
+{
+    let id = clone_identifier(texts, alloc, id)?;
+    let attribute = clone_accessor(texts, alloc, attribute)?;
+    let arguments = match arguments {
+        Some(arguments) => Some(clone_arguments(texts, alloc, arguments)?),
+        None => None,
+    };
+    Ok(InlineExpression::TermReference {
+        id,
+        attribute,
+        arguments,
+    })
 }
 
 #[cycle(copies)]

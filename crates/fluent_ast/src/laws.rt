@@ -1,22 +1,30 @@
 //! Laws of trees: each function only carries a law, as its contract.
 
-ghost use Rattle.std.specs.Prelude.{◌≡◌, ◌↔◌, IsTrue};
-ghost use Rattle.std.specs.Cmp.{IsEquivalence};
-ghost use Rattle.fluent_ast.specs.View.{pattern_view, resource_view};
-ghost use Rattle.fluent_ast.specs.declared.Pattern.{Pattern as PatternOf};
-ghost use Rattle.fluent_ast.specs.declared.Resource.{Resource as Tree};
+ghost use Rattle.fluent_ast.specs.Equality.{Compares};
+ghost use Rattle.fluent_ast.specs.View.{resource_view, entry_view, message_view, term_view, comment_view, attribute_view, pattern_view, element_view, name_of, key_of, variant_view, expression_view, inline_view, arguments_view, named_view};
 
-use crate::{Pattern, Resource};
+use crate::{
+    Attribute, CallArguments, Comment, Entry, Expression, Identifier, InlineExpression, Message,
+    NamedArgument, Pattern, PatternElement, Resource, Term, Variant, VariantKey,
+};
 use fluent_slice::Slice;
 
-/// `==` of trees is an equivalence, and two trees are equal exactly where their plain trees are.
-pub fn equal_trees<'s, S: Slice<'s>>()
-    ensures equivalence { IsEquivalence ⟦<Resource<S> as PartialEq>⟧.eq }
-    ensures plain { (a b : Tree S) → IsTrue (⟦<Resource<S> as PartialEq>⟧.eq a b) ↔ (resource_view S S.text a ≡ resource_view S S.text b) }
-{}
-
-/// `==` of patterns is an equivalence, and two patterns are equal exactly where their plain elements are.
-pub fn equal_patterns<'s, S: Slice<'s>>()
-    ensures equivalence { IsEquivalence ⟦<Pattern<S> as PartialEq>⟧.eq }
-    ensures plain { (a b : PatternOf S) → IsTrue (⟦<Pattern<S> as PartialEq>⟧.eq a b) ↔ (pattern_view S S.text a ≡ pattern_view S S.text b) }
+/// `==` of nodes of each type is an equivalence, and two nodes are equal exactly where they are the same plain data. So a
+/// copy equals what it copies.
+pub fn equal_nodes<'s, S: Slice<'s>>()
+    ensures resources { Compares ⟦<Resource<S> as PartialEq>⟧.eq (resource_view S S.text) }
+    ensures entries { Compares ⟦<Entry<S> as PartialEq>⟧.eq (entry_view S S.text) }
+    ensures messages { Compares ⟦<Message<S> as PartialEq>⟧.eq (message_view S S.text) }
+    ensures terms { Compares ⟦<Term<S> as PartialEq>⟧.eq (term_view S S.text) }
+    ensures comments { Compares ⟦<Comment<S> as PartialEq>⟧.eq (comment_view S S.text) }
+    ensures attributes { Compares ⟦<Attribute<S> as PartialEq>⟧.eq (attribute_view S S.text) }
+    ensures patterns { Compares ⟦<Pattern<S> as PartialEq>⟧.eq (pattern_view S S.text) }
+    ensures elements { Compares ⟦<PatternElement<S> as PartialEq>⟧.eq (element_view S S.text) }
+    ensures identifiers { Compares ⟦<Identifier<S> as PartialEq>⟧.eq (name_of S S.text) }
+    ensures keys { Compares ⟦<VariantKey<S> as PartialEq>⟧.eq (key_of S S.text) }
+    ensures variants { Compares ⟦<Variant<S> as PartialEq>⟧.eq (variant_view S S.text) }
+    ensures expressions { Compares ⟦<Expression<S> as PartialEq>⟧.eq (expression_view S S.text) }
+    ensures inlines { Compares ⟦<InlineExpression<S> as PartialEq>⟧.eq (inline_view S S.text) }
+    ensures arguments { Compares ⟦<CallArguments<S> as PartialEq>⟧.eq (arguments_view S S.text) }
+    ensures named { Compares ⟦<NamedArgument<S> as PartialEq>⟧.eq (named_view S S.text) }
 {}

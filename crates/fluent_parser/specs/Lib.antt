@@ -1,4 +1,5 @@
 pub mod ErrorView
+pub mod ErrorText
 pub mod Reads
 pub mod Steps
 pub mod Pieces

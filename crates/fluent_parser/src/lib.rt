@@ -25,10 +25,11 @@ mod resource;
 mod select;
 mod token;
 
-ghost use Rattle.std.specs.Prelude.{map};
+ghost use Rattle.std.specs.Prelude.{Some, map};
 ghost use Rattle.fluent_grammar.specs.Tiling.{tree, errors, runtime_tree, runtime_errors};
 ghost use Rattle.fluent_parser.specs.ErrorView.{error_told};
 ghost use Rattle.fluent_parser.specs.Collected.{HasTree, HasErrors};
+ghost use Rattle.fluent_parser.specs.ErrorText.{error_text};
 
 pub use errors::{ErrorKind, ParserError};
 use fluent_ast::Resource;
@@ -36,6 +37,7 @@ pub use fluent_slice::Slice;
 use fluent_slice::Slices;
 use helper::Parser;
 use std::alloc::Global;
+use std::fmt;
 
 /// Why a source isn't read whole.
 #[derive(Debug, PartialEq, Eq, Drop)]
@@ -44,6 +46,18 @@ pub enum Error<S> {
     Broken(Resource<S>, Vec<ParserError>),
     /// Want of memory.
     Memory,
+}
+
+/// The text of `docs/errors.md`.
+impl<S> fmt::Display for Error<S> {
+    ghost output = { λ error. Some (error_text S error) };
+
+    fn fmt<W: fmt::Write>(&self, f: &mut fmt::Formatter<W>) -> fmt::Result {
+        f.write_str(match self {
+            Error::Broken(_, _) => "the source has errors",
+            Error::Memory => "out of memory",
+        })
+    }
 }
 
 /// What reading a source gives: its tree, or why it isn't read whole.

@@ -1,5 +1,18 @@
 //! Laws of trees, of errors and of written texts: each function only carries a law, as its contract.
 
-pub use fluent_ast::laws::{equal_patterns, equal_trees};
+pub use fluent_ast::laws::equal_nodes;
+// The tiling of a source by blank blocks, entries and junk, of which trees and errors are made.
+pub use fluent_grammar::laws::tiling::{
+    each_text_has_a_tiling, no_text_has_two_tilings, parts_are_the_text,
+    tiling_gives_tree_and_errors,
+};
+// Junk and its errors.
+pub use fluent_grammar::laws::tiling::{
+    errors_are_true, junk_is_sliced, places_start_in_slices, slices_ascend,
+};
+// Reading for use at run time, beside full reading.
+pub use fluent_grammar::laws::tiling::{
+    runtime_adds_no_junk, runtime_has_no_comments, runtime_has_the_same_list,
+};
 pub use fluent_parser::laws::{equal_error_kinds, equal_errors, equality_is_an_equivalence};
 pub use fluent_serializer::laws::options_are_about_junk;

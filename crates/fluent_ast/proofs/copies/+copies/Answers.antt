@@ -35,10 +35,5 @@ clone_pattern-returns g t c =
     ∙ ap elements_of (c.loop-element.invariant ∙ ap (map (element_view S text_of)) (all ∙ c.deref-element-items.ensures.value))
     ∙ sym (pattern_view-out S text_of c.args.pattern.now)
 
-pub clone_inline-returns-in_ok-arguments-in-FunctionReference :
-    goal.clone_inline-returns-in_ok-arguments-in-FunctionReference
-clone_inline-returns-in_ok-arguments-in-FunctionReference g t c =
-    let S = g.row.S.Denot in
-    let text_of = g.T.Texts.text in
-    inline_view-FunctionReference_same S text_of c.in_ok-id-in-FunctionReference.id c.in-FunctionReference.id c.in_ok-arguments-in-FunctionReference.arguments c.in-FunctionReference.arguments c.in_ok-id-in-FunctionReference.ensures c.in_ok-arguments-in-FunctionReference.ensures
-    ∙ ap (inline_view S text_of) (sym c.in-FunctionReference.is)
+pub clone_call-returns : goal.clone_call-returns
+clone_call-returns g t c = inline_view-FunctionReference_same g.row.S.Denot g.T.Texts.text c.in_ok-id.id c.args.id.now c.in_ok-arguments.arguments c.args.arguments.now c.in_ok-id.ensures c.in_ok-arguments.ensures
