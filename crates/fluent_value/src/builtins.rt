@@ -11,7 +11,7 @@ use crate::value::FluentValue;
 use std::alloc::{AllocError, Global};
 
 /// The first of the values, if it is a number, with the options that the named ones set; else
-/// [`Error`](FluentValue::Error). The only error is want of memory.
+/// [`Error`](FluentValue::Error). The only error is that memory runs out.
 pub fn NUMBER<'a, 'n, C: FluentType + Drop>(
     alloc: Global,
     positional: &[FluentValue<'a, C>],

@@ -12,7 +12,7 @@ use fluent_number::{PluralCategory, PluralOperands, PluralRuleType};
 use std::alloc::{AllocError, Global};
 use std::borrow::CowStr;
 
-/// What values are compared and shown by: a formatter, which may be absent, and a plural source. A bundle is one, and a
+/// What values are compared and shown by: a formatter, which may be absent, and a plural source. A bundle is one, and so is a
 /// scope of it.
 pub trait ValueScope<C: FluentType> {
     /// Whether a formatter is set.

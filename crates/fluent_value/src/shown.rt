@@ -30,8 +30,8 @@ impl<'a, C: FluentType> FluentValue<'a, C> {
         ensures written { OnOk result (W.text w.new ≡ W.text w.old ++ shown_text (S.formatted scope.now) (S.shown scope.now) (value_view C.meaning self.now)) }
         ensures refused { OnErr result (W.text w.new ≡ W.text w.old) }
     {
-        if let Some(text) = scope.format(self)? {
-            w.write_str(text.as_str())?;
+        if let Some(formatted) = scope.format(self)? {
+            w.write_str(formatted.as_str())?;
             return Ok(());
         }
         match self {

@@ -40,7 +40,7 @@ impl<'a, C: FluentType> FluentValue<'a, C> {
         }
     }
 
-    /// The same value. A borrowed text stays borrowed. The only error is want of memory.
+    /// The same value. A borrowed text stays borrowed. The only error is that memory runs out.
     pub fn try_clone(&self, alloc: Global) -> Result<Self, AllocError>
         ensures { IfOk result (λ copy. value_view C.meaning copy ≡ value_view C.meaning self.now) }
     {
@@ -52,7 +52,7 @@ impl<'a, C: FluentType> FluentValue<'a, C> {
         }
     }
 
-    /// The same value, which borrows nothing. The only error is want of memory.
+    /// The same value, which borrows nothing. The only error is that memory runs out.
     pub fn into_owned<'b>(&self, alloc: Global) -> Result<FluentValue<'b, C>, AllocError>
         ensures { IfOk result (λ copy. value_view C.meaning copy ≡ value_view C.meaning self.now) }
     {
