@@ -1,0 +1,29 @@
+//! Why a source isn't read whole.
+
+ghost use Rattle.std.specs.Prelude.{Some, codes};
+ghost use Rattle.fluent_resource.specs.Reading.{error_text};
+
+use crate::resource::FluentResource;
+use fluent_parser::ParserError;
+use std::fmt;
+
+/// Why a source isn't read whole.
+#[derive(Debug, Drop)]
+pub enum ResourceError<'s> {
+    /// Parts of the source are no entries. The resource has the others, and each of these parts as junk; the errors are
+    /// those of the junk, in the same order.
+    Broken(FluentResource<'s>, Vec<ParserError>),
+    /// Memory ran out.
+    Memory,
+}
+
+impl<'s> fmt::Display for ResourceError<'s> {
+    ghost output = { λ error. Some (error_text error) };
+
+    fn fmt<W: fmt::Write>(&self, f: &mut fmt::Formatter<W>) -> fmt::Result {
+        f.write_str(match self {
+            ResourceError::Broken(_, _) => "parts of the source are no entries",
+            ResourceError::Memory => "out of memory",
+        })
+    }
+}

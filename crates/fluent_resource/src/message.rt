@@ -1,0 +1,53 @@
+//! Messages, as they are handed out.
+
+ghost use Rattle.std.specs.Prelude.{◌≡◌, option_map, option_copied, map};
+ghost use Rattle.fluent_ast.specs.View.{message_view, pattern_view};
+ghost use Rattle.fluent_resource.specs.AttributeView.{attribute_of};
+ghost use Rattle.fluent_resource.specs.AttributesLeft.{attributes_left};
+ghost use Rattle.fluent_resource.specs.MessageView.{message_of};
+ghost use Rattle.fluent_resource.specs.Attributes.{first_named};
+
+use crate::attribute::{Attributes, FluentAttribute};
+use fluent_ast::{Message, Pattern};
+
+/// A message. Two are equal where their ids, values, attributes and comments are.
+#[derive(Debug, PartialEq, Eq, Drop)]
+pub struct FluentMessage<'m> {
+    node: &'m Message<&'m str>,
+}
+
+impl<'m> FluentMessage<'m> {
+    /// The value, which a message of attributes alone doesn't have.
+    pub fn value(&self) -> Option<&'m Pattern<&'m str>>
+        ensures { option_map (pattern_view _ (λ s. s.now)) (option_copied result) ≡ (message_of self.now).value }
+    {
+        self.node.value.as_ref()
+    }
+
+    /// The attributes, in their order.
+    pub fn attributes(&self) -> Attributes<'m>
+        ensures { attributes_left result ≡ (message_of self.now).attributes }
+    {
+        Attributes::new(&self.node.attributes)
+    }
+
+    /// The first attribute of this name.
+    pub fn get_attribute(&self, name: &str) -> Option<FluentAttribute<'m>>
+        ensures { option_map attribute_of result ≡ first_named name.now (message_of self.now).attributes }
+    {
+        for node in &self.node.attributes {
+            if node.id.name == name {
+                return Some(FluentAttribute::from(node));
+            }
+        }
+        None
+    }
+}
+
+impl<'m> From<&'m Message<&'m str>> for FluentMessage<'m> {
+    ghost from_gives = { λ node made. message_of made ≡ message_view _ (λ s. s.now) node.now };
+
+    fn from(node: &'m Message<&'m str>) -> Self {
+        FluentMessage { node }
+    }
+}

@@ -1,0 +1,80 @@
+//! Reading a source, and going over what it holds.
+
+ghost use Rattle.std.specs.Prelude.{◌≡◌, length, option_map, option_copied, map, slice_get};
+ghost use Rattle.fluent_ast.specs.View.{entry_view};
+ghost use Rattle.fluent_grammar.specs.Tiling.{list, runtime_tree, runtime_errors};
+ghost use Rattle.fluent_parser.specs.ErrorView.{error_told};
+ghost use Rattle.fluent_resource.specs.ResourceView.{entries_view};
+ghost use Rattle.fluent_resource.specs.EntriesLeft.{entries_left};
+ghost use Rattle.fluent_resource.specs.Reading.{ReadsSource, HoldsEntries, HoldsList, HasErrors, HasAnErrorForEachJunk};
+
+use crate::entries::Entries;
+use crate::error::ResourceError;
+use fluent_ast::{Entry, Resource};
+use fluent_grammar::laws::tiling;
+use fluent_parser::{self as parser, parse_runtime};
+use std::alloc::Global;
+
+/// A source and its entries, as they are needed at run time: its messages and terms, without comments, and its junk.
+#[derive(Debug, Drop)]
+pub struct FluentResource<'s> {
+    source: &'s str,
+    tree: Resource<&'s str>,
+}
+
+impl<'s> FluentResource<'s> {
+    /// Reads a source.
+    ///
+    /// # Errors
+    /// - [`ResourceError::Broken`] where parts of the source are no entries. The resource that it holds has all messages and
+    ///   terms of the source, and each of those parts as junk; there is an error for each junk, in the same order.
+    /// - [`ResourceError::Memory`] where memory runs out.
+    pub fn try_new(alloc: Global, source: &'s str) -> Result<Self, ResourceError<'s>>
+        ensures source { ReadsSource result source.now }
+        ensures entries { HoldsEntries result (runtime_tree source.now) }
+        ensures list { HoldsList result (list source.now) }
+        ensures errors { HasErrors result (map error_told (runtime_errors source.now)) }
+        ensures junk { HasAnErrorForEachJunk result }
+    {
+        tiling::runtime_has_the_same_list();
+        tiling::junk_is_sliced();
+        match parse_runtime(alloc, source) {
+            Ok(tree) => Ok(FluentResource { source, tree }),
+            Err(error) => match error {
+                parser::Error::Broken(tree, errors) => Err(ResourceError::Broken(
+                    FluentResource { source, tree },
+                    errors,
+                )),
+                parser::Error::Memory => Err(ResourceError::Memory),
+            },
+        }
+    }
+
+    /// The source.
+    pub fn source(&self) -> &'s str
+        ensures { result.now ≡ self.now.source.now }
+    {
+        self.source
+    }
+
+    /// The entries, in the order of their places.
+    pub fn entries(&self) -> Entries<'_, 's>
+        ensures { entries_left result ≡ entries_view self.now }
+    {
+        Entries::new(&self.tree.body)
+    }
+
+    /// The entries, in the order of their places, as a slice.
+    pub fn body(&self) -> &[Entry<&'s str>]
+        ensures { map (entry_view _ (λ s. s.now)) result.now ≡ entries_view self.now }
+    {
+        self.tree.body.as_slice()
+    }
+
+    /// The entry of this index, from 0 on.
+    pub fn get_entry(&self, index: usize) -> Option<&Entry<&'s str>>
+        ensures { option_map (entry_view _ (λ s. s.now)) (option_copied result) ≡ slice_get (entries_view self.now) index }
+    {
+        self.tree.body.get(index)
+    }
+}
