@@ -11,15 +11,18 @@ set -eu
 [ $# -ge 1 ] || { sed -n '2,9s/^# \{0,1\}//p' "$0" >&2; exit 2; }
 here=$(cd "$(dirname "$0")" && pwd)
 vendor=$(cd "$1" && pwd)
-crate=$here/../../crates/fluent_c
+crates=$here/../../crates
 kit=$(dirname "$(dirname "$(readlink -f "$(command -v rt)")")")
-(cd "$crate" && rt lib >/dev/null)
+for crate in fluent_c fluent_bench_c; do
+    (cd "$crates/$crate" && rt lib >/dev/null)
+done
 built=$(mktemp -d)
 trap 'rm -rf "$built"' EXIT
 cp -R "$here/Cargo.toml" "$here/src" "$built"
 (cd "$built" && cargo rustc --quiet --release --offline --target-dir target \
     --config 'source.crates-io.replace-with="vendor"' --config "source.vendor.directory='$vendor'" -- \
-    -C target-cpu=x86-64-v2 -L native="$crate/out" -l static=fluent_c -L native="$kit/c" -l static=libc_c)
+    -C target-cpu=x86-64-v2 -L native="$crates/fluent_c/out" -l static=fluent_c \
+    -L native="$crates/fluent_bench_c/out" -l static=fluent_bench_c -L native="$kit/c" -l static=libc_c)
 syntax=$built/target/release/syntax
 if [ $# -ge 2 ]; then
     find "$2" -name '*.ftl' -print0 | sort -z | xargs -0 "$syntax" compare

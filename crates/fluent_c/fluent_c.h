@@ -62,16 +62,6 @@ uint32_t fluent_write_json(const uint8_t *text, size_t len, struct FluentText *m
 /* Frees a text, if there is one. There is none then. */
 void fluent_free_text(struct FluentText *made);
 
-/* Reads a source once and writes its tree, without junk, so many times, to measure how long writing takes. Gives the
- * length of the written text. */
-uint32_t fluent_write_times(const uint8_t *text, size_t len, uint32_t times, size_t *written);
-
-/* A checksum over the texts of the tree that fluent_parse reads. */
-uint32_t fluent_checksum(const uint8_t *text, size_t len, uint64_t *checksum);
-
-/* A checksum over the texts of the tree that fluent_parse_runtime reads. */
-uint32_t fluent_checksum_runtime(const uint8_t *text, size_t len, uint64_t *checksum);
-
 #ifdef __cplusplus
 }
 #endif

@@ -1,4 +1,4 @@
-//! The calls of `fluent_c`.
+//! The calls of `fluent_c`, and those of `fluent_bench_c`, which only this benchmark wants.
 
 use crate::Call;
 
@@ -25,11 +25,15 @@ struct Made {
 extern "C" {
     fn fluent_parse(text: *const u8, len: usize, counts: *mut Counts) -> u32;
     fn fluent_parse_runtime(text: *const u8, len: usize, counts: *mut Counts) -> u32;
-    fn fluent_checksum(text: *const u8, len: usize, checksum: *mut u64) -> u32;
-    fn fluent_checksum_runtime(text: *const u8, len: usize, checksum: *mut u64) -> u32;
     fn fluent_write(text: *const u8, len: usize, with_junk: bool, made: *mut Made) -> u32;
     fn fluent_write_json(text: *const u8, len: usize, made: *mut Made) -> u32;
     fn fluent_free_text(made: *mut Made);
+}
+
+// Those of `fluent_bench_c`.
+extern "C" {
+    fn fluent_checksum(text: *const u8, len: usize, checksum: *mut u64) -> u32;
+    fn fluent_checksum_runtime(text: *const u8, len: usize, checksum: *mut u64) -> u32;
     fn fluent_write_times(text: *const u8, len: usize, times: u32, written: *mut usize) -> u32;
 }
 

@@ -3,14 +3,32 @@ use Rattle.std.specs.Prelude.{◌≡◌, ℕ, Bool, true, false, List, length}
 use Rattle.std.specs.List.{count_by}
 use denote.Ref.{Bor}
 use Rattle.fluent_syntax.specs.Tree as t
-use Rattle.fluent_syntax.specs.Tiling.{ParserError}
+use Rattle.fluent_syntax.specs.Tiling.{ParserError, tree, errors, runtime_tree, runtime_errors}
 use Rattle.fluent_syntax.specs.View.{resource_view}
 use Rattle.fluent_ast.specs.declared.Resource.{Resource}
 use Rattle.fluent_c.specs.declared.counts.FluentCounts.{FluentCounts}
+use Rattle.fluent_c.specs.declared.counts.Reading.{Reading}
+use Rattle.fluent_c.specs.declared.counts.Reading.TheVariants.{Whole, Runtime}
+
+-- a borrowed text, and its bytes
+abbrev pub Text : Type 0
+Text = Bor (List ℕ)
+
+abbrev pub text_of : Text → List ℕ
+text_of s = s.now
 
 -- the entries of a tree over borrowed texts
-abbrev pub plain : Resource (Bor (List ℕ)) → List t.Entry
-plain = resource_view (Bor (List ℕ)) (λ s. s.now)
+abbrev pub plain : Resource Text → List t.Entry
+plain = resource_view Text text_of
+
+-- the tree and the errors of a source that is read so
+abbrev pub tree_of : Reading → List ℕ → List t.Entry
+tree_of Whole = tree
+tree_of Runtime = runtime_tree
+
+abbrev pub errors_of : Reading → List ℕ → List ParserError
+errors_of Whole = errors
+errors_of Runtime = runtime_errors
 
 abbrev pub is_message : t.Entry → Bool
 is_message (t.message m) = true

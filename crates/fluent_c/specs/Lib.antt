@@ -5,3 +5,4 @@ pub use Rattle.fluent_syntax.specs.View
 pub mod Counts
 pub mod Made
 pub mod Texts
+pub mod Forms

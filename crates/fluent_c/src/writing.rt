@@ -1,20 +1,22 @@
 //! The tree of a source as text: written back, and as JSON.
 
-ghost use Rattle.std.specs.Prelude.{◌≡◌, ◌≢◌, ◌<◌, IfOk, IsUtf8, length, false};
+ghost use Rattle.std.specs.Prelude.{◌≡◌, ◌≢◌, IfOk, IsUtf8, false};
 ghost use Rattle.serde_json.specs.Written.{compact_text};
 ghost use Rattle.fluent_syntax.specs.Tiling.{tree};
-ghost use Rattle.fluent_syntax.specs.Written.{written, written_with};
+ghost use Rattle.fluent_syntax.specs.Written.{written_with};
 ghost use Rattle.fluent_json.specs.Json.{json};
 ghost use Rattle.fluent_json.specs.Parts as owned;
 ghost use Rattle.fluent_c.specs.Counts.{plain};
 ghost use Rattle.fluent_c.specs.Made.{Holds};
+ghost use Rattle.fluent_c.specs.Forms.{text_in};
 
 use crate::text::FluentText;
 use crate::{FLUENT_NO_MEMORY, FLUENT_NOT_UTF8, FLUENT_READ};
 use fluent_json::to_value;
 use fluent_syntax::ast::Resource;
 use fluent_syntax::parser::{Error, parse};
-use fluent_syntax::serializer::{Options, serialize, serialize_with_options};
+use fluent_syntax::serializer::{Options, serialize_with_options};
+use simdutf8::basic::from_utf8;
 use std::alloc::{AllocError, Global};
 
 /// The tree of a source, with or without errors.
@@ -58,6 +60,44 @@ fn json_text(alloc: Global, text: &str) -> Result<FluentText, AllocError>
     FluentText::of(alloc, written.into_bytes())
 }
 
+/// What a tree is handed out as.
+#[derive(Clone, Copy)]
+enum Form {
+    /// Its written text, with its junk or without.
+    Written { with_junk: bool },
+    /// The JSON text of its value.
+    Json,
+}
+
+/// The text of a source's tree in this form.
+fn text_of(alloc: Global, text: &str, form: Form) -> Result<FluentText, AllocError>
+    ensures { IfOk result (λ made. Holds made (text_in form (tree text.now))) }
+{
+    match form {
+        Form::Written { with_junk } => written(alloc, text, with_junk),
+        Form::Json => json_text(alloc, text),
+    }
+}
+
+/// Hands out the text of a source's tree in this form, as the calls for C answer it.
+fn hand_out(alloc: Global, text: &[u8], form: Form, made: &mut FluentText) -> u32
+    ensures written { result ≡ 0 → Holds made.new (text_in form (tree text.now)) }
+    ensures not_utf8 { result ≡ 1 → ¬ (IsUtf8 text.now) }
+    ensures utf8 { result ≢ 1 → IsUtf8 text.now }
+    ensures unchanged { result ≢ 0 → made.new ≡ made.old }
+{
+    let Ok(text) = from_utf8(text) else {
+        return FLUENT_NOT_UTF8;
+    };
+    match text_of(alloc, text, form) {
+        Ok(text) => {
+            made.put(alloc, text);
+            FLUENT_READ
+        }
+        Err(_) => FLUENT_NO_MEMORY,
+    }
+}
+
 /// Reads a source and writes its tree back.
 ///
 /// `text` is the source's bytes. Its junk is written as it stands where `with_junk` is true, and left out where it is
@@ -76,16 +116,7 @@ pub extern "C" fn fluent_write(
     ensures utf8 { result ≢ 1 → IsUtf8 text.now }
     ensures unchanged { result ≢ 0 → made.new ≡ made.old }
 {
-    let Ok(text) = std::str::from_utf8(text) else {
-        return FLUENT_NOT_UTF8;
-    };
-    match written(alloc, text, with_junk) {
-        Ok(written) => {
-            made.put(alloc, written);
-            FLUENT_READ
-        }
-        Err(_) => FLUENT_NO_MEMORY,
-    }
+    hand_out(alloc, text, Form::Written { with_junk }, made)
 }
 
 /// Reads a source and writes its tree as JSON, compact, with the keys of each object in the order of their bytes.
@@ -98,16 +129,7 @@ pub extern "C" fn fluent_write_json(alloc: Global, text: &[u8], made: &mut Fluen
     ensures utf8 { result ≢ 1 → IsUtf8 text.now }
     ensures unchanged { result ≢ 0 → made.new ≡ made.old }
 {
-    let Ok(text) = std::str::from_utf8(text) else {
-        return FLUENT_NOT_UTF8;
-    };
-    match json_text(alloc, text) {
-        Ok(json) => {
-            made.put(alloc, json);
-            FLUENT_READ
-        }
-        Err(_) => FLUENT_NO_MEMORY,
-    }
+    hand_out(alloc, text, Form::Json, made)
 }
 
 /// Frees the text that `made` holds, if it holds one. It holds none then.
@@ -116,43 +138,6 @@ pub extern "C" fn fluent_free_text(alloc: Global, made: &mut FluentText)
     ensures { made.new.held ≡ false }
 {
     made.clear(alloc);
-}
-
-/// The length of the text that a tree is written as, writing it so many times.
-fn write_times(alloc: Global, resource: &Resource<&str>, times: u32) -> Result<usize, AllocError>
-    ensures { IfOk result (λ len. 0 < times → len ≡ length (written (plain resource.now))) }
-{
-    let mut len = 0;
-    for _ in 0..times {
-        len = serialize(alloc, resource)?.len();
-    }
-    Ok(len)
-}
-
-/// Reads a source once and writes its tree, without junk, so many times: to measure how long writing takes.
-///
-/// `len` becomes the length of the written text in bytes. The answers are those of [`fluent_write`]; `len` is unchanged
-/// where it isn't [`FLUENT_READ`].
-#[unsafe(no_mangle)]
-pub extern "C" fn fluent_write_times(alloc: Global, text: &[u8], times: u32, len: &mut usize) -> u32
-    ensures written { result ≡ 0 → 0 < times → len.new ≡ length (written (tree text.now)) }
-    ensures not_utf8 { result ≡ 1 → ¬ (IsUtf8 text.now) }
-    ensures utf8 { result ≢ 1 → IsUtf8 text.now }
-    ensures unchanged { result ≢ 0 → len.new ≡ len.old }
-{
-    let Ok(text) = std::str::from_utf8(text) else {
-        return FLUENT_NOT_UTF8;
-    };
-    let Ok(resource) = read(alloc, text) else {
-        return FLUENT_NO_MEMORY;
-    };
-    match write_times(alloc, &resource, times) {
-        Ok(count) => {
-            *len = count;
-            FLUENT_READ
-        }
-        Err(_) => FLUENT_NO_MEMORY,
-    }
 }
 
 #[cfg(test)]
@@ -232,29 +217,13 @@ mod tests {
     fn other_bytes_leave_the_text(rt: HostRuntime) -> Result<(), Fail> {
         let alloc = rt.alloc();
         let mut made = FluentText::none();
-        let mut len = 7;
         let other = b"a = \xff\n";
         assert_eq!(rt; fluent_write(alloc, b"a=b", false, &mut made), FLUENT_READ);
         let answer = fluent_write(alloc, other, false, &mut made);
         assert_eq!(rt; answer, FLUENT_NOT_UTF8);
         let answer = fluent_write_json(alloc, other, &mut made);
         assert_eq!(rt; answer, FLUENT_NOT_UTF8);
-        let answer = fluent_write_times(alloc, other, 1, &mut len);
-        assert_eq!(rt; answer, FLUENT_NOT_UTF8);
-        assert_eq!(rt; len, 7);
         assert!(rt; is(alloc, made, "a = b\n"));
-        Ok(())
-    }
-
-    #[test]
-    fn writing_again_gives_the_length(rt: HostRuntime) -> Result<(), Fail> {
-        let alloc = rt.alloc();
-        for (times, expected) in [(1, 30), (3, 30), (0, 0)] {
-            let mut len = 7;
-            let answer = fluent_write_times(alloc, BROKEN, times, &mut len);
-            assert_eq!(rt; answer, FLUENT_READ);
-            assert_eq!(rt; len, expected);
-        }
         Ok(())
     }
 }
