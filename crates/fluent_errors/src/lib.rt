@@ -15,6 +15,3 @@ pub use bundle::FluentError;
 pub use entry::EntryKind;
 pub use reference::ReferenceKind;
 pub use resolver::ResolverError;
-
-#[cfg(test)]
-mod tests;
