@@ -30,6 +30,3 @@ pub use plurals::{EnglishPlurals, MemoizerKind};
 pub use scope::ValueScope;
 pub use transform::TextTransform;
 pub use value::FluentValue;
-
-#[cfg(test)]
-mod tests;

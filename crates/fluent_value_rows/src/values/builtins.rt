@@ -1,9 +1,9 @@
 //! The function `NUMBER`.
 
 use super::Value;
-use crate::builtins::NUMBER;
-use crate::{FluentArgs, FluentValue, NoCustom};
 use fluent_number::{FluentNumberOptions, FluentNumberType};
+use fluent_value::builtins::NUMBER;
+use fluent_value::{FluentArgs, FluentValue, NoCustom};
 use std::alloc::{AllocError, Global};
 use std::borrow::CowStr;
 use std::test::Fail;

@@ -1,16 +1,19 @@
-//! Values from texts and integers, copies and equality.
+//! Values: where they come from, what they equal and match, and what they are shown as.
 
 mod args;
 mod builtins;
 mod conversions;
 mod copies;
 mod equality;
+mod matching;
 mod numbers;
+mod scope;
+mod showing;
 
 ghost use Rattle.std.specs.Prelude.{ℕ, ◌==◌, codes};
 ghost use Rattle.std.proofs.Common.{rules};
 
-use crate::{FluentType, FluentValue, NoCustom};
+use fluent_value::{FluentType, FluentValue, NoCustom};
 use std::alloc::{AllocError, Global};
 use std::borrow::CowStr;
 

@@ -1,8 +1,8 @@
 //! Arguments: values by name, in the order of the names' bytes.
 
 use super::Value;
-use crate::{FluentArgs, FluentValue, NoCustom};
 use fluent_number::OptionSource;
+use fluent_value::{FluentArgs, FluentValue, NoCustom};
 use std::alloc::{AllocError, Global};
 use std::borrow::CowStr;
 use std::test::Fail;

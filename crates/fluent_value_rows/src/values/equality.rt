@@ -1,7 +1,7 @@
 //! Which values are equal.
 
 use super::{Count, Value};
-use crate::FluentValue;
+use fluent_value::FluentValue;
 use std::test::Fail;
 
 #[test]

@@ -1,8 +1,8 @@
 //! Values from texts, from integers and from what may be absent.
 
 use super::Value;
-use crate::FluentValue;
 use fluent_number::FluentNumber;
+use fluent_value::FluentValue;
 use std::borrow::CowStr;
 use std::test::Fail;
 

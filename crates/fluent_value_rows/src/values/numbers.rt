@@ -1,7 +1,7 @@
 //! Texts that are numbers, and texts that are none.
 
 use super::Value;
-use crate::FluentValue;
+use fluent_value::FluentValue;
 use std::borrow::CowStr;
 use std::test::Fail;
 

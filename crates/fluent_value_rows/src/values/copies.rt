@@ -1,7 +1,7 @@
 //! Copies of values.
 
 use super::{Count, Value};
-use crate::{FluentType, FluentValue};
+use fluent_value::{FluentType, FluentValue};
 use std::borrow::CowStr;
 use std::test::Fail;
 
