@@ -1,2 +1,3 @@
 pub mod Placed
 pub mod Map
+pub mod Decided

@@ -6,5 +6,5 @@ use Rattle.fluent_value.specs.Value.{Value}
 use Rattle.fluent_value.specs.View.{value_view}
 use Rattle.fluent_value.specs.declared.args.iter.Iter.{Iter}
 
-abbrev pub left_view : (C : Type 0) (S : Type 0) (meaning : C → S) → Iter C → List (List ℕ × Value S)
-left_view C S meaning it = map (λ a. (name_of C a, value_view C S meaning a.value)) (iter_rest it.left)
+abbrev pub left_view : {C S : Type 0} (meaning : C → S) → Iter C → List (List ℕ × Value S)
+left_view meaning it = map (λ a. (name_of a, value_view meaning a.value)) (iter_rest it.left)

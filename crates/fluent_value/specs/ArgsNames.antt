@@ -3,7 +3,7 @@ use Rattle.std.specs.Prelude.{ℕ, List, map}
 use Rattle.std.specs.Cow.{cow_str_bytes}
 use Rattle.fluent_value.specs.declared.args.Argument.{Argument}
 
-module _ (C : Type 0) where
+module _ {C : Type 0} where
   -- the name of an argument
   abbrev pub name_of : Argument C → List ℕ
   name_of argument = cow_str_bytes argument.name

@@ -6,5 +6,5 @@ use Rattle.fluent_value.specs.Value.{Value}
 use Rattle.fluent_value.specs.View.{value_view}
 use Rattle.fluent_value.specs.declared.args.into_iter.IntoIter.{IntoIter}
 
-abbrev pub owned_view : (C : Type 0) (S : Type 0) (meaning : C → S) → IntoIter C → List (List ℕ × Value S)
-owned_view C S meaning it = map (λ a. (name_of C a, value_view C S meaning a.value)) (into_iter_items it.left)
+abbrev pub owned_view : {C S : Type 0} (meaning : C → S) → IntoIter C → List (List ℕ × Value S)
+owned_view meaning it = map (λ a. (name_of a, value_view meaning a.value)) (into_iter_items it.left)

@@ -10,9 +10,9 @@ use Rattle.fluent_value.specs.declared.value.FluentValue.{FluentValue}
 use Rattle.fluent_value.specs.declared.args.FluentArgs.{FluentArgs}
 
 -- the plain arguments, in the order of their names
-abbrev pub args_view : (C : Type 0) (S : Type 0) (meaning : C → S) → FluentArgs C → List (List ℕ × Value S)
-args_view C S meaning args = map (λ it. (name_of C it, value_view C S meaning it.value)) args.arguments.items
+abbrev pub args_view : {C S : Type 0} (meaning : C → S) → FluentArgs C → List (List ℕ × Value S)
+args_view meaning args = map (λ it. (name_of it, value_view meaning it.value)) args.arguments.items
 
 -- the plain pair that a pair stands for
-abbrev pub pair_view : (C : Type 0) (S : Type 0) (meaning : C → S) → CowStr Global × FluentValue C → List ℕ × Value S
-pair_view C S meaning pair = (cow_str_bytes pair.0, value_view C S meaning pair.1)
+abbrev pub pair_view : {C S : Type 0} (meaning : C → S) → CowStr Global × FluentValue C → List ℕ × Value S
+pair_view meaning pair = (cow_str_bytes pair.0, value_view meaning pair.1)

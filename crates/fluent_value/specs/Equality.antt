@@ -8,8 +8,8 @@ use Rattle.fluent_value.specs.View.{value_eq}
 use Rattle.fluent_value.specs.declared.value.FluentValue.{FluentValue}
 use Rattle.fluent_value.specs.declared.value.FluentValue.TheVariants as of
 
-module _ (C : Type 0) (S : Type 0) (meaning : C → S) (same : S → S → Bool) (same_number : FluentNumber → FluentNumber → Bool) (own : IsPartialEquivalence same) (numbers : IsPartialEquivalence same_number) where
-  value_eq-symm : (x y : FluentValue C) → value_eq C S meaning same same_number x y ≡ value_eq C S meaning same same_number y x
+module _ {C S : Type 0} (meaning : C → S) (same : S → S → Bool) (same_number : FluentNumber → FluentNumber → Bool) (own : IsPartialEquivalence same) (numbers : IsPartialEquivalence same_number) where
+  value_eq-symm : (x y : FluentValue C) → value_eq meaning same same_number x y ≡ value_eq meaning same same_number y x
   value_eq-symm (of.String s) (of.String r) = nat_list_eq_equiv.symm (cow_str_bytes s) (cow_str_bytes r)
   value_eq-symm (of.String s) (of.Number n) = refl
   value_eq-symm (of.String s) (of.Custom c) = refl
@@ -36,7 +36,7 @@ module _ (C : Type 0) (S : Type 0) (meaning : C → S) (same : S → S → Bool)
   value_eq-symm of.Error of.None = refl
   value_eq-symm of.Error of.Error = refl
 
-  value_eq-trans : (x y z : FluentValue C) → value_eq C S meaning same same_number x y ≡ true → value_eq C S meaning same same_number y z ≡ true → value_eq C S meaning same same_number x z ≡ true
+  value_eq-trans : (x y z : FluentValue C) → value_eq meaning same same_number x y ≡ true → value_eq meaning same same_number y z ≡ true → value_eq meaning same same_number x z ≡ true
   value_eq-trans (of.String s) (of.String r) (of.String t) h k = (partial_equiv_from_equiv nat_list_eq_equiv).trans (cow_str_bytes s) (cow_str_bytes r) (cow_str_bytes t) h k
   value_eq-trans (of.String s) (of.String r) (of.Number n) h k = k
   value_eq-trans (of.String s) (of.String r) (of.Custom c) h k = k
@@ -67,5 +67,5 @@ module _ (C : Type 0) (S : Type 0) (meaning : C → S) (same : S → S → Bool)
   value_eq-trans of.None y z h k = cc
   value_eq-trans of.Error y z h k = cc
 
-  pub value_eq-per : IsPartialEquivalence (value_eq C S meaning same same_number)
+  pub value_eq-per : IsPartialEquivalence (value_eq meaning same same_number)
   value_eq-per = record { symm = value_eq-symm; trans = value_eq-trans }

@@ -1,5 +1,9 @@
 pub mod Value
 pub mod View
+pub mod Matching
+pub mod Shown
+pub mod Lent
+pub mod Integers
 pub mod Equality
 pub mod Args
 pub mod ArgsNames

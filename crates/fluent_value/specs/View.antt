@@ -8,7 +8,7 @@ use Rattle.fluent_value.specs.Value.{Value, text, number, custom, none, error}
 use Rattle.fluent_value.specs.declared.value.FluentValue.{FluentValue}
 use Rattle.fluent_value.specs.declared.value.FluentValue.TheVariants as of
 
-module _ (C : Type 0) (S : Type 0) (meaning : C → S) where
+module _ {C S : Type 0} (meaning : C → S) where
   -- the plain value
   abbrev pub value_view : FluentValue C → Value S
   value_view (of.String s) = text (cow_str_bytes s)

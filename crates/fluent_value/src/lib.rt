@@ -10,13 +10,25 @@
 mod args;
 pub mod builtins;
 mod custom;
+mod formatter;
+mod function;
 mod integers;
 pub mod laws;
+mod matching;
+mod plurals;
+mod scope;
+mod shown;
 mod texts;
+mod transform;
 mod value;
 
 pub use args::{FluentArgs, IntoIter, Iter};
 pub use custom::{FluentType, NoCustom};
+pub use formatter::{NoFormatter, ValueFormatter};
+pub use function::{FluentFunction, NoFunction};
+pub use plurals::{EnglishPlurals, MemoizerKind};
+pub use scope::ValueScope;
+pub use transform::TextTransform;
 pub use value::FluentValue;
 
 #[cfg(test)]

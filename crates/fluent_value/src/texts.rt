@@ -13,7 +13,7 @@ use std::borrow::CowStr;
 
 /// The text, owned.
 impl<'a, C: FluentType> From<String> for FluentValue<'a, C> {
-    ghost from_gives = { λ text value. value_view C C.Meaning C.meaning value ≡ a_text (string_bytes text) };
+    ghost from_gives = { λ text value. value_view C.meaning value ≡ a_text (string_bytes text) };
 
     fn from(text: String) -> Self {
         FluentValue::String(CowStr::Owned(text))
@@ -22,7 +22,7 @@ impl<'a, C: FluentType> From<String> for FluentValue<'a, C> {
 
 /// The text, borrowed.
 impl<'a, C: FluentType> From<&'a String> for FluentValue<'a, C> {
-    ghost from_gives = { λ text value. value_view C C.Meaning C.meaning value ≡ a_text (string_bytes text.now) };
+    ghost from_gives = { λ text value. value_view C.meaning value ≡ a_text (string_bytes text.now) };
 
     fn from(text: &'a String) -> Self {
         FluentValue::String(CowStr::Borrowed(text.as_str()))
@@ -31,7 +31,7 @@ impl<'a, C: FluentType> From<&'a String> for FluentValue<'a, C> {
 
 /// The text, borrowed. It stays a text where it reads as a number: [`FluentValue::try_number`] makes a number of it.
 impl<'a, C: FluentType> From<&'a str> for FluentValue<'a, C> {
-    ghost from_gives = { λ text value. value_view C C.Meaning C.meaning value ≡ a_text text.now };
+    ghost from_gives = { λ text value. value_view C.meaning value ≡ a_text text.now };
 
     fn from(text: &'a str) -> Self {
         FluentValue::String(CowStr::Borrowed(text))
@@ -40,7 +40,7 @@ impl<'a, C: FluentType> From<&'a str> for FluentValue<'a, C> {
 
 /// The text, borrowed or owned as it is.
 impl<'a, C: FluentType> From<CowStr<'a>> for FluentValue<'a, C> {
-    ghost from_gives = { λ text value. value_view C C.Meaning C.meaning value ≡ a_text (cow_str_bytes text) };
+    ghost from_gives = { λ text value. value_view C.meaning value ≡ a_text (cow_str_bytes text) };
 
     fn from(text: CowStr<'a>) -> Self {
         FluentValue::String(text)
@@ -49,7 +49,7 @@ impl<'a, C: FluentType> From<CowStr<'a>> for FluentValue<'a, C> {
 
 /// The number.
 impl<'a, C: FluentType> From<FluentNumber> for FluentValue<'a, C> {
-    ghost from_gives = { λ number value. value_view C C.Meaning C.meaning value ≡ a_number (number_of number) };
+    ghost from_gives = { λ number value. value_view C.meaning value ≡ a_number (number_of number) };
 
     fn from(number: FluentNumber) -> Self {
         FluentValue::Number(number)
@@ -58,7 +58,7 @@ impl<'a, C: FluentType> From<FluentNumber> for FluentValue<'a, C> {
 
 /// The value of what is there, or [`FluentValue::None`].
 impl<'a, C: FluentType, T: Into<FluentValue<'a, C>>> From<Option<T>> for FluentValue<'a, C> {
-    ghost from_gives = { λ option value. from_option T.converts (λ v. value_view C C.Meaning C.meaning v ≡ no_value) option value };
+    ghost from_gives = { λ option value. from_option T.converts (λ v. value_view C.meaning v ≡ no_value) option value };
 
     fn from(option: Option<T>) -> Self {
         match option {

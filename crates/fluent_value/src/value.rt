@@ -32,7 +32,7 @@ impl<'a, C: FluentType> FluentValue<'a, C> {
     /// The number that a text is, with a digit behind the point asked for each one that stands there, or else the text
     /// itself, borrowed. It takes no memory.
     pub fn try_number(text: &'a str) -> Self
-        ensures { value_view C C.Meaning C.meaning result ≡ number_or_text text.now }
+        ensures { value_view C.meaning result ≡ number_or_text text.now }
     {
         match text.parse::<FluentNumber>() {
             Ok(number) => FluentValue::Number(number),
@@ -42,7 +42,7 @@ impl<'a, C: FluentType> FluentValue<'a, C> {
 
     /// The same value. A borrowed text stays borrowed. The only error is want of memory.
     pub fn try_clone(&self, alloc: Global) -> Result<Self, AllocError>
-        ensures { IfOk result (λ copy. value_view C C.Meaning C.meaning copy ≡ value_view C C.Meaning C.meaning self.now) }
+        ensures { IfOk result (λ copy. value_view C.meaning copy ≡ value_view C.meaning self.now) }
     {
         match self {
             FluentValue::String(CowStr::Borrowed(text)) => {
@@ -54,7 +54,7 @@ impl<'a, C: FluentType> FluentValue<'a, C> {
 
     /// The same value, which borrows nothing. The only error is want of memory.
     pub fn into_owned<'b>(&self, alloc: Global) -> Result<FluentValue<'b, C>, AllocError>
-        ensures { IfOk result (λ copy. value_view C C.Meaning C.meaning copy ≡ value_view C C.Meaning C.meaning self.now) }
+        ensures { IfOk result (λ copy. value_view C.meaning copy ≡ value_view C.meaning self.now) }
     {
         Ok(match self {
             FluentValue::String(text) => {
@@ -71,9 +71,9 @@ impl<'a, C: FluentType> FluentValue<'a, C> {
 /// Texts are equal where they are the same, numbers where value and options are, values of the program's own type by
 /// [`FluentType::equals`]. No other two values are equal: `None` and `Error` don't even equal themselves.
 impl<'a, C: FluentType> PartialEq for FluentValue<'a, C> {
-    ghost eq = { value_eq C C.Meaning C.meaning C.same ⟦<FluentNumber as PartialEq>⟧.eq };
+    ghost eq = { value_eq C.meaning C.same ⟦<FluentNumber as PartialEq>⟧.eq };
 
-    ghost laws = { value_eq-per C C.Meaning C.meaning C.same _ (Prim.search (partial_equiv_from_equiv, rules)) laws-law };
+    ghost laws = { value_eq-per C.meaning C.same _ (Prim.search (partial_equiv_from_equiv, rules)) laws-law };
 
     fn eq(&self, other: &Self) -> bool {
         match (self, other) {

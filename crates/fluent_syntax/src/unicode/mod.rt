@@ -2,7 +2,6 @@
 
 mod escape;
 mod unescape;
-mod write;
 
+pub use fluent_write::TextWrite;
 pub use unescape::{unescape_unicode, unescape_unicode_to_string};
-pub use write::TextWrite;

@@ -6,7 +6,7 @@ ghost use Rattle.fluent_grammar.specs.Escapes.{unescaped};
 ghost use Rattle.fluent_syntax.specs.Unescaped.{TookPrefix, has_backslash};
 
 use super::escape::escape_at;
-use super::write::TextWrite;
+use fluent_write::TextWrite;
 use memchr::memchr;
 use std::alloc::{AllocError, Global};
 use std::borrow::CowStr;

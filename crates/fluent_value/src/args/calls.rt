@@ -19,7 +19,7 @@ use std::borrow::CowStr;
 impl<'args, C: FluentType> FluentArgs<'args, C> {
     /// No arguments. It takes no memory.
     pub fn new(alloc: Global) -> Self
-        ensures { args_view C C.Meaning C.meaning result ≡ [] }
+        ensures { args_view C.meaning result ≡ [] }
     {
         FluentArgs {
             arguments: Vec::new(alloc),
@@ -28,7 +28,7 @@ impl<'args, C: FluentType> FluentArgs<'args, C> {
 
     /// No arguments, with room for so many of them. The error is that memory was refused.
     pub fn with_capacity(alloc: Global, capacity: usize) -> Result<Self, AllocError>
-        ensures { IfOk result (λ args. args_view C C.Meaning C.meaning args ≡ []) }
+        ensures { IfOk result (λ args. args_view C.meaning args ≡ []) }
     {
         Ok(FluentArgs {
             arguments: Vec::with_capacity(alloc, capacity)?,
@@ -37,7 +37,7 @@ impl<'args, C: FluentType> FluentArgs<'args, C> {
 
     /// The value of a name.
     pub fn get(&self, name: &str) -> Option<&FluentValue<'args, C>>
-        ensures { option_map (value_view C C.Meaning C.meaning) (option_copied result) ≡ argument name.now (args_view C C.Meaning C.meaning self.now) }
+        ensures { option_map (value_view C.meaning) (option_copied result) ≡ argument name.now (args_view C.meaning self.now) }
     {
         match self.place(name) {
             Ok(index) => Some(&self.arguments[index].value),
@@ -48,7 +48,7 @@ impl<'args, C: FluentType> FluentArgs<'args, C> {
     /// Where the name stands, or where it would.
     fn place(&self, name: &str) -> Result<usize, usize>
         ensures range { IsSearchInRange result (length self.now.arguments.items) }
-        ensures place { MatchResult result (HoldsAt (λ it. order (name_of C it) name.now ≡ Equal) self.now.arguments.items) (IsPartitionPoint (λ it. order (name_of C it) name.now ≡ Less) (λ it. order (name_of C it) name.now ≡ Greater) self.now.arguments.items) }
+        ensures place { MatchResult result (HoldsAt (λ it. order (name_of it) name.now ≡ Equal) self.now.arguments.items) (IsPartitionPoint (λ it. order (name_of it) name.now ≡ Less) (λ it. order (name_of it) name.now ≡ Greater) self.now.arguments.items) }
     {
         self.arguments
             .binary_search_by(|argument| argument.name.as_str().cmp(name))
@@ -63,9 +63,9 @@ impl<'args, C: FluentType + Drop> FluentArgs<'args, C> {
         name: CowStr<'args>,
         value: FluentValue<'args, C>,
     ) -> Result<(), AllocError>
-        ensures ok { OnOk result (args_view C C.Meaning C.meaning self.new ≡ with_argument (cow_str_bytes name.entry) (value_view C C.Meaning C.meaning value.entry) (args_view C C.Meaning C.meaning self.old)) }
-        ensures refused { OnErr result (args_view C C.Meaning C.meaning self.new ≡ args_view C C.Meaning C.meaning self.old) }
-        ensures succeeds { IsSome (argument (cow_str_bytes name.entry) (args_view C C.Meaning C.meaning self.old)) → IsOk result }
+        ensures ok { OnOk result (args_view C.meaning self.new ≡ with_argument (cow_str_bytes name.entry) (value_view C.meaning value.entry) (args_view C.meaning self.old)) }
+        ensures refused { OnErr result (args_view C.meaning self.new ≡ args_view C.meaning self.old) }
+        ensures succeeds { IsSome (argument (cow_str_bytes name.entry) (args_view C.meaning self.old)) → IsOk result }
     {
         match self.place(name.as_str()) {
             Ok(index) => self.arguments[index].value = value,

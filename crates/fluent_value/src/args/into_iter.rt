@@ -4,7 +4,9 @@ ghost use Rattle.std.specs.Prelude.{◌≡◌, length};
 ghost use Rattle.std.specs.Cow.{cow_str_bytes};
 ghost use Rattle.std.specs.Iterator.{at_most};
 ghost use Rattle.std.specs.Map.Iter.{TakesFirst};
+ghost use Rattle.std.specs.Map.{keys_of};
 ghost use Rattle.std.specs.Vec.Iter.{into_iter_len};
+ghost use Rattle.fluent_value.specs.Args.{IsAscending};
 ghost use Rattle.fluent_value.specs.ArgsView.{args_view};
 ghost use Rattle.fluent_value.specs.ArgsOwned.{owned_view};
 ghost use Rattle.fluent_value.specs.View.{value_view};
@@ -27,7 +29,7 @@ impl<'args, C: FluentType + Drop> IntoIterator for FluentArgs<'args, C> {
 
     type IntoIter = IntoIter<'args, C>;
 
-    ghost into_iter_gives = { λ args it. owned_view C C.Meaning C.meaning it ≡ args_view C C.Meaning C.meaning args };
+    ghost into_iter_gives = { λ args it. (owned_view C.meaning it ≡ args_view C.meaning args) × IsAscending (keys_of (owned_view C.meaning it)) };
 
     fn into_iter(self) -> IntoIter<'args, C> {
         IntoIter {
@@ -39,7 +41,7 @@ impl<'args, C: FluentType + Drop> IntoIterator for FluentArgs<'args, C> {
 impl<'args, C: FluentType + Drop> Iterator for IntoIter<'args, C> {
     type Item = (CowStr<'args>, FluentValue<'args, C>);
 
-    ghost next_gives = { λ s given t. TakesFirst (λ item. (cow_str_bytes item.0, value_view C C.Meaning C.meaning item.1)) (owned_view C C.Meaning C.meaning s) given (owned_view C C.Meaning C.meaning t) };
+    ghost next_gives = { λ s given t. TakesFirst (λ item. (cow_str_bytes item.0, value_view C.meaning item.1)) (owned_view C.meaning s) given (owned_view C.meaning t) };
 
     ghost remaining = { λ s. at_most (into_iter_len s.left) };
 

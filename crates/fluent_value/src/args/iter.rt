@@ -25,8 +25,8 @@ pub struct Iter<'a, 'args, C> {
 impl<'args, C: FluentType> FluentArgs<'args, C> {
     /// The names and values, in the order of the names' bytes, each name once.
     pub fn iter(&self) -> Iter<'_, 'args, C>
-        ensures all { left_view C C.Meaning C.meaning result ≡ args_view C C.Meaning C.meaning self.now }
-        ensures ascending { IsAscending (keys_of (args_view C C.Meaning C.meaning self.now)) }
+        ensures all { left_view C.meaning result ≡ args_view C.meaning self.now }
+        ensures ascending { IsAscending (keys_of (args_view C.meaning self.now)) }
     {
         Iter {
             left: self.arguments.iter(),
@@ -37,7 +37,7 @@ impl<'args, C: FluentType> FluentArgs<'args, C> {
 impl<'a, 'args, C: FluentType> Iterator for Iter<'a, 'args, C> {
     type Item = (&'a str, &'a FluentValue<'args, C>);
 
-    ghost next_gives = { λ s given t. TakesFirst (λ item. (item.0.now, value_view C C.Meaning C.meaning item.1.now)) (left_view C C.Meaning C.meaning s) given (left_view C C.Meaning C.meaning t) };
+    ghost next_gives = { λ s given t. TakesFirst (λ item. (item.0.now, value_view C.meaning item.1.now)) (left_view C.meaning s) given (left_view C.meaning t) };
 
     ghost remaining = { λ s. at_most (length (iter_rest s.left)) };
 

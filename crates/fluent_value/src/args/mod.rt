@@ -26,5 +26,5 @@ struct Argument<'args, C> {
 #[derive(Debug, Drop)]
 pub struct FluentArgs<'args, C> {
     arguments: Vec<Argument<'args, C>>,
-    ghost ascending: { IsAscending (names_of C arguments.items) } by { Prim.hlevel props },
+    ghost ascending: { IsAscending (names_of arguments.items) } by { Prim.hlevel props },
 }

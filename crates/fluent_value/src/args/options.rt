@@ -11,9 +11,9 @@ use fluent_number::{FluentNumber, OptionSource};
 
 /// The text or the number that stands under a name.
 impl<'args, C: FluentType> OptionSource for FluentArgs<'args, C> {
-    ghost text_under = { λ args name. text_of (argument name (args_view C C.Meaning C.meaning args)) };
+    ghost text_under = { λ args name. text_of (argument name (args_view C.meaning args)) };
 
-    ghost number_under = { λ args name. number_of (argument name (args_view C C.Meaning C.meaning args)) };
+    ghost number_under = { λ args name. number_of (argument name (args_view C.meaning args)) };
 
     fn text(&self, name: &str) -> Option<&str> {
         match self.get(name) {

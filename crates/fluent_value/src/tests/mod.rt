@@ -22,7 +22,7 @@ type Value<'a> = FluentValue<'a, NoCustom>;
 struct Count(u32);
 
 impl FluentType for Count {
-    ghost Meaning = { ℕ };
+    type Meaning = u32;
 
     ghost meaning = { λ count. count.0 };
 

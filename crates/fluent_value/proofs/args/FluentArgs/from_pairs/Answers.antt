@@ -11,7 +11,7 @@ pairs-init g c = c.new-args.ensures
 pub pairs-preserved : goal.pairs-preserved
 pairs-preserved g c =
     c.in_ok-set.ensures.ok ∙ ap (with_argument _ _) c.pairs.invariant
-    ∙ sym (set_last (pair_view g.row.C.Denot g.C.FluentType.Meaning g.C.FluentType.meaning) [] c.pairs.yielded _)
+    ∙ sym (set_last (pair_view g.C.FluentType.meaning) [] c.pairs.yielded _)
 
 pub returns : goal.returns
 returns g c =

@@ -6,4 +6,4 @@ use Rattle.fluent_value.proofs.args.FluentArgs.from_pairs.Given as goal
 -- the arguments are those of the pairs that came
 abbrev pub invariant-pairs : goal.invariant-pairs
 invariant-pairs g l =
-    args_view g.row.C.Denot g.C.FluentType.Meaning g.C.FluentType.meaning l.args ≡ all_set [] (map (pair_view g.row.C.Denot g.C.FluentType.Meaning g.C.FluentType.meaning) l.yielded)
+    args_view g.C.FluentType.meaning l.args ≡ all_set [] (map (pair_view g.C.FluentType.meaning) l.yielded)

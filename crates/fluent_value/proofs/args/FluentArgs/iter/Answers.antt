@@ -7,4 +7,4 @@ use Rattle.fluent_value.proofs.args.FluentArgs.iter.Goals as goal
 
 pub returns-clause-ascending : goal.returns-clause-ascending
 returns-clause-ascending g c =
-    subst IsAscending (sym (names_shown (name_of g.row.C.Denot) (λ it. value_view g.row.C.Denot g.C.FluentType.Meaning g.C.FluentType.meaning it.value) c.args.self.now.arguments.items)) c.args.self.now.ascending
+    subst IsAscending (sym (names_shown name_of (λ it. value_view g.C.FluentType.meaning it.value) c.args.self.now.arguments.items)) c.args.self.now.ascending

@@ -9,7 +9,7 @@ use Rattle.fluent_value.proofs.args.FluentArgs.place.Goals as goal
 
 pub returns-clause-place : goal.returns-clause-place
 returns-clause-place g c =
-    let name = name_of g.row.C.Denot in
+    let name = name_of in
     let items = c.args.self.now.arguments.items in
     let found = c.binary_search_by.ensures.position (λ it. order (name it) c.args.name.now) (always_returns_same _ _ _ (λ a r f' k. (search rules, search rules))) in
     let among = subst (λ es. IsBinarySearchResult (λ it. order (name it) c.args.name.now) es c.binary_search_by.result) c.deref.ensures.value found in

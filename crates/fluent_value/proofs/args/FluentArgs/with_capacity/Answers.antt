@@ -5,4 +5,4 @@ use Rattle.fluent_value.proofs.Placed.{none_ascend}
 use Rattle.fluent_value.proofs.args.FluentArgs.with_capacity.Goals as goal
 
 pub invariant_of-result : goal.invariant_of-result
-invariant_of-result g c = record { ascending = subst (λ es. IsAscending (names_of g.row.C.Denot es)) (sym c.in_ok-with_capacity.ensures.items) none_ascend }
+invariant_of-result g c = record { ascending = subst (λ es. IsAscending (names_of es)) (sym c.in_ok-with_capacity.ensures.items) none_ascend }

@@ -1,4 +1,4 @@
-//! What texts are written to, piece by piece.
+//! Writers of texts.
 
 ghost use Rattle.std.specs.Prelude.{◌≡◌, ℕ, List, ◌++◌, OnOk, OnErr, string_bytes};
 
@@ -15,7 +15,7 @@ pub trait TextWrite {
         ensures refused { OnErr result (text self.new ≡ text self.old) };
 }
 
-/// A piece is refused for want of memory alone.
+/// A piece is refused only if memory runs out.
 impl TextWrite for String {
     ghost text = { λ s. string_bytes s };
 

@@ -1,0 +1,24 @@
+-- What a refused call leaves: a beginning of what it was to write, and of the errors that it was to tell.
+use Rattle.std.specs.Prelude.{◌≡◌, List, ◌++◌, map, option_map}
+use Rattle.fluent_grammar.specs.Words.{Text}
+use Rattle.fluent_errors.specs.Errors.{Unresolved, unresolved}
+use Rattle.fluent_meaning.specs.Steps.{Budget, Done}
+use Rattle.fluent_meaning.specs.Told.{State}
+
+-- a list begins another one
+pub record Begins {A : Type 0} (some : List A) (whole : List A) : Type 0 where
+  pub rest : List A
+  pub is : whole ≡ some ++ rest
+
+-- the old errors stand, and behind them the first of a step's
+pub record TellsSome {A : Type 0} (s t : State) (a : Done A) : Type 0 where
+  pub told : List Unresolved
+  pub first : Begins told a.errors
+  pub errors : t.errors ≡ option_map (λ es. es ++ map unresolved told) s.errors
+
+-- behind what a writer held stands a beginning of a step's text, and some of its errors are told
+pub record WritesSome (held now : Text) (s t : State) (step : Budget → Done Text) : Type 0 where
+  pub written : Text
+  pub first : Begins written (step s.budget).value
+  pub text : now ≡ held ++ written
+  pub tells : TellsSome s t (step s.budget)

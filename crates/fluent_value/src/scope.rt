@@ -1,0 +1,46 @@
+//! What values are compared and shown by.
+
+ghost use Rattle.std.specs.Prelude.{◌≡◌, Bool, false, ℕ, List, Option, IfOk, IsNone, IsOkAnd, option_map, string_bytes};
+ghost use Rattle.std.specs.Cow.{cow_str_bytes};
+ghost use Rattle.fluent_value.specs.Matching.{Plurals};
+ghost use Rattle.fluent_value.specs.Value.{Value};
+ghost use Rattle.fluent_value.specs.View.{value_view};
+
+use crate::custom::FluentType;
+use crate::value::FluentValue;
+use fluent_number::{PluralCategory, PluralOperands, PluralRuleType};
+use std::alloc::{AllocError, Global};
+use std::borrow::CowStr;
+
+/// What values are compared and shown by: a formatter, which may be absent, and a plural source. A bundle is one, and a
+/// scope of it.
+pub trait ValueScope<C: FluentType> {
+    /// Whether a formatter is set.
+    ghost has_formatter: { Self → Bool };
+
+    /// The formatter's text of a value, where a formatter is set and answers one.
+    ghost formatted: { Self → Value C.Meaning → Option (List ℕ) };
+
+    /// The plural source.
+    ghost plurals: { Self → Plurals };
+
+    /// The text of a value of the program's own type.
+    ghost shown: { Self → C.Meaning → List ℕ };
+
+    /// The formatter's text of a value, where a formatter is set and answers one. Where none is set it takes no memory.
+    /// The only error is that memory runs out.
+    fn format(&self, value: &FluentValue<'_, C>) -> Result<Option<String>, AllocError>
+        ensures text { IfOk result (λ text. option_map string_bytes text ≡ formatted self.now (value_view C.meaning value.now)) }
+        ensures unset { has_formatter self.now ≡ false → IsOkAnd result IsNone };
+
+    /// The category of a number with these operands by these rules.
+    fn category(&self, rule: PluralRuleType, operands: &PluralOperands) -> PluralCategory
+        ensures { result ≡ plurals self.now rule operands.now };
+
+    /// The text of a value of the program's own type. The only error is that memory runs out.
+    fn stringify(&self, custom: &C) -> Result<CowStr<'static>, AllocError>
+        ensures { IfOk result (λ text. cow_str_bytes text ≡ shown self.now (C.meaning custom.now)) };
+
+    /// The allocator of the texts that are made.
+    fn alloc(&self) -> Global;
+}

@@ -1,0 +1,85 @@
+//! The texts that values are shown as.
+
+ghost use Rattle.std.specs.Prelude.{◌≡◌, ◌++◌, false, Ok, IfOk, OnOk, OnErr, IsOkAnd};
+ghost use Rattle.std.specs.Cow.{cow_str_bytes, IsBorrowedStr};
+ghost use Rattle.fluent_value.specs.Lent.{IsBorrowedText};
+ghost use Rattle.fluent_value.specs.Shown.{shown_text, plain_text as text_alone};
+ghost use Rattle.fluent_value.specs.View.{value_view};
+ghost use Rattle.fluent_value.specs.declared.value.FluentValue.TheVariants as of;
+
+use crate::custom::FluentType;
+use crate::scope::ValueScope;
+use crate::value::FluentValue;
+use fluent_write::{TextWrite, WriteError};
+use std::alloc::AllocError;
+use std::borrow::CowStr;
+
+impl<'a, C: FluentType> FluentValue<'a, C> {
+    /// Writes the text that the value is shown as: the formatter's where the scope has one that answers a text; else a
+    /// text as it is, a number by its digits and options, a value of the program's own type by the plural source, and
+    /// nothing for `None` and `Error`.
+    ///
+    /// # Errors
+    /// [`Writer`](WriteError::Writer) if the writer refuses the text, [`Memory`](WriteError::Memory) if memory runs out.
+    /// Nothing is then written.
+    pub fn write<W: TextWrite, S: ValueScope<C>>(
+        &self,
+        w: &mut W,
+        scope: &S,
+    ) -> Result<(), WriteError>
+        ensures written { OnOk result (W.text w.new ≡ W.text w.old ++ shown_text (S.formatted scope.now) (S.shown scope.now) (value_view C.meaning self.now)) }
+        ensures refused { OnErr result (W.text w.new ≡ W.text w.old) }
+    {
+        if let Some(text) = scope.format(self)? {
+            w.write_str(text.as_str())?;
+            return Ok(());
+        }
+        match self {
+            FluentValue::String(text) => w.write_str(text.as_str())?,
+            FluentValue::Number(number) => w.write_str(number.as_string(scope.alloc())?.as_str())?,
+            FluentValue::Custom(custom) => w.write_str(scope.stringify(custom)?.as_str())?,
+            FluentValue::None | FluentValue::Error => {}
+        }
+        Ok(())
+    }
+
+    /// The text that the value is shown as, as [`write`](FluentValue::write) writes it. Where no formatter is set, a
+    /// borrowed text stays borrowed, which takes no memory and succeeds. The only error is that memory runs out.
+    pub fn as_string<S: ValueScope<C>>(&self, scope: &S) -> Result<CowStr<'a>, AllocError>
+        ensures text { IfOk result (λ text. cow_str_bytes text ≡ shown_text (S.formatted scope.now) (S.shown scope.now) (value_view C.meaning self.now)) }
+        ensures borrowed { S.has_formatter scope.now ≡ false → IsBorrowedText self.now → IsOkAnd result IsBorrowedStr }
+    {
+        if let Some(text) = scope.format(self)? {
+            return Ok(CowStr::Owned(text));
+        }
+        Ok(match self {
+            FluentValue::String(CowStr::Borrowed(text)) => CowStr::Borrowed(*text),
+            FluentValue::String(CowStr::Owned(text)) => {
+                CowStr::Owned(String::from_str(scope.alloc(), text.as_str())?)
+            }
+            FluentValue::Number(number) => CowStr::Owned(number.as_string(scope.alloc())?),
+            FluentValue::Custom(custom) => scope.stringify(custom)?,
+            FluentValue::None | FluentValue::Error => CowStr::Borrowed(""),
+        })
+    }
+}
+
+impl<'a, C: FluentType + Drop> FluentValue<'a, C> {
+    /// The text that the value is shown as, as [`write`](FluentValue::write) writes it. Where no formatter is set, a text is
+    /// handed back as it is, which takes no memory and succeeds. The only error is that memory runs out.
+    pub fn into_string<S: ValueScope<C>>(self, scope: &S) -> Result<CowStr<'a>, AllocError>
+        ensures text { IfOk result (λ text. cow_str_bytes text ≡ shown_text (S.formatted scope.now) (S.shown scope.now) (value_view C.meaning self.entry)) }
+        ensures handed_back { (text : _) → S.has_formatter scope.now ≡ false → self.entry ≡ of.String text → result ≡ Ok text }
+    {
+        let formatted = scope.format(&self)?;
+        match (formatted, self) {
+            (Some(text), _) => Ok(CowStr::Owned(text)),
+            (None, FluentValue::String(text)) => Ok(text),
+            (None, FluentValue::Number(number)) => {
+                Ok(CowStr::Owned(number.as_string(scope.alloc())?))
+            }
+            (None, FluentValue::Custom(custom)) => scope.stringify(&custom),
+            (None, FluentValue::None | FluentValue::Error) => Ok(CowStr::Borrowed("")),
+        }
+    }
+}

@@ -1,0 +1,17 @@
+//! What becomes of the texts of messages.
+
+ghost use Rattle.std.specs.Prelude.{◌≡◌, ℕ, List, IfOk};
+ghost use Rattle.std.specs.Cow.{cow_str_bytes};
+
+use std::alloc::{AllocError, Global};
+use std::borrow::CowStr;
+
+/// What a program makes of the texts of messages before they are shown: a pseudolocalization, say.
+pub trait TextTransform: Drop {
+    /// What becomes of a text.
+    ghost transformed: { Self → List ℕ → List ℕ };
+
+    /// What becomes of a text. The only error is that memory runs out.
+    fn transform<'t>(&self, alloc: Global, text: &'t str) -> Result<CowStr<'t>, AllocError>
+        ensures { IfOk result (λ new. cow_str_bytes new ≡ transformed self.now text.now) };
+}

@@ -1,0 +1,11 @@
+//! What texts are written to.
+//!
+//! A [`TextWrite`] takes a text piece by piece and tells contracts what it holds. A [`WriteError`] says why a text could
+//! not be written whole.
+#![tactic(auto)]
+
+mod error;
+mod write;
+
+pub use error::WriteError;
+pub use write::TextWrite;
