@@ -1,0 +1,39 @@
+-- What adding does to the map of ids, and what it answers.
+use Rattle.std.specs.Prelude.{◌≡◌, ◌≢◌, ℕ, false, List, [], Option, None, Result, Ok, Err, map, IsSome}
+use Rattle.fluent_errors.specs.Errors as e
+use Rattle.fluent_errors.specs.View.{bundle_view}
+use Rattle.fluent_meaning.specs.Ids.{Meaning, find, kind_of, with_id, with_ids, entries_by_id}
+use Rattle.fluent_resource.specs.ResourceView.{entries_view}
+use Rattle.fluent_resource.specs.declared.resource.FluentResource.{FluentResource}
+use Rattle.fluent_ids.specs.IdsView.{ids_view}
+use Rattle.fluent_ids.specs.declared.ids.FluentIds.{FluentIds}
+use Rattle.fluent_ids.specs.declared.error.AddResourceError.{AddResourceError}
+use Rattle.fluent_ids.specs.declared.error.AddResourceError.TheVariants as resource
+use Rattle.fluent_ids.specs.declared.error.AddFunctionError.{AddFunctionError}
+use Rattle.fluent_ids.specs.declared.error.AddFunctionError.TheVariants as function
+
+-- The notices are these: none where the call succeeds.
+abbrev pub TellsNotices : Result (Unit {0}) AddResourceError → List e.Reported → Type 0
+TellsNotices (Ok u) told = told ≡ []
+TellsNotices (Err (resource.Overriding notices)) told = (map bundle_view notices.items ≡ told) × (told ≢ [])
+TellsNotices (Err resource.Memory) told = Unit {0}
+
+module _ (F : Type 0) where
+  -- unless memory ran out, the entries of a resource were put in, the first of an id staying
+  abbrev pub AddsFirst : Result (Unit {0}) AddResourceError → FluentIds F → FluentIds F → FluentResource → Type 0
+  AddsFirst (Err resource.Memory) old new r = Unit {0}
+  AddsFirst (Err (resource.Overriding notices)) old new r = ids_view F new ≡ with_ids false (ids_view F old) (entries_by_id (entries_view r))
+  AddsFirst (Ok u) old new r = ids_view F new ≡ with_ids false (ids_view F old) (entries_by_id (entries_view r))
+
+  -- where memory ran out, nothing changed
+  abbrev pub KeepsAtMemory : Result (Unit {0}) AddResourceError → FluentIds F → FluentIds F → Type 0
+  KeepsAtMemory (Err resource.Memory) old new = ids_view F new ≡ ids_view F old
+  KeepsAtMemory (Err (resource.Overriding notices)) old new = Unit {0}
+  KeepsAtMemory (Ok u) old new = Unit {0}
+
+  -- A function is put in where its id stood for nothing. Else nothing changes, and it is told or memory ran out.
+  abbrev pub AddsFunction : Result (Unit {0}) AddFunctionError → FluentIds F → FluentIds F → List ℕ × Meaning F → Type 0
+  AddsFunction (Ok u) old new pair = (find (ids_view F old) pair.0 ≡ None) × (ids_view F new ≡ with_id false (ids_view F old) pair)
+  AddsFunction (Err (function.Overriding notice)) old new pair =
+      IsSome (find (ids_view F old) pair.0) × (bundle_view notice ≡ e.overriding (kind_of pair.1) pair.0) × (ids_view F new ≡ ids_view F old)
+  AddsFunction (Err function.Memory) old new pair = ids_view F new ≡ ids_view F old

@@ -1,0 +1,54 @@
+//! Adding functions.
+
+ghost use Rattle.std.specs.Prelude.{◌≡◌, codes, Result};
+ghost use Rattle.fluent_ids.specs.Adding.{AddsFunction};
+ghost use Rattle.fluent_ids.specs.EntryView.{meaning_of};
+ghost use Rattle.fluent_meaning.specs.Ids as ids;
+ghost use Rattle.fluent_meaning.specs.Ids.{number_pair};
+
+use crate::entry::Entry;
+use crate::error::AddFunctionError;
+use crate::ids::FluentIds;
+use crate::notices::overriding;
+use std::borrow::CowStr;
+
+impl<'r, F: Drop> FluentIds<'r, F> {
+    /// Adds a function under an id that stands for nothing yet.
+    ///
+    /// # Errors
+    /// After each of them nothing has changed, and the function was dropped.
+    /// - [`AddFunctionError::Overriding`] where the id stands for something.
+    /// - [`AddFunctionError::Memory`] where memory runs out.
+    pub fn add_function(&mut self, id: &str, function: F) -> Result<(), AddFunctionError>
+        ensures { AddsFunction F result self.old self.new (id.now, ids.function function) }
+    {
+        self.add_own(id, Entry::Function(function))
+    }
+
+    /// Adds the function `NUMBER`.
+    ///
+    /// # Errors
+    /// After each of them nothing has changed.
+    /// - [`AddFunctionError::Overriding`] where `NUMBER` stands for something.
+    /// - [`AddFunctionError::Memory`] where memory runs out.
+    pub fn add_builtins(&mut self) -> Result<(), AddFunctionError>
+        ensures { AddsFunction F result self.old self.new number_pair }
+    {
+        self.add_own("NUMBER", Entry::Number)
+    }
+
+    /// Adds a function, whose id is copied.
+    fn add_own(&mut self, id: &str, entry: Entry<'r, F>) -> Result<(), AddFunctionError>
+        ensures { AddsFunction F result self.old self.new (id.now, meaning_of F entry.entry) }
+    {
+        if self.contains(id) {
+            let notice = overriding(self.alloc, entry.kind(), id)?;
+            return Err(AddFunctionError::Overriding(notice));
+        }
+        let key = CowStr::Owned(String::from_str(self.alloc, id)?);
+        match self.entries.insert(key, entry) {
+            Ok(_) => Ok(()),
+            Err(_) => Err(AddFunctionError::Memory),
+        }
+    }
+}

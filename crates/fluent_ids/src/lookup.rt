@@ -1,0 +1,74 @@
+//! Asking for messages, terms and functions by their ids.
+
+ghost use Rattle.std.specs.Prelude.{◌≡◌, is_some, option_map, option_copied};
+ghost use Rattle.fluent_ast.specs.View.{message_view, term_view};
+ghost use Rattle.fluent_ids.specs.EntryView.{function_meaning};
+ghost use Rattle.fluent_ids.specs.Found.{message_in, term_in, function_in};
+ghost use Rattle.fluent_ids.specs.IdsView.{ids_view};
+ghost use Rattle.fluent_meaning.specs.Ids.{Ids, find};
+ghost use Rattle.fluent_resource.specs.MessageView.{message_of};
+
+use crate::entry::{Entry, FunctionRef};
+use crate::ids::FluentIds;
+use fluent_ast::{Message, Term};
+use fluent_resource::FluentMessage;
+
+/// What has messages, terms and functions by their ids. No call takes memory.
+pub trait GetEntry<'r, F> {
+    ghost ids: { Self → Ids F };
+
+    /// The message of an id.
+    fn get_entry_message(&self, id: &str) -> Option<&'r Message<&'r str>>
+        ensures { option_map (message_view _ (λ s. s.now)) (option_copied result) ≡ message_in (find (ids self.now) id.now) };
+
+    /// The term of an id, which is its name without the minus.
+    fn get_entry_term(&self, id: &str) -> Option<&'r Term<&'r str>>
+        ensures { option_map (term_view _ (λ s. s.now)) (option_copied result) ≡ term_in (find (ids self.now) id.now) };
+
+    /// The function of an id.
+    fn get_entry_function(&self, id: &str) -> Option<FunctionRef<'_, F>>
+        ensures { option_map (function_meaning F) result ≡ function_in (find (ids self.now) id.now) };
+}
+
+impl<'r, F> GetEntry<'r, F> for FluentIds<'r, F> {
+    ghost ids = { ids_view F };
+
+    fn get_entry_message(&self, id: &str) -> Option<&'r Message<&'r str>> {
+        match self.get(id) {
+            Some(Entry::Message((_, message))) => Some(message),
+            _ => None,
+        }
+    }
+
+    fn get_entry_term(&self, id: &str) -> Option<&'r Term<&'r str>> {
+        match self.get(id) {
+            Some(Entry::Term((_, term))) => Some(term),
+            _ => None,
+        }
+    }
+
+    fn get_entry_function(&self, id: &str) -> Option<FunctionRef<'_, F>> {
+        match self.get(id) {
+            Some(Entry::Function(function)) => Some(FunctionRef::Own(function)),
+            Some(Entry::Number) => Some(FunctionRef::Number),
+            _ => None,
+        }
+    }
+}
+
+impl<'r, F> FluentIds<'r, F> {
+    /// Whether an id stands for a message.
+    pub fn has_message(&self, id: &str) -> bool
+        ensures { result ≡ is_some (message_in (find (ids_view F self.now) id.now)) }
+    {
+        self.get_entry_message(id).is_some()
+    }
+
+    /// The message of an id.
+    pub fn get_message(&self, id: &str) -> Option<FluentMessage<'r>>
+        ensures { option_map message_of result ≡ message_in (find (ids_view F self.now) id.now) }
+    {
+        let message = self.get_entry_message(id)?;
+        Some(FluentMessage::from(message))
+    }
+}

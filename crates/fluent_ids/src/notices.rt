@@ -1,0 +1,90 @@
+//! Which entries of a resource would override others.
+
+ghost use Rattle.std.specs.Prelude.{◌≡◌, ℕ, List, [], ◌∷◌, ◌++◌, ◌||◌, IfOk, OnOk, map, if◌then◌else◌};
+ghost use Rattle.std.specs.Str.{bytes_eq};
+ghost use Rattle.fluent_errors.specs.Errors.{overriding};
+ghost use Rattle.fluent_errors.specs.View as e;
+ghost use Rattle.fluent_errors.specs.View.{bundle_view};
+ghost use Rattle.fluent_ids.specs.EntryView.{meaning_of};
+ghost use Rattle.fluent_ids.specs.IdsView.{ids_view};
+ghost use Rattle.fluent_ids.specs.Known.{is_known, told};
+ghost use Rattle.fluent_meaning.specs.Ids.{entries_by_id, kind_of, notices};
+ghost use Rattle.fluent_resource.specs.ResourceView.{entries_view};
+
+use crate::entry::Entry;
+use crate::ids::FluentIds;
+use fluent_errors::{EntryKind, FluentError};
+use fluent_resource::FluentResource;
+use std::alloc::{AllocError, Global};
+use std::collections::HashSet;
+
+/// That an entry of this kind was to be added under an id that stands for another one.
+pub(crate) fn overriding(
+    alloc: Global,
+    kind: EntryKind,
+    id: &str,
+) -> Result<FluentError, AllocError>
+    ensures { IfOk result (λ error. bundle_view error ≡ overriding (e.entry_view kind) id.now) }
+{
+    Ok(FluentError::Overriding {
+        kind,
+        id: String::from_str(alloc, id)?,
+    })
+}
+
+/// The notices for the first entries of a resource, and those of its ids that the map doesn't have.
+#[derive(Drop)]
+struct Notices<'r> {
+    seen: HashSet<&'r str>,
+    told: Vec<FluentError>,
+    alloc: Global,
+}
+
+impl<'r> Notices<'r> {
+    fn new(alloc: Global) -> Self
+        ensures told { told result ≡ [] }
+        ensures seen { result.seen.keys ≡ [] }
+    {
+        Notices {
+            seen: HashSet::new(alloc),
+            told: Vec::new(alloc),
+            alloc,
+        }
+    }
+
+    /// Looks at one more entry of the resource.
+    fn look<F>(
+        &mut self,
+        ids: &FluentIds<'r, F>,
+        id: &'r str,
+        kind: EntryKind,
+    ) -> Result<(), AllocError>
+        ensures told { OnOk result (told self.new ≡ told self.old ++ (if is_known (ids_view F ids.now) self.old id.now then overriding (e.entry_view kind) id.now ∷ [] else [])) }
+        ensures known { OnOk result ((other : List ℕ) → is_known (ids_view F ids.now) self.new other ≡ (bytes_eq id.now other || is_known (ids_view F ids.now) self.old other)) }
+    {
+        let is_new = !ids.contains(id) && self.seen.insert(id)?;
+        if !is_new {
+            self.told.push(overriding(self.alloc, kind, id)?)?;
+        }
+        Ok(())
+    }
+}
+
+impl<'r, F: Drop> FluentIds<'r, F> {
+    /// The notices that adding a resource gives, where the first entry of an id stays.
+    pub(crate) fn notices(
+        &self,
+        resource: &'r FluentResource<'r>,
+    ) -> Result<Vec<FluentError>, AllocError>
+        ensures { IfOk result (λ all. map bundle_view all.items ≡ notices (ids_view F self.now) (entries_by_id (entries_view resource.now))) }
+    {
+        let mut notices = Notices::new(self.alloc);
+        for entry in resource.body() {
+            let Some((id, entry)) = Entry::<F>::of(resource, entry) else {
+                continue;
+            };
+            notices.look(self, id, entry.kind())?;
+        }
+        Ok(notices.told)
+    }
+}
