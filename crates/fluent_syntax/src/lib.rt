@@ -6,8 +6,6 @@
 #![tactic(auto)]
 
 pub mod laws;
-#[cfg(test)]
-mod tests;
 pub mod unicode;
 
 pub use fluent_ast as ast;

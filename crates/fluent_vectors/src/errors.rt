@@ -25,35 +25,25 @@ fn error_value(alloc: Global, error: &ParserError) -> Result<Value, AllocError> 
             json!(in alloc; [start, end])?
         }
     };
-    let kind = kind_name(&error.kind);
+    let kind = format!(in alloc; "{error}")?;
     let detail = detail(alloc, &error.kind)?;
     json!(in alloc; {"kind": kind, "detail": detail, "pos": pos, "slice": slice})
 }
 
-fn kind_name(kind: &ErrorKind) -> &'static str {
-    match kind {
-        ErrorKind::ExpectedToken(_) => "ExpectedToken",
-        ErrorKind::ExpectedCharRange { .. } => "ExpectedCharRange",
-        ErrorKind::ExpectedMessageField { .. } => "ExpectedMessageField",
-        ErrorKind::ExpectedTermField { .. } => "ExpectedTermField",
-        ErrorKind::ForbiddenCallee => "ForbiddenCallee",
-        ErrorKind::MissingDefaultVariant => "MissingDefaultVariant",
-        ErrorKind::MissingValue => "MissingValue",
-        ErrorKind::MultipleDefaultVariants => "MultipleDefaultVariants",
-        ErrorKind::MessageReferenceAsSelector => "MessageReferenceAsSelector",
-        ErrorKind::TermReferenceAsSelector => "TermReferenceAsSelector",
-        ErrorKind::MessageAttributeAsSelector => "MessageAttributeAsSelector",
-        ErrorKind::TermAttributeAsPlaceable => "TermAttributeAsPlaceable",
-        ErrorKind::UnterminatedStringLiteral => "UnterminatedStringLiteral",
-        ErrorKind::PositionalArgumentFollowsNamed => "PositionalArgumentFollowsNamed",
-        ErrorKind::DuplicatedNamedArgument(_) => "DuplicatedNamedArgument",
-        ErrorKind::UnknownEscapeSequence(_) => "UnknownEscapeSequence",
-        ErrorKind::InvalidUnicodeEscapeSequence(_) => "InvalidUnicodeEscapeSequence",
-        ErrorKind::UnbalancedClosingBrace => "UnbalancedClosingBrace",
-        ErrorKind::ExpectedInlineExpression => "ExpectedInlineExpression",
-        ErrorKind::ExpectedSimpleExpressionAsSelector => "ExpectedSimpleExpressionAsSelector",
-        ErrorKind::ExpectedLiteral => "ExpectedLiteral",
+/// Whether each error equals its copy and shows what its kind shows.
+pub fn are_copied(alloc: Global, errors: &[ParserError]) -> Result<bool, AllocError> {
+    for error in errors {
+        if error.try_clone(alloc)? != *error || !shows_its_kind(alloc, error)? {
+            return Ok(false);
+        }
     }
+    Ok(true)
+}
+
+fn shows_its_kind(alloc: Global, error: &ParserError) -> Result<bool, AllocError> {
+    let shown = format!(in alloc; "{error}")?;
+    let kind = error.kind.try_clone(alloc)?;
+    Ok(kind == error.kind && shown.as_str() == format!(in alloc; "{kind}")?.as_str())
 }
 
 /// The text that a kind holds, or null.

@@ -1,12 +1,14 @@
-//! Reads the sources of `data/parse.jsonl` and `data/rows.jsonl` by both readers, over both kinds of text, and compares
-//! with the trees, errors and written texts that stand there. A row may leave some of them out. Then it reads each
-//! prefix of the sources of `data/rows.jsonl` and `data/prefixes.jsonl`.
+//! Reads the sources of `data/parse.jsonl`, `data/rows.jsonl` and `data/written.jsonl` by both readers, over both kinds
+//! of text, and compares with the trees, errors and written texts that stand there. A row may leave some of them out.
+//! Then it reads each prefix of the sources of `data/rows.jsonl` and `data/prefixes.jsonl`, writes the trees of
+//! `data/trees.jsonl`, most of which no source reads as, and resolves the escapes of `data/escapes.jsonl`.
 //!
 //! The tests cover what `fluent_json` gives for trees and values made by hand, odd ones among them, and what
-//! `fluent_syntax` gives where memory is refused.
+//! `fluent_syntax` gives where memory or a piece is refused.
 #![tactic(auto)]
 
 mod errors;
+mod escapes;
 #[cfg(test)]
 mod json_values;
 mod laws;
@@ -14,18 +16,35 @@ mod places;
 mod prefixes;
 #[cfg(test)]
 mod refused;
+mod trees;
 
 use anyhow::{Context, Result};
 use fluent_syntax::parser::{self, ParserError};
-use fluent_syntax::serializer::{self, Options};
 use prefixes::{count_prefixes, parts};
 use serde_json::Value;
 use std::alloc::Global;
 use std::fs;
 
+/// What the rows of a file are.
+#[derive(Clone, Copy)]
+enum Rows {
+    /// Sources, with their trees, errors and written texts.
+    Sources,
+    /// Trees, with their written texts.
+    Trees,
+    /// Raw texts of string literals, with what they stand for.
+    Escapes,
+}
+
 fn main(rt: HostRuntime) -> Result<()> {
-    for file in ["parse.jsonl", "rows.jsonl"] {
-        try_file(&rt, file)?;
+    for (file, rows) in [
+        ("parse.jsonl", Rows::Sources),
+        ("rows.jsonl", Rows::Sources),
+        ("written.jsonl", Rows::Sources),
+        ("trees.jsonl", Rows::Trees),
+        ("escapes.jsonl", Rows::Escapes),
+    ] {
+        try_file(&rt, file, rows)?;
     }
     for file in ["rows.jsonl", "prefixes.jsonl"] {
         try_prefixes(&rt, file)?;
@@ -33,22 +52,30 @@ fn main(rt: HostRuntime) -> Result<()> {
     Ok(())
 }
 
-/// Tries each line of a file, and prints how many there are and which are read in another way.
-fn try_file(rt: &HostRuntime, file: &str) -> Result<()> {
+/// Tries each line of a file, and prints how many there are and which are wrong.
+fn try_file(rt: &HostRuntime, file: &str, rows: Rows) -> Result<()> {
     let text = fs::read_to_string(rt, file).context("the vectors")?;
     let mut count = 0u32;
     let mut wrong = 0u32;
     for line in text.as_str().lines() {
-        let vector = Value::from_str(rt.alloc(), line).context("a line")?;
         count = count.saturating_add(1);
-        if !agrees(rt.alloc(), &vector)? {
+        if !is_right(rt.alloc(), rows, line)? {
             wrong = wrong.saturating_add(1);
-            let source = vector.get("source").and_then(Value::as_str).unwrap_or("");
-            println!(rt; "wrong: {source:?}")?;
+            println!(rt; "wrong: {line}")?;
         }
     }
-    println!(rt; "{file}: {count} sources, {wrong} wrong")?;
+    println!(rt; "{file}: {count} rows, {wrong} wrong")?;
     Ok(())
+}
+
+/// Whether what a row says is so.
+fn is_right(alloc: Global, rows: Rows, line: &str) -> Result<bool> {
+    let vector = Value::from_str(alloc, line).context("a line")?;
+    match rows {
+        Rows::Sources => agrees(alloc, &vector),
+        Rows::Trees => trees::agrees(alloc, &vector),
+        Rows::Escapes => escapes::agrees(alloc, &vector),
+    }
 }
 
 /// Tries each prefix of the sources of a file, and prints how many there are and which sources have one that breaks a
@@ -59,7 +86,7 @@ fn try_prefixes(rt: &HostRuntime, file: &str) -> Result<()> {
     let mut wrong = 0u32;
     for line in text.as_str().lines() {
         let vector = Value::from_str(rt.alloc(), line).context("a line")?;
-        let source = source_of(&vector)?;
+        let source = text_of(&vector, "source")?;
         let count = count_prefixes(rt.alloc(), source)?;
         prefixes = prefixes.saturating_add(count.prefixes);
         wrong = wrong.saturating_add(count.wrong);
@@ -71,17 +98,18 @@ fn try_prefixes(rt: &HostRuntime, file: &str) -> Result<()> {
     Ok(())
 }
 
-fn source_of(vector: &Value) -> Result<&str> {
-    let source = vector
-        .get("source")
+/// The text under a key of a row.
+fn text_of<'a>(vector: &'a Value, key: &str) -> Result<&'a str> {
+    let text = vector
+        .get(key)
         .and_then(Value::as_str)
-        .context("a source")?;
-    Ok(source)
+        .context("a text of a row")?;
+    Ok(text)
 }
 
 /// Whether both readers give what a vector says.
 fn agrees(alloc: Global, vector: &Value) -> Result<bool> {
-    let source = source_of(vector)?;
+    let source = text_of(vector, "source")?;
     let owned = parser::parse(alloc, String::from_str(alloc, source)?);
     let runtime = parser::parse_runtime(alloc, String::from_str(alloc, source)?);
     Ok(
@@ -97,7 +125,7 @@ fn agrees(alloc: Global, vector: &Value) -> Result<bool> {
     )
 }
 
-/// Whether an answer is the tree and the errors that are wanted, and a copy of the tree equals it.
+/// Whether an answer is the tree and the errors that are wanted.
 fn has_tree(
     alloc: Global,
     tree: Option<&Value>,
@@ -105,23 +133,14 @@ fn has_tree(
     answer: parser::Result<String>,
 ) -> Result<bool> {
     let (resource, found) = parts(alloc, answer)?;
-    let value = fluent_json::to_value(alloc, &resource)?;
-    let copy = resource.try_clone(alloc)?;
-    Ok(is_wanted(tree, &value) && has_errors(alloc, errors, found.as_slice())? && copy == resource)
+    Ok(has_errors(alloc, errors, found.as_slice())? && trees::has_value(alloc, resource, tree)?)
 }
 
 /// Whether the tree of a source is written as it is wanted, and its errors are.
 fn is_written(alloc: Global, vector: &Value, answer: parser::Result<&str>) -> Result<bool> {
     let (resource, found) = parts(alloc, answer)?;
-    let written = serializer::serialize(alloc, &resource)?;
-    let with_junk = serializer::serialize_with_options(
-        alloc,
-        &resource,
-        Options { with_junk: true },
-    )?;
     Ok(
-        is_text(vector.get("written"), &written)
-            && is_text(vector.get("written_with_junk"), &with_junk)
+        trees::is_written(alloc, vector, &resource)?
             && has_errors(alloc, vector.get("errors"), found.as_slice())?,
     )
 }
@@ -131,17 +150,13 @@ fn has_runtime_errors(alloc: Global, vector: &Value, answer: parser::Result<&str
     has_errors(alloc, vector.get("runtime_errors"), found.as_slice())
 }
 
+/// Whether errors are the wanted ones, if any are, and each equals its copy.
 fn has_errors(alloc: Global, wanted: Option<&Value>, errors: &[ParserError]) -> Result<bool> {
     let found = errors::errors_value(alloc, errors)?;
-    Ok(is_wanted(wanted, &found))
+    Ok(is_wanted(wanted, &found) && errors::are_copied(alloc, errors)?)
 }
 
 /// Whether a value is the wanted one, if one is.
 fn is_wanted(wanted: Option<&Value>, found: &Value) -> bool {
     wanted.is_none_or(|wanted| wanted == found)
-}
-
-/// Whether a text is the wanted one, if one is.
-fn is_text(wanted: Option<&Value>, found: &str) -> bool {
-    wanted.is_none_or(|wanted| wanted.as_str() == Some(found))
 }

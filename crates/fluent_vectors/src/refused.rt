@@ -1,29 +1,27 @@
-//! Each call gives what it gives with all the memory that it asks for, or want of memory.
+//! Each call gives what it gives with all the memory that it asks for, or says that memory ran out.
 //!
 //! The tests of this file are to be run with each allocation refused in turn. Each call is made twice: at most one of
 //! the two is refused memory, and the other tells what is right.
 
+ghost use Rattle.std.specs.Prelude.{string_bytes};
+
+use fluent_syntax::ast::CallArguments;
 use fluent_syntax::parser::{self, Error, parse, parse_runtime};
 use fluent_syntax::serializer::{Options, serialize, serialize_with_options};
-use fluent_syntax::unicode::{unescape_unicode, unescape_unicode_to_string};
+use fluent_syntax::unicode::{TextWrite, unescape_unicode, unescape_unicode_to_string};
 use std::alloc::{AllocError, Global};
+use std::fmt;
 use std::process::Abort;
+use std::test::Fail;
 
-const BROKEN_MIDDLE: &str = "\nkey1 = Value 1\n\ng@Rb@ge = #2y ds\n\nkey2 = Value 2\n\n";
-
-const COMMENTS_AND_LINES: &str =
-    "### r\n## g\n# c\n# d\na =\n    one\n      two\n    three { $x }\n    .t = u\n-b = c\n    .v = w\n";
-
-const SELECT: &str =
-    "rank = { NUMBER($n, type: \"ordinal\", x: -1.5) ->\n    [1] first\n   *[other] {$n}th\n}\n";
-
-const NESTED: &str = "a = {{ F(G(1), \"\\u00e9\", { -b.c(x: 1) }, m.n) }}\n";
-
-const MANY_ARGUMENTS: &str =
-    "a = { F(a: 1, b: 2, c: 3, d: 4, e: 5, f: 6, g: 7, h: 8, i: 9, j: 10, k: 11) }\n";
-
-const REFUSALS: &str =
-    "a = { F(x: 1, x: 2) }\nb = { \"\\q\" }\nc = { \"\\u12\" }\nd =\n-e =\nf = { 1 -> }\n9\n";
+const SOURCES: [&str; 6] = [
+    "\nkey1 = Value 1\n\ng@Rb@ge = #2y ds\n\nkey2 = Value 2\n\n",
+    "### r\n## g\n# c\n# d\na =\n    one\n      two\n    three { $x }\n    .t = u\n-b = c\n    .v = w\n",
+    "rank = { NUMBER($n, type: \"ordinal\", x: -1.5) ->\n    [1] first\n   *[other] {$n}th\n}\n",
+    "a = {{ F(G(1), \"\\u00e9\", { -b.c(x: 1) }, m.n) }}\n",
+    "a = { F(a: 1, b: 2, c: 3, d: 4, e: 5, f: 6, g: 7, h: 8, i: 9, j: 10, k: 11) }\n",
+    "a = { F(x: 1, x: 2) }\nb = { \"\\q\" }\nc = { \"\\u12\" }\nd =\n-e =\nf = { 1 -> }\n9\n",
+];
 
 /// Of two answers at most one is want of memory, and without it they are equal.
 fn agree<T: PartialEq + Drop>(rt: &impl Abort, one: Option<T>, other: Option<T>) {
@@ -92,93 +90,24 @@ fn copy_and_write(rt: &impl Abort, alloc: Global, source: &str) {
 }
 
 #[test]
-fn reads_broken_middle(rt: HostRuntime) {
-    read(&rt, rt.alloc(), BROKEN_MIDDLE);
+fn sources_are_read(rt: HostRuntime) {
+    for source in SOURCES {
+        read(&rt, rt.alloc(), source);
+    }
 }
 
 #[test]
-fn reads_copies_of_broken_middle(rt: HostRuntime) {
-    read_copies(&rt, rt.alloc(), BROKEN_MIDDLE);
+fn copies_of_sources_are_read(rt: HostRuntime) {
+    for source in SOURCES {
+        read_copies(&rt, rt.alloc(), source);
+    }
 }
 
 #[test]
-fn copies_and_writes_broken_middle(rt: HostRuntime) {
-    copy_and_write(&rt, rt.alloc(), BROKEN_MIDDLE);
-}
-
-#[test]
-fn reads_comments_and_lines(rt: HostRuntime) {
-    read(&rt, rt.alloc(), COMMENTS_AND_LINES);
-}
-
-#[test]
-fn reads_copies_of_comments_and_lines(rt: HostRuntime) {
-    read_copies(&rt, rt.alloc(), COMMENTS_AND_LINES);
-}
-
-#[test]
-fn copies_and_writes_comments_and_lines(rt: HostRuntime) {
-    copy_and_write(&rt, rt.alloc(), COMMENTS_AND_LINES);
-}
-
-#[test]
-fn reads_select(rt: HostRuntime) {
-    read(&rt, rt.alloc(), SELECT);
-}
-
-#[test]
-fn reads_copies_of_select(rt: HostRuntime) {
-    read_copies(&rt, rt.alloc(), SELECT);
-}
-
-#[test]
-fn copies_and_writes_select(rt: HostRuntime) {
-    copy_and_write(&rt, rt.alloc(), SELECT);
-}
-
-#[test]
-fn reads_nested(rt: HostRuntime) {
-    read(&rt, rt.alloc(), NESTED);
-}
-
-#[test]
-fn reads_copies_of_nested(rt: HostRuntime) {
-    read_copies(&rt, rt.alloc(), NESTED);
-}
-
-#[test]
-fn copies_and_writes_nested(rt: HostRuntime) {
-    copy_and_write(&rt, rt.alloc(), NESTED);
-}
-
-#[test]
-fn reads_many_arguments(rt: HostRuntime) {
-    read(&rt, rt.alloc(), MANY_ARGUMENTS);
-}
-
-#[test]
-fn reads_copies_of_many_arguments(rt: HostRuntime) {
-    read_copies(&rt, rt.alloc(), MANY_ARGUMENTS);
-}
-
-#[test]
-fn copies_and_writes_many_arguments(rt: HostRuntime) {
-    copy_and_write(&rt, rt.alloc(), MANY_ARGUMENTS);
-}
-
-#[test]
-fn reads_refusals(rt: HostRuntime) {
-    read(&rt, rt.alloc(), REFUSALS);
-}
-
-#[test]
-fn reads_copies_of_refusals(rt: HostRuntime) {
-    read_copies(&rt, rt.alloc(), REFUSALS);
-}
-
-#[test]
-fn copies_and_writes_refusals(rt: HostRuntime) {
-    copy_and_write(&rt, rt.alloc(), REFUSALS);
+fn trees_are_copied_and_written(rt: HostRuntime) {
+    for source in SOURCES {
+        copy_and_write(&rt, rt.alloc(), source);
+    }
 }
 
 /// Raw texts of string literals.
@@ -220,4 +149,41 @@ fn written_unescaped_texts(rt: HostRuntime) {
             (Err(_), Err(_)) => assert!(rt; false, "refused twice"),
         }
     }
+}
+
+/// A writer with room for so many pieces.
+#[derive(Drop)]
+struct Limited {
+    taken: String,
+    room: usize,
+}
+
+impl TextWrite for Limited {
+    ghost text = { λ s. string_bytes s.taken };
+
+    fn write_str(&mut self, piece: &str) -> fmt::Result {
+        if self.room == 0 {
+            return Err(fmt::Error);
+        }
+        self.taken.push_str(piece)?;
+        self.room -= 1;
+        Ok(())
+    }
+}
+
+#[test]
+fn pieces_before_a_refused_one_stand(rt: HostRuntime) -> Result<(), Fail> {
+    let taken = String::new(rt.alloc());
+    let mut writer = Limited { taken, room: 3 };
+    assert!(rt; unescape_unicode(&mut writer, "a\\\\b\\u0063").is_err());
+    assert_eq!(rt; writer.taken.as_str(), "a\\b");
+    Ok(())
+}
+
+/// `CallArguments::new` takes no memory.
+#[test]
+fn no_arguments_are_empty(rt: HostRuntime) {
+    let arguments: CallArguments<String> = CallArguments::new(rt.alloc());
+    assert!(rt; arguments.positional.is_empty());
+    assert!(rt; arguments.named.is_empty());
 }

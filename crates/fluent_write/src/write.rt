@@ -24,18 +24,3 @@ impl TextWrite for String {
         Ok(())
     }
 }
-
-#[cfg(test)]
-mod tests {
-    use super::*;
-    use std::test::Fail;
-
-    #[test]
-    fn pieces_follow_each_other(rt: HostRuntime) -> Result<(), Fail> {
-        let mut written = String::new(rt.alloc());
-        TextWrite::write_str(&mut written, "a")?;
-        TextWrite::write_str(&mut written, "bc")?;
-        assert_eq!(rt; written.as_str(), "abc");
-        Ok(())
-    }
-}
