@@ -2,20 +2,13 @@
 //! of text, and compares with the trees, errors and written texts that stand there. A row may leave some of them out.
 //! Then it reads each prefix of the sources of `data/rows.jsonl` and `data/prefixes.jsonl`, writes the trees of
 //! `data/trees.jsonl`, most of which no source reads as, and resolves the escapes of `data/escapes.jsonl`.
-//!
-//! The tests cover what `fluent_json` gives for trees and values made by hand, odd ones among them, and what
-//! `fluent_syntax` gives where memory or a piece is refused.
 #![tactic(auto)]
 
 mod errors;
 mod escapes;
-#[cfg(test)]
-mod json_values;
 mod laws;
 mod places;
 mod prefixes;
-#[cfg(test)]
-mod refused;
 mod trees;
 
 use anyhow::{Context, Result};
