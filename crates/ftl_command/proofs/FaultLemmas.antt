@@ -4,8 +4,8 @@ use Rattle.std.specs.List.{Contains}
 use Rattle.std.proofs.lemmas.List.Elements.{Contains-get_or}
 use Rattle.std.proofs.lemmas.List.{length-map}
 use Rattle.std.proofs.Math.ListN.{get_or-map}
-use Rattle.ftl_engine.specs.Text.{Text}
-use Rattle.ftl_engine.specs.CatalogView.{texts}
+use Rattle.fluent_requests.specs.Text.{Text}
+use Rattle.fluent_serve.specs.Texts.{texts}
 use Rattle.ftl_command.specs.Faults.{NamesOneOf, status_of}
 use Rattle.ftl_command.specs.declared.fault.Fault.{Fault}
 use Rattle.ftl_command.specs.declared.fault.Fault.TheVariants.{CommandLine, FileUnreadable, FileNotUtf8, Input, Output, Memory}

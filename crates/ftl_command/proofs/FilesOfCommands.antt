@@ -4,9 +4,9 @@ use Rattle.std.specs.Prelude.{nat_lt, ◌&&◌, if◌then◌else◌}
 use Rattle.std.specs.List.{list_all}
 use Rattle.std.proofs.lemmas.List.Folds.{list_all-map}
 use Rattle.std.proofs.lemmas.List.{length-map}
-use Rattle.ftl_engine.specs.Text.{Text}
+use Rattle.fluent_requests.specs.Text.{Text}
 use Rattle.ftl_command.specs.Words.{is_file, files_command}
-use Rattle.ftl_engine.specs.CatalogView.{texts}
+use Rattle.fluent_serve.specs.Texts.{texts}
 
 -- the test of one or more files, before the references are read
 pub files_command_at : (isolating : Bool) (words : List (Bor Text)) →

@@ -3,12 +3,12 @@ use Rattle.std.proofs.Common.{Bool, ℕ, ◌+◌, ◌<◌, List, [], ◌∷◌, 
 use Rattle.std.proofs.lemmas.List.{take_more, map-append}
 use denote.Ref.{Bor}
 use Rattle.std.specs.Prelude.{IfSome}
-use Rattle.ftl_engine.specs.Text.{Text}
+use Rattle.fluent_requests.specs.Text.{Text}
 use Rattle.ftl_engine.specs.Thin.{thin_line}
-use Rattle.ftl_engine.specs.Exchange.{devices_of, AnswersFirst}
-use Rattle.ftl_engine.specs.CatalogView.{texts}
+use Rattle.fluent_serve.specs.Exchange.{devices_of, AnswersFirst}
+use Rattle.fluent_serve.specs.Texts.{texts}
 use Rattle.ftl_command.specs.Program.{AreHeld, OnFiles}
-use Rattle.ftl_engine.proofs.Runs.{nothing_served}
+use Rattle.fluent_serve.proofs.Runs.{nothing_served}
 
 -- what a file holds, or nothing where that is not known
 held_or_nothing : Option Text → Text

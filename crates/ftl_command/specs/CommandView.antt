@@ -1,5 +1,5 @@
 -- What the code's commands stand for.
-use Rattle.ftl_engine.specs.CatalogView.{texts}
+use Rattle.fluent_serve.specs.Texts.{texts}
 use Rattle.ftl_command.specs.Words.{Run as Asked}
 use Rattle.ftl_command.specs.declared.words.Command.{Command}
 use Rattle.ftl_command.specs.declared.words.Command.TheVariants.{Run}

@@ -1,10 +1,10 @@
 -- The program's faults, and the status that it ends with.
 use Rattle.std.specs.Prelude.{ℕ, List, Contains, Option, IfSome, IsUtf8}
-use Rattle.ftl_engine.specs.Text.{Text}
+use Rattle.fluent_requests.specs.Text.{Text}
 use Rattle.ftl_command.specs.declared.fault.Fault.{Fault}
 use Rattle.ftl_command.specs.declared.fault.Fault.TheVariants.{CommandLine, FileUnreadable, FileNotUtf8, Input, Output, Memory}
-use Rattle.ftl_engine.specs.declared.serve.RunError.{RunError}
-use Rattle.ftl_engine.specs.declared.serve.RunError.TheVariants.{Memory as RunMemory, Read as RunRead, Write as RunWrite}
+use Rattle.fluent_serve.specs.declared.serve.RunError.{RunError}
+use Rattle.fluent_serve.specs.declared.serve.RunError.TheVariants.{Memory as RunMemory, Read as RunRead, Write as RunWrite}
 
 -- bad words are 2, what cannot be read or written is 3, and want of memory is 4
 abbrev pub status_of : Fault → ℕ

@@ -1,6 +1,6 @@
 -- What the program does for its words. `contents` is what a file of a name holds, where that is known.
 use Rattle.std.specs.Prelude.{◌≡◌, Bool, List, [], ◌∷◌, ⊤, Option, Some, None, IfSome}
-use Rattle.ftl_engine.specs.Text.{Text}
+use Rattle.fluent_requests.specs.Text.{Text}
 use Rattle.ftl_engine.specs.Thin.{thin_line}
 use Rattle.ftl_command.specs.Words.{Run}
 

@@ -2,7 +2,7 @@
 use Rattle.std.specs.Prelude.{◌==◌, nat_lt, ◌&&◌, Bool, true, false, not, if◌then◌else◌, List, [], ◌∷◌, length, Option, Some, None, codes}
 use Rattle.std.specs.List.{list_all}
 use Rattle.std.specs.Str.{bytes_eq}
-use Rattle.ftl_engine.specs.Text.{Text, hyphen}
+use Rattle.fluent_requests.specs.Text.{Text, hyphen}
 
 -- answer the request lines of standard input, from the sources in these files
 pub record Run : Type 0 where

@@ -1,6 +1,6 @@
 //! Texts that are borrowed from their owners.
 ghost use Rattle.std.specs.Prelude.{◌≡◌, map, IfOk, string_bytes};
-ghost use Rattle.ftl_engine.specs.CatalogView.{texts};
+ghost use Rattle.fluent_serve.specs.Texts.{texts};
 
 use std::alloc::{AllocError, Global};
 

@@ -1,11 +1,11 @@
 //! The program: its words, its files and its streams.
 ghost use Rattle.std.specs.Prelude.{◌≡◌, ◌≢◌, ◌↔◌, ◌∷◌, [], None, Contains, OnOk, IfErr, IfSome, IsErrOf};
 ghost use Rattle.std.specs.Io.KnownBytes.{Appends, IsAtEnd};
-ghost use Rattle.ftl_engine.specs.CatalogView.{texts};
-ghost use Rattle.ftl_engine.specs.Devices.{HasFailed};
-ghost use Rattle.ftl_engine.specs.Exchange.{devices, AnswersAll, AnswersFirst, AnswersWhole, AnswersFront};
+ghost use Rattle.fluent_serve.specs.Texts.{texts};
+ghost use Rattle.fluent_serve.specs.Devices.{HasFailed};
+ghost use Rattle.fluent_serve.specs.Exchange.{devices, AnswersAll, AnswersFirst, AnswersWhole, AnswersFront};
 ghost use Rattle.ftl_command.specs.Faults.{status_of, NamesOneOf, SaysNoUtf8, IsBeforeInput};
-ghost use Rattle.ftl_engine.specs.Frames.{answers};
+ghost use Rattle.fluent_requests.specs.Frames.{answers};
 ghost use Rattle.ftl_command.specs.Program.{OnFiles, OnRun, files_named};
 ghost use Rattle.ftl_command.specs.Words.{command_of};
 
@@ -14,8 +14,8 @@ use crate::fault::Fault;
 use crate::files::read_sources;
 use crate::folder::{Folder, FromFiles};
 use crate::words::{Command, read_command};
+use fluent_serve::stream::{FromRead, FromWrite, Sink, Source};
 use ftl_engine::run_thin;
-use ftl_engine::stream::{FromRead, FromWrite, Sink, Source};
 use std::alloc::Global;
 use std::io;
 use std::rt::Files;

@@ -1,7 +1,7 @@
 //! The sources' files.
 ghost use Rattle.std.specs.Prelude.{◌≡◌, map, IfOk, IfErr, IfSome, ◌⊎◌, ◌↔◌, string_bytes, [], ◌∷◌};
 ghost use Rattle.std.specs.IoError.{error_kind, raw_os_error};
-ghost use Rattle.ftl_engine.specs.CatalogView.{texts};
+ghost use Rattle.fluent_serve.specs.Texts.{texts};
 ghost use Rattle.ftl_command.specs.Faults.{NamesOneOf, IsOfFiles, SaysNoUtf8};
 ghost use Rattle.ftl_command.specs.Program.{AreHeld};
 

@@ -2,7 +2,7 @@
 ghost use Rattle.std.specs.Prelude.{◌≡◌, option_map};
 ghost use Rattle.std.specs.List.{list_all};
 ghost use Rattle.ftl_command.specs.Words.{command_of, run_command, files_command, is_file};
-ghost use Rattle.ftl_engine.specs.CatalogView.{texts};
+ghost use Rattle.fluent_serve.specs.Texts.{texts};
 ghost use Rattle.ftl_command.specs.CommandView.{command_view};
 
 /// What the words ask for.

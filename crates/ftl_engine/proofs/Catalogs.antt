@@ -7,13 +7,14 @@ use Rattle.std.proofs.lemmas.List.Elements.{filter_map-append}
 use denote.Ref.{Bor}
 use Rattle.fluent_syntax.specs.View as view
 use Rattle.fluent_ast.specs.declared.Entry.{Entry as Plain}
-use Rattle.ftl_engine.specs.Text.{Text}
+use Rattle.fluent_requests.specs.Text.{Text}
 use Rattle.ftl_engine.specs.ThinEntries.{Entry, entry_of, entries_of, all_entries}
 use Rattle.ftl_engine.specs.Thin.{entry_named, attribute_named}
 use Rattle.ftl_engine.specs.declared.entry.Attribute.{Attribute as Read}
 use Rattle.ftl_engine.specs.EntryView.{elements_view, attributes_view}
 use Rattle.ftl_engine.specs.TreeView.{Slice, text_of, plain_entries}
-use Rattle.ftl_engine.specs.CatalogView.{texts, first_of}
+use Rattle.ftl_engine.specs.CatalogView.{first_of}
+use Rattle.fluent_serve.specs.Texts.{texts}
 
 first_of-none : {A : Type 0} (o : Option A) → first_of o None ≡ o
 first_of-none None = refl

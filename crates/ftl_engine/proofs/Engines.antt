@@ -1,9 +1,9 @@
 -- Lemmas on the answers of the engine.
 use Rattle.std.proofs.Common.{◌≡◌, List, [], ◌∷◌, map, Option, Some, refl, ap}
-use Rattle.ftl_engine.specs.Text.{Text}
-use Rattle.ftl_engine.specs.Requests.{Request, request_of}
-use Rattle.ftl_engine.specs.Frames.{Reply, frame_of, answer_to, answer_line, found as answer_of}
-use Rattle.ftl_engine.specs.AnswerView.{and_text, error_texts}
+use Rattle.fluent_requests.specs.Text.{Text}
+use Rattle.fluent_requests.specs.Requests.{Request, request_of}
+use Rattle.fluent_requests.specs.Frames.{Reply, frame_of, answer_to, answer_line, found as answer_of}
+use Rattle.fluent_serve.specs.AnswerView.{and_text, error_texts}
 use Rattle.ftl_engine.specs.declared.text.ThinError.{ThinError}
 use Rattle.ftl_engine.specs.ReplyView.{error_text}
 

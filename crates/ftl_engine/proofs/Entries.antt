@@ -5,7 +5,7 @@ use Rattle.std.proofs.lemmas.List.{map-append, drop_all}
 use Rattle.fluent_syntax.specs.Tree as t
 use Rattle.fluent_syntax.specs.View as view
 use Rattle.fluent_syntax.specs.Tiling.{tree, listed}
-use Rattle.ftl_engine.specs.Text.{Text}
+use Rattle.fluent_requests.specs.Text.{Text}
 use Rattle.ftl_engine.specs.ThinEntries.{text_element, and_more, every, variable_in, elements_of, entry_of, entries_of}
 use Rattle.ftl_engine.specs.TreeView.{element_of}
 

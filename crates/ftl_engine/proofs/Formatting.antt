@@ -3,9 +3,9 @@ use Rattle.std.proofs.Common.{◌≡◌, ℕ, suc, ◌+◌, ◌-◌, ◌<◌, �
 use Rattle.std.specs.Prelude.{◌&&◌}
 use Rattle.std.proofs.lemmas.List.{map-append, drop_all, length-map}
 use denote.Ref.{Bor}
-use Rattle.ftl_engine.specs.Text.{Text}
-use Rattle.ftl_engine.specs.Frames.{Reply}
-use Rattle.ftl_engine.specs.Requests.{value_named}
+use Rattle.fluent_requests.specs.Text.{Text}
+use Rattle.fluent_requests.specs.Frames.{Reply}
+use Rattle.fluent_requests.specs.Requests.{value_named}
 use Rattle.ftl_engine.specs.ThinText.{isolated, variable_text, variable_errors, and_then, elements_reply, placeable_limit, message_reply}
 use Rattle.ftl_engine.specs.declared.entry.Element.{Element as Part}
 use Rattle.ftl_engine.specs.declared.entry.Element.TheVariants as part

@@ -1,6 +1,6 @@
 -- Worked answers.
 use Rattle.std.specs.Prelude.{◌≡◌, [], ◌∷◌, ◌++◌, codes, refl, true, false}
-use Rattle.ftl_engine.specs.Text.{Text, tab, line_feed}
+use Rattle.fluent_requests.specs.Text.{Text, tab, line_feed}
 use Rattle.ftl_engine.specs.ThinText.{first_strong_isolate, pop_directional_isolate}
 use Rattle.ftl_engine.specs.Thin.{thin}
 use Rattle.ftl_engine.proofs.Computing.{computing}

@@ -1,17 +1,14 @@
 -- What the code's catalog of entries stands for.
-use Rattle.std.specs.Prelude.{List, map, Option, Some, None, option_map}
+use Rattle.std.specs.Prelude.{Option, Some, None, option_map}
 use Rattle.std.specs.BTreeMap.{BTreeMap, get_by}
 use Rattle.std.specs.Cmp.Lexicographic.{slice_cmp}
 use Rattle.std.specs.Ordering.{nat_cmp}
 use denote.Ref.{Bor}
-use Rattle.ftl_engine.specs.Text.{Text}
+use Rattle.fluent_requests.specs.Text.{Text}
 use Rattle.ftl_engine.specs.ThinEntries as thin
 use Rattle.ftl_engine.specs.EntryView.{entry_view}
 use Rattle.ftl_engine.specs.declared.entry.Entry.{Entry}
 use Rattle.ftl_engine.specs.declared.catalog.Catalog.{Catalog}
-
-abbrev pub texts : List (Bor Text) → List Text
-texts sources = map (λ s. s.now) sources
 
 -- the entry under an id
 abbrev pub entry_in : BTreeMap (Bor Text) Entry → Text → Option thin.Entry

@@ -1,6 +1,6 @@
 -- What the code's engine answers.
-use Rattle.ftl_engine.specs.Text.{Text}
-use Rattle.ftl_engine.specs.Frames.{answer_line}
+use Rattle.fluent_requests.specs.Text.{Text}
+use Rattle.fluent_requests.specs.Frames.{answer_line}
 use Rattle.ftl_engine.specs.Thin.{reply_where}
 use Rattle.ftl_engine.specs.CatalogView.{entry_under}
 use Rattle.ftl_engine.specs.declared.engine.Thin.{Thin}

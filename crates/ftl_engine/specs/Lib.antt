@@ -1,12 +1,3 @@
-pub mod Text
-pub mod Lines
-pub mod Requests
-pub mod RequestView
-pub mod Frames
-pub mod AnswerView
-pub mod Devices
-pub mod Exchange
-pub mod Waiting
 pub mod ThinEntries
 pub mod EntryView
 pub mod TreeView

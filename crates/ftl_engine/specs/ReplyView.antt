@@ -1,7 +1,7 @@
 -- What the code's texts and errors stand for.
 use Rattle.std.specs.Prelude.{map, string_bytes}
-use Rattle.ftl_engine.specs.Text.{Text}
-use Rattle.ftl_engine.specs.Frames.{Reply}
+use Rattle.fluent_requests.specs.Text.{Text}
+use Rattle.fluent_requests.specs.Frames.{Reply}
 use Rattle.ftl_engine.specs.ThinText.{unknown_variable, too_many_placeables}
 use Rattle.ftl_engine.specs.declared.text.ThinError.{ThinError}
 use Rattle.ftl_engine.specs.declared.text.ThinError.TheVariants.{UnknownVariable, TooManyPlaceables}

@@ -1,9 +1,9 @@
 -- The answers to a stream of request lines, from sources whose patterns are texts and variables.
 use Rattle.std.specs.Prelude.{Bool, if◌then◌else◌, List, [], ◌∷◌, Option, Some, None, option_map, option_and_then}
 use Rattle.std.specs.Str.{bytes_eq}
-use Rattle.ftl_engine.specs.Text.{Text}
-use Rattle.ftl_engine.specs.Requests.{Request}
-use Rattle.ftl_engine.specs.Frames.{Reply, answer_line, answers}
+use Rattle.fluent_requests.specs.Text.{Text}
+use Rattle.fluent_requests.specs.Requests.{Request}
+use Rattle.fluent_requests.specs.Frames.{Reply, answer_line, answers}
 use Rattle.ftl_engine.specs.ThinEntries.{Entry, Attribute, Element, all_entries}
 use Rattle.ftl_engine.specs.ThinText.{message_reply}
 

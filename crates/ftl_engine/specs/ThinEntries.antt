@@ -1,7 +1,7 @@
 -- What the messages and terms of sources can be asked for, where they are made of texts and variables.
 use Rattle.std.specs.Prelude.{List, [], ◌∷◌, Option, Some, None, option_map}
 use Rattle.std.specs.List.{filter_map, flat_map}
-use Rattle.ftl_engine.specs.Text.{Text}
+use Rattle.fluent_requests.specs.Text.{Text}
 use Rattle.fluent_syntax.specs.Tree as t
 use Rattle.fluent_syntax.specs.Tiling.{list}
 

@@ -1,8 +1,8 @@
 -- The text of a pattern, with its errors.
 use Rattle.std.specs.Prelude.{ℕ, zero, suc, Bool, true, false, ◌&&◌, nat_lt, List, [], ◌∷◌, ◌++◌, length, Option, Some, None, codes}
-use Rattle.ftl_engine.specs.Text.{Text}
-use Rattle.ftl_engine.specs.Requests.{value_named}
-use Rattle.ftl_engine.specs.Frames.{Reply}
+use Rattle.fluent_requests.specs.Text.{Text}
+use Rattle.fluent_requests.specs.Requests.{value_named}
+use Rattle.fluent_requests.specs.Frames.{Reply}
 use Rattle.ftl_engine.specs.ThinEntries.{Element, text_element, variable}
 
 -- U+2068 and U+2069, around a placeable

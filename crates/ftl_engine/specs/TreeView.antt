@@ -8,7 +8,7 @@ use Rattle.fluent_ast.specs.declared.PatternElement.{PatternElement}
 use Rattle.fluent_ast.specs.declared.Pattern.{Pattern}
 use Rattle.fluent_ast.specs.declared.Attribute.{Attribute}
 use Rattle.fluent_ast.specs.declared.Entry.{Entry}
-use Rattle.ftl_engine.specs.Text.{Text}
+use Rattle.fluent_requests.specs.Text.{Text}
 use Rattle.ftl_engine.specs.ThinEntries as thin
 
 -- a borrowed text

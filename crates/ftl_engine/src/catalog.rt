@@ -8,7 +8,8 @@ ghost use Rattle.ftl_engine.specs.EntryView.{elements_view, attributes_view, ent
 ghost use Rattle.fluent_syntax.specs.Tiling.{tree as tree_of};
 ghost use Rattle.fluent_syntax.specs.View.{resource_view};
 ghost use Rattle.ftl_engine.specs.TreeView.{Slice, text_of, plain_entries};
-ghost use Rattle.ftl_engine.specs.CatalogView.{texts, entry_in, entry_under, first_of};
+ghost use Rattle.ftl_engine.specs.CatalogView.{entry_in, entry_under, first_of};
+ghost use Rattle.fluent_serve.specs.Texts.{texts};
 
 use crate::entry::{Attribute, Element, Entry, read_entry};
 use fluent_syntax::ast::{self, Resource};

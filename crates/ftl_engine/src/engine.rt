@@ -1,17 +1,18 @@
 //! Answers request lines from the messages of sources that are made of texts and variables.
 ghost use Rattle.std.specs.Prelude.{◌≡◌, ◌++◌, ℕ, List, IfOk, OnOk, option_map, option_copied};
-ghost use Rattle.ftl_engine.specs.Exchange.{IsFrontOf};
-ghost use Rattle.ftl_engine.specs.RequestView.{request_view};
-ghost use Rattle.ftl_engine.specs.CatalogView.{texts, entry_under};
+ghost use Rattle.fluent_serve.specs.Exchange.{IsFrontOf};
+ghost use Rattle.fluent_serve.specs.RequestView.{request_view};
+ghost use Rattle.ftl_engine.specs.CatalogView.{entry_under};
+ghost use Rattle.fluent_serve.specs.Texts.{texts};
 ghost use Rattle.ftl_engine.specs.Thin.{reply_where, thin_line};
 ghost use Rattle.ftl_engine.specs.ReplyView.{reply_view};
 ghost use Rattle.ftl_engine.specs.EngineView.{thin_reply};
 
-use crate::answer::Answer;
 use crate::catalog::Catalog;
-use crate::request::{Request, read_request};
-use crate::serve::Engine;
 use crate::text::{Reply, ThinError, format_message};
+use fluent_serve::answer::Answer;
+use fluent_serve::request::{Request, read_request};
+use fluent_serve::serve::Engine;
 use std::alloc::{AllocError, Global};
 
 /// Answers request lines from the messages of its sources.

@@ -1,14 +1,14 @@
 //! Answers request lines from the messages of sources that are made of texts and variables.
 ghost use Rattle.std.specs.Prelude.{◌≡◌, OnOk, IfSome, IsErrOf};
 ghost use Rattle.std.specs.Io.KnownBytes.{Appends, IsAtEnd};
-ghost use Rattle.ftl_engine.specs.Devices.{HasFailed};
-ghost use Rattle.ftl_engine.specs.Exchange.{devices, AnswersAll, AnswersFirst, AnswersWhole, AnswersFront};
-ghost use Rattle.ftl_engine.specs.CatalogView.{texts};
+ghost use Rattle.fluent_serve.specs.Devices.{HasFailed};
+ghost use Rattle.fluent_serve.specs.Exchange.{devices, AnswersAll, AnswersFirst, AnswersWhole, AnswersFront};
+ghost use Rattle.fluent_serve.specs.Texts.{texts};
 ghost use Rattle.ftl_engine.specs.Thin.{thin, thin_line};
 
 use crate::engine::Thin;
-use crate::serve::{RunError, serve};
-use crate::stream::{Sink, Source};
+use fluent_serve::serve::{RunError, serve};
+use fluent_serve::stream::{Sink, Source};
 use std::alloc::Global;
 
 /// Answers each line of the input from the messages of `sources`, in order, and writes nothing else: see

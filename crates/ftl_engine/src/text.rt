@@ -1,12 +1,12 @@
 //! The text of a message, and the errors that come up while it is made.
 ghost use Rattle.std.specs.Prelude.{◌≡◌, ◌++◌, map, Some, IfOk, OnOk, string_bytes, option_copied};
-ghost use Rattle.ftl_engine.specs.RequestView.{arguments_view};
+ghost use Rattle.fluent_serve.specs.RequestView.{arguments_view};
 ghost use Rattle.ftl_engine.specs.EntryView.{elements_view};
 ghost use Rattle.ftl_engine.specs.ThinText.{isolated, variable_text, variable_errors, message_reply};
 ghost use Rattle.ftl_engine.specs.ReplyView.{error_text, reply_view};
 
 use crate::entry::Element;
-use crate::request::value_named;
+use fluent_serve::request::value_named;
 use std::alloc::{AllocError, Global};
 use std::fmt;
 

@@ -2,8 +2,8 @@
 use crate::devices::{ANSWERS, REQUESTS, SOURCE, are_whole};
 use crate::tally::Tally;
 use ftl_engine::run_thin;
-use ftl_engine::serve::RunError;
-use ftl_engine::stream::{FromRead, FromWrite};
+use fluent_serve::serve::RunError;
+use fluent_serve::stream::{FromRead, FromWrite};
 use std::alloc::Global;
 
 /// Room for the answers, in bytes.

@@ -5,7 +5,7 @@ use fluent_syntax::parser::parse;
 use ftl_engine::catalog::Catalog;
 use ftl_engine::engine::Thin;
 use ftl_engine::entry::{Element, read_entry};
-use ftl_engine::serve::Engine;
+use fluent_serve::serve::Engine;
 use ftl_engine::text::{PLACEABLE_LIMIT, format_message};
 use std::alloc::Global;
 

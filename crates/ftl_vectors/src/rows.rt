@@ -2,7 +2,7 @@
 use crate::tally::Tally;
 use anyhow::{Context, Result};
 use ftl_engine::run_thin;
-use ftl_engine::stream::{FromRead, FromWrite};
+use fluent_serve::stream::{FromRead, FromWrite};
 use serde_json::Value;
 use std::alloc::Global;
 use std::fs;

@@ -1,5 +1,5 @@
 use Rattle.std.proofs.Common.{◌≡◌, map, take, string_bytes}
-use Rattle.ftl_engine.specs.CatalogView.{texts}
+use Rattle.fluent_serve.specs.Texts.{texts}
 use Rattle.ftl_command.proofs.borrowed.borrow_texts.Given as goal
 
 abbrev pub invariant-loop-text : goal.invariant-loop-text

@@ -1,5 +1,5 @@
 use Rattle.std.proofs.Common.{◌≡◌, map, subst, rules, string_bytes}
-use Rattle.ftl_engine.specs.CatalogView.{texts}
+use Rattle.fluent_serve.specs.Texts.{texts}
 use Rattle.ftl_command.specs.Program.{AreHeld}
 use Rattle.ftl_command.proofs.RunLemmas.{before_answers}
 use Rattle.ftl_command.proofs.commands.run_files.Goals as goal

@@ -1,5 +1,5 @@
 use Rattle.std.proofs.Common.{rules, string_bytes}
-use Rattle.ftl_engine.specs.CatalogView.{texts}
+use Rattle.fluent_serve.specs.Texts.{texts}
 use Rattle.ftl_command.specs.Faults.{NamesOneOf}
 use Rattle.ftl_command.proofs.FaultLemmas.{NamesOneOf-one, Contains-texts}
 use Rattle.ftl_command.proofs.RunLemmas.{held_next}

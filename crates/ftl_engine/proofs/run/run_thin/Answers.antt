@@ -1,8 +1,8 @@
-use Rattle.ftl_engine.specs.CatalogView.{texts}
+use Rattle.fluent_serve.specs.Texts.{texts}
 use Rattle.ftl_engine.specs.Thin.{thin_line}
-use Rattle.ftl_engine.proofs.Runs.{nothing_served}
-use Rattle.ftl_engine.proofs.Outcomes.{on_ok_map, on_ok_both}
-use Rattle.ftl_engine.proofs.SameAnswers.{same_all, same_first, same_whole, same_front, answers_known}
+use Rattle.fluent_serve.proofs.Runs.{nothing_served}
+use Rattle.fluent_serve.proofs.Outcomes.{on_ok_map, on_ok_both}
+use Rattle.fluent_serve.proofs.SameAnswers.{same_all, same_first, same_whole, same_front, answers_known}
 use Rattle.ftl_engine.proofs.run.run_thin.Goals as goal
 
 pub returns-in_err-engine-clause-memory : goal.returns-in_err-engine-clause-memory

@@ -1,5 +1,5 @@
 use Rattle.std.proofs.Common.{◌∙◌, [], string_bytes, sym, refl}
-use Rattle.ftl_engine.specs.RequestView.{arguments_view}
+use Rattle.fluent_serve.specs.RequestView.{arguments_view}
 use Rattle.ftl_engine.specs.declared.entry.Element.TheVariants as part
 use Rattle.ftl_engine.proofs.Formatting.{message_reply-isolated, text_step, named_step, full_step, last_step}
 use Rattle.ftl_engine.proofs.text.format_message.Goals as goal

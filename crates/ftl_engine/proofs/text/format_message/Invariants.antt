@@ -1,6 +1,6 @@
 use Rattle.std.proofs.Common.{◌≡◌, length, drop, map, string_bytes, nat_lt}
 use Rattle.std.specs.Prelude.{◌&&◌}
-use Rattle.ftl_engine.specs.RequestView.{arguments_view}
+use Rattle.fluent_serve.specs.RequestView.{arguments_view}
 use Rattle.ftl_engine.specs.EntryView.{elements_view}
 use Rattle.ftl_engine.specs.ThinText.{and_then, elements_reply, placeable_limit}
 use Rattle.ftl_engine.specs.ReplyView.{error_text}

@@ -1,7 +1,8 @@
 use Rattle.std.proofs.Common.{◌≡◌, ℕ, List, take}
 use Rattle.ftl_engine.specs.ThinEntries.{all_entries}
 use Rattle.ftl_engine.specs.Thin.{entry_named}
-use Rattle.ftl_engine.specs.CatalogView.{texts, entry_in}
+use Rattle.ftl_engine.specs.CatalogView.{entry_in}
+use Rattle.fluent_serve.specs.Texts.{texts}
 use Rattle.ftl_engine.proofs.catalog.Catalog.new.Given as goal
 
 -- the entries of the sources so far

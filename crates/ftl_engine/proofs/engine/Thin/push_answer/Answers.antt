@@ -1,5 +1,5 @@
 use Rattle.std.proofs.Common.{Some, None}
-use Rattle.ftl_engine.specs.RequestView.{request_view}
+use Rattle.fluent_serve.specs.RequestView.{request_view}
 use Rattle.ftl_engine.specs.CatalogView.{entry_under}
 use Rattle.ftl_engine.specs.Thin.{reply_where}
 use Rattle.ftl_engine.specs.ReplyView.{reply_view}

@@ -1,0 +1,131 @@
+-- Worked answers: sources, request lines, and the bytes that come out.
+use Rattle.std.specs.Prelude.{◌≡◌, refl, ⊤, true, false, List, [], ◌∷◌, ◌++◌, codes, encode_utf8}
+use Rattle.std.specs.Fmt.{digits}
+use Rattle.std.specs.Str.{is_utf8}
+use Rattle.fluent_grammar.specs.Words.{Text}
+use Rattle.fluent_grammar.proofs.Computing.{computing}
+use Rattle.fluent_number.specs.Digits.{last_digits}
+use Rattle.fluent_number.specs.Text.{number_text}
+use Rattle.fluent_number.specs.Reading.{read_number}
+use Rattle.fluent_number.specs.Operands.{operands_of}
+use Rattle.fluent_number.specs.Plurals.{english}
+use Rattle.fluent_errors.specs.Errors.{overriding, message}
+use Rattle.fluent_cut.specs.Joined.{joined}
+use Rattle.fluent_meaning.specs.Same.{same_elements}
+use Rattle.fluent_meaning.specs.Substitution.{expression_with, elements_with, pattern_at, pattern_written}
+use Rattle.fluent_requests.specs.Lines.{whole_lines, unfinished, lines_of}
+use Rattle.fluent_requests.specs.Requests.{request_of}
+use Rattle.fluent_requests.specs.Frames.{answer_line}
+use Rattle.fluent_answers.specs.Sources.{Settings, notices_of}
+use Rattle.fluent_answers.specs.Answers.{answers}
+
+-- opens the definitions of reading, of numbers, of resolving and of answers
+unfoldable answering : ⊤
+unfolding computing is_utf8 digits read_number number_text operands_of last_digits same_elements expression_with elements_with pattern_at pattern_written whole_lines unfinished lines_of request_of answer_line
+answering = tt
+
+abbrev plain : Settings
+plain = record { isolating = true; overriding = false }
+
+abbrev bare : Settings
+bare = record { isolating = false; overriding = false }
+
+abbrev last_counts : Settings
+last_counts = record { isolating = true; overriding = true }
+
+-- English, without values of a program's own type
+abbrev asked : Settings → List Text → Text → Text
+asked settings sources bytes = answers {S = ⊤} ⊤ english (λ v. []) settings sources bytes
+
+abbrev hello_world : List Text
+hello_world = codes "hello-world = Hello, world!\n" ∷ []
+
+hello : asked plain hello_world (codes "hello-world\nnope\n") ≡ codes "ok 13 0\nHello, world!\nnone\n"
+unfolding answering
+hello = refl
+
+nothing_asked : asked plain [] [] ≡ []
+unfolding answering
+nothing_asked = refl
+
+no_sources : asked plain [] (codes "\n") ≡ codes "none\n"
+unfolding answering
+no_sources = refl
+
+no_utf8 : asked plain hello_world (255 ∷ []) ≡ codes "bad\n"
+unfolding answering
+no_utf8 = refl
+
+abbrev intro : List Text
+intro = codes "intro = Welcome, { $name }.\n" ∷ []
+
+an_argument : asked plain intro (codes "intro\tname=John\nintro\tname\n") ≡ codes "ok 20 0\nWelcome, " ++ (encode_utf8 0x2068 ++ (codes "John" ++ (encode_utf8 0x2069 ++ codes ".\nbad\n")))
+unfolding answering
+an_argument = refl
+
+no_argument : asked bare intro (codes "intro\n") ≡ codes "ok 17 1\nWelcome, {$name}.\nUnknown variable: $name\n"
+unfolding answering
+no_argument = refl
+
+attributes : asked plain (codes "login =\n    .title = Hi\nx = { login }\n" ∷ []) (codes "login\nlogin.title\nlogin.nope\nx\n") ≡ codes "none\nok 2 0\nHi\nnone\nok 7 1\n{login}\nNo value: login\n"
+unfolding answering
+attributes = refl
+
+abbrev two_hellos : List Text
+two_hellos = codes "hello = Hi!\n" ∷ codes "hello = Another Hi!\n" ∷ []
+
+the_first_counts : asked plain two_hellos (codes "hello\n") ≡ codes "ok 3 0\nHi!\n"
+unfolding answering
+the_first_counts = refl
+
+the_last_counts : asked last_counts two_hellos (codes "hello\n") ≡ codes "ok 11 0\nAnother Hi!\n"
+unfolding answering
+the_last_counts = refl
+
+joined_the_first_counts : asked plain (joined two_hellos ∷ []) (codes "hello\n") ≡ codes "ok 3 0\nHi!\n"
+unfolding answering
+joined_the_first_counts = refl
+
+notices : notices_of ⊤ two_hellos ≡ overriding message (codes "hello") ∷ []
+unfolding answering
+notices = refl
+
+number_is_taken : notices_of ⊤ (codes "NUMBER = x\n" ∷ []) ≡ overriding message (codes "NUMBER") ∷ []
+unfolding answering
+number_is_taken = refl
+
+number_stays : asked plain (codes "NUMBER = x\n" ∷ []) (codes "NUMBER\n") ≡ codes "none\n"
+unfolding answering
+number_stays = refl
+
+number_goes : asked last_counts (codes "NUMBER = x\n" ∷ []) (codes "NUMBER\n") ≡ codes "ok 1 0\nx\n"
+unfolding answering
+number_goes = refl
+
+the_last_argument_counts : asked bare (codes "m = { $n }\n" ∷ []) (codes "m\tn=007\tn=a=b\nm\tn=007\n") ≡ codes "ok 3 0\na=b\nok 1 0\n7\n"
+unfolding answering
+the_last_argument_counts = refl
+
+a_cycle_ends : asked plain (codes "a = { b }\nb = { c }\nc = { b }\n" ∷ []) (codes "a\n") ≡ codes "ok 3 1\n{c}\nCyclical dependency detected\n"
+unfolding answering
+a_cycle_ends = refl
+
+outer_arguments_stand_again : asked bare (codes "-inner = I\n-outer = { -inner } { $v }\nm = { -outer(v: \"x\") }\n" ∷ []) (codes "m\tv=req\n") ≡ codes "ok 3 0\nI x\n"
+unfolding answering
+outer_arguments_stand_again = refl
+
+terms_share_the_ids : asked plain (codes "a = one\n-a = two\nb = { -a }\n" ∷ []) (codes "b\n") ≡ codes "ok 4 1\n{-a}\nUnknown term: -a\n"
+unfolding answering
+terms_share_the_ids = refl
+
+numbers_match : asked plain (codes "n =\n    { $n ->\n        [0] none\n        [one] one\n       *[other] { $n } many\n    }\n" ∷ []) (codes "n\tn=00\nn\tn=one\n") ≡ codes "ok 4 0\nnone\nok 3 0\none\n"
+unfolding answering
+numbers_match = refl
+
+a_fault_is_told_for_a_missing_argument : asked bare (codes "n = { NUMBER($x) }\n" ∷ []) (codes "n\tx=abc\nn\n") ≡ codes "ok 8 0\nNUMBER()\nok 8 1\nNUMBER()\nUnknown variable: $x\n"
+unfolding answering
+a_fault_is_told_for_a_missing_argument = refl
+
+damage_is_passed_over : asked plain (codes "\nkey1 = Value 1\n\ng@Rb@ge = #2y ds\n\nkey2 = Value 2\n\n" ∷ []) (codes "key1\nkey2\n") ≡ codes "ok 7 0\nValue 1\nok 7 0\nValue 2\n"
+unfolding answering
+damage_is_passed_over = refl

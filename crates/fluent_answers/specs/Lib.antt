@@ -1,0 +1,3 @@
+pub mod Sources
+pub mod Answers
+pub mod AnswersLaws

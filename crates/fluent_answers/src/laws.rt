@@ -1,0 +1,29 @@
+//! Laws of answers: each function only carries a law, as its contract.
+
+ghost use Rattle.fluent_answers.specs.AnswersLaws.{IdsGoOn, JoinedSourcesKeepNotices, ListsDecide, NoticesGoOn, RuntimeHasTheSameIds, TidiedSourcesKeepAnswers};
+
+use fluent_value::FluentType;
+
+/// Two lists of sources whose messages and terms, one source after the other, are the same have the same answers, to all
+/// request bytes and with all settings and plural sources.
+pub fn lists_decide<C: FluentType, F>()
+    ensures { ListsDecide C.Meaning F }
+{}
+
+/// Sources without carriage returns answer as they did, whichever are replaced by their cut text or by their normal text, or
+/// neighbours by their joined text.
+pub fn tidied_sources_keep_answers<C: FluentType, F>()
+    ensures { TidiedSourcesKeepAnswers C.Meaning F }
+{}
+
+/// The joined text of sources without carriage returns has the notices of the sources, where the first entry of an id counts.
+pub fn joined_sources_keep_notices<F>()
+    ensures { JoinedSourcesKeepNotices F }
+{}
+
+/// Sources that are read for use at run time, and added one after the other, come to the ids and the notices of them all.
+pub fn sources_in_turn<F>()
+    ensures same { RuntimeHasTheSameIds F }
+    ensures ids { IdsGoOn F }
+    ensures notices { NoticesGoOn F }
+{}

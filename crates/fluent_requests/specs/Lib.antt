@@ -1,0 +1,5 @@
+pub mod Text
+pub mod Lines
+pub mod Requests
+pub mod Frames
+pub mod RequestLaws

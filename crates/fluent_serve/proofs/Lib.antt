@@ -1,0 +1,7 @@
+pub mod Requests
+pub mod Answers
+pub mod Exchange
+pub mod Serving
+pub mod Runs
+pub mod Outcomes
+pub mod SameAnswers

@@ -1,0 +1,38 @@
+-- What follows from how a call ended.
+use Rattle.std.proofs.Common.{◌≡◌, ℕ, Result, Ok, Err, OnOk, refl, arith, rules, inl, inr}
+use Rattle.std.proofs.lemmas.Bool.{cases_lt}
+use Rattle.fluent_serve.specs.Devices.{HasFailed, one_more, greatest_count}
+use Rattle.fluent_serve.specs.declared.serve.RunError.{RunError}
+use Rattle.fluent_serve.specs.declared.serve.RunError.TheVariants.{Memory, Read, Write}
+
+pub on_ok_map : {T E P Q : Type 0} (r : Result T E) → (P → Q) → OnOk r P → OnOk r Q
+on_ok_map (Ok x) f p = f p
+on_ok_map (Err e) f p = search rules
+
+pub on_ok_always : {T E P : Type 0} (r : Result T E) → P → OnOk r P
+on_ok_always (Ok x) p = p
+on_ok_always (Err e) p = search rules
+
+-- a call failed, and none before it
+pub failed_now : (old mid new : ℕ) → mid ≡ old → new ≡ one_more mid → HasFailed old new
+failed_now old mid new same more = elim (cases_lt old greatest_count) [
+  | inl below ↦ inl (omega (arith, same, more, below))
+  | inr full ↦ inr full
+]
+
+-- which refusal it was
+pub by_error : {P : Type 0} (e : RunError) → (e ≡ Memory → P) → (e ≡ Read → P) → (e ≡ Write → P) → P
+by_error Memory m r w = m refl
+by_error Read m r w = r refl
+by_error Write m r w = w refl
+
+-- how a run ended
+pub by_outcome : {P : Type 0} (r : Result (Unit {0}) RunError) → (r ≡ Err Write → ⊥) → (r ≡ Ok tt → P) → (r ≡ Err Memory → P) → (r ≡ Err Read → P) → P
+by_outcome (Ok tt) not_write ok memory read = ok refl
+by_outcome (Err Memory) not_write ok memory read = memory refl
+by_outcome (Err Read) not_write ok memory read = read refl
+by_outcome (Err Write) not_write ok memory read = absurd (not_write refl)
+
+pub on_ok_both : {T E P Q S : Type 0} (r : Result T E) → (P → Q → S) → OnOk r P → OnOk r Q → OnOk r S
+on_ok_both (Ok x) f p q = f p q
+on_ok_both (Err e) f p q = search rules

@@ -1,0 +1,128 @@
+-- Lemmas on the arguments of a request line.
+use Rattle.std.proofs.Common.{◌≡◌, ℕ, suc, ◌+◌, ◌<◌, Bool, true, false, cond, List, [], ◌∷◌, ◌++◌, length, drop, take, get_or, Option, Some, None, refl, sym, ap, ◌∙◌, arith, append_assoc, append-nil, option_copied}
+use Rattle.std.specs.Prelude.{◌==◌, not}
+use Rattle.std.proofs.lemmas.Bool.{eqb-true, eqb-false}
+use Rattle.std.proofs.lemmas.List.{length-drop, take_more, map-append}
+use Rattle.std.proofs.lemmas.List.Splits.{slice_split_first}
+use Rattle.std.proofs.lemmas.List.Sums.{prefix_len-le-length}
+use Rattle.std.specs.List.{slice_split, position_or_len}
+use Rattle.std.specs.Str.{bytes_eq, is_utf8, IsUtf8}
+use Rattle.std.proofs.lemmas.Str.{is_utf8-from_IsUtf8, IsUtf8-from_is_utf8}
+use Rattle.fluent_requests.specs.Text.{Text, tab, dot, equals, cut_at}
+use Rattle.fluent_requests.specs.Requests.{value_named, or_later, argument_of, arguments_of, and_argument, request_with, request_of_parts, request_of}
+use denote.Ref.{Bor}
+use Rattle.fluent_serve.specs.RequestView.{parts_behind, argument_view, arguments_view}
+
+-- arguments that were read, before those that are left
+abbrev pub behind_arguments : {V : Type 0} → List (Text × V) → Option (List (Text × V)) → Option (List (Text × V))
+behind_arguments front None = None
+behind_arguments front (Some rest) = Some (front ++ rest)
+
+-- how much of a line is left
+abbrev pub text_size : Option Text → ℕ
+text_size None = 0
+text_size (Some s) = length s + 1
+
+or_later-assoc : {V : Type 0} (a b c : Option V) → or_later a (or_later b c) ≡ or_later (or_later a b) c
+or_later-assoc a b None = refl
+or_later-assoc a b (Some v) = refl
+
+pub value_named-push : {V : Type 0} (name : Text) (front : List (Text × V)) (a : Text × V) →
+    value_named name (front ++ a ∷ []) ≡ or_later (value_named name front) (cond (bytes_eq name a.0) (Some a.1) None)
+value_named-push name [] a = elim (bytes_eq name a.0) as (λ b. or_later (cond b (Some a.1) None) None ≡ or_later None (cond b (Some a.1) None)) [ true ↦ refl | false ↦ refl ]
+value_named-push name (x ∷ xs) a = ap (λ v. or_later (cond (bytes_eq name x.0) (Some x.1) None) v) (value_named-push name xs a) ∙ or_later-assoc (cond (bytes_eq name x.0) (Some x.1) None) (value_named name xs) (cond (bytes_eq name a.0) (Some a.1) None)
+
+-- where no element passes, the list is the one part
+split_none-at : (p : ℕ → Bool) (x : ℕ) (xs : Text) (b : Bool) → p x ≡ b → (position_or_len p xs ≡ length xs → slice_split p xs ≡ xs ∷ []) →
+    position_or_len p (x ∷ xs) ≡ suc (length xs) → slice_split p (x ∷ xs) ≡ (x ∷ xs) ∷ []
+split_none-at p x xs true is rest h = absurd (omega (arith, rw is at h))
+split_none-at p x xs false is rest h = let none : position_or_len p xs ≡ length xs = omega (arith, rw is at h) in rw (is, rest none) refl
+
+split_none : (p : ℕ → Bool) (s : Text) → position_or_len p s ≡ length s → slice_split p s ≡ s ∷ []
+split_none p [] h = refl
+split_none p (x ∷ xs) h = split_none-at p x xs (p x) refl (split_none p xs) h
+
+-- the first part is what stands before the first separator, and the others are those of what stands behind it
+pub split_cut : (separator : ℕ) (s : Text) → slice_split (λ b. b == separator) s ≡ (cut_at separator s).0 ∷ parts_behind separator (cut_at separator s).1
+split_cut separator s = by_test (position_or_len (λ b. b == separator) s == length s) refl
+  where
+    by_test : (b : Bool) → (position_or_len (λ b. b == separator) s == length s) ≡ b → slice_split (λ b. b == separator) s ≡ (cut_at separator s).0 ∷ parts_behind separator (cut_at separator s).1
+    by_test true is = rw is (split_none (λ b. b == separator) s (eqb-true _ _ is))
+    by_test false is = rw is (slice_split_first (λ b. b == separator) s 0 (omega (arith, prefix_len-le-length (λ b. not (b == separator)) s, eqb-false _ _ is)))
+
+-- what stands behind a separator is shorter than the text
+pub behind_shorter : (separator : ℕ) (s rest : Text) → (cut_at separator s).1 ≡ Some rest → length rest < length s
+behind_shorter separator s rest h = by_test (position_or_len (λ b. b == separator) s == length s) refl
+  where
+    by_test : (b : Bool) → (position_or_len (λ b. b == separator) s == length s) ≡ b → length rest < length s
+    by_test true is = absurd (let e : None ≡ Some rest = rw is at h in cc)
+    by_test false is =
+        let n = position_or_len (λ b. b == separator) s in
+        let e : Some (drop (n + 1) s) ≡ Some rest = rw is at h in
+        let same : drop (n + 1) s ≡ rest = cc in
+        omega (arith, ap length same, length-drop (n + 1) s, prefix_len-le-length (λ b. not (b == separator)) s, eqb-false _ _ is)
+
+-- one more argument that was read
+behind_argument-some : {V : Type 0} (front : List (Text × V)) (a : Text × V) (o : Option (List (Text × V))) →
+    behind_arguments front (and_argument (Some a) o) ≡ behind_arguments (front ++ a ∷ []) o
+behind_argument-some front a None = refl
+behind_argument-some front a (Some more) = ap Some (sym (append_assoc front (a ∷ []) more))
+
+pub behind_argument : (front : List (Bor Text × Bor Text)) (a : Bor Text × Bor Text) (part : Text) (rest : List Text) →
+    Some (argument_view a) ≡ argument_of (λ s. s) (cut_at equals part) →
+    behind_arguments (arguments_view front) (arguments_of (λ s. s) (part ∷ rest)) ≡ behind_arguments (arguments_view (front ++ a ∷ [])) (arguments_of (λ s. s) rest)
+behind_argument front a part rest is =
+    ap (λ o. behind_arguments (arguments_view front) (and_argument o (arguments_of (λ s. s) rest))) (sym is)
+    ∙ (behind_argument-some (arguments_view front) (argument_view a) (arguments_of (λ s. s) rest)
+    ∙ ap (λ xs. behind_arguments xs (arguments_of (λ s. s) rest)) (sym (map-append argument_view front (a ∷ []))))
+
+-- a part without equals sign is no argument, so there are none
+pub behind_no_argument : (front : List (Text × Text)) (part : Text) (rest : List Text) →
+    None ≡ argument_of (λ s. s) (cut_at equals part) → behind_arguments front (arguments_of (λ s. s) (part ∷ rest)) ≡ None
+behind_no_argument front part rest is = ap (λ o. behind_arguments front (and_argument o (arguments_of (λ s. s) rest))) (sym is)
+
+-- with no part left, the arguments that were read are all
+pub behind_all : (front : List (Text × Text)) → behind_arguments front (Some []) ≡ Some front
+behind_all front = ap Some (append-nil front)
+
+-- one more argument, looked at from the front
+pub value_named-next : (name : Text) (arguments : List (Bor Text × Bor Text)) (i : ℕ) (d : Bor Text × Bor Text) → i < length arguments →
+    value_named name (arguments_view (take (i + 1) arguments))
+    ≡ or_later (value_named name (arguments_view (take i arguments))) (cond (bytes_eq name (get_or arguments i d).0.now) (Some (get_or arguments i d).1.now) None)
+value_named-next name arguments i d h =
+    ap (λ xs. value_named name (arguments_view xs)) (take_more arguments i d h)
+    ∙ (ap (value_named name) (map-append argument_view (take i arguments) (get_or arguments i d ∷ []))
+    ∙ value_named-push name (arguments_view (take i arguments)) ((get_or arguments i d).0.now, (get_or arguments i d).1.now))
+
+-- what is left of a line is its first part and what stands behind that
+pub read_on : (front : List (Text × Text)) (rest : Option (Bor Text)) (text : Bor Text) (part : Text) (behind : Option Text) →
+    rest ≡ Some text → (part, behind) ≡ cut_at tab text.now →
+    behind_arguments front (arguments_of (λ s. s) (parts_behind tab (option_copied rest))) ≡ behind_arguments front (arguments_of (λ s. s) (part ∷ parts_behind tab behind))
+read_on front rest text part behind is cut =
+    ap (λ o. behind_arguments front (arguments_of (λ s. s) (parts_behind tab (option_copied o)))) is
+    ∙ (ap (λ ps. behind_arguments front (arguments_of (λ s. s) ps)) (split_cut tab text.now)
+    ∙ ap (λ (p : Text × Option Text). behind_arguments front (arguments_of (λ s. s) (p.0 ∷ parts_behind tab p.1))) (sym cut))
+
+-- what a line that is UTF-8 asks for
+pub request_of-text : (line : Text) → IsUtf8 line →
+    request_of (λ s. s) line ≡ request_with (cut_at dot (cut_at tab line).0) (arguments_of (λ s. s) (parts_behind tab (cut_at tab line).1))
+unfolding request_of
+request_of-text line text = rw (is_utf8-from_IsUtf8 line text, split_cut tab line) refl
+
+pub request_of-no_text : (line : Text) → (IsUtf8 line → ⊥) → request_of (λ s. s) line ≡ None
+unfolding request_of
+request_of-no_text line not_text = by_test (is_utf8 line) refl
+  where
+    by_test : (b : Bool) → is_utf8 line ≡ b → cond b (request_of_parts (λ s. s) (slice_split (λ b. b == tab) line)) None ≡ None
+    by_test true is = absurd (not_text (IsUtf8-from_is_utf8 line is))
+    by_test false is = refl
+
+-- the same, by what the code found: the line as text, the part before its first tab and what stands behind that
+pub request_at : (line text part : Text) (behind : Option Text) (arguments : Option (List (Text × Text))) → (text ≡ line) × IsUtf8 line →
+    (part, behind) ≡ cut_at tab text → arguments ≡ arguments_of (λ s. s) (parts_behind tab behind) →
+    request_of (λ s. s) line ≡ request_with (cut_at dot part) arguments
+request_at line text part behind arguments is cut found =
+    request_of-text line is.1
+    ∙ (ap (λ s. request_with (cut_at dot (cut_at tab s).0) (arguments_of (λ s. s) (parts_behind tab (cut_at tab s).1))) (sym is.0)
+    ∙ (ap (λ (p : Text × Option Text). request_with (cut_at dot p.0) (arguments_of (λ s. s) (parts_behind tab p.1))) (sym cut)
+    ∙ ap (request_with (cut_at dot part)) (sym found)))

@@ -1,0 +1,69 @@
+use Rattle.std.proofs.Common.{◌∙◌, refl, arith, ap, subst, inl, Err}
+use Rattle.std.proofs.lemmas.List.{length-take}
+use Rattle.std.proofs.lemmas.Result.{err_from_is_err_and}
+use Rattle.fluent_serve.specs.Devices.{HasFailed}
+use Rattle.fluent_serve.proofs.Runs.{at_start, line_free, serves_whole, serves_all, serves_first, first_in_block, front_in_block, block_done, block_cut}
+use Rattle.fluent_serve.proofs.Outcomes.{on_ok_map, on_ok_always, failed_now, by_error}
+use Rattle.fluent_serve.proofs.serve.answer_all.Goals as goal
+
+pub loop-init : goal.loop-init
+loop-init g c = record {
+  so_far = at_start (g.R.Source.remaining c.args.reader.now) (g.W.Sink.contents c.args.writer.now) c.args.waiting.now.line.items c.args.waiting.now.output.items
+      (g.E.Engine.reply c.args.engine.now) c.requires.no_line c.requires.no_output;
+  reader = refl;
+  writer = refl;
+}
+
+pub returns-in_err-count-clause-read : goal.returns-in_err-count-clause-read
+returns-in_err-count-clause-read g c = λ is. serves_whole c.loop.invariant.so_far c.in_err-count.ensures.bytes
+    (inl (failed_now (g.R.Source.failures c.args.reader.now) (g.R.Source.failures c.loop.reader) (g.R.Source.failures c.read.new.self) c.loop.invariant.reader c.in_err-count.ensures.failed))
+
+pub returns-then-count-eq0-clause-ok : goal.returns-then-count-eq0-clause-ok
+returns-then-count-eq0-clause-ok g c = on_ok_map c.answer_end.result (serves_all c.loop.invariant.so_far (rw c.if-count-eq0.true at c.in_ok-count.ensures.bytes.0)) c.answer_end.ensures.ok
+
+pub returns-then-count-eq0-clause-end : goal.returns-then-count-eq0-clause-end
+returns-then-count-eq0-clause-end g c = on_ok_always c.answer_end.result (c.in_ok-count.ensures.bytes.1 c.if-count-eq0.true (omega (arith, c.requires.room, c.loop.auto.block, c.read.auto.buffer)))
+
+pub returns-then-count-eq0-clause-reads : goal.returns-then-count-eq0-clause-reads
+returns-then-count-eq0-clause-reads g c = on_ok_always c.answer_end.result (c.in_ok-count.ensures.failed ∙ c.loop.invariant.reader)
+
+pub returns-then-count-eq0-clause-memory : goal.returns-then-count-eq0-clause-memory
+returns-then-count-eq0-clause-memory g c = λ is. serves_first c.loop.invariant.so_far (rw c.if-count-eq0.true at c.in_ok-count.ensures.bytes.0) (rw is at c.answer_end.ensures.err)
+
+pub answer_block-requires : goal.answer_block-requires
+answer_block-requires g c = line_free c.loop.invariant.so_far
+
+pub returns-in_err-answer_block-clause-memory : goal.returns-in_err-answer_block-clause-memory
+returns-in_err-answer_block-clause-memory g c = λ is.
+    let p = err_from_is_err_and c.from_residual-in_err-answer_block.result c.from_residual-in_err-answer_block.ensures.1 in
+    first_in_block c.loop.invariant.so_far (g.R.Source.remaining c.read.new.self) _ c.in_ok-count.ensures.bytes.0 (c.in_err-answer_block.ensures.memory (rw (p.1, p.2) at is))
+
+pub returns-in_err-answer_block-clause-write : goal.returns-in_err-answer_block-clause-write
+returns-in_err-answer_block-clause-write g c = λ is.
+    let p = err_from_is_err_and c.from_residual-in_err-answer_block.result c.from_residual-in_err-answer_block.ensures.1 in
+    front_in_block c.loop.invariant.so_far (g.R.Source.remaining c.read.new.self) _ c.in_ok-count.ensures.bytes.0 (c.in_err-answer_block.ensures.write (rw (p.1, p.2) at is))
+
+pub returns-in_err-answer_block-clause-failed : goal.returns-in_err-answer_block-clause-failed
+returns-in_err-answer_block-clause-failed g c = λ is.
+    let p = err_from_is_err_and c.from_residual-in_err-answer_block.result c.from_residual-in_err-answer_block.ensures.1 in
+    subst (λ n. HasFailed n (g.W.Sink.failures c.answer_block.new.writer)) c.loop.invariant.writer (c.in_err-answer_block.ensures.failed (rw (p.1, p.2) at is))
+
+pub returns-in_err-answer_block-clause-kept : goal.returns-in_err-answer_block-clause-kept
+returns-in_err-answer_block-clause-kept g c = λ not_write.
+    let p = err_from_is_err_and c.from_residual-in_err-answer_block.result c.from_residual-in_err-answer_block.ensures.1 in
+    by_error c.in_err-answer_block.field-0.0
+    (λ is. c.in_err-answer_block.ensures.memory_failures (ap Err is) ∙ c.loop.invariant.writer)
+    (λ is. absurd (c.in_err-answer_block.ensures.never_read (ap Err is)))
+    (λ is. absurd (not_write (p.1 ∙ ap Err (p.2 ∙ is))))
+
+pub returns-in_err-flush-clause-write : goal.returns-in_err-flush-clause-write
+returns-in_err-flush-clause-write g c = λ is.
+    block_cut c.loop.invariant.so_far (g.R.Source.remaining c.read.new.self) _ c.in_ok-count.ensures.bytes.0 c.in_ok-answer_block.ensures.ok c.in_err-flush.ensures.err
+
+pub loop-preserved : goal.loop-preserved
+loop-preserved g c = record {
+  so_far = block_done c.loop.invariant.so_far (g.R.Source.remaining c.read.new.self) _ c.in_ok-count.ensures.bytes.0 c.in_ok-answer_block.ensures.ok c.in_ok-flush.ensures.ok
+      c.in_ok-answer_block.ensures.line c.in_ok-flush.ensures.emptied (omega (arith, length-take c.in_ok-count.count c.read.new.buffer, c.in_ok-count.ensures.bound, c.if-count-eq0.false));
+  reader = c.in_ok-count.ensures.failed ∙ c.loop.invariant.reader;
+  writer = c.in_ok-flush.ensures.failures ∙ (c.in_ok-answer_block.ensures.failures ∙ c.loop.invariant.writer);
+}

@@ -1,0 +1,22 @@
+-- What the code's answers stand for.
+use Rattle.std.specs.Prelude.{List, [], ◌∷◌, Option, Some, None, option_map}
+use Rattle.fluent_requests.specs.Text.{Text}
+use Rattle.fluent_requests.specs.Frames as frames
+use Rattle.fluent_serve.specs.declared.answer.Answer.{Answer}
+use Rattle.fluent_serve.specs.declared.answer.Answer.TheVariants as given
+
+abbrev pub and_text : Option Text → Option (List Text) → Option (List Text)
+and_text None rest = None
+and_text (Some s) None = None
+and_text (Some s) (Some rest) = Some (s ∷ rest)
+
+-- what errors are shown as, where each says it
+abbrev pub error_texts : {E : Type 0} → (E → Option Text) → List E → Option (List Text)
+error_texts shown [] = Some []
+error_texts shown (e ∷ es) = and_text (shown e) (error_texts shown es)
+
+-- an answer, where its errors say what they are shown as
+abbrev pub answer_view : {E : Type 0} → (E → Option Text) → Answer E → Option frames.Answer
+answer_view shown given.Bad = Some frames.bad
+answer_view shown given.Nothing = Some frames.none
+answer_view shown (given.Text s es) = option_map (λ errors. frames.ok (record { text = s.now; errors = errors })) (error_texts shown es.now)

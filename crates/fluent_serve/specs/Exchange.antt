@@ -1,0 +1,57 @@
+-- What a run reads and writes.
+use Rattle.std.specs.Prelude.{◌≡◌, ◌⊎◌, ℕ, ◌≤◌, ◌++◌, length, take, Option}
+use Rattle.std.specs.Io.KnownBytes.{Consumes, Appends}
+use Rattle.fluent_requests.specs.Text.{Text}
+use Rattle.fluent_requests.specs.Lines.{whole_lines}
+use Rattle.fluent_requests.specs.Frames.{answers_to, answers}
+
+-- one text is the other's front
+pub record IsFrontOf (front whole : Text) : Type 0 where
+  pub back : Text
+  pub split : whole ≡ front ++ back
+
+-- The bytes that a reader has left and those that a writer holds, before and after, as far as they tell them.
+pub record Devices : Type 0 where
+  pub left_before : Option Text
+  pub left_after : Option Text
+  pub held_before : Option Text
+  pub held_after : Option Text
+
+abbrev pub devices_of : Option Text → Option Text → Option Text → Option Text → Devices
+devices_of left_before left_after held_before held_after =
+    record { left_before = left_before; left_after = left_after; held_before = held_before; held_after = held_after }
+
+-- those of a reader and a writer, each before and after, by what they tell
+abbrev pub devices : {R W : Type 0} → (R → Option Text) → R → R → (W → Option Text) → W → W → Devices
+devices remaining reader_before reader_after contents writer_before writer_after =
+    devices_of (remaining reader_before) (remaining reader_after) (contents writer_before) (contents writer_after)
+
+-- the reader gave these bytes, and the writer took those
+pub record Exchanged (d : Devices) (taken given : Text) : Type 0 where
+  pub read : Consumes d.left_before d.left_after taken
+  pub written : Appends d.held_before d.held_after given
+
+-- all that was read is answered, and nothing else is written
+pub record AnswersAll (d : Devices) (answer : Text → Text) : Type 0 where
+  pub taken : Text
+  pub exchanged : Exchanged d taken (answers answer taken)
+
+-- the first whole lines that were read are answered, and nothing else is written
+pub record AnswersFirst (d : Devices) (answer : Text → Text) : Type 0 where
+  pub taken : Text
+  pub count : ℕ
+  pub exchanged : Exchanged d taken (answers_to answer (take count (whole_lines taken)))
+
+-- the whole lines that were read are answered, and nothing else is written
+pub record AnswersWhole (d : Devices) (answer : Text → Text) (failed : Type 0) (bound : ℕ) : Type 0 where
+  pub taken : Text
+  pub exchanged : Exchanged d taken (answers_to answer (whole_lines taken))
+  -- the reader failed, or gave at least so many bytes without an end
+  pub reason : failed ⊎ (bound ≤ length taken)
+
+-- a front of the answers to what was read is written
+pub record AnswersFront (d : Devices) (answer : Text → Text) : Type 0 where
+  pub taken : Text
+  pub given : Text
+  pub exchanged : Exchanged d taken given
+  pub front : IsFrontOf given (answers answer taken)

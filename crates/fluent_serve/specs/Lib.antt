@@ -1,0 +1,6 @@
+pub mod Texts
+pub mod RequestView
+pub mod AnswerView
+pub mod Devices
+pub mod Exchange
+pub mod Waiting

@@ -1,0 +1,21 @@
+-- What the code's requests stand for.
+use Rattle.std.specs.Prelude.{ℕ, ◌==◌, List, [], Option, Some, None, map, option_copied}
+use Rattle.std.specs.List.{slice_split}
+use denote.Ref.{Bor}
+use Rattle.fluent_requests.specs.Text.{Text}
+use Rattle.fluent_requests.specs.Requests.{Request}
+use Rattle.fluent_serve.specs.declared.request.Request.{Request as Read}
+
+abbrev pub argument_view : Bor Text × Bor Text → Text × Text
+argument_view a = (a.0.now, a.1.now)
+
+abbrev pub arguments_view : List (Bor Text × Bor Text) → List (Text × Text)
+arguments_view arguments = map argument_view arguments
+
+abbrev pub request_view : Read → Request Text
+request_view r = record { id = r.id.now; attribute = option_copied r.attribute; arguments = arguments_view r.arguments.items }
+
+-- the parts of what stands behind a separator, if there is one
+abbrev pub parts_behind : ℕ → Option Text → List Text
+parts_behind separator None = []
+parts_behind separator (Some s) = slice_split (λ b. b == separator) s

@@ -1,0 +1,75 @@
+//! Answers, and the bytes that they are written as.
+ghost use Rattle.std.specs.Prelude.{◌≡◌, ◌∷◌, [], ◌++◌, OnOk, IfSome, codes, decimal};
+ghost use Rattle.std.specs.List.{flat_map};
+ghost use Rattle.fluent_serve.specs.Exchange.{IsFrontOf};
+ghost use Rattle.fluent_requests.specs.Frames.{frame_of, ended};
+ghost use Rattle.fluent_serve.specs.AnswerView.{answer_view, error_texts};
+
+use itoa::Buffer;
+use std::alloc::{AllocError, Global};
+use std::fmt::Display;
+
+/// The answer to a request line.
+#[derive(Clone, Copy, Debug)]
+pub enum Answer<'a, E> {
+    /// The line is no request.
+    Bad,
+    /// There is nothing by that name.
+    Nothing,
+    /// A text, and the errors that came up while it was made.
+    Text { text: &'a str, errors: &'a [E] },
+}
+
+impl<E: Display> Answer<'_, E> {
+    /// Puts the answer's bytes behind `out`: `bad`, `none`, or `ok` with the text's length in bytes and the count of
+    /// errors, the text, and a line for each error. After an error `out` holds its old part and a front of them.
+    pub fn push_to(&self, alloc: Global, out: &mut Vec<u8>) -> Result<(), AllocError>
+        ensures ok { OnOk result (IfSome (answer_view E.output self.now) (λ answer. out.new.items ≡ out.old.items ++ frame_of answer)) }
+        ensures front { IsFrontOf out.old.items out.new.items }
+    {
+        match self {
+            Answer::Bad => out.extend_from_slice(b"bad\n"),
+            Answer::Nothing => out.extend_from_slice(b"none\n"),
+            Answer::Text { text, errors } => {
+                push_head(out, text.len(), errors.len())?;
+                out.extend_from_slice(text.as_bytes())?;
+                out.extend_from_slice(b"\n")?;
+                push_errors(alloc, out, errors)
+            }
+        }
+    }
+}
+
+/// Puts the line before a text behind `out`.
+fn push_head(out: &mut Vec<u8>, text_len: usize, error_count: usize) -> Result<(), AllocError>
+    ensures ok { OnOk result (out.new.items ≡ out.old.items ++ (codes "ok " ++ (decimal text_len ++ (codes " " ++ ended (decimal error_count))))) }
+    ensures front { IsFrontOf out.old.items out.new.items }
+{
+    let mut digits = Buffer::new();
+    out.extend_from_slice(b"ok ")?;
+    out.extend_from_slice(digits.format(text_len).as_bytes())?;
+    out.extend_from_slice(b" ")?;
+    out.extend_from_slice(digits.format(error_count).as_bytes())?;
+    out.extend_from_slice(b"\n")
+}
+
+/// Puts a line for each error behind `out`.
+fn push_errors<E: Display>(alloc: Global, out: &mut Vec<u8>, errors: &[E]) -> Result<(), AllocError>
+    ensures ok { OnOk result (IfSome (error_texts E.output errors.now) (λ texts. out.new.items ≡ out.old.items ++ flat_map ended texts)) }
+    ensures front { IsFrontOf out.old.items out.new.items }
+{
+    for error in errors {
+        push_error(alloc, out, error)?;
+    }
+    Ok(())
+}
+
+/// Puts an error's line behind `out`.
+fn push_error<E: Display>(alloc: Global, out: &mut Vec<u8>, error: &E) -> Result<(), AllocError>
+    ensures ok { OnOk result (IfSome (E.output error.now) (λ text. out.new.items ≡ out.old.items ++ ended text)) }
+    ensures front { IsFrontOf out.old.items out.new.items }
+{
+    let text = error.to_string(alloc)?;
+    out.extend_from_slice(text.as_bytes())?;
+    out.extend_from_slice(b"\n")
+}

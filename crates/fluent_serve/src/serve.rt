@@ -1,0 +1,289 @@
+//! Serves a stream of request lines.
+ghost use Rattle.std.specs.Prelude.{◌≡◌, ◌<◌, ◌∷◌, ◌++◌, [], length, ℕ, List, MatchOption, Err, IsTrue, ◌↔◌, OnOk, OnErr, IfErr, IsErrOf, ◌^◌};
+ghost use Rattle.std.specs.Io.KnownBytes.{Appends, IsAtEnd};
+ghost use Rattle.fluent_requests.specs.Text.{line_feed};
+ghost use Rattle.fluent_requests.specs.Lines.{whole_lines, unfinished, unless_empty};
+ghost use Rattle.fluent_requests.specs.Frames.{answers_to};
+ghost use Rattle.fluent_serve.specs.Devices.{HasFailed};
+ghost use Rattle.fluent_serve.specs.Exchange.{devices, AnswersAll, AnswersFirst, AnswersWhole, AnswersFront};
+ghost use Rattle.fluent_serve.specs.declared.serve.RunError.TheVariants.{Memory, Read, Write};
+ghost use Rattle.fluent_requests.specs.Lines.{IsUnfinished};
+ghost use Rattle.fluent_serve.specs.Waiting.{Puts, PutsFirst, PutsFront, ServesAll, ServesFirst, ServesWhole, ServesFront};
+
+use crate::stream::{ReadFailed, Sink, Source, WriteFailed};
+use memchr::memchr;
+use std::alloc::{AllocError, Global};
+
+/// The bytes that one call of `read` is asked for.
+const BLOCK: usize = 8_192;
+
+/// Answers are written once this many bytes wait, and before each call of `read`.
+const PIECE: usize = 65_536;
+
+/// The calls of `read` that may come without an end of the input.
+const READS: u64 = 4_294_967_296;
+
+/// Why a run stopped before the end of its input.
+#[derive(Clone, Copy, Debug, PartialEq, Eq)]
+pub enum RunError {
+    /// A growth was refused.
+    Memory = 1,
+    /// The reader failed, or did not end within 4,294,967,296 calls of `read`.
+    Read = 2,
+    /// The writer failed, or took none of a piece that was not empty.
+    Write = 3,
+}
+
+impl From<AllocError> for RunError {
+    ghost from_gives = { λ _ e. e ≡ Memory };
+
+    fn from(_error: AllocError) -> RunError {
+        RunError::Memory
+    }
+}
+
+impl From<ReadFailed> for RunError {
+    ghost from_gives = { λ _ e. e ≡ Read };
+
+    fn from(_error: ReadFailed) -> RunError {
+        RunError::Read
+    }
+}
+
+impl From<WriteFailed> for RunError {
+    ghost from_gives = { λ _ e. e ≡ Write };
+
+    fn from(_error: WriteFailed) -> RunError {
+        RunError::Write
+    }
+}
+
+/// What answers request lines.
+pub trait Engine {
+    /// What is written for a line, given without its line feed.
+    ghost reply: { Self → List ℕ → List ℕ };
+
+    /// Puts what is written for `line` behind `out`. After an error `out` is as it was.
+    fn reply(&self, alloc: Global, line: &[u8], out: &mut Vec<u8>) -> Result<(), AllocError>
+        ensures ok { OnOk result (out.new.items ≡ out.old.items ++ reply self.now line.now) }
+        ensures err { OnErr result (out.new.items ≡ out.old.items) };
+}
+
+/// What stands between the devices: a line whose end has not come yet, and answers that wait to be written.
+#[derive(Drop)]
+struct Waiting {
+    line: Vec<u8>,
+    output: Vec<u8>,
+}
+
+/// Writes all of `bytes`. After an error a front of them was written.
+fn write_all<W: Sink>(writer: &mut W, bytes: &[u8]) -> Result<(), WriteFailed>
+    ensures ok { OnOk result (Appends (W.contents writer.old) (W.contents writer.new) bytes.now) }
+    ensures failures { OnOk result (W.failures writer.new ≡ W.failures writer.old) }
+    ensures err { OnErr result (PutsFront (W.contents writer.old) bytes.now (W.contents writer.new) []) }
+    ensures failed { OnErr result (HasFailed (W.failures writer.old) (W.failures writer.new)) }
+{
+    let mut rest = bytes;
+    while !rest.is_empty() {
+        match writer.write(rest) {
+            Ok(count) if count > 0 => (_, rest) = rest.split_at(count),
+            _ => return Err(WriteFailed),
+        }
+    }
+    Ok(())
+}
+
+/// Writes all that waits. After an error a front of it was written.
+fn flush<W: Sink>(writer: &mut W, output: &mut Vec<u8>) -> Result<(), WriteFailed>
+    ensures ok { OnOk result (Appends (W.contents writer.old) (W.contents writer.new) output.old.items) }
+    ensures emptied { OnOk result (output.new.items ≡ []) }
+    ensures failures { OnOk result (W.failures writer.new ≡ W.failures writer.old) }
+    ensures err { OnErr result (PutsFront (W.contents writer.old) output.old.items (W.contents writer.new) []) }
+    ensures failed { OnErr result (HasFailed (W.failures writer.old) (W.failures writer.new)) }
+{
+    write_all(writer, output.as_slice())?;
+    output.clear();
+    Ok(())
+}
+
+/// Answers the line that ends with `end`. The answers are written where many bytes wait.
+fn answer_line<E: Engine, W: Sink>(
+    alloc: Global,
+    engine: &E,
+    writer: &mut W,
+    waiting: &mut Waiting,
+    end: &[u8],
+) -> Result<(), RunError>
+    ensures ok { OnOk result (Puts (W.contents writer.old) waiting.old.output.items (W.contents writer.new) waiting.new.output.items
+        (E.reply engine.now (waiting.old.line.items ++ end.now))) }
+    ensures line { OnOk result (waiting.new.line.items ≡ []) }
+    ensures failures { OnOk result (W.failures writer.new ≡ W.failures writer.old) }
+    ensures memory { IsErrOf result RunError.Memory → Puts (W.contents writer.old) waiting.old.output.items (W.contents writer.new) waiting.new.output.items [] }
+    ensures memory_failures { IsErrOf result RunError.Memory → W.failures writer.new ≡ W.failures writer.old }
+    ensures write { IsErrOf result RunError.Write → PutsFront (W.contents writer.old) waiting.old.output.items (W.contents writer.new)
+        (E.reply engine.now (waiting.old.line.items ++ end.now)) }
+    ensures failed { IsErrOf result RunError.Write → HasFailed (W.failures writer.old) (W.failures writer.new) }
+    ensures never_read { IsErrOf result RunError.Read → ⊥ }
+{
+    if waiting.line.is_empty() {
+        engine.reply(alloc, end, &mut waiting.output)?;
+    } else {
+        waiting.line.extend_from_slice(end)?;
+        engine.reply(alloc, waiting.line.as_slice(), &mut waiting.output)?;
+        waiting.line.clear();
+    }
+    if waiting.output.len() >= PIECE {
+        flush(writer, &mut waiting.output)?;
+    }
+    Ok(())
+}
+
+/// What stands before the first line feed, and what stands behind it.
+fn first_line(bytes: &[u8]) -> Option<(&[u8], &[u8])>
+    ensures { MatchOption result (IsUnfinished bytes.now) (λ parts. IsUnfinished parts.0.now × (bytes.now ≡ parts.0.now ++ line_feed ∷ parts.1.now)) }
+{
+    match memchr(b'\n', bytes) {
+        None => None,
+        Some(end) => {
+            let (line, rest) = bytes.split_at(end);
+            let (_, behind) = rest.split_at(1);
+            Some((line, behind))
+        }
+    }
+}
+
+/// Answers each line that ends in `block`, and keeps what stands behind the last of them.
+fn answer_block<E: Engine, W: Sink>(
+    alloc: Global,
+    engine: &E,
+    writer: &mut W,
+    waiting: &mut Waiting,
+    block: &[u8],
+) -> Result<(), RunError>
+    requires { IsUnfinished waiting.old.line.items }
+    ensures ok { OnOk result (Puts (W.contents writer.old) waiting.old.output.items (W.contents writer.new) waiting.new.output.items
+        (answers_to (E.reply engine.now) (whole_lines (waiting.old.line.items ++ block.now)))) }
+    ensures line { OnOk result (waiting.new.line.items ≡ unfinished (waiting.old.line.items ++ block.now)) }
+    ensures unfinished { OnOk result (IsUnfinished waiting.new.line.items) }
+    ensures failures { OnOk result (W.failures writer.new ≡ W.failures writer.old) }
+    ensures memory { IsErrOf result RunError.Memory → PutsFirst (W.contents writer.old) waiting.old.output.items (W.contents writer.new) waiting.new.output.items
+        (E.reply engine.now) (whole_lines (waiting.old.line.items ++ block.now)) }
+    ensures memory_failures { IsErrOf result RunError.Memory → W.failures writer.new ≡ W.failures writer.old }
+    ensures write { IsErrOf result RunError.Write → PutsFront (W.contents writer.old) waiting.old.output.items (W.contents writer.new)
+        (answers_to (E.reply engine.now) (whole_lines (waiting.old.line.items ++ block.now))) }
+    ensures failed { IsErrOf result RunError.Write → HasFailed (W.failures writer.old) (W.failures writer.new) }
+    ensures never_read { IsErrOf result RunError.Read → ⊥ }
+{
+    let mut rest = block;
+    while let Some((end, behind)) = first_line(rest) {
+        answer_line(alloc, engine, writer, waiting, end)?;
+        rest = behind;
+    }
+    waiting.line.extend_from_slice(rest)?;
+    Ok(())
+}
+
+/// Answers the line that the input ends in, if it holds a byte.
+fn answer_end<E: Engine>(alloc: Global, engine: &E, waiting: &mut Waiting) -> Result<(), RunError>
+    ensures ok { OnOk result (waiting.new.output.items ≡ waiting.old.output.items ++ answers_to (E.reply engine.now) (unless_empty waiting.old.line.items)) }
+    ensures err { OnErr result (waiting.new.output.items ≡ waiting.old.output.items) }
+    ensures memory_only { IfErr result (λ error. error ≡ RunError.Memory) }
+{
+    if !waiting.line.is_empty() {
+        engine.reply(alloc, waiting.line.as_slice(), &mut waiting.output)?;
+    }
+    Ok(())
+}
+
+/// Reads to the end of the input, by blocks of this length, and answers each line as soon as it is whole. The last
+/// answers may wait still.
+fn answer_all<E: Engine, R: Source, W: Sink>(
+    alloc: Global,
+    engine: &E,
+    reader: &mut R,
+    writer: &mut W,
+    waiting: &mut Waiting,
+    block: &mut [u8],
+) -> Result<(), RunError>
+    requires room { 0 < length block.old }
+    requires no_line { waiting.old.line.items ≡ [] }
+    requires no_output { waiting.old.output.items ≡ [] }
+    ensures ok { OnOk result (ServesAll
+        (devices R.remaining reader.old reader.new W.contents writer.old writer.new)
+        waiting.new.output.items (E.reply engine.now)) }
+    ensures end { OnOk result (IsAtEnd (R.remaining reader.new)) }
+    ensures reads { OnOk result (R.failures reader.new ≡ R.failures reader.old) }
+    ensures memory { IsErrOf result RunError.Memory → ServesFirst
+        (devices R.remaining reader.old reader.new W.contents writer.old writer.new)
+        waiting.new.output.items (E.reply engine.now) }
+    ensures read { IsErrOf result RunError.Read → ServesWhole
+        (devices R.remaining reader.old reader.new W.contents writer.old writer.new)
+        waiting.new.output.items (E.reply engine.now) (HasFailed (R.failures reader.old) (R.failures reader.new)) READS }
+    ensures write { IsErrOf result RunError.Write → ServesFront
+        (devices R.remaining reader.old reader.new W.contents writer.old writer.new)
+        (E.reply engine.now) }
+    ensures failed { IsErrOf result RunError.Write → HasFailed (W.failures writer.old) (W.failures writer.new) }
+    ensures kept { (IsErrOf result RunError.Write → ⊥) → W.failures writer.new ≡ W.failures writer.old }
+{
+    for _ in 0..READS {
+        let count = reader.read(block)?;
+        if count == 0 {
+            return answer_end(alloc, engine, waiting);
+        }
+        answer_block(alloc, engine, writer, waiting, &block[..count])?;
+        flush(writer, &mut waiting.output)?;
+    }
+    Err(RunError::Read)
+}
+
+/// Whether nothing more can be written.
+fn is_write_failure(outcome: &Result<(), RunError>) -> bool
+    ensures { IsTrue result ↔ (outcome.now ≡ Err Write) }
+{
+    matches!(outcome, Err(RunError::Write))
+}
+
+/// Answers each line of the input, in order, and writes nothing else. An answer is computed whole before its first byte
+/// is written. What was answered before an error is written, unless the writer fails.
+pub fn serve<E: Engine, R: Source, W: Sink>(
+    alloc: Global,
+    engine: &E,
+    reader: &mut R,
+    writer: &mut W,
+) -> Result<(), RunError>
+    ensures ok { OnOk result (AnswersAll
+        (devices R.remaining reader.old reader.new W.contents writer.old writer.new)
+        (E.reply engine.now)) }
+    ensures end { OnOk result (IsAtEnd (R.remaining reader.new)) }
+    ensures reads { OnOk result (R.failures reader.new ≡ R.failures reader.old) }
+    ensures writes { OnOk result (W.failures writer.new ≡ W.failures writer.old) }
+    ensures memory { IsErrOf result RunError.Memory → AnswersFirst
+        (devices R.remaining reader.old reader.new W.contents writer.old writer.new)
+        (E.reply engine.now) }
+    ensures read { IsErrOf result RunError.Read → AnswersWhole
+        (devices R.remaining reader.old reader.new W.contents writer.old writer.new)
+        (E.reply engine.now) (HasFailed (R.failures reader.old) (R.failures reader.new)) READS }
+    ensures write { IsErrOf result RunError.Write → AnswersFront
+        (devices R.remaining reader.old reader.new W.contents writer.old writer.new)
+        (E.reply engine.now) }
+    ensures failed { IsErrOf result RunError.Write → HasFailed (W.failures writer.old) (W.failures writer.new) }
+{
+    let mut block = vec![in alloc; 0; BLOCK]?;
+    let mut waiting = Waiting {
+        line: Vec::new(alloc),
+        output: Vec::new(alloc),
+    };
+    let outcome = answer_all(
+        alloc,
+        engine,
+        reader,
+        writer,
+        &mut waiting,
+        block.as_mut_slice(),
+    );
+    if is_write_failure(&outcome) {
+        return outcome;
+    }
+    flush(writer, &mut waiting.output)?;
+    outcome
+}

@@ -1,0 +1,121 @@
+//! Where bytes come from and go to.
+//!
+//! A `Source` and a `Sink` tell contracts their bytes, where they are known, and how many of their calls have failed.
+//! `FromRead` and `FromWrite` make them of std's readers and writers.
+ghost use Rattle.std.specs.Prelude.{◌≡◌, ◌≤◌, ℕ, List, Option, IfOk, length};
+ghost use Rattle.std.specs.Io.KnownBytes.{ReadConsumes, WriteAppends};
+ghost use Rattle.fluent_serve.specs.Devices.{failures_after_read, failures_after_write};
+
+use std::io;
+
+/// A call of `Source::read` failed: no byte was taken.
+#[derive(Clone, Copy, Debug, PartialEq, Eq)]
+pub struct ReadFailed;
+
+/// A call of `Sink::write` failed: no byte was taken.
+#[derive(Clone, Copy, Debug, PartialEq, Eq)]
+pub struct WriteFailed;
+
+/// A reader of bytes.
+pub trait Source {
+    /// The bytes that reads will give from here on, where they are known.
+    ghost remaining: { Self → Option (List ℕ) };
+
+    /// How many calls have failed. At the greatest `u64` the count stays there.
+    ghost failures: { Self → ℕ };
+
+    /// Fills the front of `buffer`, and gives the count of its bytes: 0 at the end of the input, or where `buffer` is
+    /// empty. After `ReadFailed` no byte was taken.
+    fn read(&mut self, buffer: &mut [u8]) -> Result<usize, ReadFailed>
+        ensures bound { IfOk result (λ count. count ≤ length buffer.new) }
+        ensures bytes { ReadConsumes (remaining self.old) (remaining self.new) result buffer.new }
+        ensures failed { failures self.new ≡ failures_after_read (failures self.old) result };
+}
+
+/// A writer of bytes.
+pub trait Sink {
+    /// The bytes that were written, where they are known.
+    ghost contents: { Self → Option (List ℕ) };
+
+    /// How many calls have failed, or taken none of a piece that was not empty. At the greatest `u64` the count stays
+    /// there.
+    ghost failures: { Self → ℕ };
+
+    /// Takes bytes from the front of `bytes`, and gives their count. After `WriteFailed` no byte was taken.
+    fn write(&mut self, bytes: &[u8]) -> Result<usize, WriteFailed>
+        ensures bound { IfOk result (λ count. count ≤ length bytes.now) }
+        ensures bytes { WriteAppends (contents self.old) (contents self.new) result bytes.now }
+        ensures failed { failures self.new ≡ failures_after_write (failures self.old) bytes.now result };
+}
+
+/// A `Source` of a reader of std. It tells the bytes that the reader tells.
+#[derive(Drop)]
+pub struct FromRead<R> {
+    reader: R,
+    failures: u64,
+}
+
+impl<R: io::Read> FromRead<R> {
+    /// A source with no failure yet.
+    pub fn new(reader: R) -> FromRead<R>
+        ensures bytes { ⟦<FromRead<R> as Source>⟧.remaining result ≡ R.remaining reader }
+        ensures failures { ⟦<FromRead<R> as Source>⟧.failures result ≡ 0 }
+    {
+        FromRead {
+            reader,
+            failures: 0,
+        }
+    }
+}
+
+impl<R: io::Read> Source for FromRead<R> {
+    ghost remaining = { λ s. R.remaining s.reader };
+
+    ghost failures = { λ s. s.failures };
+
+    fn read(&mut self, buffer: &mut [u8]) -> Result<usize, ReadFailed> {
+        match self.reader.read(buffer) {
+            Ok(count) => Ok(count),
+            Err(_) => {
+                self.failures = self.failures.saturating_add(1);
+                Err(ReadFailed)
+            }
+        }
+    }
+}
+
+/// A `Sink` of a writer of std. It tells the bytes that the writer tells.
+#[derive(Drop)]
+pub struct FromWrite<W> {
+    writer: W,
+    failures: u64,
+}
+
+impl<W: io::Write> FromWrite<W> {
+    /// A sink with no failure yet.
+    pub fn new(writer: W) -> FromWrite<W>
+        ensures bytes { ⟦<FromWrite<W> as Sink>⟧.contents result ≡ W.contents writer }
+        ensures failures { ⟦<FromWrite<W> as Sink>⟧.failures result ≡ 0 }
+    {
+        FromWrite {
+            writer,
+            failures: 0,
+        }
+    }
+}
+
+impl<W: io::Write> Sink for FromWrite<W> {
+    ghost contents = { λ s. W.contents s.writer };
+
+    ghost failures = { λ s. s.failures };
+
+    fn write(&mut self, bytes: &[u8]) -> Result<usize, WriteFailed> {
+        match self.writer.write(bytes) {
+            Ok(count) if count > 0 || bytes.is_empty() => Ok(count),
+            outcome => {
+                self.failures = self.failures.saturating_add(1);
+                outcome.map_err(|_| WriteFailed)
+            }
+        }
+    }
+}
