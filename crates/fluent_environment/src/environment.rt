@@ -1,0 +1,45 @@
+//! The environment, and one without ids.
+
+ghost use Rattle.std.specs.Prelude.{◌≡◌, [], None, true};
+ghost use Rattle.fluent_ids.specs.IdsView.{ids_view};
+
+use fluent_ids::FluentIds;
+use fluent_value::TextTransform;
+use std::alloc::Global;
+
+/// What patterns are resolved in. `M` is the plural source, `F` the type of functions and `G` that of the formatter.
+#[derive(Drop)]
+pub struct Environment<'r, M, F, G> {
+    /// The messages, terms and functions, by their ids.
+    pub ids: FluentIds<'r, F>,
+    /// The plural source.
+    pub plurals: M,
+    /// Whether placeables stand between isolation marks.
+    pub isolating: bool,
+    /// What the texts of patterns go through, where there is anything.
+    pub transform: Option<Box<dyn TextTransform>>,
+    /// What values are shown by, before the rules of Fluent.
+    pub formatter: Option<G>,
+    /// What texts are made with.
+    pub alloc: Global,
+}
+
+impl<'r, M, F, G> Environment<'r, M, F, G> {
+    /// No ids, isolation, no transform and no formatter. It takes no memory.
+    pub fn new(alloc: Global, plurals: M) -> Self
+        ensures ids { ids_view F result.ids ≡ [] }
+        ensures plurals { result.plurals ≡ plurals }
+        ensures isolating { result.isolating ≡ true }
+        ensures transform { result.transform ≡ None }
+        ensures formatter { result.formatter ≡ None }
+    {
+        Environment {
+            ids: FluentIds::new(alloc),
+            plurals,
+            isolating: true,
+            transform: None,
+            formatter: None,
+            alloc,
+        }
+    }
+}
