@@ -1,7 +1,5 @@
 -- What an environment is to those who resolve patterns in it.
 use Rattle.std.specs.Prelude.{List, Option}
-use Rattle.std.specs.Global.{Global}
-use Rattle.std.specs.declared.dyn_box.DynBox.{DynBox}
 use Rattle.fluent_grammar.specs.Words.{Text}
 use Rattle.fluent_value.specs.Matching.{Plurals}
 use Rattle.fluent_value.specs.Value.{Value}
@@ -15,13 +13,13 @@ use Rattle.fluent_environment.specs.declared.environment.Environment.{Environmen
 -- formatter answers, the categories of a plural source and how it shows values, and what a transform makes of a text.
 abbrev pub environment_view : {S M F G X : Type 0} {V : X → Type 0}
     (shown : S → Text) (gives : F → List (Value S) → List (Text × Value S) → Value S) (formats : G → M → Value S → Option Text)
-    (category_of : M → Plurals) (stringified : M → (T : Type 0) → (T → Text) → T → Text) (transformed : DynBox X Global V → Text → Text)
+    (category_of : M → Plurals) (stringified : M → (T : Type 0) → (T → Text) → T → Text) (transformed : (x : X) × V x → Text → Text)
     → Environment M F G X V → plain.Environment S F
 environment_view {S} {M} {F} shown gives formats category_of stringified transformed env = record {
   find = find (ids_view F env.ids);
   call = gives;
   isolating = env.isolating;
-  transformed = transformed_by transformed env.transform;
+  transformed = transformed_by (λ it. transformed (it.vtable, it.value)) env.transform;
   formatted = formatted_by formats env.plurals env.formatter;
   plurals = category_of env.plurals;
   shown = stringified env.plurals S shown;

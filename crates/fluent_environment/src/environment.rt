@@ -1,7 +1,4 @@
-//! The environment, and one without ids.
-
-ghost use Rattle.std.specs.Prelude.{◌≡◌, [], None, true};
-ghost use Rattle.fluent_ids.specs.IdsView.{ids_view};
+//! The environment.
 
 use fluent_ids::FluentIds;
 use fluent_value::TextTransform;
@@ -22,24 +19,4 @@ pub struct Environment<'r, M, F, G> {
     pub formatter: Option<G>,
     /// What texts are made with.
     pub alloc: Global,
-}
-
-impl<'r, M, F, G> Environment<'r, M, F, G> {
-    /// No ids, isolation, no transform and no formatter. It takes no memory.
-    pub fn new(alloc: Global, plurals: M) -> Self
-        ensures ids { ids_view F result.ids ≡ [] }
-        ensures plurals { result.plurals ≡ plurals }
-        ensures isolating { result.isolating ≡ true }
-        ensures transform { result.transform ≡ None }
-        ensures formatter { result.formatter ≡ None }
-    {
-        Environment {
-            ids: FluentIds::new(alloc),
-            plurals,
-            isolating: true,
-            transform: None,
-            formatter: None,
-            alloc,
-        }
-    }
 }
