@@ -11,7 +11,7 @@ use fluent_ids::FunctionRef;
 use fluent_value::{FluentArgs, FluentFunction, FluentType, FluentValue, builtins};
 use std::alloc::AllocError;
 
-impl<'r, M, F, G> Environment<'r, M, F, G> {
+impl<'r, 's, M, F, G> Environment<'r, 's, M, F, G> {
     /// What a function of the environment gives for these values. The only error is that memory runs out.
     pub fn call<'a, 'n, C: FluentType + Drop>(
         &self,

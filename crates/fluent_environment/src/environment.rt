@@ -6,9 +6,9 @@ use std::alloc::Global;
 
 /// What patterns are resolved in. `M` is the plural source, `F` the type of functions and `G` that of the formatter.
 #[derive(Drop)]
-pub struct Environment<'r, M, F, G> {
+pub struct Environment<'r, 's, M, F, G> {
     /// The messages, terms and functions, by their ids.
-    pub ids: FluentIds<'r, F>,
+    pub ids: FluentIds<'r, 's, F>,
     /// The plural source.
     pub plurals: M,
     /// Whether placeables stand between isolation marks.

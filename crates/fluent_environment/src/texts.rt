@@ -8,7 +8,7 @@ use crate::environment::Environment;
 use std::alloc::AllocError;
 use std::borrow::CowStr;
 
-impl<'r, M, F, G> Environment<'r, M, F, G> {
+impl<'r, 's, M, F, G> Environment<'r, 's, M, F, G> {
     /// What becomes of a text of a pattern. Where no transform is set it is the text itself, borrowed, which takes no memory
     /// and succeeds. The only error is that memory runs out.
     pub fn transformed<'t>(&self, text: &'t str) -> Result<CowStr<'t>, AllocError>

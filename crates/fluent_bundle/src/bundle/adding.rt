@@ -12,7 +12,7 @@ use fluent_ids::{AddFunctionError, AddResourceError};
 use fluent_resource::FluentResource;
 use std::alloc::AllocError;
 
-impl<'r, M, C, F: Drop, G> FluentBundle<'r, M, C, F, G> {
+impl<'r, 's, M, C, F: Drop, G> FluentBundle<'r, 's, M, C, F, G> {
     /// Adds the messages and terms of a resource. Where two entries have one id, the first stays, whatever it is and wherever it
     /// comes from.
     ///
@@ -20,7 +20,7 @@ impl<'r, M, C, F: Drop, G> FluentBundle<'r, M, C, F, G> {
     /// - [`AddResourceError::Overriding`] has a notice for each entry whose id stood for another one, in the order of the
     ///   entries. All other entries were added.
     /// - [`AddResourceError::Memory`] where memory runs out. The bundle is unchanged then.
-    pub fn add_resource(&mut self, resource: &'r FluentResource<'r>) -> Result<(), AddResourceError>
+    pub fn add_resource(&mut self, resource: &'r FluentResource<'s>) -> Result<(), AddResourceError>
         ensures added { AddsFirst result (bundle_of self.old) (bundle_of self.new) (entries_view resource.now) }
         ensures told { TellsNotices result (bundle_of self.old) (entries_view resource.now) }
     {
@@ -33,7 +33,7 @@ impl<'r, M, C, F: Drop, G> FluentBundle<'r, M, C, F, G> {
     /// Memory ran out. The bundle is unchanged then.
     pub fn add_resource_overriding(
         &mut self,
-        resource: &'r FluentResource<'r>,
+        resource: &'r FluentResource<'s>,
     ) -> Result<(), AllocError>
         ensures added { OnOk result (bundle_of self.new ≡ with_entries true (bundle_of self.old) (entries_view resource.now)) }
         ensures refused { OnErr result (bundle_of self.new ≡ bundle_of self.old) }

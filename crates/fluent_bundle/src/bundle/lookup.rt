@@ -11,14 +11,14 @@ use fluent_ast::{Message, Term};
 use fluent_ids::{FunctionRef, GetEntry};
 use fluent_resource::FluentMessage;
 
-impl<'r, M, C, F, G> GetEntry<'r, F> for FluentBundle<'r, M, C, F, G> {
+impl<'r, 's, M, C, F, G> GetEntry<'s, F> for FluentBundle<'r, 's, M, C, F, G> {
     ghost ids = { λ bundle. (bundle_of bundle).ids };
 
-    fn get_entry_message(&self, id: &str) -> Option<&'r Message<&'r str>> {
+    fn get_entry_message(&self, id: &str) -> Option<&Message<&'s str>> {
         self.environment.ids.get_entry_message(id)
     }
 
-    fn get_entry_term(&self, id: &str) -> Option<&'r Term<&'r str>> {
+    fn get_entry_term(&self, id: &str) -> Option<&Term<&'s str>> {
         self.environment.ids.get_entry_term(id)
     }
 
@@ -27,7 +27,7 @@ impl<'r, M, C, F, G> GetEntry<'r, F> for FluentBundle<'r, M, C, F, G> {
     }
 }
 
-impl<'r, M, C, F, G> FluentBundle<'r, M, C, F, G> {
+impl<'r, 's, M, C, F, G> FluentBundle<'r, 's, M, C, F, G> {
     /// Whether an id stands for a message.
     pub fn has_message(&self, id: &str) -> bool
         ensures { result ≡ is_some (message_in (find (bundle_of self.now).ids id.now)) }
@@ -36,7 +36,7 @@ impl<'r, M, C, F, G> FluentBundle<'r, M, C, F, G> {
     }
 
     /// The message of an id.
-    pub fn get_message(&self, id: &str) -> Option<FluentMessage<'r>>
+    pub fn get_message(&self, id: &str) -> Option<FluentMessage<'r, 's>>
         ensures { option_map message_of result ≡ message_in (find (bundle_of self.now).ids id.now) }
     {
         self.environment.ids.get_message(id)

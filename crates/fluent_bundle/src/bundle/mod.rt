@@ -17,16 +17,16 @@ use std::marker::PhantomData;
 /// The messages and terms of resources and the functions of a program, with what patterns are resolved by.
 ///
 /// `M` is the plural source, `C` the program's own type of values, `F` the type of its functions and `G` that of its
-/// formatter. The resources are borrowed for `'r`.
+/// formatter. The resources are borrowed for `'r`, and their sources for `'s`.
 #[derive(Drop)]
-pub struct FluentBundle<'r, M, C, F, G> {
+pub struct FluentBundle<'r, 's, M, C, F, G> {
     /// The locales, as texts that nothing here interprets.
     pub locales: Vec<String>,
-    pub(crate) environment: Environment<'r, M, F, G>,
+    pub(crate) environment: Environment<'r, 's, M, F, G>,
     custom: PhantomData<C>,
 }
 
-impl<'r, M, C, F, G> FluentBundle<'r, M, C, F, G> {
+impl<'r, 's, M, C, F, G> FluentBundle<'r, 's, M, C, F, G> {
     /// A bundle without messages, terms and functions, with isolation, and without a transform and a formatter. It takes no
     /// memory.
     pub fn new(alloc: Global, locales: Vec<String>, plurals: M) -> Self

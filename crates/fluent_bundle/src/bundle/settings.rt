@@ -6,7 +6,7 @@ ghost use Rattle.fluent_bundle.specs.BundleView.{bundle_of};
 use super::FluentBundle;
 use fluent_value::TextTransform;
 
-impl<'r, M, C, F, G> FluentBundle<'r, M, C, F, G> {
+impl<'r, 's, M, C, F, G> FluentBundle<'r, 's, M, C, F, G> {
     /// Sets whether placeables stand between the marks U+2068 and U+2069, which keep their direction from that of the text
     /// around them.
     pub fn set_use_isolating(&mut self, isolating: bool)
@@ -23,7 +23,7 @@ impl<'r, M, C, F, G> FluentBundle<'r, M, C, F, G> {
     }
 }
 
-impl<'r, M, C, F, G: Drop> FluentBundle<'r, M, C, F, G> {
+impl<'r, 's, M, C, F, G: Drop> FluentBundle<'r, 's, M, C, F, G> {
     /// Sets what values are shown by before the rules of Fluent, or that they are shown by these alone.
     pub fn set_formatter(&mut self, formatter: Option<G>)
         ensures { bundle_of self.new ≡ record (bundle_of self.old) { formatter = formatter } }
