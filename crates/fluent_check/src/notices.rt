@@ -81,20 +81,10 @@ impl<'r, 's> Added<'r, 's> {
     {
         match self.ids.add_resource(resource) {
             Ok(()) => Ok(()),
-            Err(AddResourceError::Overriding(notices)) => append(&mut self.told, notices),
+            Err(AddResourceError::Overriding(mut notices)) => self.told.append(&mut notices),
             Err(AddResourceError::Memory) => Err(AllocError),
         }
     }
-}
-
-/// Puts notices behind those that came before.
-fn append(told: &mut Vec<FluentError>, notices: Vec<FluentError>) -> Result<(), AllocError>
-    ensures { OnOk result (notices_view told.new ≡ notices_view told.old ++ notices_view notices) }
-{
-    for notice in notices {
-        told.push(notice)?;
-    }
-    Ok(())
 }
 
 /// The notices of the entries of all resources, the first entry of an id staying.
