@@ -31,7 +31,7 @@ cut_texts_have_no_return s n =
 
 -- ---- UTF-8: each part begins at column 0
 
-text-append : (a b : List Part) → text_of (a ++ b) ≡ text_of a ++ text_of b
+pub text-append : (a b : List Part) → text_of (a ++ b) ≡ text_of a ++ text_of b
 text-append [] b = refl
 text-append (p ∷ ps) b = ap (λ z. text_of_part p ++ z) (text-append ps b) ∙ sym (append_assoc (text_of_part p) (text_of ps) (text_of b))
 
@@ -39,10 +39,10 @@ column-utf8 : (a b : Text) → IsColumnZero a → IsUtf8 (a ++ b) → IsUtf8 b
 column-utf8 a b (inl e) u = rw e at u
 column-utf8 a b (inr l) u = utf8-behind l.0 line_feed b (subst IsUtf8 (ap (λ z. z ++ b) l.1 ∙ append_assoc l.0 (line_feed ∷ []) b) u) (omega arith)
 
-tiles-at : {ps qs : List Part} {s : Text} → ps ≡ qs → Tiles full ps s → Tiles full qs s
+pub tiles-at : {ps qs : List Part} {s : Text} → ps ≡ qs → Tiles full ps s → Tiles full qs s
 tiles-at e d = rw e at d
 
-behind-utf8 : {s : Text} (before behind : List Part) → Tiles full (before ++ behind) s → IsUtf8 s → IsUtf8 (text_of behind)
+pub behind-utf8 : {s : Text} (before behind : List Part) → Tiles full (before ++ behind) s → IsUtf8 s → IsUtf8 (text_of behind)
 behind-utf8 before [] d u = IsUtf8-nil
 behind-utf8 {s} before (p ∷ ps) d u =
     elim (empty_or (text_of_part p)) [

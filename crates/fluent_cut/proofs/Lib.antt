@@ -8,6 +8,7 @@ pub mod MovingComments
 pub mod Cutting
 pub mod Slices
 pub mod CutTexts
+pub mod Between
 pub mod LineFeeds
 pub mod TextEnds
 pub mod LaterPieces

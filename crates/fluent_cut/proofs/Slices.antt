@@ -18,7 +18,7 @@ chosen-slice : (at : ℕ) (t : Text) (b : Bool) (x y : ParserError) → (x.slice
 chosen-slice at t true x y p q = p
 chosen-slice at t false x y p q = q
 
-junk-slice : (at : ℕ) (t : Text) (kind : Kind) (place : ℕ) → ((error_of_junk at t kind place).slice_start ≡ at) × ((error_of_junk at t kind place).slice_end ≡ at + length t)
+pub junk-slice : (at : ℕ) (t : Text) (kind : Kind) (place : ℕ) → ((error_of_junk at t kind place).slice_start ≡ at) × ((error_of_junk at t kind place).slice_end ≡ at + length t)
 junk-slice at t kind place = chosen-slice at t (is_field_kind kind) _ _ (refl, refl) (refl, refl)
 
 -- one slice, behind what is kept

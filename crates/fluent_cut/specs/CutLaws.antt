@@ -1,9 +1,9 @@
 -- Laws of cutting, joining and damage, as statements.
-use Rattle.std.specs.Prelude.{◌≡◌, ◌⊎◌, true, List, [], ◌++◌, drop}
-use Rattle.std.specs.Str.{IsUtf8}
+use Rattle.std.specs.Prelude.{◌≡◌, ◌⊎◌, true, List, [], ◌++◌, drop, All}
+use Rattle.std.specs.Str.{IsUtf8, IsCharBoundary}
 use Rattle.fluent_grammar.specs.Words.{Text, number_sign, begins_with}
 use Rattle.fluent_grammar.specs.Recovery.{IsColumnZero}
-use Rattle.fluent_grammar.specs.Tiling.{errors, list}
+use Rattle.fluent_grammar.specs.Tiling.{ParserError, errors, list}
 use Rattle.fluent_grammar.specs.Tiles.{full, Part, Tiles}
 use Rattle.fluent_cut.specs.Cut.{cut, kept}
 use Rattle.fluent_cut.specs.Joined.{joined, lists, HasNoReturn, HaveNoReturn, AreUtf8}
@@ -29,6 +29,15 @@ CutTextsAreUtf8 = (source : Text) → IsUtf8 source → IsUtf8 (cut source)
 
 abbrev pub CutTextsHaveNoReturn : Type 0
 CutTextsHaveNoReturn = (source : Text) → HasNoReturn source → HasNoReturn (cut source)
+
+-- An error's slice begins and ends where characters of the source do.
+pub record StandsBetweenCharacters (source : Text) (error : ParserError) : Type 0 where
+  pub start : IsCharBoundary source error.slice_start
+  pub end : IsCharBoundary source error.slice_end
+
+-- Each slice of a source that is UTF-8 stands so: the cut text can be put together from parts of it.
+abbrev pub SlicesStandBetweenCharacters : Type 0
+SlicesStandBetweenCharacters = (source : Text) → IsUtf8 source → All (StandsBetweenCharacters source) (errors source)
 
 -- ---- joining
 

@@ -1,6 +1,6 @@
 //! Laws of cutting, joining and damage: each function only carries a law, as its contract.
 
-ghost use Rattle.fluent_cut.specs.CutLaws.{CutKeepsParts, CutTextsAreUtf8, CutTextsHaveNoReturn, DamageIsLocal, DamageStays, JoinedTextsKeepLists};
+ghost use Rattle.fluent_cut.specs.CutLaws.{CutKeepsParts, CutTextsAreUtf8, CutTextsHaveNoReturn, DamageIsLocal, DamageStays, JoinedTextsKeepLists, SlicesStandBetweenCharacters};
 
 /// The cut text has no errors, and the messages and terms of the source. A source without errors is its cut text. What
 /// the slices of the errors leave is what the tiling keeps.
@@ -13,6 +13,12 @@ pub fn damage_is_local()
 pub fn cut_texts_are_texts()
     ensures utf8 { CutTextsAreUtf8 }
     ensures no_return { CutTextsHaveNoReturn }
+{}
+
+/// The slices of the errors of a source that is UTF-8 begin and end where its characters do, so that it can be cut
+/// there.
+pub fn slices_stand_between_characters()
+    ensures { SlicesStandBetweenCharacters }
 {}
 
 /// The joined text of sources without carriage returns has no errors, and the messages and terms of the sources, one

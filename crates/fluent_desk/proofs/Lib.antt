@@ -1,0 +1,5 @@
+mod NoReturn
+mod Kept
+mod LinesEnded
+mod Gathered
+mod Read

@@ -1,0 +1,26 @@
+//! Cleans, joins, normalizes, exports and imports what the rows of `data/rows.jsonl` say, and compares with the texts,
+//! JSON texts and refusals that stand there. Then it tidies each prefix of the sources of `data/prefixes.jsonl`, of
+//! which nothing is known but laws, and a source of a thousand messages.
+#![tactic(auto)]
+
+mod calls;
+mod long;
+mod prefixes;
+mod rows;
+mod tally;
+
+use anyhow::Result;
+use tally::Tally;
+
+fn main(rt: HostRuntime) -> Result<()> {
+    let alloc = rt.alloc();
+    tell(&rt, "rows", rows::try_rows(&rt)?)?;
+    tell(&rt, "prefixes", prefixes::try_prefixes(&rt)?)?;
+    tell(&rt, "long sources", long::try_long(alloc)?)?;
+    Ok(())
+}
+
+fn tell(rt: &HostRuntime, name: &str, tally: Tally) -> Result<()> {
+    println!(rt; "{name}: {} tried, {} wrong", tally.tried, tally.wrong)?;
+    Ok(())
+}
