@@ -31,7 +31,7 @@ module _ (F : Type 0) where
   pub runtime_has_the_same_ids : RuntimeHasTheSameIds F
   runtime_has_the_same_ids source = listed-ids (runtime_tree source) (runtime_has_no_comments source) ∙ ap entries_by_id (runtime_has_the_same_list source)
 
-  entries_by_id-++ : (es more : List t.Entry) → entries_by_id {F = F} (es ++ more) ≡ entries_by_id es ++ entries_by_id more
+  pub entries_by_id-++ : (es more : List t.Entry) → entries_by_id {F = F} (es ++ more) ≡ entries_by_id es ++ entries_by_id more
   entries_by_id-++ [] more = refl
   entries_by_id-++ (t.message m ∷ es) more = ap (λ pairs. (m.id, message m) ∷ pairs) (entries_by_id-++ es more)
   entries_by_id-++ (t.term m ∷ es) more = ap (λ pairs. (m.id, term m) ∷ pairs) (entries_by_id-++ es more)

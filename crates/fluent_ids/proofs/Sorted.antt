@@ -1,11 +1,10 @@
 -- The plain map that the entries of a map stand for: what is found in it, and that their order makes no difference.
-use Rattle.std.proofs.Common.{◌≡◌, Bool, true, false, ℕ, List, [], ◌∷◌, Option, Some, None, option_map, is_some, cond, refl, ap, sym, ◌∙◌}
+use Rattle.std.proofs.Common.{◌≡◌, Bool, true, false, ℕ, List, [], ◌∷◌, Option, Some, option_map, cond, refl, ap, sym, ◌∙◌}
 use Rattle.std.specs.List.Sorted.{IsStrictlySortedBy}
-use Rattle.std.specs.Ordering.{is_eq}
 use Rattle.std.specs.Cmp.Lexicographic.{nat_list_cmp_total, nat_list_eq_equiv, same_text, texts_ties, pointwise}
 use Rattle.std.specs.Bool.{nat_eq}
 use Rattle.std.specs.Str.{bytes_eq}
-use Rattle.std.specs.BTreeMap.{insert_entry, is_at}
+use Rattle.std.specs.BTreeMap.{insert_entry}
 use Rattle.std_collections.specs.Layout.BTreeMap.{btree_map}
 use mathlib.Core.Logic.{inl}
 use Rattle.std.specs.HashMap.{HashMap, Updates, IsReordered, get}

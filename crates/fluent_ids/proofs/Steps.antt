@@ -1,6 +1,5 @@
 -- The entries of a resource, put in or looked at one after the other.
-use Rattle.std.proofs.Common.{◌≡◌, Bool, true, false, not, ◌&&◌, ◌||◌, ℕ, ◌+◌, ◌<◌, List, [], ◌∷◌, ◌++◌, length, map, take, get_or, Option, Some, None, is_some, option_map, cond, refl, ap, sym, ◌∙◌, append-nil}
-use Rattle.std.specs.Prelude.{option_to_list}
+use Rattle.std.proofs.Common.{◌≡◌, Bool, true, false, not, ◌&&◌, ◌||◌, ℕ, ◌+◌, ◌<◌, List, [], ◌∷◌, ◌++◌, length, map, take, get_or, Option, Some, None, is_some, cond, refl, ap, sym, ◌∙◌, append-nil}
 use Rattle.std.specs.Str.{bytes_eq}
 use Rattle.std.specs.BTreeMap.{insert_entry}
 use Rattle.std.specs.Bool.{nat_eq}
@@ -16,8 +15,6 @@ use Rattle.fluent_value.specs.Args.{order}
 use Rattle.fluent_meaning.specs.Ids as ids
 use Rattle.fluent_meaning.specs.Ids.{Ids, Meaning, find, kind_of, with_id, with_ids, notice, notices, entries_by_id}
 use Rattle.fluent_meaning.proofs.InTurn.{with_ids-++, notices-++}
-use Rattle.fluent_ids.specs.EntryView.{pair_of}
-use Rattle.fluent_ids.specs.declared.entry.Entry.{Entry}
 use Rattle.fluent_ids.proofs.Sorted.{found}
 
 over_by : {A : Type 0} (b o : Bool) (x y : A) → o ≡ true → cond (b && not o) x y ≡ y

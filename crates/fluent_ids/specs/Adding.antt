@@ -1,5 +1,5 @@
 -- What adding does to the map of ids, and what it answers.
-use Rattle.std.specs.Prelude.{◌≡◌, ◌≢◌, ℕ, false, List, [], Option, None, Result, Ok, Err, map, IsSome}
+use Rattle.std.specs.Prelude.{◌≡◌, ◌≢◌, ℕ, false, List, [], None, Result, Ok, Err, map, IsSome}
 use Rattle.fluent_errors.specs.Errors as e
 use Rattle.fluent_errors.specs.View.{bundle_view}
 use Rattle.fluent_meaning.specs.Ids.{Meaning, find, kind_of, with_id, with_ids, entries_by_id}

@@ -15,7 +15,7 @@ use fluent_resource::FluentResource;
 use std::alloc::AllocError;
 use std::borrow::CowStr;
 
-impl<'r, F: Drop> FluentIds<'r, F> {
+impl<'r, 's, F: Drop> FluentIds<'r, 's, F> {
     /// Adds the messages and terms of a resource. Where two entries have one id, the first stays, whatever it is and wherever it
     /// comes from.
     ///
@@ -23,7 +23,7 @@ impl<'r, F: Drop> FluentIds<'r, F> {
     /// - [`AddResourceError::Overriding`] has a notice for each entry whose id stood for another one, in the order of the
     ///   entries. All other entries were added.
     /// - [`AddResourceError::Memory`] where memory runs out. Nothing is added then.
-    pub fn add_resource(&mut self, resource: &'r FluentResource<'r>) -> Result<(), AddResourceError>
+    pub fn add_resource(&mut self, resource: &'r FluentResource<'s>) -> Result<(), AddResourceError>
         ensures added { AddsFirst F result self.old self.new resource.now }
         ensures refused { KeepsAtMemory F result self.old self.new }
         ensures told { TellsNotices result (notices (ids_view F self.old) (entries_by_id (entries_view resource.now))) }
@@ -44,7 +44,7 @@ impl<'r, F: Drop> FluentIds<'r, F> {
     /// Memory ran out. Nothing is added then.
     pub fn add_resource_overriding(
         &mut self,
-        resource: &'r FluentResource<'r>,
+        resource: &'r FluentResource<'s>,
     ) -> Result<(), AllocError>
         ensures added { OnOk result (ids_view F self.new ≡ with_ids true (ids_view F self.old) (entries_by_id (entries_view resource.now))) }
         ensures refused { OnErr result (ids_view F self.new ≡ ids_view F self.old) }
@@ -55,7 +55,7 @@ impl<'r, F: Drop> FluentIds<'r, F> {
     }
 
     /// Makes room for the entries of a resource.
-    fn make_room(&mut self, resource: &'r FluentResource<'r>) -> Result<(), AllocError>
+    fn make_room(&mut self, resource: &'r FluentResource<'s>) -> Result<(), AllocError>
         ensures same { ids_view F self.new ≡ ids_view F self.old }
         ensures room { OnOk result (length (entries_view resource.now) ≤ spare self.new.entries) }
     {
@@ -63,7 +63,7 @@ impl<'r, F: Drop> FluentIds<'r, F> {
     }
 
     /// Puts in the messages and terms of a resource, for which there is room.
-    fn put_all(&mut self, resource: &'r FluentResource<'r>, overriding: bool)
+    fn put_all(&mut self, resource: &'r FluentResource<'s>, overriding: bool)
         requires { length (entries_view resource.now) ≤ spare self.old.entries }
         ensures { ids_view F self.new ≡ with_ids overriding (ids_view F self.old) (entries_by_id (entries_view resource.now)) }
     {
@@ -75,7 +75,7 @@ impl<'r, F: Drop> FluentIds<'r, F> {
     }
 
     /// Puts in one entry, for which there is room.
-    fn put(&mut self, id: &'r str, entry: Entry<'r, F>, overriding: bool)
+    fn put(&mut self, id: &'s str, entry: Entry<'r, 's, F>, overriding: bool)
         requires { 0 < spare self.old.entries }
         ensures ids { ids_view F self.new ≡ with_id overriding (ids_view F self.old) (id.now, meaning_of F entry.entry) }
         ensures room { spare self.old.entries ≤ spare self.new.entries + 1 }

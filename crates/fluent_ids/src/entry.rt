@@ -12,9 +12,9 @@ use fluent_resource::FluentResource;
 
 /// What an id stands for. A message and a term stand beside the resource that they come from.
 #[derive(Drop)]
-pub enum Entry<'r, F> {
-    Message((&'r FluentResource<'r>, &'r Message<&'r str>)),
-    Term((&'r FluentResource<'r>, &'r Term<&'r str>)),
+pub enum Entry<'r, 's, F> {
+    Message((&'r FluentResource<'s>, &'r Message<&'s str>)),
+    Term((&'r FluentResource<'s>, &'r Term<&'s str>)),
     /// A function of the program's own.
     Function(F),
     /// The function `NUMBER`.
@@ -30,12 +30,12 @@ pub enum FunctionRef<'b, F> {
     Number,
 }
 
-impl<'r, F> Entry<'r, F> {
+impl<'r, 's, F> Entry<'r, 's, F> {
     /// The id of a message or term of a resource, and the entry that it becomes. Other entries have none.
     pub(crate) fn of(
-        resource: &'r FluentResource<'r>,
-        entry: &'r ast::Entry<&'r str>,
-    ) -> Option<(&'r str, Self)>
+        resource: &'r FluentResource<'s>,
+        entry: &'r ast::Entry<&'s str>,
+    ) -> Option<(&'s str, Self)>
         ensures { option_to_list (option_map (pair_of F) result) ≡ entries_by_id (entry_view _ (λ s. s.now) entry.now ∷ []) }
     {
         match entry {

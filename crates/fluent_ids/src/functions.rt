@@ -12,7 +12,7 @@ use crate::ids::FluentIds;
 use crate::notices::overriding;
 use std::borrow::CowStr;
 
-impl<'r, F: Drop> FluentIds<'r, F> {
+impl<'r, 's, F: Drop> FluentIds<'r, 's, F> {
     /// Adds a function under an id that stands for nothing yet.
     ///
     /// # Errors
@@ -38,7 +38,7 @@ impl<'r, F: Drop> FluentIds<'r, F> {
     }
 
     /// Adds a function, whose id is copied.
-    fn add_own(&mut self, id: &str, entry: Entry<'r, F>) -> Result<(), AddFunctionError>
+    fn add_own(&mut self, id: &str, entry: Entry<'r, 's, F>) -> Result<(), AddFunctionError>
         ensures { AddsFunction F result self.old self.new (id.now, meaning_of F entry.entry) }
     {
         if self.contains(id) {

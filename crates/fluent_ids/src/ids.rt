@@ -12,12 +12,12 @@ use std::collections::HashMap;
 
 /// What ids stand for. Messages, terms and functions share the ids.
 #[derive(Drop)]
-pub struct FluentIds<'r, F> {
-    pub(crate) entries: HashMap<CowStr<'r>, Entry<'r, F>>,
+pub struct FluentIds<'r, 's, F> {
+    pub(crate) entries: HashMap<CowStr<'s>, Entry<'r, 's, F>>,
     pub(crate) alloc: Global,
 }
 
-impl<'r, F> FluentIds<'r, F> {
+impl<'r, 's, F> FluentIds<'r, 's, F> {
     /// No ids. It takes no memory.
     pub fn new(alloc: Global) -> Self
         ensures { ids_view F result ≡ [] }
@@ -29,7 +29,7 @@ impl<'r, F> FluentIds<'r, F> {
     }
 
     /// What an id stands for.
-    pub fn get(&self, id: &str) -> Option<&Entry<'r, F>>
+    pub fn get(&self, id: &str) -> Option<&Entry<'r, 's, F>>
         ensures { option_map (meaning_of F) (option_copied result) ≡ find (ids_view F self.now) id.now }
     {
         self.entries.get(id)

@@ -14,15 +14,15 @@ use fluent_ast::{Message, Term};
 use fluent_resource::FluentMessage;
 
 /// What has messages, terms and functions by their ids. No call takes memory.
-pub trait GetEntry<'r, F> {
+pub trait GetEntry<'s, F> {
     ghost ids: { Self → Ids F };
 
     /// The message of an id.
-    fn get_entry_message(&self, id: &str) -> Option<&'r Message<&'r str>>
+    fn get_entry_message(&self, id: &str) -> Option<&Message<&'s str>>
         ensures { option_map (message_view _ (λ s. s.now)) (option_copied result) ≡ message_in (find (ids self.now) id.now) };
 
     /// The term of an id, which is its name without the minus.
-    fn get_entry_term(&self, id: &str) -> Option<&'r Term<&'r str>>
+    fn get_entry_term(&self, id: &str) -> Option<&Term<&'s str>>
         ensures { option_map (term_view _ (λ s. s.now)) (option_copied result) ≡ term_in (find (ids self.now) id.now) };
 
     /// The function of an id.
@@ -30,17 +30,14 @@ pub trait GetEntry<'r, F> {
         ensures { option_map (function_meaning F) result ≡ function_in (find (ids self.now) id.now) };
 }
 
-impl<'r, F> GetEntry<'r, F> for FluentIds<'r, F> {
+impl<'r, 's, F> GetEntry<'s, F> for FluentIds<'r, 's, F> {
     ghost ids = { ids_view F };
 
-    fn get_entry_message(&self, id: &str) -> Option<&'r Message<&'r str>> {
-        match self.get(id) {
-            Some(Entry::Message((_, message))) => Some(message),
-            _ => None,
-        }
+    fn get_entry_message(&self, id: &str) -> Option<&Message<&'s str>> {
+        self.message(id)
     }
 
-    fn get_entry_term(&self, id: &str) -> Option<&'r Term<&'r str>> {
+    fn get_entry_term(&self, id: &str) -> Option<&Term<&'s str>> {
         match self.get(id) {
             Some(Entry::Term((_, term))) => Some(term),
             _ => None,
@@ -56,19 +53,29 @@ impl<'r, F> GetEntry<'r, F> for FluentIds<'r, F> {
     }
 }
 
-impl<'r, F> FluentIds<'r, F> {
+impl<'r, 's, F> FluentIds<'r, 's, F> {
     /// Whether an id stands for a message.
     pub fn has_message(&self, id: &str) -> bool
         ensures { result ≡ is_some (message_in (find (ids_view F self.now) id.now)) }
     {
-        self.get_entry_message(id).is_some()
+        self.message(id).is_some()
     }
 
     /// The message of an id.
-    pub fn get_message(&self, id: &str) -> Option<FluentMessage<'r>>
+    pub fn get_message(&self, id: &str) -> Option<FluentMessage<'r, 's>>
         ensures { option_map message_of result ≡ message_in (find (ids_view F self.now) id.now) }
     {
-        let message = self.get_entry_message(id)?;
+        let message = self.message(id)?;
         Some(FluentMessage::from(message))
+    }
+
+    /// The message of an id, lent as long as its resource is.
+    fn message(&self, id: &str) -> Option<&'r Message<&'s str>>
+        ensures { option_map (message_view _ (λ s. s.now)) (option_copied result) ≡ message_in (find (ids_view F self.now) id.now) }
+    {
+        match self.get(id) {
+            Some(Entry::Message((_, message))) => Some(message),
+            _ => None,
+        }
     }
 }

@@ -34,13 +34,13 @@ pub(crate) fn overriding(
 
 /// The notices for the first entries of a resource, and those of its ids that the map doesn't have.
 #[derive(Drop)]
-struct Notices<'r> {
-    seen: HashSet<&'r str>,
+struct Notices<'s> {
+    seen: HashSet<&'s str>,
     told: Vec<FluentError>,
     alloc: Global,
 }
 
-impl<'r> Notices<'r> {
+impl<'s> Notices<'s> {
     fn new(alloc: Global) -> Self
         ensures told { told result ≡ [] }
         ensures seen { result.seen.keys ≡ [] }
@@ -53,10 +53,10 @@ impl<'r> Notices<'r> {
     }
 
     /// Looks at one more entry of the resource.
-    fn look<F>(
+    fn look<'r, F>(
         &mut self,
-        ids: &FluentIds<'r, F>,
-        id: &'r str,
+        ids: &FluentIds<'r, 's, F>,
+        id: &'s str,
         kind: EntryKind,
     ) -> Result<(), AllocError>
         ensures told { OnOk result (told self.new ≡ told self.old ++ (if is_known (ids_view F ids.now) self.old id.now then overriding (e.entry_view kind) id.now ∷ [] else [])) }
@@ -70,11 +70,11 @@ impl<'r> Notices<'r> {
     }
 }
 
-impl<'r, F: Drop> FluentIds<'r, F> {
+impl<'r, 's, F: Drop> FluentIds<'r, 's, F> {
     /// The notices that adding a resource gives, where the first entry of an id stays.
     pub(crate) fn notices(
         &self,
-        resource: &'r FluentResource<'r>,
+        resource: &'r FluentResource<'s>,
     ) -> Result<Vec<FluentError>, AllocError>
         ensures { IfOk result (λ all. map bundle_view all.items ≡ notices (ids_view F self.now) (entries_by_id (entries_view resource.now))) }
     {

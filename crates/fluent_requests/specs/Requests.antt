@@ -1,6 +1,6 @@
 -- Request lines: an id, an optional attribute, and arguments, separated by tabs.
 -- `V` is the type of the arguments' values, and `value_of` reads one from its text.
-use Rattle.std.specs.Prelude.{◌==◌, if◌then◌else◌, List, [], ◌∷◌, Option, Some, None}
+use Rattle.std.specs.Prelude.{◌==◌, if◌then◌else◌, List, [], ◌∷◌, map, Option, Some, None}
 use Rattle.std.specs.List.{slice_split}
 use Rattle.std.specs.Str.{is_utf8, bytes_eq}
 use Rattle.fluent_requests.specs.Text.{Text, tab, dot, equals, cut_at}
@@ -38,6 +38,10 @@ request_of_parts value_of (p ∷ ps) = request_with (cut_at dot p) (arguments_of
 -- what a line asks for; a line that is not UTF-8, or has an argument without equals sign, is no request
 unfoldable pub request_of : {V : Type 0} → (Text → V) → Text → Option (Request V)
 request_of value_of line = if is_utf8 line then request_of_parts value_of (slice_split (λ b. b == tab) line) else None
+
+-- a request with values in the place of its arguments' texts
+abbrev pub with_values : {V : Type 0} → (Text → V) → Request Text → Request V
+with_values value_of r = record { id = r.id; attribute = r.attribute; arguments = map (λ a. (a.0, value_of a.1)) r.arguments }
 
 abbrev pub or_later : {V : Type 0} → Option V → Option V → Option V
 or_later earlier None = earlier

@@ -1,9 +1,9 @@
 -- The first attribute of a name, looked for from the front.
-use Rattle.std.proofs.Common.{◌≡◌, ℕ, ◌+◌, ◌<◌, ◌≤◌, true, false, cond, List, [], ◌∷◌, length, map, drop, get_or, Option, Some, None, refl, ap, sym, ◌∙◌, add-one, drop-cons}
+use Rattle.std.proofs.Common.{◌≡◌, ℕ, ◌+◌, ◌<◌, ◌≤◌, true, false, cond, List, length, map, drop, get_or, Option, Some, None, refl, ap, ◌∙◌, add-one, drop-cons}
 use Rattle.std.specs.Str.{bytes_eq}
 use Rattle.std.proofs.lemmas.List.{drop_all}
 use denote.Ref.{Bor}
-use Rattle.fluent_ast.specs.View.{attribute_view, name_of}
+use Rattle.fluent_ast.specs.View.{attribute_view}
 use Rattle.fluent_ast.specs.declared.Attribute.{Attribute}
 use Rattle.fluent_grammar.specs.Tree as t
 use Rattle.fluent_resource.specs.Attributes.{first_named}

@@ -1,5 +1,5 @@
 -- What reading a source gives.
-use Rattle.std.specs.Prelude.{◌≡◌, ◌≢◌, ℕ, List, [], Result, Ok, Err, map, length, codes}
+use Rattle.std.specs.Prelude.{◌≡◌, ◌≢◌, List, [], Result, Ok, Err, map, length, codes}
 use Rattle.fluent_grammar.specs.Words.{Text}
 use Rattle.fluent_grammar.specs.Tree as t
 use Rattle.fluent_grammar.specs.Tiling.{listed}

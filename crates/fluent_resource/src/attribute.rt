@@ -11,13 +11,13 @@ use std::slice;
 
 /// An attribute of a message. Two are equal where their ids and values are.
 #[derive(Debug, PartialEq, Eq, Drop)]
-pub struct FluentAttribute<'m> {
-    node: &'m Attribute<&'m str>,
+pub struct FluentAttribute<'m, 's> {
+    node: &'m Attribute<&'s str>,
 }
 
-impl<'m> FluentAttribute<'m> {
+impl<'m, 's> FluentAttribute<'m, 's> {
     /// The name.
-    pub fn id(&self) -> &'m str
+    pub fn id(&self) -> &'s str
         ensures { result.now ≡ (attribute_of self.now).id }
     {
         let node = self.node;
@@ -25,29 +25,29 @@ impl<'m> FluentAttribute<'m> {
     }
 
     /// The pattern.
-    pub fn value(&self) -> &'m Pattern<&'m str>
+    pub fn value(&self) -> &'m Pattern<&'s str>
         ensures { pattern_view _ (λ s. s.now) result.now ≡ (attribute_of self.now).value }
     {
         &self.node.value
     }
 }
 
-impl<'m> From<&'m Attribute<&'m str>> for FluentAttribute<'m> {
+impl<'m, 's> From<&'m Attribute<&'s str>> for FluentAttribute<'m, 's> {
     ghost from_gives = { λ node made. attribute_of made ≡ attribute_view _ (λ s. s.now) node.now };
 
-    fn from(node: &'m Attribute<&'m str>) -> Self {
+    fn from(node: &'m Attribute<&'s str>) -> Self {
         FluentAttribute { node }
     }
 }
 
 /// The attributes of a message, in their order.
 #[derive(Drop)]
-pub struct Attributes<'m> {
-    left: slice::Iter<'m, Attribute<&'m str>>,
+pub struct Attributes<'m, 's> {
+    left: slice::Iter<'m, Attribute<&'s str>>,
 }
 
-impl<'m> Attributes<'m> {
-    pub(crate) fn new(attributes: &'m [Attribute<&'m str>]) -> Self
+impl<'m, 's> Attributes<'m, 's> {
+    pub(crate) fn new(attributes: &'m [Attribute<&'s str>]) -> Self
         ensures { attributes_left result ≡ map (attribute_view _ (λ s. s.now)) attributes.now }
     {
         Attributes {
@@ -56,14 +56,14 @@ impl<'m> Attributes<'m> {
     }
 }
 
-impl<'m> Iterator for Attributes<'m> {
-    type Item = FluentAttribute<'m>;
+impl<'m, 's> Iterator for Attributes<'m, 's> {
+    type Item = FluentAttribute<'m, 's>;
 
     ghost next_gives = { YieldsFirstBy attribute_of attributes_left };
 
     ghost remaining = { item_count attributes_left };
 
-    fn next(&mut self) -> Option<FluentAttribute<'m>> {
+    fn next(&mut self) -> Option<FluentAttribute<'m, 's>> {
         let node = self.left.next()?;
         Some(FluentAttribute { node })
     }

@@ -12,27 +12,27 @@ use fluent_ast::{Message, Pattern};
 
 /// A message. Two are equal where their ids, values, attributes and comments are.
 #[derive(Debug, PartialEq, Eq, Drop)]
-pub struct FluentMessage<'m> {
-    node: &'m Message<&'m str>,
+pub struct FluentMessage<'m, 's> {
+    node: &'m Message<&'s str>,
 }
 
-impl<'m> FluentMessage<'m> {
+impl<'m, 's> FluentMessage<'m, 's> {
     /// The value, which a message of attributes alone doesn't have.
-    pub fn value(&self) -> Option<&'m Pattern<&'m str>>
+    pub fn value(&self) -> Option<&'m Pattern<&'s str>>
         ensures { option_map (pattern_view _ (λ s. s.now)) (option_copied result) ≡ (message_of self.now).value }
     {
         self.node.value.as_ref()
     }
 
     /// The attributes, in their order.
-    pub fn attributes(&self) -> Attributes<'m>
+    pub fn attributes(&self) -> Attributes<'m, 's>
         ensures { attributes_left result ≡ (message_of self.now).attributes }
     {
         Attributes::new(&self.node.attributes)
     }
 
     /// The first attribute of this name.
-    pub fn get_attribute(&self, name: &str) -> Option<FluentAttribute<'m>>
+    pub fn get_attribute(&self, name: &str) -> Option<FluentAttribute<'m, 's>>
         ensures { option_map attribute_of result ≡ first_named name.now (message_of self.now).attributes }
     {
         for node in &self.node.attributes {
@@ -44,10 +44,10 @@ impl<'m> FluentMessage<'m> {
     }
 }
 
-impl<'m> From<&'m Message<&'m str>> for FluentMessage<'m> {
+impl<'m, 's> From<&'m Message<&'s str>> for FluentMessage<'m, 's> {
     ghost from_gives = { λ node made. message_of made ≡ message_view _ (λ s. s.now) node.now };
 
-    fn from(node: &'m Message<&'m str>) -> Self {
+    fn from(node: &'m Message<&'s str>) -> Self {
         FluentMessage { node }
     }
 }

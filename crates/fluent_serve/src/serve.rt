@@ -77,7 +77,7 @@ struct Waiting {
 }
 
 /// Writes all of `bytes`. After an error a front of them was written.
-fn write_all<W: Sink>(writer: &mut W, bytes: &[u8]) -> Result<(), WriteFailed>
+pub fn write_all<W: Sink>(writer: &mut W, bytes: &[u8]) -> Result<(), WriteFailed>
     ensures ok { OnOk result (Appends (W.contents writer.old) (W.contents writer.new) bytes.now) }
     ensures failures { OnOk result (W.failures writer.new ≡ W.failures writer.old) }
     ensures err { OnErr result (PutsFront (W.contents writer.old) bytes.now (W.contents writer.new) []) }

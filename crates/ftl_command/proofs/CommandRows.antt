@@ -1,6 +1,6 @@
 -- What some words ask for, by computing.
 use Rattle.std.specs.Prelude.{◌≡◌, [], ◌∷◌, true, false, Some, None, codes, refl}
-use Rattle.ftl_command.specs.Words.{command_of}
+use Rattle.ftl_command.specs.Words.{command_of, run, tidy, clean, normalize, join}
 
 no_words : command_of [] ≡ None
 no_words = refl
@@ -23,8 +23,26 @@ an_option_behind_a_file = refl
 an_option_twice : command_of (codes "run" ∷ codes "--no-isolating" ∷ codes "--no-isolating" ∷ codes "a" ∷ []) ≡ None
 an_option_twice = refl
 
-two_files : command_of (codes "run" ∷ codes "a" ∷ codes "b-" ∷ []) ≡ Some (record { isolating = true; files = codes "a" ∷ codes "b-" ∷ [] })
+two_files : command_of (codes "run" ∷ codes "a" ∷ codes "b-" ∷ []) ≡ Some (run (record { isolating = true; files = codes "a" ∷ codes "b-" ∷ [] }))
 two_files = refl
 
-with_the_option : command_of (codes "run" ∷ codes "--no-isolating" ∷ codes "run" ∷ []) ≡ Some (record { isolating = false; files = codes "run" ∷ [] })
+with_the_option : command_of (codes "run" ∷ codes "--no-isolating" ∷ codes "run" ∷ []) ≡ Some (run (record { isolating = false; files = codes "run" ∷ [] }))
 with_the_option = refl
+
+one_to_clean : command_of (codes "clean" ∷ codes "a" ∷ []) ≡ Some (tidy (clean (codes "a")))
+one_to_clean = refl
+
+two_to_clean : command_of (codes "clean" ∷ codes "a" ∷ codes "b" ∷ []) ≡ None
+two_to_clean = refl
+
+none_to_normalize : command_of (codes "normalize" ∷ []) ≡ None
+none_to_normalize = refl
+
+one_to_normalize : command_of (codes "normalize" ∷ codes "a" ∷ []) ≡ Some (tidy (normalize (codes "a")))
+one_to_normalize = refl
+
+two_to_join : command_of (codes "join" ∷ codes "a" ∷ codes "b" ∷ []) ≡ Some (tidy (join (codes "a" ∷ codes "b" ∷ [])))
+two_to_join = refl
+
+an_option_to_join : command_of (codes "join" ∷ codes "a" ∷ codes "-b" ∷ []) ≡ None
+an_option_to_join = refl

@@ -8,7 +8,7 @@ use Rattle.fluent_requests.specs.Text.{Text}
 use Rattle.fluent_serve.specs.Texts.{texts}
 use Rattle.ftl_command.specs.Faults.{NamesOneOf, status_of}
 use Rattle.ftl_command.specs.declared.fault.Fault.{Fault}
-use Rattle.ftl_command.specs.declared.fault.Fault.TheVariants.{CommandLine, FileUnreadable, FileNotUtf8, Input, Output, Memory}
+use Rattle.ftl_command.specs.declared.fault.Fault.TheVariants.{CarriageReturn, NotNormal, CommandLine, FileUnreadable, FileNotUtf8, Input, Output, Memory}
 
 only_element : {X : Type 0} (x y : X) → Contains (x ∷ []) y → x ≡ y
 only_element x y (zero, below, is) = is
@@ -16,6 +16,8 @@ only_element x y (suc k, below, is) = absurd (omega arith)
 
 -- a fault that names one file of a list names one of the list
 pub NamesOneOf-one : (names : List Text) (name : Text) → Contains names name → (fault : Fault) → NamesOneOf (name ∷ []) fault → NamesOneOf names fault
+NamesOneOf-one names name listed CarriageReturn of_one = tt
+NamesOneOf-one names name listed NotNormal of_one = tt
 NamesOneOf-one names name listed CommandLine of_one = tt
 NamesOneOf-one names name listed (FileUnreadable file) of_one = subst (Contains names) (only_element name file.now of_one) listed
 NamesOneOf-one names name listed (FileNotUtf8 file) of_one = subst (Contains names) (only_element name file.now of_one) listed
@@ -29,10 +31,12 @@ Contains-texts words i d within =
     (Contains-get_or (texts words) i d.now (rw length-map within))
 
 -- a fault's status is one of the program's
-pub status_of-among : (fault : Fault) → Contains (0 ∷ 2 ∷ 3 ∷ 4 ∷ []) (status_of fault)
-status_of-among CommandLine = Contains-get_or (0 ∷ 2 ∷ 3 ∷ 4 ∷ []) 1 0 (lit< tt)
-status_of-among (FileUnreadable file) = Contains-get_or (0 ∷ 2 ∷ 3 ∷ 4 ∷ []) 2 0 (lit< tt)
-status_of-among (FileNotUtf8 file) = Contains-get_or (0 ∷ 2 ∷ 3 ∷ 4 ∷ []) 2 0 (lit< tt)
-status_of-among Input = Contains-get_or (0 ∷ 2 ∷ 3 ∷ 4 ∷ []) 2 0 (lit< tt)
-status_of-among Output = Contains-get_or (0 ∷ 2 ∷ 3 ∷ 4 ∷ []) 2 0 (lit< tt)
-status_of-among Memory = Contains-get_or (0 ∷ 2 ∷ 3 ∷ 4 ∷ []) 3 0 (lit< tt)
+pub status_of-among : (fault : Fault) → Contains (0 ∷ 1 ∷ 2 ∷ 3 ∷ 4 ∷ []) (status_of fault)
+status_of-among CarriageReturn = Contains-get_or (0 ∷ 1 ∷ 2 ∷ 3 ∷ 4 ∷ []) 1 0 (lit< tt)
+status_of-among NotNormal = Contains-get_or (0 ∷ 1 ∷ 2 ∷ 3 ∷ 4 ∷ []) 1 0 (lit< tt)
+status_of-among CommandLine = Contains-get_or (0 ∷ 1 ∷ 2 ∷ 3 ∷ 4 ∷ []) 2 0 (lit< tt)
+status_of-among (FileUnreadable file) = Contains-get_or (0 ∷ 1 ∷ 2 ∷ 3 ∷ 4 ∷ []) 3 0 (lit< tt)
+status_of-among (FileNotUtf8 file) = Contains-get_or (0 ∷ 1 ∷ 2 ∷ 3 ∷ 4 ∷ []) 3 0 (lit< tt)
+status_of-among Input = Contains-get_or (0 ∷ 1 ∷ 2 ∷ 3 ∷ 4 ∷ []) 3 0 (lit< tt)
+status_of-among Output = Contains-get_or (0 ∷ 1 ∷ 2 ∷ 3 ∷ 4 ∷ []) 3 0 (lit< tt)
+status_of-among Memory = Contains-get_or (0 ∷ 1 ∷ 2 ∷ 3 ∷ 4 ∷ []) 4 0 (lit< tt)

@@ -2,12 +2,18 @@
 use Rattle.std.specs.Prelude.{ℕ, List, Contains, Option, IfSome, IsUtf8}
 use Rattle.fluent_requests.specs.Text.{Text}
 use Rattle.ftl_command.specs.declared.fault.Fault.{Fault}
-use Rattle.ftl_command.specs.declared.fault.Fault.TheVariants.{CommandLine, FileUnreadable, FileNotUtf8, Input, Output, Memory}
+use Rattle.ftl_command.specs.declared.fault.Fault.TheVariants.{CarriageReturn, NotNormal, CommandLine, FileUnreadable, FileNotUtf8, Input, Output, Memory}
+use Rattle.fluent_desk.specs.declared.error.CleanError.{CleanError}
+use Rattle.fluent_desk.specs.declared.error.CleanError.TheVariants as clean
+use Rattle.fluent_desk.specs.declared.error.NormalizeError.{NormalizeError}
+use Rattle.fluent_desk.specs.declared.error.NormalizeError.TheVariants as normalize
 use Rattle.fluent_serve.specs.declared.serve.RunError.{RunError}
 use Rattle.fluent_serve.specs.declared.serve.RunError.TheVariants.{Memory as RunMemory, Read as RunRead, Write as RunWrite}
 
--- bad words are 2, what cannot be read or written is 3, and want of memory is 4
+-- what can't be tidied is 1, bad words are 2, what cannot be read or written is 3, and want of memory is 4
 abbrev pub status_of : Fault → ℕ
+status_of CarriageReturn = 1
+status_of NotNormal = 1
 status_of CommandLine = 2
 status_of (FileUnreadable file) = 3
 status_of (FileNotUtf8 file) = 3
@@ -17,6 +23,8 @@ status_of Memory = 4
 
 -- a file that the fault names is one of these
 abbrev pub NamesOneOf : List Text → Fault → Type 0
+NamesOneOf names CarriageReturn = Unit {0}
+NamesOneOf names NotNormal = Unit {0}
 NamesOneOf names CommandLine = Unit {0}
 NamesOneOf names (FileUnreadable file) = Contains names file.now
 NamesOneOf names (FileNotUtf8 file) = Contains names file.now
@@ -26,6 +34,8 @@ NamesOneOf names Memory = Unit {0}
 
 -- where the fault says that a file is no UTF-8, what the file holds is none, if that is known
 abbrev pub SaysNoUtf8 : (Text → Option Text) → Fault → Type 0
+SaysNoUtf8 contents CarriageReturn = Unit {0}
+SaysNoUtf8 contents NotNormal = Unit {0}
 SaysNoUtf8 contents CommandLine = Unit {0}
 SaysNoUtf8 contents (FileUnreadable file) = Unit {0}
 SaysNoUtf8 contents (FileNotUtf8 file) = IfSome (contents file.now) (λ held. IsUtf8 held → ⊥)
@@ -35,6 +45,8 @@ SaysNoUtf8 contents Memory = Unit {0}
 
 -- a fault that comes while files are read
 abbrev pub IsOfFiles : Fault → Type 0
+IsOfFiles CarriageReturn = ⊥
+IsOfFiles NotNormal = ⊥
 IsOfFiles CommandLine = ⊥
 IsOfFiles (FileUnreadable file) = Unit {0}
 IsOfFiles (FileNotUtf8 file) = Unit {0}
@@ -42,8 +54,10 @@ IsOfFiles Input = ⊥
 IsOfFiles Output = ⊥
 IsOfFiles Memory = Unit {0}
 
--- the words or a file are at fault
+-- the words or the sources are at fault
 abbrev pub IsBeforeInput : Fault → Type 0
+IsBeforeInput CarriageReturn = Unit {0}
+IsBeforeInput NotNormal = Unit {0}
 IsBeforeInput CommandLine = Unit {0}
 IsBeforeInput (FileUnreadable file) = Unit {0}
 IsBeforeInput (FileNotUtf8 file) = Unit {0}
@@ -56,3 +70,24 @@ abbrev pub run_fault : RunError → Fault
 run_fault RunMemory = Memory
 run_fault RunRead = Input
 run_fault RunWrite = Output
+
+-- a fault that comes while sources are tidied
+abbrev pub IsOfTidying : Fault → Type 0
+IsOfTidying CarriageReturn = Unit {0}
+IsOfTidying NotNormal = Unit {0}
+IsOfTidying CommandLine = ⊥
+IsOfTidying (FileUnreadable file) = Unit {0}
+IsOfTidying (FileNotUtf8 file) = Unit {0}
+IsOfTidying Input = ⊥
+IsOfTidying Output = ⊥
+IsOfTidying Memory = Unit {0}
+
+-- what the desk's refusals are told as
+abbrev pub clean_fault : CleanError → Fault
+clean_fault clean.Memory = Memory
+clean_fault clean.CarriageReturn = CarriageReturn
+
+abbrev pub normalize_fault : NormalizeError → Fault
+normalize_fault normalize.Memory = Memory
+normalize_fault normalize.CarriageReturn = CarriageReturn
+normalize_fault normalize.NotNormal = NotNormal

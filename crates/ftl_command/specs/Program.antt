@@ -1,8 +1,13 @@
 -- What the program does for its words. `contents` is what a file of a name holds, where that is known.
 use Rattle.std.specs.Prelude.{◌≡◌, Bool, List, [], ◌∷◌, ⊤, Option, Some, None, IfSome}
+use Rattle.std.specs.Io.KnownBytes.{Appends}
 use Rattle.fluent_requests.specs.Text.{Text}
+use Rattle.fluent_serve.specs.Exchange.{IsFrontOf}
 use Rattle.ftl_engine.specs.Thin.{thin_line}
-use Rattle.ftl_command.specs.Words.{Run}
+use Rattle.ftl_command.specs.Words.{Run, Tidy, clean, normalize, join, Asked, run, tidy}
+use Rattle.fluent_cut.specs.Cut.{cut}
+use Rattle.fluent_cut.specs.Joined.{joined}
+use Rattle.fluent_normal.specs.Normal.{IsNormalText}
 
 -- a text for each file: what the file holds, where that is known
 abbrev pub AreHeld : (Text → Option Text) → List Text → List Text → Type 0
@@ -17,12 +22,54 @@ pub record OnFiles (contents : Text → Option Text) (isolating : Bool) (files :
   pub held : AreHeld contents files sources
   pub outcome : Outcome (thin_line sources isolating)
 
--- the words ask for a run, and the outcome holds of its answers
-abbrev pub OnRun : (Text → Option Text) → Option Run → ((Text → Text) → Type 0) → Type 0
+-- the words ask for a run, and the outcome holds of its answers; of other commands nothing is said
+abbrev pub OnRun : (Text → Option Text) → Option Asked → ((Text → Text) → Type 0) → Type 0
 OnRun contents None Outcome = ⊥
-OnRun contents (Some run) Outcome = OnFiles contents run.isolating run.files Outcome
+OnRun contents (Some (run r)) Outcome = OnFiles contents r.isolating r.files Outcome
+OnRun contents (Some (tidy t)) Outcome = ⊤
+
+-- the outcome holds of a file's text
+pub record OnFile (contents : Text → Option Text) (file : Text) (Outcome : Text → Type 0) : Type 0 where
+  pub source : Text
+  pub held : IfSome (contents file) (λ held. source ≡ held)
+  pub outcome : Outcome source
+
+-- and of the texts of several
+pub record OnTexts (contents : Text → Option Text) (files : List Text) (Outcome : List Text → Type 0) : Type 0 where
+  pub sources : List Text
+  pub held : AreHeld contents files sources
+  pub outcome : Outcome sources
+
+-- what sources are tidied into
+abbrev pub Tidies : (Text → Option Text) → Tidy → Text → Type 0
+Tidies contents (clean file) text = OnFile contents file (λ source. text ≡ cut source)
+Tidies contents (normalize file) text = OnFile contents file (λ source. IsNormalText source text)
+Tidies contents (join files) text = OnTexts contents files (λ sources. text ≡ joined sources)
+
+-- the words ask to tidy, and the outcome holds of what the sources are tidied into; of other commands nothing is said
+pub record Tidied (contents : Text → Option Text) (t : Tidy) (Outcome : Text → Type 0) : Type 0 where
+  pub text : Text
+  pub tidies : Tidies contents t text
+  pub outcome : Outcome text
+
+abbrev pub OnTidy : (Text → Option Text) → Option Asked → (Text → Type 0) → Type 0
+OnTidy contents None Outcome = ⊥
+OnTidy contents (Some (run r)) Outcome = ⊤
+OnTidy contents (Some (tidy t)) Outcome = Tidied contents t Outcome
 
 -- the files that the words name
-abbrev pub files_named : Option Run → List Text
+abbrev pub files_of : Tidy → List Text
+files_of (clean file) = file ∷ []
+files_of (normalize file) = file ∷ []
+files_of (join files) = files
+
+abbrev pub files_named : Option Asked → List Text
 files_named None = []
-files_named (Some run) = run.files
+files_named (Some (run r)) = r.files
+files_named (Some (tidy t)) = files_of t
+
+-- a front of the text is written
+pub record WritesFront (before after : Option Text) (text : Text) : Type 0 where
+  pub given : Text
+  pub written : Appends before after given
+  pub front : IsFrontOf given text

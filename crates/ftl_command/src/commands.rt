@@ -6,16 +6,19 @@ ghost use Rattle.fluent_serve.specs.Devices.{HasFailed};
 ghost use Rattle.fluent_serve.specs.Exchange.{devices, AnswersAll, AnswersFirst, AnswersWhole, AnswersFront};
 ghost use Rattle.ftl_command.specs.Faults.{status_of, NamesOneOf, SaysNoUtf8, IsBeforeInput};
 ghost use Rattle.fluent_requests.specs.Frames.{answers};
-ghost use Rattle.ftl_command.specs.Program.{OnFiles, OnRun, files_named};
+ghost use Rattle.ftl_command.specs.Program.{OnFiles, OnRun, OnTidy, Tidied, WritesFront, files_named, files_of};
+ghost use Rattle.ftl_command.specs.CommandView.{tidy_view};
 ghost use Rattle.ftl_command.specs.Words.{command_of};
 
 use crate::borrowed::borrow_texts;
 use crate::fault::Fault;
 use crate::files::read_sources;
 use crate::folder::{Folder, FromFiles};
-use crate::words::{Command, read_command};
-use fluent_serve::stream::{FromRead, FromWrite, Sink, Source};
+use crate::output::write_text;
+use crate::tidying::tidied_text;
+use crate::words::{Command, Tidy, read_command};
 use ftl_engine::run_thin;
+use fluent_serve::stream::{FromRead, FromWrite, Sink, Source};
 use std::alloc::Global;
 use std::io;
 use std::rt::Files;
@@ -30,7 +33,7 @@ pub fn program<R: Files, I: io::Read + Drop, O: io::Write + Drop, F: io::Write +
     output: O,
     faults: F,
 ) -> u8
-    ensures statuses { Contains (0 ∷ 2 ∷ 3 ∷ 4 ∷ []) result }
+    ensures statuses { Contains (0 ∷ 1 ∷ 2 ∷ 3 ∷ 4 ∷ []) result }
     ensures refused { (result ≡ 2) ↔ (command_of (texts words.now) ≡ None) }
 {
     let mut reader = FromRead::new(input);
@@ -50,8 +53,8 @@ pub fn tell<F: io::Write + Drop>(mut faults: F, fault: Fault<'_>) -> u8
     fault.status()
 }
 
-/// Does what the words behind the program's name ask for. The words are read first, then the files in their order, then
-/// the request lines that `reader` gives, whose answers are written to `writer`: see `docs/protocol.md`.
+/// Does what the words behind the program's name ask for. The words are read first, then the files in their order, and for
+/// a run then the request lines that `reader` gives, whose answers are written to `writer`: see `docs/protocol.md`.
 pub fn run_command<'words, F: Folder, I: Source, O: Sink>(
     folder: &F,
     alloc: Global,
@@ -65,9 +68,15 @@ pub fn run_command<'words, F: Folder, I: Source, O: Sink>(
         Appends (O.contents writer.old) (O.contents writer.new) (answers answer input)))) }
     ensures given { OnOk result (OnRun (F.contents folder.now) (command_of (texts words.now))
         (AnswersAll (devices I.remaining reader.old reader.new O.contents writer.old writer.new))) }
-    ensures end { OnOk result (IsAtEnd (I.remaining reader.new)) }
+    ensures end { OnOk result (OnRun (F.contents folder.now) (command_of (texts words.now)) (λ answer. IsAtEnd (I.remaining reader.new))) }
     ensures reads { OnOk result (I.failures reader.new ≡ I.failures reader.old) }
     ensures writes { OnOk result (O.failures writer.new ≡ O.failures writer.old) }
+
+    // What the sources are tidied into is written, and nothing else. Of a fault of the writer: a front of it.
+    ensures tidied { OnOk result (OnTidy (F.contents folder.now) (command_of (texts words.now))
+        (Appends (O.contents writer.old) (O.contents writer.new))) }
+    ensures tidied_front { IsErrOf result Fault.Output → OnTidy (F.contents folder.now) (command_of (texts words.now))
+        (WritesFront (O.contents writer.old) (O.contents writer.new)) }
 
     // Before the words and all files are read, nothing else is read and nothing is written.
     ensures refused { IsErrOf result Fault.CommandLine ↔ (command_of (texts words.now) ≡ None) }
@@ -91,7 +100,28 @@ pub fn run_command<'words, F: Folder, I: Source, O: Sink>(
         Some(Command::Run { isolating, files }) => {
             run_files(folder, alloc, isolating, files, reader, writer)
         }
+        Some(Command::Tidy(tidy)) => write_tidied(folder, alloc, tidy, writer),
     }
+}
+
+/// Writes what the sources are tidied into.
+fn write_tidied<'words, F: Folder, O: Sink>(
+    folder: &F,
+    alloc: Global,
+    tidy: Tidy<'words>,
+    writer: &mut O,
+) -> Result<(), Fault<'words>>
+    ensures tidied { OnOk result (Tidied (F.contents folder.now) (tidy_view tidy.entry) (Appends (O.contents writer.old) (O.contents writer.new))) }
+    ensures writes { OnOk result (O.failures writer.new ≡ O.failures writer.old) }
+    ensures named { IfErr result (NamesOneOf (files_of (tidy_view tidy.entry))) }
+    ensures not_utf8 { IfErr result (SaysNoUtf8 (F.contents folder.now)) }
+    ensures not_words { IfErr result (λ fault. fault ≢ Fault.CommandLine) }
+    ensures unwritten { IfErr result (λ fault. fault ≢ Fault.Output → writer.new ≡ writer.old) }
+    ensures output { IsErrOf result Fault.Output → Tidied (F.contents folder.now) (tidy_view tidy.entry) (WritesFront (O.contents writer.old) (O.contents writer.new)) }
+    ensures failed { IsErrOf result Fault.Output → HasFailed (O.failures writer.old) (O.failures writer.new) }
+{
+    let text = tidied_text(folder, alloc, tidy)?;
+    write_text(writer, text.as_str())
 }
 
 /// Answers what `reader` gives from the sources in `files`.

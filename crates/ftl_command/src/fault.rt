@@ -1,8 +1,9 @@
 //! What ends the program before the end of its input.
 ghost use Rattle.std.specs.Prelude.{◌≡◌};
-ghost use Rattle.ftl_command.specs.Faults.{status_of, run_fault};
+ghost use Rattle.ftl_command.specs.Faults.{status_of, run_fault, clean_fault, normalize_fault};
 ghost use Rattle.ftl_command.specs.declared.fault.Fault.TheVariants.{Memory};
 
+use fluent_desk::{CleanError, NormalizeError};
 use fluent_serve::serve::RunError;
 use std::alloc::{AllocError, AllocFailed};
 use thiserror::Error;
@@ -10,6 +11,12 @@ use thiserror::Error;
 /// Why the program stops, as it is told on standard error: see `docs/protocol.md`.
 #[derive(Clone, Copy, Debug, PartialEq, Eq, Error)]
 pub enum Fault<'words> {
+    /// The source holds a carriage return.
+    #[error("carriage return")]
+    CarriageReturn,
+    /// The source has no normal text.
+    #[error("not normal")]
+    NotNormal,
     /// The words are no command.
     #[error("bad command line")]
     CommandLine,
@@ -36,6 +43,7 @@ impl Fault<'_> {
         ensures { result ≡ status_of self.now }
     {
         match self {
+            Fault::CarriageReturn | Fault::NotNormal => 1,
             Fault::CommandLine => 2,
             Fault::FileUnreadable { .. }
             | Fault::FileNotUtf8 { .. }
@@ -71,6 +79,29 @@ impl From<RunError> for Fault<'_> {
             RunError::Memory => Fault::Memory,
             RunError::Read => Fault::Input,
             RunError::Write => Fault::Output,
+        }
+    }
+}
+
+impl From<CleanError> for Fault<'_> {
+    ghost from_gives = { λ error fault. fault ≡ clean_fault error };
+
+    fn from(error: CleanError) -> Self {
+        match error {
+            CleanError::Memory => Fault::Memory,
+            CleanError::CarriageReturn => Fault::CarriageReturn,
+        }
+    }
+}
+
+impl From<NormalizeError> for Fault<'_> {
+    ghost from_gives = { λ error fault. fault ≡ normalize_fault error };
+
+    fn from(error: NormalizeError) -> Self {
+        match error {
+            NormalizeError::Memory => Fault::Memory,
+            NormalizeError::CarriageReturn => Fault::CarriageReturn,
+            NormalizeError::NotNormal => Fault::NotNormal,
         }
     }
 }

@@ -31,7 +31,7 @@ pub fn read_sources<'words, F: Folder>(
 }
 
 /// Reads one file.
-fn read_source<'words, F: Folder>(
+pub fn read_source<'words, F: Folder>(
     folder: &F,
     alloc: Global,
     file: &'words str,

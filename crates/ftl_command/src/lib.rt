@@ -6,6 +6,8 @@ pub mod commands;
 pub mod fault;
 pub mod files;
 pub mod folder;
+pub mod output;
+pub mod tidying;
 pub mod words;
 
 pub use commands::program;

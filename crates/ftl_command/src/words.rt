@@ -1,7 +1,7 @@
 //! The words behind the program's name.
 ghost use Rattle.std.specs.Prelude.{◌≡◌, option_map};
 ghost use Rattle.std.specs.List.{list_all};
-ghost use Rattle.ftl_command.specs.Words.{command_of, run_command, files_command, is_file};
+ghost use Rattle.ftl_command.specs.Words.{clean, normalize, command_of, run_command, files_command, file_command, join_command, is_file};
 ghost use Rattle.fluent_serve.specs.Texts.{texts};
 ghost use Rattle.ftl_command.specs.CommandView.{command_view};
 
@@ -15,16 +15,64 @@ pub enum Command<'words> {
         /// The names of the sources' files, at least one.
         files: &'words [&'words str],
     },
+    /// Write what sources are tidied into.
+    Tidy(Tidy<'words>),
 }
 
-/// Reads the words: `run`, then `--no-isolating` or nothing, then one or more files. A word that begins with `-` is no
-/// file. `None` for all other words.
+/// How sources are tidied, and the names of their files.
+#[derive(Clone, Copy, Debug, PartialEq, Eq)]
+pub enum Tidy<'words> {
+    /// The stretches that can't be read are taken out.
+    Clean(&'words str),
+    /// The source is written as the serializer writes it.
+    Normalize(&'words str),
+    /// Sources are cleaned and put together, at least one.
+    Join(&'words [&'words str]),
+}
+
+/// Reads the words: `run`, then `--no-isolating` or nothing, then one or more files; `clean` or `normalize` and a file;
+/// `join` and one or more files. A word that begins with `-` is no file. `None` for all other words.
 pub fn read_command<'words>(words: &'words [&'words str]) -> Option<Command<'words>>
     ensures { option_map command_view result ≡ command_of (texts words.now) }
 {
     match words.split_first() {
         Some((command, rest)) if *command == "run" => read_run(rest),
+        Some((command, rest)) if *command == "clean" => read_clean(rest),
+        Some((command, rest)) if *command == "normalize" => read_normalize(rest),
+        Some((command, rest)) if *command == "join" => read_join(rest),
         _ => None,
+    }
+}
+
+/// `clean` with these words behind it.
+fn read_clean<'words>(words: &'words [&'words str]) -> Option<Command<'words>>
+    ensures { option_map command_view result ≡ file_command clean (texts words.now) }
+{
+    match words {
+        [file] if is_file(file) => Some(Command::Tidy(Tidy::Clean(file))),
+        _ => None,
+    }
+}
+
+/// `normalize` with these words behind it.
+fn read_normalize<'words>(words: &'words [&'words str]) -> Option<Command<'words>>
+    ensures { option_map command_view result ≡ file_command normalize (texts words.now) }
+{
+    match words {
+        [file] if is_file(file) => Some(Command::Tidy(Tidy::Normalize(file))),
+        _ => None,
+    }
+}
+
+/// `join` with these words as its files.
+#[tactic(auto, using(crate::proofs::FilesOfCommands::are_files_at))]
+fn read_join<'words>(words: &'words [&'words str]) -> Option<Command<'words>>
+    ensures { option_map command_view result ≡ join_command (texts words.now) }
+{
+    if !words.is_empty() && are_files(words) {
+        Some(Command::Tidy(Tidy::Join(words)))
+    } else {
+        None
     }
 }
 
@@ -39,7 +87,7 @@ fn read_run<'words>(words: &'words [&'words str]) -> Option<Command<'words>>
 }
 
 /// `run` with these words as its files.
-#[tactic(auto, using(crate::proofs::FilesOfCommands::files_command_at))]
+#[tactic(auto, using(crate::proofs::FilesOfCommands::are_files_at))]
 fn read_files<'words>(isolating: bool, files: &'words [&'words str]) -> Option<Command<'words>>
     ensures { option_map command_view result ≡ files_command isolating (texts files.now) }
 {

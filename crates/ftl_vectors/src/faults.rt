@@ -8,6 +8,8 @@ use std::alloc::Global;
 pub fn try_faults(alloc: Global) -> Tally {
     let file = "a.ftl";
     let rows = [
+        (Fault::CarriageReturn, 1, "ftl: carriage return\n"),
+        (Fault::NotNormal, 1, "ftl: not normal\n"),
         (Fault::CommandLine, 2, "ftl: bad command line\n"),
         (
             Fault::FileUnreadable { file },

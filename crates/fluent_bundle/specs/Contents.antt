@@ -1,0 +1,19 @@
+-- What a bundle holds.
+use Rattle.std.specs.Prelude.{Bool, true, List, [], Option, None}
+use Rattle.fluent_grammar.specs.Words.{Text}
+use Rattle.fluent_meaning.specs.Ids.{Ids}
+
+-- M is the plural source, F a function of the program, G a formatter and T a transform.
+pub record Contents (M F G T : Type 0) : Type 0 where
+  -- what ids stand for
+  pub ids : Ids F
+  pub locales : List Text
+  pub plurals : M
+  -- whether isolation is on
+  pub isolating : Bool
+  pub transform : Option T
+  pub formatter : Option G
+
+-- a new bundle: no ids, isolation, no transform and no formatter
+abbrev pub empty : {M F G T : Type 0} → List Text → M → Contents M F G T
+empty locales plurals = record { ids = []; locales = locales; plurals = plurals; isolating = true; transform = None; formatter = None }

@@ -1,0 +1,3 @@
+pub mod Contents
+pub mod BundleView
+pub mod Adding

@@ -1,0 +1,3 @@
+//! The functions that every bundle may have.
+
+pub use fluent_value::builtins::NUMBER;

@@ -1,0 +1,67 @@
+//! Adding resources and functions.
+
+ghost use Rattle.std.specs.Prelude.{◌≡◌, OnOk, OnErr, true};
+ghost use Rattle.fluent_bundle.specs.Adding.{AddsFirst, AddsFunction, TellsNotices, with_entries};
+ghost use Rattle.fluent_bundle.specs.BundleView.{bundle_of};
+ghost use Rattle.fluent_meaning.specs.Ids as ids;
+ghost use Rattle.fluent_meaning.specs.Ids.{number_pair};
+ghost use Rattle.fluent_resource.specs.ResourceView.{entries_view};
+
+use super::FluentBundle;
+use fluent_ids::{AddFunctionError, AddResourceError};
+use fluent_resource::FluentResource;
+use std::alloc::AllocError;
+
+impl<'r, 's, M, C, F: Drop, G> FluentBundle<'r, 's, M, C, F, G> {
+    /// Adds the messages and terms of a resource. Where two entries have one id, the first stays, whatever it is and wherever it
+    /// comes from.
+    ///
+    /// # Errors
+    /// - [`AddResourceError::Overriding`] has a notice for each entry whose id stood for another one, in the order of the
+    ///   entries. All other entries were added.
+    /// - [`AddResourceError::Memory`] where memory runs out. The bundle is unchanged then.
+    pub fn add_resource(&mut self, resource: &'r FluentResource<'s>) -> Result<(), AddResourceError>
+        ensures added { AddsFirst result (bundle_of self.old) (bundle_of self.new) (entries_view resource.now) }
+        ensures told { TellsNotices result (bundle_of self.old) (entries_view resource.now) }
+    {
+        self.environment.ids.add_resource(resource)
+    }
+
+    /// Adds the messages and terms of a resource. Where two entries have one id, the last stays: it replaces a function too.
+    ///
+    /// # Errors
+    /// Memory ran out. The bundle is unchanged then.
+    pub fn add_resource_overriding(
+        &mut self,
+        resource: &'r FluentResource<'s>,
+    ) -> Result<(), AllocError>
+        ensures added { OnOk result (bundle_of self.new ≡ with_entries true (bundle_of self.old) (entries_view resource.now)) }
+        ensures refused { OnErr result (bundle_of self.new ≡ bundle_of self.old) }
+    {
+        self.environment.ids.add_resource_overriding(resource)
+    }
+
+    /// Adds a function under an id that stands for nothing yet.
+    ///
+    /// # Errors
+    /// After each of them the bundle is unchanged, and the function was dropped.
+    /// - [`AddFunctionError::Overriding`] where the id stands for a message, a term or a function.
+    /// - [`AddFunctionError::Memory`] where memory runs out.
+    pub fn add_function(&mut self, id: &str, function: F) -> Result<(), AddFunctionError>
+        ensures { AddsFunction result (bundle_of self.old) (bundle_of self.new) (id.now, ids.function function) }
+    {
+        self.environment.ids.add_function(id, function)
+    }
+
+    /// Adds the function `NUMBER`.
+    ///
+    /// # Errors
+    /// After each of them the bundle is unchanged.
+    /// - [`AddFunctionError::Overriding`] where `NUMBER` stands for a message, a term or a function.
+    /// - [`AddFunctionError::Memory`] where memory runs out.
+    pub fn add_builtins(&mut self) -> Result<(), AddFunctionError>
+        ensures { AddsFunction result (bundle_of self.old) (bundle_of self.new) number_pair }
+    {
+        self.environment.ids.add_builtins()
+    }
+}

@@ -1,0 +1,44 @@
+//! Asking a bundle for its messages, terms and functions. No call takes memory.
+
+ghost use Rattle.std.specs.Prelude.{◌≡◌, is_some, option_map};
+ghost use Rattle.fluent_bundle.specs.BundleView.{bundle_of};
+ghost use Rattle.fluent_ids.specs.Found.{message_in};
+ghost use Rattle.fluent_meaning.specs.Ids.{find};
+ghost use Rattle.fluent_resource.specs.MessageView.{message_of};
+
+use super::FluentBundle;
+use fluent_ast::{Message, Term};
+use fluent_ids::{FunctionRef, GetEntry};
+use fluent_resource::FluentMessage;
+
+impl<'r, 's, M, C, F, G> GetEntry<'s, F> for FluentBundle<'r, 's, M, C, F, G> {
+    ghost ids = { λ bundle. (bundle_of bundle).ids };
+
+    fn get_entry_message(&self, id: &str) -> Option<&Message<&'s str>> {
+        self.environment.ids.get_entry_message(id)
+    }
+
+    fn get_entry_term(&self, id: &str) -> Option<&Term<&'s str>> {
+        self.environment.ids.get_entry_term(id)
+    }
+
+    fn get_entry_function(&self, id: &str) -> Option<FunctionRef<'_, F>> {
+        self.environment.ids.get_entry_function(id)
+    }
+}
+
+impl<'r, 's, M, C, F, G> FluentBundle<'r, 's, M, C, F, G> {
+    /// Whether an id stands for a message.
+    pub fn has_message(&self, id: &str) -> bool
+        ensures { result ≡ is_some (message_in (find (bundle_of self.now).ids id.now)) }
+    {
+        self.environment.ids.has_message(id)
+    }
+
+    /// The message of an id.
+    pub fn get_message(&self, id: &str) -> Option<FluentMessage<'r, 's>>
+        ensures { option_map message_of result ≡ message_in (find (bundle_of self.now).ids id.now) }
+    {
+        self.environment.ids.get_message(id)
+    }
+}

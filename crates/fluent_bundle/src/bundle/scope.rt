@@ -1,0 +1,42 @@
+//! A bundle as what values are compared and shown by.
+
+ghost use Rattle.std.specs.Prelude.{is_some};
+ghost use Rattle.fluent_bundle.specs.BundleView.{bundle_of};
+ghost use Rattle.fluent_environment.specs.Settings.{formatted_by};
+
+use super::FluentBundle;
+use fluent_number::{PluralCategory, PluralOperands, PluralRuleType};
+use fluent_value::{FluentType, FluentValue, MemoizerKind, ValueFormatter, ValueScope};
+use std::alloc::{AllocError, Global};
+use std::borrow::CowStr;
+
+impl<'r, 's, M, C, F, G> ValueScope<C> for FluentBundle<'r, 's, M, C, F, G>
+where
+    M: MemoizerKind,
+    C: FluentType,
+    G: ValueFormatter<C, M>,
+{
+    ghost has_formatter = { λ bundle. is_some (bundle_of bundle).formatter };
+
+    ghost formatted = { λ bundle. formatted_by G.formats (bundle_of bundle).plurals (bundle_of bundle).formatter };
+
+    ghost plurals = { λ bundle. M.category_of (bundle_of bundle).plurals };
+
+    ghost shown = { λ bundle. M.stringified (bundle_of bundle).plurals C.Meaning C.text };
+
+    fn format(&self, value: &FluentValue<'_, C>) -> Result<Option<String>, AllocError> {
+        self.environment.format(value)
+    }
+
+    fn category(&self, rule: PluralRuleType, operands: &PluralOperands) -> PluralCategory {
+        self.environment.plurals.category(rule, operands)
+    }
+
+    fn stringify(&self, custom: &C) -> Result<CowStr<'static>, AllocError> {
+        self.environment.stringify(custom)
+    }
+
+    fn alloc(&self) -> Global {
+        self.environment.alloc
+    }
+}

@@ -1,0 +1,33 @@
+//! The settings of a bundle. Changing one takes no memory, and changes nothing else.
+
+ghost use Rattle.std.specs.Prelude.{◌≡◌};
+ghost use Rattle.fluent_bundle.specs.BundleView.{bundle_of};
+
+use super::FluentBundle;
+use fluent_value::TextTransform;
+
+impl<'r, 's, M, C, F, G> FluentBundle<'r, 's, M, C, F, G> {
+    /// Sets whether placeables stand between the marks U+2068 and U+2069, which keep their direction from that of the text
+    /// around them.
+    pub fn set_use_isolating(&mut self, isolating: bool)
+        ensures { bundle_of self.new ≡ record (bundle_of self.old) { isolating = isolating } }
+    {
+        self.environment.isolating = isolating;
+    }
+
+    /// Sets what the texts of patterns go through, or that they are shown as they are.
+    pub fn set_transform(&mut self, transform: Option<Box<dyn TextTransform>>)
+        ensures { bundle_of self.new ≡ record (bundle_of self.old) { transform = transform } }
+    {
+        self.environment.transform = transform;
+    }
+}
+
+impl<'r, 's, M, C, F, G: Drop> FluentBundle<'r, 's, M, C, F, G> {
+    /// Sets what values are shown by before the rules of Fluent, or that they are shown by these alone.
+    pub fn set_formatter(&mut self, formatter: Option<G>)
+        ensures { bundle_of self.new ≡ record (bundle_of self.old) { formatter = formatter } }
+    {
+        self.environment.formatter = formatter;
+    }
+}

@@ -1,0 +1,26 @@
+#![tactic(auto)]
+
+//! Bundles: the messages of a program's resources, and all that is needed to ask for them.
+//!
+//! A [`FluentResource`] is a source that was read. A [`FluentBundle`] holds the messages and terms of resources and the
+//! functions of the program by their ids, with the plural source and the settings that patterns are resolved by. Contracts
+//! speak of it through what it holds, the record of `specs/Contents.antt`. `docs/bundles.md` has the rules in plain words.
+
+pub mod builtins;
+pub mod bundle;
+pub mod laws;
+pub mod memoizer;
+pub mod resolver;
+pub mod types;
+
+pub use bundle::FluentBundle;
+pub use fluent_environment::Environment;
+pub use fluent_errors::{EntryKind, FluentError};
+pub use fluent_ids::{AddFunctionError, AddResourceError, Entry, FunctionRef, GetEntry};
+pub use fluent_resource::{
+    Attributes, Entries, FluentAttribute, FluentMessage, FluentResource, ResourceError,
+};
+pub use fluent_value::{
+    EnglishPlurals, FluentArgs, FluentFunction, FluentValue, IntoIter, Iter, NoCustom, NoFormatter,
+    NoFunction, TextTransform, ValueFormatter, ValueScope,
+};

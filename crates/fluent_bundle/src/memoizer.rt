@@ -1,0 +1,3 @@
+//! Plural sources.
+
+pub use fluent_value::MemoizerKind;

@@ -1,0 +1,3 @@
+//! What resolving a pattern reports beside its text.
+
+pub use fluent_errors::{ReferenceKind, ResolverError};

@@ -1,0 +1,5 @@
+//! Resolving patterns.
+
+pub mod errors;
+
+pub use errors::ResolverError;

@@ -1,0 +1,2 @@
+pub mod ReportView
+pub mod Added

@@ -1,0 +1,26 @@
+-- The plain data that a report stands for.
+use Rattle.std.specs.Prelude.{List, map}
+use Rattle.std.specs.Global.{Vec}
+use denote.Ref.{Bor}
+use Rattle.fluent_grammar.specs.Words.{Text}
+use Rattle.fluent_grammar.specs.Tiling.{errors}
+use Rattle.fluent_parser.specs.ErrorView.{ErrorView, error_view, error_told}
+use Rattle.fluent_parser.specs.declared.errors.ParserError.{ParserError}
+use Rattle.fluent_errors.specs.Errors.{Reported}
+use Rattle.fluent_errors.specs.View.{bundle_view}
+use Rattle.fluent_errors.specs.declared.bundle.FluentError.{FluentError}
+
+abbrev pub texts : List (Bor Text) → List Text
+texts sources = map (λ s. s.now) sources
+
+-- errors that were found
+abbrev pub errors_view : Vec ParserError → List ErrorView
+errors_view found = map error_view found.items
+
+-- those that a source has
+abbrev pub errors_told : Text → List ErrorView
+errors_told source = map error_told (errors source)
+
+-- notices that came
+abbrev pub notices_view : Vec FluentError → List Reported
+notices_view told = map bundle_view told.items

@@ -1,0 +1,2 @@
+mod FirstAttribute
+pub mod Called

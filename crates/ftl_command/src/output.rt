@@ -1,0 +1,23 @@
+//! Standard output.
+ghost use Rattle.std.specs.Prelude.{◌≡◌, OnOk, OnErr, IfErr};
+ghost use Rattle.std.specs.Io.KnownBytes.{Appends};
+ghost use Rattle.fluent_serve.specs.Devices.{HasFailed};
+ghost use Rattle.ftl_command.specs.Program.{WritesFront};
+
+use crate::fault::Fault;
+use fluent_serve::serve::write_all;
+use fluent_serve::stream::Sink;
+
+/// Writes a text. After a fault a front of it was written.
+pub fn write_text<'words, O: Sink>(writer: &mut O, text: &str) -> Result<(), Fault<'words>>
+    ensures written { OnOk result (Appends (O.contents writer.old) (O.contents writer.new) text.now) }
+    ensures writes { OnOk result (O.failures writer.new ≡ O.failures writer.old) }
+    ensures front { OnErr result (WritesFront (O.contents writer.old) (O.contents writer.new) text.now) }
+    ensures failed { OnErr result (HasFailed (O.failures writer.old) (O.failures writer.new)) }
+    ensures fault { IfErr result (λ fault. fault ≡ Fault.Output) }
+{
+    match write_all(writer, text.as_bytes()) {
+        Ok(()) => Ok(()),
+        Err(_) => Err(Fault::Output),
+    }
+}

@@ -1,0 +1,7 @@
+
+key1 = Value 1
+
+g@Rb@ge = #2y ds
+
+key2 = Value 2
+

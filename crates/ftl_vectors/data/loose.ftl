@@ -1,0 +1,3 @@
+
+unnormalized-message=This message has
+  abnormal spacing and indentation
