@@ -9,7 +9,7 @@ use fluent_value::{FluentType, FluentValue, MemoizerKind, ValueFormatter, ValueS
 use std::alloc::{AllocError, Global};
 use std::borrow::CowStr;
 
-impl<'r, 's, M, C, F, G> ValueScope<C> for Environment<'r, 's, M, F, G>
+impl<'r, 's: 'r, M, C, F, G> ValueScope<C> for Environment<'r, 's, M, F, G>
 where
     M: MemoizerKind,
     C: FluentType,

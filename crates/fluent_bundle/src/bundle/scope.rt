@@ -10,7 +10,7 @@ use fluent_value::{FluentType, FluentValue, MemoizerKind, ValueFormatter, ValueS
 use std::alloc::{AllocError, Global};
 use std::borrow::CowStr;
 
-impl<'r, 's, M, C, F, G> ValueScope<C> for FluentBundle<'r, 's, M, C, F, G>
+impl<'r, 's: 'r, M, C, F, G> ValueScope<C> for FluentBundle<'r, 's, M, C, F, G>
 where
     M: MemoizerKind,
     C: FluentType,

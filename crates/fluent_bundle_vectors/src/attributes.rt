@@ -1,0 +1,41 @@
+//! Messages with attributes.
+
+use crate::bundle::{Bundle, read};
+use crate::found::first_text;
+use crate::tally::Tally;
+use fluent_bundle::{EnglishPlurals, FluentMessage, FluentResource};
+use std::alloc::Global;
+
+/// Tries a message of two attributes of one name.
+pub fn try_attributes(alloc: Global) -> Tally {
+    let mut tally = Tally::new();
+    match read(alloc, "m =\n    .t = 1\n    .t = 2\n") {
+        Some(resource) => tally.add(is_added(alloc, &resource)),
+        None => tally.add(false),
+    }
+    tally
+}
+
+/// Whether the message of the resource is as it must be, in a bundle.
+fn is_added(alloc: Global, resource: &FluentResource<'static>) -> bool {
+    let mut bundle = Bundle::new(alloc, Vec::new(alloc), EnglishPlurals);
+    let is_added = bundle.add_resource(resource).is_ok() || bundle.add_resource(resource).is_ok();
+    is_added
+        && bundle
+            .get_message("m")
+            .is_some_and(|message| has_both(&message))
+}
+
+/// Whether a message has no value, both attributes, and the first of them by its name.
+fn has_both(message: &FluentMessage<'_, '_>) -> bool {
+    message.value().is_none()
+        && message.attributes().count() == 2
+        && is_first(message)
+        && message.get_attribute("u").is_none()
+}
+
+/// Whether the attribute of the name is the first.
+fn is_first(message: &FluentMessage<'_, '_>) -> bool {
+    message.get_attribute("t").is_some_and(|attribute| attribute.id() == "t"
+        && first_text(Some(attribute.value())) == "1")
+}

@@ -1,0 +1,33 @@
+//! The bundles that are tried.
+
+use fluent_bundle::{
+    EnglishPlurals, FluentBundle, FluentResource, NoCustom, NoFormatter, ResourceError,
+};
+use std::alloc::Global;
+
+/// A function of the program, which only has to be told from others.
+#[derive(Clone, Copy, Debug, PartialEq, Eq)]
+pub enum Function {
+    Older,
+    Newer,
+}
+
+pub type Bundle<'r, 's> = FluentBundle<'r, 's, EnglishPlurals, NoCustom, Function, NoFormatter>;
+
+/// A resource, also where parts of its source are no entries. Where memory is refused, it is read once more.
+pub fn read(alloc: Global, source: &'static str) -> Option<FluentResource<'static>> {
+    match FluentResource::try_new(alloc, source) {
+        Err(ResourceError::Memory) => whole_or_broken(FluentResource::try_new(alloc, source)),
+        read => whole_or_broken(read),
+    }
+}
+
+fn whole_or_broken(
+    read: Result<FluentResource<'static>, ResourceError<'static>>,
+) -> Option<FluentResource<'static>> {
+    match read {
+        Ok(resource) => Some(resource),
+        Err(ResourceError::Broken(resource, _)) => Some(resource),
+        Err(ResourceError::Memory) => None,
+    }
+}

@@ -1,0 +1,34 @@
+//! Builds bundles from small resources, step by step, and prints of each kind how many steps there were and how many of them
+//! answered, or left behind, something else than they must.
+//!
+//! A call that is refused memory has to leave its bundle as it was, and is made once more. So the same counts are printed with any
+//! one allocation refused: `rt try --fail-alloc N`.
+#![tactic(auto)]
+
+mod attributes;
+mod bundle;
+mod found;
+mod matching;
+mod reading;
+mod rows;
+mod settings;
+mod steps;
+mod tally;
+
+use anyhow::Result;
+use tally::Tally;
+
+fn main(rt: HostRuntime) -> Result<()> {
+    let alloc = rt.alloc();
+    tell(&rt, "reading", reading::try_reading(alloc))?;
+    tell(&rt, "adding", steps::try_rows(alloc))?;
+    tell(&rt, "attributes", attributes::try_attributes(alloc))?;
+    tell(&rt, "matching", matching::try_matching(alloc))?;
+    tell(&rt, "settings", settings::try_settings(alloc))?;
+    Ok(())
+}
+
+fn tell(rt: &HostRuntime, name: &str, tally: Tally) -> Result<()> {
+    println!(rt; "{name}: {} steps, {} wrong", tally.steps, tally.wrong)?;
+    Ok(())
+}
