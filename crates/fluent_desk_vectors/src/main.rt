@@ -1,4 +1,4 @@
-//! Cleans, joins, normalizes, exports and imports what the rows of `data/rows.jsonl` say, and compares with the texts,
+//! Cleans, joins, normalizes, exports, imports and checks what the rows of `data/rows.jsonl` say, and compares with the texts,
 //! JSON texts and refusals that stand there. Then it tidies each prefix of the sources of `data/prefixes.jsonl`, of
 //! which nothing is known but laws, and a source of a thousand messages.
 #![tactic(auto)]
@@ -6,6 +6,7 @@
 mod calls;
 mod long;
 mod prefixes;
+mod reports;
 mod rows;
 mod tally;
 

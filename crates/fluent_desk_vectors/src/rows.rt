@@ -4,6 +4,7 @@ use crate::calls::{
     Outcome, clean_source, export_source, import_export, import_value, join_sources,
     normalize_source,
 };
+use crate::reports::check_sources;
 use crate::tally::Tally;
 use anyhow::{Context, Result, bail};
 use serde_json::Value;
@@ -31,6 +32,7 @@ fn is_right(alloc: Global, line: &str) -> Result<bool> {
     match call {
         "join" => joins(alloc, &row),
         "import" => imports(alloc, &row),
+        "check" => checks(alloc, &row),
         _ => tidies(alloc, &row, call),
     }
 }
@@ -38,6 +40,11 @@ fn is_right(alloc: Global, line: &str) -> Result<bool> {
 fn joins(alloc: Global, row: &Value) -> Result<bool> {
     let sources = sources_of(alloc, row)?;
     is_wanted(row, &join_sources(alloc, sources.as_slice()))
+}
+
+fn checks(alloc: Global, row: &Value) -> Result<bool> {
+    let sources = sources_of(alloc, row)?;
+    is_wanted(row, &check_sources(alloc, sources.as_slice()))
 }
 
 fn imports(alloc: Global, row: &Value) -> Result<bool> {
