@@ -3,3 +3,4 @@ mod Lists
 mod NoTree
 mod Injective
 mod OneTree
+pub mod NoFloats

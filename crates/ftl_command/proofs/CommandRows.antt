@@ -1,6 +1,6 @@
 -- What some words ask for, by computing.
 use Rattle.std.specs.Prelude.{◌≡◌, [], ◌∷◌, true, false, Some, None, codes, refl}
-use Rattle.ftl_command.specs.Words.{command_of, run, tidy, clean, normalize, join}
+use Rattle.ftl_command.specs.Words.{command_of, run, tidy, clean, normalize, join, export, import}
 
 no_words : command_of [] ≡ None
 no_words = refl
@@ -46,3 +46,12 @@ two_to_join = refl
 
 an_option_to_join : command_of (codes "join" ∷ codes "a" ∷ codes "-b" ∷ []) ≡ None
 an_option_to_join = refl
+
+one_to_export : command_of (codes "export" ∷ codes "a" ∷ []) ≡ Some (tidy (export (codes "a")))
+one_to_export = refl
+
+one_to_import : command_of (codes "import" ∷ codes "a" ∷ []) ≡ Some (tidy (import (codes "a")))
+one_to_import = refl
+
+two_to_import : command_of (codes "import" ∷ codes "a" ∷ codes "b" ∷ []) ≡ None
+two_to_import = refl

@@ -1,14 +1,16 @@
 -- Faults of files, and statuses.
-use Rattle.std.proofs.Common.{◌≡◌, ◌<◌, ℕ, zero, suc, List, [], ◌∷◌, Bor, length, get_or, arith, subst, lit<}
+use Rattle.std.proofs.Common.{◌≡◌, ◌<◌, ℕ, zero, suc, List, [], ◌∷◌, Bor, length, get_or, arith, subst, refl, lit<}
 use Rattle.std.specs.List.{Contains}
 use Rattle.std.proofs.lemmas.List.Elements.{Contains-get_or}
 use Rattle.std.proofs.lemmas.List.{length-map}
 use Rattle.std.proofs.Math.ListN.{get_or-map}
 use Rattle.fluent_requests.specs.Text.{Text}
 use Rattle.fluent_serve.specs.Texts.{texts}
-use Rattle.ftl_command.specs.Faults.{NamesOneOf, status_of}
+use Rattle.fluent_desk.specs.declared.error.ImportError.{ImportError}
+use Rattle.fluent_desk.specs.declared.error.ImportError.TheVariants as import
+use Rattle.ftl_command.specs.Faults.{NamesOneOf, status_of, import_fault}
 use Rattle.ftl_command.specs.declared.fault.Fault.{Fault}
-use Rattle.ftl_command.specs.declared.fault.Fault.TheVariants.{CarriageReturn, NotNormal, CommandLine, FileUnreadable, FileNotUtf8, Input, Output, Memory}
+use Rattle.ftl_command.specs.declared.fault.Fault.TheVariants.{CarriageReturn, NotNormal, NotTree, NotJson, CommandLine, FileUnreadable, FileNotUtf8, Input, Output, Memory}
 
 only_element : {X : Type 0} (x y : X) → Contains (x ∷ []) y → x ≡ y
 only_element x y (zero, below, is) = is
@@ -18,6 +20,8 @@ only_element x y (suc k, below, is) = absurd (omega arith)
 pub NamesOneOf-one : (names : List Text) (name : Text) → Contains names name → (fault : Fault) → NamesOneOf (name ∷ []) fault → NamesOneOf names fault
 NamesOneOf-one names name listed CarriageReturn of_one = tt
 NamesOneOf-one names name listed NotNormal of_one = tt
+NamesOneOf-one names name listed NotTree of_one = tt
+NamesOneOf-one names name listed NotJson of_one = tt
 NamesOneOf-one names name listed CommandLine of_one = tt
 NamesOneOf-one names name listed (FileUnreadable file) of_one = subst (Contains names) (only_element name file.now of_one) listed
 NamesOneOf-one names name listed (FileNotUtf8 file) of_one = subst (Contains names) (only_element name file.now of_one) listed
@@ -34,9 +38,17 @@ Contains-texts words i d within =
 pub status_of-among : (fault : Fault) → Contains (0 ∷ 1 ∷ 2 ∷ 3 ∷ 4 ∷ []) (status_of fault)
 status_of-among CarriageReturn = Contains-get_or (0 ∷ 1 ∷ 2 ∷ 3 ∷ 4 ∷ []) 1 0 (lit< tt)
 status_of-among NotNormal = Contains-get_or (0 ∷ 1 ∷ 2 ∷ 3 ∷ 4 ∷ []) 1 0 (lit< tt)
+status_of-among NotTree = Contains-get_or (0 ∷ 1 ∷ 2 ∷ 3 ∷ 4 ∷ []) 1 0 (lit< tt)
+status_of-among NotJson = Contains-get_or (0 ∷ 1 ∷ 2 ∷ 3 ∷ 4 ∷ []) 1 0 (lit< tt)
 status_of-among CommandLine = Contains-get_or (0 ∷ 1 ∷ 2 ∷ 3 ∷ 4 ∷ []) 2 0 (lit< tt)
 status_of-among (FileUnreadable file) = Contains-get_or (0 ∷ 1 ∷ 2 ∷ 3 ∷ 4 ∷ []) 3 0 (lit< tt)
 status_of-among (FileNotUtf8 file) = Contains-get_or (0 ∷ 1 ∷ 2 ∷ 3 ∷ 4 ∷ []) 3 0 (lit< tt)
 status_of-among Input = Contains-get_or (0 ∷ 1 ∷ 2 ∷ 3 ∷ 4 ∷ []) 3 0 (lit< tt)
 status_of-among Output = Contains-get_or (0 ∷ 1 ∷ 2 ∷ 3 ∷ 4 ∷ []) 3 0 (lit< tt)
 status_of-among Memory = Contains-get_or (0 ∷ 1 ∷ 2 ∷ 3 ∷ 4 ∷ []) 4 0 (lit< tt)
+
+-- what is told as no tree
+pub shape_told : (error : ImportError) → import_fault error ≡ NotTree → error ≡ import.Shape
+shape_told import.Memory e = absurd cc
+shape_told import.NotNormal e = absurd cc
+shape_told import.Shape e = refl

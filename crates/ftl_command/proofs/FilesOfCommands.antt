@@ -1,5 +1,5 @@
 -- The words as the code sees them, behind references.
-use Rattle.std.proofs.Common.{◌≡◌, Bool, List, Bor, length, refl}
+use Rattle.std.proofs.Common.{◌≡◌, List, Bor, length, refl}
 use Rattle.std.specs.Prelude.{nat_lt, ◌&&◌}
 use Rattle.std.specs.List.{list_all}
 use Rattle.std.proofs.lemmas.List.Folds.{list_all-map}

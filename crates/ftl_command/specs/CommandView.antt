@@ -11,6 +11,8 @@ abbrev pub tidy_view : Tidy → asked.Tidy
 tidy_view (of.Clean file) = asked.clean file.now
 tidy_view (of.Normalize file) = asked.normalize file.now
 tidy_view (of.Join files) = asked.join (texts files.now)
+tidy_view (of.Export file) = asked.export file.now
+tidy_view (of.Import file) = asked.import file.now
 
 abbrev pub command_view : Command → Asked
 command_view (command.Run isolating files) = asked.run (record { isolating = isolating; files = texts files.now })

@@ -2,11 +2,13 @@
 use Rattle.std.specs.Prelude.{ℕ, List, Contains, Option, IfSome, IsUtf8}
 use Rattle.fluent_requests.specs.Text.{Text}
 use Rattle.ftl_command.specs.declared.fault.Fault.{Fault}
-use Rattle.ftl_command.specs.declared.fault.Fault.TheVariants.{CarriageReturn, NotNormal, CommandLine, FileUnreadable, FileNotUtf8, Input, Output, Memory}
+use Rattle.ftl_command.specs.declared.fault.Fault.TheVariants.{CarriageReturn, NotNormal, NotTree, NotJson, CommandLine, FileUnreadable, FileNotUtf8, Input, Output, Memory}
 use Rattle.fluent_desk.specs.declared.error.CleanError.{CleanError}
 use Rattle.fluent_desk.specs.declared.error.CleanError.TheVariants as clean
 use Rattle.fluent_desk.specs.declared.error.NormalizeError.{NormalizeError}
 use Rattle.fluent_desk.specs.declared.error.NormalizeError.TheVariants as normalize
+use Rattle.fluent_desk.specs.declared.error.ImportError.{ImportError}
+use Rattle.fluent_desk.specs.declared.error.ImportError.TheVariants as import
 use Rattle.fluent_serve.specs.declared.serve.RunError.{RunError}
 use Rattle.fluent_serve.specs.declared.serve.RunError.TheVariants.{Memory as RunMemory, Read as RunRead, Write as RunWrite}
 
@@ -14,6 +16,8 @@ use Rattle.fluent_serve.specs.declared.serve.RunError.TheVariants.{Memory as Run
 abbrev pub status_of : Fault → ℕ
 status_of CarriageReturn = 1
 status_of NotNormal = 1
+status_of NotTree = 1
+status_of NotJson = 1
 status_of CommandLine = 2
 status_of (FileUnreadable file) = 3
 status_of (FileNotUtf8 file) = 3
@@ -25,6 +29,8 @@ status_of Memory = 4
 abbrev pub NamesOneOf : List Text → Fault → Type 0
 NamesOneOf names CarriageReturn = Unit {0}
 NamesOneOf names NotNormal = Unit {0}
+NamesOneOf names NotTree = Unit {0}
+NamesOneOf names NotJson = Unit {0}
 NamesOneOf names CommandLine = Unit {0}
 NamesOneOf names (FileUnreadable file) = Contains names file.now
 NamesOneOf names (FileNotUtf8 file) = Contains names file.now
@@ -36,6 +42,8 @@ NamesOneOf names Memory = Unit {0}
 abbrev pub SaysNoUtf8 : (Text → Option Text) → Fault → Type 0
 SaysNoUtf8 contents CarriageReturn = Unit {0}
 SaysNoUtf8 contents NotNormal = Unit {0}
+SaysNoUtf8 contents NotTree = Unit {0}
+SaysNoUtf8 contents NotJson = Unit {0}
 SaysNoUtf8 contents CommandLine = Unit {0}
 SaysNoUtf8 contents (FileUnreadable file) = Unit {0}
 SaysNoUtf8 contents (FileNotUtf8 file) = IfSome (contents file.now) (λ held. IsUtf8 held → ⊥)
@@ -47,6 +55,8 @@ SaysNoUtf8 contents Memory = Unit {0}
 abbrev pub IsOfFiles : Fault → Type 0
 IsOfFiles CarriageReturn = ⊥
 IsOfFiles NotNormal = ⊥
+IsOfFiles NotTree = ⊥
+IsOfFiles NotJson = ⊥
 IsOfFiles CommandLine = ⊥
 IsOfFiles (FileUnreadable file) = Unit {0}
 IsOfFiles (FileNotUtf8 file) = Unit {0}
@@ -58,6 +68,8 @@ IsOfFiles Memory = Unit {0}
 abbrev pub IsBeforeInput : Fault → Type 0
 IsBeforeInput CarriageReturn = Unit {0}
 IsBeforeInput NotNormal = Unit {0}
+IsBeforeInput NotTree = Unit {0}
+IsBeforeInput NotJson = Unit {0}
 IsBeforeInput CommandLine = Unit {0}
 IsBeforeInput (FileUnreadable file) = Unit {0}
 IsBeforeInput (FileNotUtf8 file) = Unit {0}
@@ -75,6 +87,8 @@ run_fault RunWrite = Output
 abbrev pub IsOfTidying : Fault → Type 0
 IsOfTidying CarriageReturn = Unit {0}
 IsOfTidying NotNormal = Unit {0}
+IsOfTidying NotTree = Unit {0}
+IsOfTidying NotJson = Unit {0}
 IsOfTidying CommandLine = ⊥
 IsOfTidying (FileUnreadable file) = Unit {0}
 IsOfTidying (FileNotUtf8 file) = Unit {0}
@@ -91,3 +105,8 @@ abbrev pub normalize_fault : NormalizeError → Fault
 normalize_fault normalize.Memory = Memory
 normalize_fault normalize.CarriageReturn = CarriageReturn
 normalize_fault normalize.NotNormal = NotNormal
+
+abbrev pub import_fault : ImportError → Fault
+import_fault import.Memory = Memory
+import_fault import.NotNormal = NotNormal
+import_fault import.Shape = NotTree

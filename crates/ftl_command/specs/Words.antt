@@ -9,11 +9,13 @@ pub record Run : Type 0 where
   pub isolating : Bool
   pub files : List Text
 
--- write what a file's source is tidied into, or what several are joined into
+-- write what a file's source is tidied into, or what several are joined into; or its JSON tree, or the text of one
 pub data Tidy : Type 0 where
   clean : Text → Tidy
   normalize : Text → Tidy
   join : List Text → Tidy
+  export : Text → Tidy
+  import : Text → Tidy
 
 -- what the words ask for
 pub data Asked : Type 0 where
@@ -54,4 +56,6 @@ command_of (w ∷ ws) =
     else if bytes_eq w (codes "clean") then file_command clean ws
     else if bytes_eq w (codes "normalize") then file_command normalize ws
     else if bytes_eq w (codes "join") then join_command ws
+    else if bytes_eq w (codes "export") then file_command export ws
+    else if bytes_eq w (codes "import") then file_command import ws
     else None

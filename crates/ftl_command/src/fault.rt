@@ -1,9 +1,9 @@
 //! What ends the program before the end of its input.
 ghost use Rattle.std.specs.Prelude.{◌≡◌};
-ghost use Rattle.ftl_command.specs.Faults.{status_of, run_fault, clean_fault, normalize_fault};
+ghost use Rattle.ftl_command.specs.Faults.{status_of, run_fault, clean_fault, normalize_fault, import_fault};
 ghost use Rattle.ftl_command.specs.declared.fault.Fault.TheVariants.{Memory};
 
-use fluent_desk::{CleanError, NormalizeError};
+use fluent_desk::{CleanError, ImportError, NormalizeError};
 use fluent_serve::serve::RunError;
 use std::alloc::{AllocError, AllocFailed};
 use thiserror::Error;
@@ -17,6 +17,12 @@ pub enum Fault<'words> {
     /// The source has no normal text.
     #[error("not normal")]
     NotNormal,
+    /// No tree has the JSON value.
+    #[error("not a tree")]
+    NotTree,
+    /// The file's text is no JSON, or nested too deep.
+    #[error("not JSON")]
+    NotJson,
     /// The words are no command.
     #[error("bad command line")]
     CommandLine,
@@ -43,7 +49,7 @@ impl Fault<'_> {
         ensures { result ≡ status_of self.now }
     {
         match self {
-            Fault::CarriageReturn | Fault::NotNormal => 1,
+            Fault::CarriageReturn | Fault::NotNormal | Fault::NotTree | Fault::NotJson => 1,
             Fault::CommandLine => 2,
             Fault::FileUnreadable { .. }
             | Fault::FileNotUtf8 { .. }
@@ -102,6 +108,18 @@ impl From<NormalizeError> for Fault<'_> {
             NormalizeError::Memory => Fault::Memory,
             NormalizeError::CarriageReturn => Fault::CarriageReturn,
             NormalizeError::NotNormal => Fault::NotNormal,
+        }
+    }
+}
+
+impl From<ImportError> for Fault<'_> {
+    ghost from_gives = { λ error fault. fault ≡ import_fault error };
+
+    fn from(error: ImportError) -> Self {
+        match error {
+            ImportError::Memory => Fault::Memory,
+            ImportError::NotNormal => Fault::NotNormal,
+            ImportError::Shape => Fault::NotTree,
         }
     }
 }

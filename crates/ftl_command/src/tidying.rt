@@ -1,22 +1,29 @@
 //! What the sources' files are tidied into.
-ghost use Rattle.std.specs.Prelude.{◌≡◌, ◌∷◌, [], IfOk, IfErr, IsErrOf, IsTrue, string_bytes};
+ghost use Rattle.std.specs.Prelude.{◌≡◌, ◌⊎◌, ◌∷◌, ◌++◌, [], Some, None, false, IfOk, IfErr, IsErrOf, IsTrue, string_bytes};
 ghost use Rattle.std.specs.List.{list_any};
+ghost use Rattle.serde_json.specs.Read.{read as read_text};
+ghost use Rattle.serde_json.specs.View.{view};
+ghost use Rattle.serde_json.specs.Written.{compact_text, has_float};
 ghost use Rattle.fluent_cut.specs.Cut.{cut};
 ghost use Rattle.fluent_cut.specs.Joined.{joined};
 ghost use Rattle.fluent_normal.specs.Normal.{IsNormalText, HasNoNormalText};
+ghost use Rattle.fluent_json.specs.Json.{json, HasNone};
 ghost use Rattle.fluent_desk.specs.Sources.{holds_return};
+ghost use Rattle.fluent_desk.specs.Trees.{IsNotImported};
+ghost use Rattle.fluent_requests.specs.Text.{line_feed};
 ghost use Rattle.fluent_serve.specs.Texts.{texts};
 ghost use Rattle.ftl_command.specs.CommandView.{tidy_view};
 ghost use Rattle.ftl_command.specs.Faults.{NamesOneOf, SaysNoUtf8, IsOfTidying};
-ghost use Rattle.ftl_command.specs.Program.{OnFile, OnTexts, Tidies, files_of};
+ghost use Rattle.ftl_command.specs.Program.{OnFile, OnTexts, OnValue, Imports, Tidies, json_line, files_of};
 
 use crate::borrowed::borrow_texts;
 use crate::fault::Fault;
 use crate::files::{read_source, read_sources};
 use crate::folder::Folder;
 use crate::words::Tidy;
-use fluent_desk::{clean, join, normalize};
-use std::alloc::Global;
+use fluent_desk::{clean, export, import, join, normalize};
+use serde_json::Value;
+use std::alloc::{AllocError, Global};
 
 /// The text that the sources' files are tidied into.
 pub fn tidied_text<'words, F: Folder>(
@@ -33,6 +40,8 @@ pub fn tidied_text<'words, F: Folder>(
         Tidy::Clean(file) => clean_file(folder, alloc, file),
         Tidy::Normalize(file) => normalize_file(folder, alloc, file),
         Tidy::Join(files) => join_files(folder, alloc, files),
+        Tidy::Export(file) => export_file(folder, alloc, file),
+        Tidy::Import(file) => import_file(folder, alloc, file),
     }
 }
 
@@ -84,4 +93,64 @@ fn join_files<'words, F: Folder>(
     let texts = read_sources(folder, alloc, files)?;
     let sources = borrow_texts(alloc, &texts)?;
     Ok(join(alloc, &sources)?)
+}
+
+/// The JSON tree of a file's source, on one line.
+fn export_file<'words, F: Folder>(
+    folder: &F,
+    alloc: Global,
+    file: &'words str,
+) -> Result<String, Fault<'words>>
+    ensures text { IfOk result (λ text. OnFile (F.contents folder.now) file.now (λ source. string_bytes text ≡ json_line source)) }
+    ensures carriage_return { IsErrOf result Fault.CarriageReturn → OnFile (F.contents folder.now) file.now (λ source. IsTrue (holds_return source)) }
+    ensures fault { IfErr result IsOfTidying }
+    ensures named { IfErr result (NamesOneOf (file.now ∷ [])) }
+    ensures not_utf8 { IfErr result (SaysNoUtf8 (F.contents folder.now)) }
+{
+    let source = read_source(folder, alloc, file)?;
+    let value = export(alloc, source.as_str())?;
+    drop(source);
+    Ok(line_of(alloc, &value)?)
+}
+
+/// A tree's value as compact JSON text, and a line feed.
+fn line_of(alloc: Global, value: &Value) -> Result<String, AllocError>
+    ensures { IfOk result (λ text. has_float (view value.now) ≡ false → string_bytes text ≡ compact_text (view value.now) ++ line_feed ∷ []) }
+{
+    let mut text = value.to_string(alloc)?;
+    text.push('\n')?;
+    Ok(text)
+}
+
+/// The text of the JSON tree in a file.
+fn import_file<'words, F: Folder>(
+    folder: &F,
+    alloc: Global,
+    file: &'words str,
+) -> Result<String, Fault<'words>>
+    ensures text { IfOk result (λ text. OnFile (F.contents folder.now) file.now (λ source. Imports source (string_bytes text))) }
+    ensures not_json { IsErrOf result Fault.NotJson → OnFile (F.contents folder.now) file.now (λ source. read_text source ≡ None) }
+    ensures not_tree { IsErrOf result Fault.NotTree → OnFile (F.contents folder.now) file.now (λ source. OnValue source (HasNone json)) }
+    ensures not_normal { IsErrOf result Fault.NotNormal → OnFile (F.contents folder.now) file.now (λ source. OnValue source IsNotImported) }
+    ensures fault { IfErr result IsOfTidying }
+    ensures named { IfErr result (NamesOneOf (file.now ∷ [])) }
+    ensures not_utf8 { IfErr result (SaysNoUtf8 (F.contents folder.now)) }
+{
+    let source = read_source(folder, alloc, file)?;
+    let value = json_value(alloc, source.as_str())?;
+    drop(source);
+    Ok(import(alloc, &value)?)
+}
+
+/// The value of a JSON text.
+fn json_value<'words>(alloc: Global, text: &str) -> Result<Value, Fault<'words>>
+    ensures value { IfOk result (λ value. read_text text.now ≡ Some (view value)) }
+    ensures not_json { IsErrOf result Fault.NotJson → read_text text.now ≡ None }
+    ensures fault { IfErr result (λ fault. (fault ≡ Fault.NotJson) ⊎ (fault ≡ Fault.Memory)) }
+{
+    match Value::from_str(alloc, text) {
+        Ok(value) => Ok(value),
+        Err(error) if error.is_memory() => Err(Fault::Memory),
+        Err(_) => Err(Fault::NotJson),
+    }
 }

@@ -1,7 +1,7 @@
 //! The words behind the program's name.
 ghost use Rattle.std.specs.Prelude.{◌≡◌, option_map};
 ghost use Rattle.std.specs.List.{list_all};
-ghost use Rattle.ftl_command.specs.Words.{clean, normalize, command_of, run_command, files_command, file_command, join_command, is_file};
+ghost use Rattle.ftl_command.specs.Words.{clean, normalize, export, import, command_of, run_command, files_command, file_command, join_command, is_file};
 ghost use Rattle.fluent_serve.specs.Texts.{texts};
 ghost use Rattle.ftl_command.specs.CommandView.{command_view};
 
@@ -28,10 +28,14 @@ pub enum Tidy<'words> {
     Normalize(&'words str),
     /// Sources are cleaned and put together, at least one.
     Join(&'words [&'words str]),
+    /// The JSON tree of the cleaned source is written.
+    Export(&'words str),
+    /// The text of a JSON tree is written.
+    Import(&'words str),
 }
 
-/// Reads the words: `run`, then `--no-isolating` or nothing, then one or more files; `clean` or `normalize` and a file;
-/// `join` and one or more files. A word that begins with `-` is no file. `None` for all other words.
+/// Reads the words: `run`, then `--no-isolating` or nothing, then one or more files; `clean`, `normalize`,
+/// `export` or `import` and a file; `join` and one or more files. A word that begins with `-` is no file. `None` for all other words.
 pub fn read_command<'words>(words: &'words [&'words str]) -> Option<Command<'words>>
     ensures { option_map command_view result ≡ command_of (texts words.now) }
 {
@@ -40,6 +44,8 @@ pub fn read_command<'words>(words: &'words [&'words str]) -> Option<Command<'wor
         Some((command, rest)) if *command == "clean" => read_clean(rest),
         Some((command, rest)) if *command == "normalize" => read_normalize(rest),
         Some((command, rest)) if *command == "join" => read_join(rest),
+        Some((command, rest)) if *command == "export" => read_export(rest),
+        Some((command, rest)) if *command == "import" => read_import(rest),
         _ => None,
     }
 }
@@ -60,6 +66,26 @@ fn read_normalize<'words>(words: &'words [&'words str]) -> Option<Command<'words
 {
     match words {
         [file] if is_file(file) => Some(Command::Tidy(Tidy::Normalize(file))),
+        _ => None,
+    }
+}
+
+/// `export` with these words behind it.
+fn read_export<'words>(words: &'words [&'words str]) -> Option<Command<'words>>
+    ensures { option_map command_view result ≡ file_command export (texts words.now) }
+{
+    match words {
+        [file] if is_file(file) => Some(Command::Tidy(Tidy::Export(file))),
+        _ => None,
+    }
+}
+
+/// `import` with these words behind it.
+fn read_import<'words>(words: &'words [&'words str]) -> Option<Command<'words>>
+    ensures { option_map command_view result ≡ file_command import (texts words.now) }
+{
+    match words {
+        [file] if is_file(file) => Some(Command::Tidy(Tidy::Import(file))),
         _ => None,
     }
 }

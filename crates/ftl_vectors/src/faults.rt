@@ -10,6 +10,8 @@ pub fn try_faults(alloc: Global) -> Tally {
     let rows = [
         (Fault::CarriageReturn, 1, "ftl: carriage return\n"),
         (Fault::NotNormal, 1, "ftl: not normal\n"),
+        (Fault::NotTree, 1, "ftl: not a tree\n"),
+        (Fault::NotJson, 1, "ftl: not JSON\n"),
         (Fault::CommandLine, 2, "ftl: bad command line\n"),
         (
             Fault::FileUnreadable { file },

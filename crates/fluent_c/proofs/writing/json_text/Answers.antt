@@ -2,7 +2,7 @@ use Rattle.std.proofs.Common.{rules, ap, ◌∙◌}
 use Rattle.serde_json.specs.Written.{compact_text, has_float}
 use Rattle.fluent_syntax.specs.Tiling.{tree}
 use Rattle.fluent_json.specs.Json.{json}
-use Rattle.fluent_c.proofs.NoFloats.{has_no_float}
+use Rattle.fluent_json.proofs.NoFloats.{has_no_float}
 use Rattle.fluent_c.proofs.writing.json_text.Goals as goal
 
 pub returns : goal.returns

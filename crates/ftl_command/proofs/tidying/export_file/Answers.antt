@@ -1,0 +1,19 @@
+use Rattle.std.proofs.Common.{◌≡◌, ◌∷◌, ◌++◌, [], ap, ◌∙◌, string_bytes}
+use Rattle.serde_json.specs.View.{view}
+use Rattle.serde_json.specs.Written.{compact_text, has_float}
+use Rattle.fluent_grammar.specs.Tiling.{tree}
+use Rattle.fluent_cut.specs.Cut.{cut}
+use Rattle.fluent_json.specs.Json.{json}
+use Rattle.fluent_json.proofs.NoFloats.{has_no_float}
+use Rattle.fluent_requests.specs.Text.{line_feed}
+use Rattle.ftl_command.proofs.tidying.export_file.Goals as goal
+
+pub returns-clause-text : goal.returns-clause-text
+returns-clause-text g c =
+    let source = string_bytes c.in_ok-source.source in
+    let same : view c.in_ok-value.value ≡ json (tree (cut source)) = c.in_ok-value.ensures.value ∙ ap (λ z. json (tree (cut z))) c.as_str.ensures.value in
+    record {
+      source = source;
+      held = c.in_ok-source.ensures.held;
+      outcome = c.in_ok-line_of.ensures (ap has_float same ∙ has_no_float (tree (cut source))) ∙ ap (λ v. compact_text v ++ line_feed ∷ []) same;
+    }
