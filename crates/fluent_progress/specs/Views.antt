@@ -1,0 +1,73 @@
+-- What the code hands down and on, as plain data.
+use Rattle.std.specs.Prelude.{ℕ, Bool, List, [], Option, Some, None, option_map, map, string_bytes, if◌then◌else◌, length, take, ◌-◌}
+use denote.Ref.{Bor}
+use Rattle.fluent_ast.specs.View.{pattern_view}
+use Rattle.fluent_ast.specs.declared.Pattern.{Pattern}
+use Rattle.fluent_errors.specs.Errors.{no_value, unknown}
+use Rattle.fluent_errors.specs.View.{bundle_view, reference_view}
+use Rattle.fluent_grammar.specs.Tree.{Elements}
+use Rattle.fluent_grammar.specs.Words.{Text}
+use Rattle.fluent_ids.specs.IdsView.{ids_view}
+use Rattle.fluent_meaning.specs.Environment.{Environment}
+use Rattle.fluent_meaning.specs.Ids.{find}
+use Rattle.fluent_meaning.specs.Substitution as s
+use Rattle.fluent_meaning.specs.Told.{State, budget_of, capped, in_byte}
+use Rattle.fluent_progress.specs.declared.place.Place.{Place}
+use Rattle.fluent_progress.specs.declared.progress.Progress.{Progress}
+use Rattle.fluent_progress.specs.declared.target.Target.{Target}
+use Rattle.fluent_progress.specs.declared.target.Target.TheVariants as target
+use Rattle.fluent_value.specs.ArgsView.{args_view}
+use Rattle.fluent_value.specs.Value.{Value}
+use Rattle.fluent_value.specs.declared.args.FluentArgs.{FluentArgs}
+
+-- the patterns that are being written, the last one entered last
+abbrev pub path_of : Progress → List Elements
+path_of p = map (λ x. pattern_view _ (λ s. s.now) x.now) p.path.items
+
+-- the path without its last pattern, where that one was put there
+abbrev pub path_left : Bool → Progress → List (Bor (Pattern (Bor (List ℕ))))
+path_left is_root p = if is_root then take (length p.path.items - 1) p.path.items else p.path.items
+
+-- what resolving has come to
+abbrev pub state : Progress → State
+state p = record {
+  errors = option_map (λ es. map bundle_view es.items) p.errors;
+  budget = budget_of p.dirty p.placeables;
+  placeables = in_byte p.placeables;
+  entered = capped p.entered;
+}
+
+-- what a reference means
+abbrev pub target_view : Target → s.Target
+target_view (target.There p) = s.there (pattern_view _ (λ s. s.now) p.now)
+target_view (target.Unknown kind) = s.missing (unknown (reference_view kind))
+target_view (target.NoValue id) = s.missing (no_value (string_bytes id))
+
+module _ {C S : Type 0} (meaning : C → S) where
+  -- arguments that may be absent, and those of a request, which are none then
+  abbrev pub given_args : Option (Bor (FluentArgs C)) → Option (List (Text × Value S))
+  given_args args = option_map (λ a. args_view meaning a.now) args
+
+  abbrev pub args_or_none : Option (List (Text × Value S)) → List (Text × Value S)
+  args_or_none None = []
+  args_or_none (Some args) = args
+
+  -- what is handed down, with a term's own arguments
+  abbrev pub place_view : {F E : Type 0} → Place C F E → Option (Bor (FluentArgs C)) → Progress → s.Place S
+  place_view place locals progress = record {
+    arguments = args_or_none (given_args place.arguments);
+    locals = given_args locals;
+    path = path_of progress;
+  }
+
+-- what patterns are resolved in, with the messages and terms that are handed down
+abbrev pub resolved_in : {C S F E : Type 0} → (E → Environment S F) → Place C F E → Environment S F
+resolved_in environment place = let env = environment place.context.now in record {
+  find = find (ids_view _ place.ids.now);
+  call = env.call;
+  isolating = env.isolating;
+  transformed = env.transformed;
+  formatted = env.formatted;
+  plurals = env.plurals;
+  shown = env.shown;
+}

@@ -1,0 +1,46 @@
+//! What patterns are resolved in.
+
+ghost use Rattle.std.specs.Prelude.{◌≡◌, IfOk, map};
+ghost use Rattle.std.specs.Cow.{cow_str_bytes};
+ghost use Rattle.fluent_environment.specs.Settings.{result_of};
+ghost use Rattle.fluent_ids.specs.EntryView.{function_meaning};
+ghost use Rattle.fluent_meaning.specs.Environment.{Environment, value_text};
+ghost use Rattle.fluent_value.specs.ArgsView.{args_view};
+ghost use Rattle.fluent_value.specs.Shown.{shown_text};
+ghost use Rattle.fluent_value.specs.Value.{Value};
+ghost use Rattle.fluent_value.specs.View.{value_view};
+
+use fluent_ids::FunctionRef;
+use fluent_value::{FluentArgs, FluentType, FluentValue, ValueScope};
+use std::alloc::AllocError;
+use std::borrow::CowStr;
+
+/// What patterns are resolved in but for their messages and terms: what functions give, and what texts and values are shown by. It
+/// stays the same while a pattern is resolved.
+pub trait Context<C: FluentType, F>: ValueScope<C> {
+    /// All of it as plain data.
+    ghost environment: { Self → Environment C.Meaning F };
+
+    /// What a function gives for these values. The only error is that memory runs out.
+    fn call<'a, 'n>(
+        &self,
+        function: &FunctionRef<'_, F>,
+        positional: &[FluentValue<'a, C>],
+        named: &FluentArgs<'n, C>,
+    ) -> Result<FluentValue<'a, C>, AllocError>
+        ensures { IfOk result (λ value. value_view C.meaning value ≡ result_of (environment self.now).call (function_meaning F function.now) (map (value_view C.meaning) positional.now) (args_view C.meaning named.now)) };
+
+    /// What becomes of a text of a pattern. The only error is that memory runs out.
+    fn transform<'t>(&self, text: &'t str) -> Result<CowStr<'t>, AllocError>
+        ensures { IfOk result (λ new. cow_str_bytes new ≡ (environment self.now).transformed text.now) };
+
+    /// Whether placeables stand between isolation marks.
+    fn is_isolating(&self) -> bool
+        ensures { result ≡ (environment self.now).isolating };
+
+    /// A value is shown as its text.
+    ghost shows: { (x : Self) (v : Value C.Meaning) → value_text (environment x) v ≡ shown_text (Self.formatted x) (Self.shown x) v };
+
+    /// Variants are chosen by the plural source.
+    ghost chooses: { (x : Self) → (environment x).plurals ≡ Self.plurals x };
+}

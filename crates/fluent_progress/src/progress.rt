@@ -1,0 +1,70 @@
+//! What resolving has come to so far.
+
+ghost use Rattle.std.specs.Prelude.{◌≡◌, false, true, IfOk, OnErr, OnOk};
+ghost use Rattle.fluent_errors.specs.View.{resolver_view};
+ghost use Rattle.fluent_meaning.specs.Steps.{done, entering, opens};
+ghost use Rattle.fluent_meaning.specs.Told.{Finds, after};
+ghost use Rattle.fluent_progress.specs.Telling.{with_error};
+ghost use Rattle.fluent_progress.specs.Views.{state};
+
+use fluent_ast::Pattern;
+use fluent_errors::{FluentError, ResolverError};
+use std::alloc::AllocError;
+
+/// How many placeables one answer may open.
+const MOST_PLACEABLES: u8 = 100;
+
+/// What resolving has come to so far, handed on from step to step.
+#[derive(Drop)]
+pub struct Progress<'r, 's> {
+    /// The errors told so far, where they are wanted.
+    pub errors: Option<Vec<FluentError>>,
+    /// How many placeables were counted, at most 255.
+    pub placeables: u8,
+    /// Whether one placeable more was to be opened than may be.
+    pub dirty: bool,
+    /// How many patterns were entered.
+    pub entered: u128,
+    /// The patterns that are being written, the last one entered last.
+    pub path: Vec<&'r Pattern<&'s str>>,
+}
+
+impl Progress<'_, '_> {
+    /// Tells an error, where errors are wanted. The only error of the call is that memory runs out; nothing is told then.
+    pub fn add_error(&mut self, error: ResolverError) -> Result<(), AllocError>
+        ensures told { OnOk result (state self.new ≡ with_error (resolver_view error) (state self.old)) }
+        ensures refused { OnErr result (state self.new ≡ state self.old) }
+        ensures path { self.new.path ≡ self.old.path }
+    {
+        if let Some(errors) = &mut self.errors {
+            errors.push(FluentError::ResolverError(error))?;
+        }
+        Ok(())
+    }
+
+    /// Counts a pattern that is entered.
+    pub fn count_entry(&mut self)
+        ensures counted { state self.new ≡ after (state self.old) (entering (done true (state self.old).budget)) }
+        ensures path { self.new.path ≡ self.old.path }
+    {
+        self.entered = self.entered.saturating_add(1);
+    }
+
+    /// Counts a placeable, and answers whether it may be opened. One too many is told. The only error is that memory runs out;
+    /// nothing is counted or told then.
+    pub fn open_placeable(&mut self) -> Result<bool, AllocError>
+        requires { self.now.dirty ≡ false }
+        ensures opens { IfOk result (λ is_open. Finds is_open (state self.old) (state self.new) opens) }
+        ensures refused { OnErr result (state self.new ≡ state self.old) }
+        ensures path { self.new.path ≡ self.old.path }
+    {
+        if self.placeables < MOST_PLACEABLES {
+            self.placeables += 1;
+            return Ok(true);
+        }
+        self.add_error(ResolverError::TooManyPlaceables)?;
+        self.placeables = self.placeables.saturating_add(1);
+        self.dirty = true;
+        Ok(false)
+    }
+}

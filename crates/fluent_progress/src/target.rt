@@ -1,0 +1,129 @@
+//! The patterns that references mean.
+
+ghost use Rattle.std.specs.Prelude.{◌≡◌, IfOk, map, option_copied, option_map, string_bytes};
+ghost use Rattle.fluent_ast.specs.View.{attribute_view, name_of, pattern_view};
+ghost use Rattle.fluent_errors.specs.Errors as e;
+ghost use Rattle.fluent_errors.specs.View.{reference_view};
+ghost use Rattle.fluent_ids.specs.IdsView.{ids_view};
+ghost use Rattle.fluent_meaning.specs.Ids as ids;
+ghost use Rattle.fluent_meaning.specs.Substitution as s;
+ghost use Rattle.fluent_progress.specs.Views.{target_view};
+
+use crate::context::Context;
+use crate::place::Place;
+use fluent_ast::{Attribute, Identifier, Pattern};
+use fluent_errors::ReferenceKind;
+use fluent_ids::Entry;
+use fluent_value::FluentType;
+use std::alloc::{AllocError, Global};
+
+/// The pattern that a reference means, or why there is none.
+#[derive(Drop)]
+pub enum Target<'r, 's> {
+    There(&'r Pattern<&'s str>),
+    /// The message, the term or the attribute is unknown.
+    Unknown(ReferenceKind),
+    /// The message of this id has no value.
+    NoValue(String),
+}
+
+/// The value of the first attribute of a name.
+fn attribute_named<'r, 's>(
+    attributes: &'r [Attribute<&'s str>],
+    name: &str,
+) -> Option<&'r Pattern<&'s str>>
+    ensures { option_map (pattern_view _ (λ s. s.now)) (option_copied result) ≡ ids.attribute_named name.now (map (attribute_view _ (λ s. s.now)) attributes.now) }
+{
+    for attribute in attributes {
+        if attribute.id.name == name {
+            return Some(&attribute.value);
+        }
+    }
+    None
+}
+
+/// A copy of a name, if there is one.
+fn copied(alloc: Global, name: &Option<Identifier<&str>>) -> Result<Option<String>, AllocError>
+    ensures { IfOk result (λ copy. option_map string_bytes copy ≡ option_map (name_of _ (λ s. s.now)) name.now) }
+{
+    match name {
+        Some(name) => Ok(Some(String::from_str(alloc, name.name)?)),
+        None => Ok(None),
+    }
+}
+
+/// That a message or its attribute is unknown.
+fn unknown_message(
+    alloc: Global,
+    id: &Identifier<&str>,
+    attribute: &Option<Identifier<&str>>,
+) -> Result<ReferenceKind, AllocError>
+    ensures { IfOk result (λ kind. reference_view kind ≡ e.to_message (name_of _ (λ s. s.now) id.now) (option_map (name_of _ (λ s. s.now)) attribute.now)) }
+{
+    let attribute = copied(alloc, attribute)?;
+    Ok(ReferenceKind::Message {
+        id: String::from_str(alloc, id.name)?,
+        attribute,
+    })
+}
+
+/// That a term or its attribute is unknown.
+fn unknown_term(
+    alloc: Global,
+    id: &Identifier<&str>,
+    attribute: &Option<Identifier<&str>>,
+) -> Result<ReferenceKind, AllocError>
+    ensures { IfOk result (λ kind. reference_view kind ≡ e.to_term (name_of _ (λ s. s.now) id.now) (option_map (name_of _ (λ s. s.now)) attribute.now)) }
+{
+    let attribute = copied(alloc, attribute)?;
+    Ok(ReferenceKind::Term {
+        id: String::from_str(alloc, id.name)?,
+        attribute,
+    })
+}
+
+impl<'r, 's, C: FluentType, F, E: Context<C, F>> Place<'r, 's, C, F, E> {
+    /// What a message reference means. The only error is that memory runs out.
+    pub fn message_target(
+        &self,
+        id: &Identifier<&str>,
+        attribute: &Option<Identifier<&str>>,
+    ) -> Result<Target<'r, 's>, AllocError>
+        ensures { IfOk result (λ target. target_view target ≡ s.message_target (name_of _ (λ s. s.now) id.now) (option_map (name_of _ (λ s. s.now)) attribute.now) (ids.find (ids_view F self.now.ids.now) (name_of _ (λ s. s.now) id.now))) }
+    {
+        let alloc = self.context.alloc();
+        let Some(Entry::Message((_, message))) = self.ids.get(id.name) else {
+            return Ok(Target::Unknown(unknown_message(alloc, id, attribute)?));
+        };
+        let found = match attribute {
+            None => message.value.as_ref(),
+            Some(name) => attribute_named(&message.attributes, name.name),
+        };
+        match (found, attribute) {
+            (Some(pattern), _) => Ok(Target::There(pattern)),
+            (None, None) => Ok(Target::NoValue(String::from_str(alloc, id.name)?)),
+            (None, Some(_)) => Ok(Target::Unknown(unknown_message(alloc, id, attribute)?)),
+        }
+    }
+
+    /// What a term reference means. The only error is that memory runs out.
+    pub fn term_target(
+        &self,
+        id: &Identifier<&str>,
+        attribute: &Option<Identifier<&str>>,
+    ) -> Result<Target<'r, 's>, AllocError>
+        ensures { IfOk result (λ target. target_view target ≡ s.term_target (name_of _ (λ s. s.now) id.now) (option_map (name_of _ (λ s. s.now)) attribute.now) (ids.find (ids_view F self.now.ids.now) (name_of _ (λ s. s.now) id.now))) }
+    {
+        let alloc = self.context.alloc();
+        let Some(Entry::Term((_, term))) = self.ids.get(id.name) else {
+            return Ok(Target::Unknown(unknown_term(alloc, id, attribute)?));
+        };
+        let Some(name) = attribute else {
+            return Ok(Target::There(&term.value));
+        };
+        match attribute_named(&term.attributes, name.name) {
+            Some(pattern) => Ok(Target::There(pattern)),
+            None => Ok(Target::Unknown(unknown_term(alloc, id, attribute)?)),
+        }
+    }
+}

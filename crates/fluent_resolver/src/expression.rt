@@ -1,0 +1,172 @@
+//! Expressions that are written.
+
+ghost use Rattle.std.specs.Prelude.{◌≡◌, map, OnErr, OnOk, IfOk, option_copied, option_map, string_bytes};
+ghost use Rattle.fluent_ast.specs.View.{arguments_view, expression_view, inline_view, maybe_arguments, name_of, pattern_view, variant_view, variants_of};
+ghost use Rattle.fluent_meaning.specs.Choice.{chosen as chosen_of};
+ghost use Rattle.fluent_meaning.specs.Refused.{TellsSome};
+ghost use Rattle.fluent_meaning.specs.Steps.{mapped};
+ghost use Rattle.fluent_meaning.specs.Substitution as s;
+ghost use Rattle.fluent_meaning.specs.Told.{Finds, Writes};
+ghost use Rattle.fluent_grammar.specs.Tree as t;
+ghost use Rattle.fluent_progress.specs.Views.{place_view, resolved_in, state};
+
+use crate::arguments::{call_result, own_arguments};
+use crate::pattern::{write_pattern, write_target};
+use crate::value::value_of;
+use fluent_ast::{CallArguments, Expression, Identifier, InlineExpression, Pattern, Variant};
+use fluent_errors::{ReferenceKind, ResolverError};
+use fluent_progress::fallback::fall_back;
+use fluent_progress::text::write_literal;
+use fluent_progress::value::{write_number, write_result};
+use fluent_progress::variant::chosen;
+use fluent_progress::{Context, Place, Progress};
+use fluent_value::{FluentArgs, FluentType};
+use std::alloc::AllocError;
+
+/// Writes an expression. The only error is that memory runs out.
+#[cycle(resolving)]
+pub fn write_expression<'r, 's, C: FluentType + Drop, F, E: Context<C, F>>(
+    out: &mut String,
+    place: &Place<'r, 's, C, F, E>,
+    locals: Option<&FluentArgs<'r, C>>,
+    progress: &mut Progress<'r, 's>,
+    expression: &'r Expression<&'s str>,
+) -> Result<(), AllocError>
+    ensures wrote { OnOk result (Writes (string_bytes out.old) (string_bytes out.new) (state progress.old) (state progress.new) (s.expression_written (resolved_in E.environment place.now) (expression_view _ (λ s. s.now) expression.now) (place_view C.meaning place.now locals.entry progress.old))) }
+    ensures refused { OnErr result (TellsSome (state progress.old) (state progress.new) (s.expression_written (resolved_in E.environment place.now) (expression_view _ (λ s. s.now) expression.now) (place_view C.meaning place.now locals.entry progress.old) (state progress.old).budget)) }
+    ensures path { OnOk result (progress.new.path.items ≡ progress.old.path.items) }
+{
+    match expression {
+        Expression::Select { selector, variants } => {
+            write_select(out, place, locals, progress, selector, variants)
+        }
+        Expression::Inline(inline) => write_inline(out, place, locals, progress, inline),
+    }
+}
+
+/// Writes the variant of a select that is chosen.
+#[cycle(resolving)]
+fn write_select<'r, 's, C: FluentType + Drop, F, E: Context<C, F>>(
+    out: &mut String,
+    place: &Place<'r, 's, C, F, E>,
+    locals: Option<&FluentArgs<'r, C>>,
+    progress: &mut Progress<'r, 's>,
+    selector: &'r InlineExpression<&'s str>,
+    variants: &'r Vec<Variant<&'s str>>,
+) -> Result<(), AllocError>
+    ensures wrote { OnOk result (Writes (string_bytes out.old) (string_bytes out.new) (state progress.old) (state progress.new) (s.expression_written (resolved_in E.environment place.now) (t.select (inline_view _ (λ s. s.now) selector.now) (variants_of (map (variant_view _ (λ s. s.now)) variants.now.items))) (place_view C.meaning place.now locals.entry progress.old))) }
+    ensures refused { OnErr result (TellsSome (state progress.old) (state progress.new) (s.expression_written (resolved_in E.environment place.now) (t.select (inline_view _ (λ s. s.now) selector.now) (variants_of (map (variant_view _ (λ s. s.now)) variants.now.items))) (place_view C.meaning place.now locals.entry progress.old) (state progress.old).budget)) }
+    ensures path { OnOk result (progress.new.path.items ≡ progress.old.path.items) }
+{
+    match choose(place, locals, progress, selector, variants)? {
+        Some(pattern) => {
+            progress.count_entry();
+            write_pattern(out, place, locals, progress, pattern)
+        }
+        None => progress.add_error(ResolverError::MissingDefault),
+    }
+}
+
+/// The variant of a select that is chosen.
+#[cycle(resolving)]
+fn choose<'r, 's, C: FluentType + Drop, F, E: Context<C, F>>(
+    place: &Place<'r, 's, C, F, E>,
+    locals: Option<&FluentArgs<'r, C>>,
+    progress: &mut Progress<'r, 's>,
+    selector: &'r InlineExpression<&'s str>,
+    variants: &'r Vec<Variant<&'s str>>,
+) -> Result<Option<&'r Pattern<&'s str>>, AllocError>
+    ensures found { IfOk result (λ found. Finds (option_map (pattern_view _ (λ s. s.now)) (option_copied found)) (state progress.old) (state progress.new) (λ b. mapped (λ v. chosen_of (resolved_in E.environment place.now).plurals v (variants_of (map (variant_view _ (λ s. s.now)) variants.now.items))) (s.value_found (resolved_in E.environment place.now) (inline_view _ (λ s. s.now) selector.now) (place_view C.meaning place.now locals.entry progress.old) b))) }
+    ensures refused { OnErr result (TellsSome (state progress.old) (state progress.new) (mapped (λ v. chosen_of (resolved_in E.environment place.now).plurals v (variants_of (map (variant_view _ (λ s. s.now)) variants.now.items))) (s.value_found (resolved_in E.environment place.now) (inline_view _ (λ s. s.now) selector.now) (place_view C.meaning place.now locals.entry progress.old) (state progress.old).budget))) }
+    ensures path { OnOk result (progress.new.path.items ≡ progress.old.path.items) }
+{
+    let value = value_of(place, locals, progress, selector)?;
+    Ok(chosen(place.context, &value, variants))
+}
+
+/// Writes an inline expression. The only error is that memory runs out.
+#[cycle(resolving)]
+pub fn write_inline<'r, 's, C: FluentType + Drop, F, E: Context<C, F>>(
+    out: &mut String,
+    place: &Place<'r, 's, C, F, E>,
+    locals: Option<&FluentArgs<'r, C>>,
+    progress: &mut Progress<'r, 's>,
+    inline: &'r InlineExpression<&'s str>,
+) -> Result<(), AllocError>
+    ensures wrote { OnOk result (Writes (string_bytes out.old) (string_bytes out.new) (state progress.old) (state progress.new) (s.inline_written (resolved_in E.environment place.now) (inline_view _ (λ s. s.now) inline.now) (place_view C.meaning place.now locals.entry progress.old))) }
+    ensures refused { OnErr result (TellsSome (state progress.old) (state progress.new) (s.inline_written (resolved_in E.environment place.now) (inline_view _ (λ s. s.now) inline.now) (place_view C.meaning place.now locals.entry progress.old) (state progress.old).budget)) }
+    ensures path { OnOk result (progress.new.path.items ≡ progress.old.path.items) }
+{
+    match inline {
+        InlineExpression::StringLiteral { value } => write_literal(out, *value),
+        InlineExpression::NumberLiteral { value } => write_number(out, place.context, *value),
+        InlineExpression::FunctionReference { id, arguments } => {
+            write_call(out, place, locals, progress, inline, id, arguments)
+        }
+        InlineExpression::MessageReference { id, attribute } => {
+            let target = place.message_target(id, attribute)?;
+            write_target(out, place, locals, progress, inline, target)
+        }
+        InlineExpression::TermReference {
+            id,
+            attribute,
+            arguments,
+        } => write_term(
+            out, place, locals, progress, inline, id, attribute, arguments,
+        ),
+        InlineExpression::VariableReference { id } => {
+            place.write_variable(out, locals, progress, id)
+        }
+        InlineExpression::Placeable { expression } => {
+            write_expression(out, place, locals, progress, expression)
+        }
+    }
+}
+
+/// Writes a call, whose function is known or not.
+#[cycle(resolving)]
+fn write_call<'r, 's, C: FluentType + Drop, F, E: Context<C, F>>(
+    out: &mut String,
+    place: &Place<'r, 's, C, F, E>,
+    locals: Option<&FluentArgs<'r, C>>,
+    progress: &mut Progress<'r, 's>,
+    inline: &'r InlineExpression<&'s str>,
+    id: &'r Identifier<&'s str>,
+    arguments: &'r CallArguments<&'s str>,
+) -> Result<(), AllocError>
+    requires { inline_view _ (λ s. s.now) inline.now ≡ t.function_reference (name_of _ (λ s. s.now) id.now) (arguments_view _ (λ s. s.now) arguments.now) }
+    ensures wrote { OnOk result (Writes (string_bytes out.old) (string_bytes out.new) (state progress.old) (state progress.new) (s.inline_written (resolved_in E.environment place.now) (inline_view _ (λ s. s.now) inline.now) (place_view C.meaning place.now locals.entry progress.old))) }
+    ensures refused { OnErr result (TellsSome (state progress.old) (state progress.new) (s.inline_written (resolved_in E.environment place.now) (inline_view _ (λ s. s.now) inline.now) (place_view C.meaning place.now locals.entry progress.old) (state progress.old).budget)) }
+    ensures path { OnOk result (progress.new.path.items ≡ progress.old.path.items) }
+{
+    match call_result(place, locals, progress, id, arguments)? {
+        Some(result) => write_result(out, place.context, id.name, &result),
+        None => {
+            let id = String::from_str(place.context.alloc(), id.name)?;
+            let error = ResolverError::Reference(ReferenceKind::Function { id });
+            fall_back(out, progress, inline, error)
+        }
+    }
+}
+
+/// Writes a term reference: its own arguments are the only ones inside it.
+#[cycle(resolving)]
+fn write_term<'r, 's, C: FluentType + Drop, F, E: Context<C, F>>(
+    out: &mut String,
+    place: &Place<'r, 's, C, F, E>,
+    locals: Option<&FluentArgs<'r, C>>,
+    progress: &mut Progress<'r, 's>,
+    inline: &'r InlineExpression<&'s str>,
+    id: &'r Identifier<&'s str>,
+    attribute: &'r Option<Identifier<&'s str>>,
+    arguments: &'r Option<CallArguments<&'s str>>,
+) -> Result<(), AllocError>
+    requires { inline_view _ (λ s. s.now) inline.now ≡ t.term_reference (name_of _ (λ s. s.now) id.now) (option_map (name_of _ (λ s. s.now)) attribute.now) (maybe_arguments (option_map (arguments_view _ (λ s. s.now)) arguments.now)) }
+    ensures wrote { OnOk result (Writes (string_bytes out.old) (string_bytes out.new) (state progress.old) (state progress.new) (s.inline_written (resolved_in E.environment place.now) (inline_view _ (λ s. s.now) inline.now) (place_view C.meaning place.now locals.entry progress.old))) }
+    ensures refused { OnErr result (TellsSome (state progress.old) (state progress.new) (s.inline_written (resolved_in E.environment place.now) (inline_view _ (λ s. s.now) inline.now) (place_view C.meaning place.now locals.entry progress.old) (state progress.old).budget)) }
+    ensures path { OnOk result (progress.new.path.items ≡ progress.old.path.items) }
+{
+    let own = own_arguments(place, locals, progress, arguments)?;
+    let target = place.term_target(id, attribute)?;
+    write_target(out, place, Some(&own), progress, inline, target)
+}
