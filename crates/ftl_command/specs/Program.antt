@@ -81,6 +81,12 @@ OnTidy contents None Outcome = ⊥
 OnTidy contents (Some (run r)) Outcome = ⊤
 OnTidy contents (Some (tidy t)) Outcome = Tidied contents t Outcome
 
+-- of commands other than those that tidy nothing is said
+abbrev pub ForTidy : Option Asked → Type 0 → Type 0
+ForTidy None Fact = ⊤
+ForTidy (Some (run r)) Fact = ⊤
+ForTidy (Some (tidy t)) Fact = Fact
+
 -- the files that the words name
 abbrev pub files_of : Tidy → List Text
 files_of (clean file) = file ∷ []

@@ -6,7 +6,7 @@ ghost use Rattle.fluent_serve.specs.Devices.{HasFailed};
 ghost use Rattle.fluent_serve.specs.Exchange.{devices, AnswersAll, AnswersFirst, AnswersWhole, AnswersFront};
 ghost use Rattle.ftl_command.specs.Faults.{status_of, NamesOneOf, SaysNoUtf8, IsBeforeInput};
 ghost use Rattle.fluent_requests.specs.Frames.{answers};
-ghost use Rattle.ftl_command.specs.Program.{OnFiles, OnRun, OnTidy, Tidied, WritesFront, files_named, files_of};
+ghost use Rattle.ftl_command.specs.Program.{OnFiles, OnRun, OnTidy, ForTidy, Tidied, WritesFront, files_named, files_of};
 ghost use Rattle.ftl_command.specs.CommandView.{tidy_view};
 ghost use Rattle.ftl_command.specs.Words.{command_of};
 
@@ -72,11 +72,16 @@ pub fn run_command<'words, F: Folder, I: Source, O: Sink>(
     ensures reads { OnOk result (I.failures reader.new ≡ I.failures reader.old) }
     ensures writes { OnOk result (O.failures writer.new ≡ O.failures writer.old) }
 
-    // What the sources are tidied into is written, and nothing else. Of a fault of the writer: a front of it.
+    // What the sources are tidied into is written, and nothing else. Of a fault of the writer: a front of it. Of
+    // another fault: nothing.
     ensures tidied { OnOk result (OnTidy (F.contents folder.now) (command_of (texts words.now))
         (Appends (O.contents writer.old) (O.contents writer.new))) }
-    ensures tidied_front { IsErrOf result Fault.Output → OnTidy (F.contents folder.now) (command_of (texts words.now))
+    ensures tidied_front { IsErrOf result Fault.Output → OnTidy
+        (F.contents folder.now) (command_of (texts words.now))
         (WritesFront (O.contents writer.old) (O.contents writer.new)) }
+
+    ensures untidied { IfErr result (λ fault. fault ≢ Fault.Output →
+        ForTidy (command_of (texts words.now)) (writer.new ≡ writer.old)) }
 
     // Before the words and all files are read, nothing else is read and nothing is written.
     ensures refused { IsErrOf result Fault.CommandLine ↔ (command_of (texts words.now) ≡ None) }
@@ -111,13 +116,15 @@ fn write_tidied<'words, F: Folder, O: Sink>(
     tidy: Tidy<'words>,
     writer: &mut O,
 ) -> Result<(), Fault<'words>>
-    ensures tidied { OnOk result (Tidied (F.contents folder.now) (tidy_view tidy.entry) (Appends (O.contents writer.old) (O.contents writer.new))) }
+    ensures tidied { OnOk result (Tidied (F.contents folder.now) (tidy_view tidy.entry)
+        (Appends (O.contents writer.old) (O.contents writer.new))) }
     ensures writes { OnOk result (O.failures writer.new ≡ O.failures writer.old) }
     ensures named { IfErr result (NamesOneOf (files_of (tidy_view tidy.entry))) }
     ensures not_utf8 { IfErr result (SaysNoUtf8 (F.contents folder.now)) }
     ensures not_words { IfErr result (λ fault. fault ≢ Fault.CommandLine) }
     ensures unwritten { IfErr result (λ fault. fault ≢ Fault.Output → writer.new ≡ writer.old) }
-    ensures output { IsErrOf result Fault.Output → Tidied (F.contents folder.now) (tidy_view tidy.entry) (WritesFront (O.contents writer.old) (O.contents writer.new)) }
+    ensures output { IsErrOf result Fault.Output → Tidied
+        (F.contents folder.now) (tidy_view tidy.entry) (WritesFront (O.contents writer.old) (O.contents writer.new)) }
     ensures failed { IsErrOf result Fault.Output → HasFailed (O.failures writer.old) (O.failures writer.new) }
 {
     let text = tidied_text(folder, alloc, tidy)?;

@@ -31,7 +31,8 @@ pub fn tidied_text<'words, F: Folder>(
     alloc: Global,
     tidy: Tidy<'words>,
 ) -> Result<String, Fault<'words>>
-    ensures text { IfOk result (λ text. Tidies (F.contents folder.now) (tidy_view tidy.entry) (string_bytes text)) }
+    ensures text { IfOk result (λ text. Tidies
+        (F.contents folder.now) (tidy_view tidy.entry) (string_bytes text)) }
     ensures fault { IfErr result IsOfTidying }
     ensures named { IfErr result (NamesOneOf (files_of (tidy_view tidy.entry))) }
     ensures not_utf8 { IfErr result (SaysNoUtf8 (F.contents folder.now)) }
@@ -51,8 +52,10 @@ fn clean_file<'words, F: Folder>(
     alloc: Global,
     file: &'words str,
 ) -> Result<String, Fault<'words>>
-    ensures text { IfOk result (λ text. OnFile (F.contents folder.now) file.now (λ source. string_bytes text ≡ cut source)) }
-    ensures carriage_return { IsErrOf result Fault.CarriageReturn → OnFile (F.contents folder.now) file.now (λ source. IsTrue (holds_return source)) }
+    ensures text { IfOk result (λ text. OnFile (F.contents folder.now) file.now
+        (λ source. string_bytes text ≡ cut source)) }
+    ensures carriage_return { IsErrOf result Fault.CarriageReturn → OnFile
+        (F.contents folder.now) file.now (λ source. IsTrue (holds_return source)) }
     ensures fault { IfErr result IsOfTidying }
     ensures named { IfErr result (NamesOneOf (file.now ∷ [])) }
     ensures not_utf8 { IfErr result (SaysNoUtf8 (F.contents folder.now)) }
@@ -67,9 +70,12 @@ fn normalize_file<'words, F: Folder>(
     alloc: Global,
     file: &'words str,
 ) -> Result<String, Fault<'words>>
-    ensures text { IfOk result (λ text. OnFile (F.contents folder.now) file.now (λ source. IsNormalText source (string_bytes text))) }
-    ensures carriage_return { IsErrOf result Fault.CarriageReturn → OnFile (F.contents folder.now) file.now (λ source. IsTrue (holds_return source)) }
-    ensures not_normal { IsErrOf result Fault.NotNormal → OnFile (F.contents folder.now) file.now HasNoNormalText }
+    ensures text { IfOk result (λ text. OnFile (F.contents folder.now) file.now
+        (λ source. IsNormalText source (string_bytes text))) }
+    ensures carriage_return { IsErrOf result Fault.CarriageReturn → OnFile
+        (F.contents folder.now) file.now (λ source. IsTrue (holds_return source)) }
+    ensures not_normal { IsErrOf result Fault.NotNormal → OnFile
+        (F.contents folder.now) file.now HasNoNormalText }
     ensures fault { IfErr result IsOfTidying }
     ensures named { IfErr result (NamesOneOf (file.now ∷ [])) }
     ensures not_utf8 { IfErr result (SaysNoUtf8 (F.contents folder.now)) }
@@ -84,8 +90,10 @@ fn join_files<'words, F: Folder>(
     alloc: Global,
     files: &'words [&'words str],
 ) -> Result<String, Fault<'words>>
-    ensures text { IfOk result (λ text. OnTexts (F.contents folder.now) (texts files.now) (λ sources. string_bytes text ≡ joined sources)) }
-    ensures carriage_return { IsErrOf result Fault.CarriageReturn → OnTexts (F.contents folder.now) (texts files.now) (λ sources. IsTrue (list_any holds_return sources)) }
+    ensures text { IfOk result (λ text. OnTexts (F.contents folder.now) (texts files.now)
+        (λ sources. string_bytes text ≡ joined sources)) }
+    ensures carriage_return { IsErrOf result Fault.CarriageReturn → OnTexts
+        (F.contents folder.now) (texts files.now) (λ sources. IsTrue (list_any holds_return sources)) }
     ensures fault { IfErr result IsOfTidying }
     ensures named { IfErr result (NamesOneOf (texts files.now)) }
     ensures not_utf8 { IfErr result (SaysNoUtf8 (F.contents folder.now)) }
@@ -101,8 +109,10 @@ fn export_file<'words, F: Folder>(
     alloc: Global,
     file: &'words str,
 ) -> Result<String, Fault<'words>>
-    ensures text { IfOk result (λ text. OnFile (F.contents folder.now) file.now (λ source. string_bytes text ≡ json_line source)) }
-    ensures carriage_return { IsErrOf result Fault.CarriageReturn → OnFile (F.contents folder.now) file.now (λ source. IsTrue (holds_return source)) }
+    ensures text { IfOk result (λ text. OnFile (F.contents folder.now) file.now
+        (λ source. string_bytes text ≡ json_line source)) }
+    ensures carriage_return { IsErrOf result Fault.CarriageReturn → OnFile
+        (F.contents folder.now) file.now (λ source. IsTrue (holds_return source)) }
     ensures fault { IfErr result IsOfTidying }
     ensures named { IfErr result (NamesOneOf (file.now ∷ [])) }
     ensures not_utf8 { IfErr result (SaysNoUtf8 (F.contents folder.now)) }
@@ -115,7 +125,8 @@ fn export_file<'words, F: Folder>(
 
 /// A tree's value as compact JSON text, and a line feed.
 fn line_of(alloc: Global, value: &Value) -> Result<String, AllocError>
-    ensures { IfOk result (λ text. has_float (view value.now) ≡ false → string_bytes text ≡ compact_text (view value.now) ++ line_feed ∷ []) }
+    ensures { IfOk result (λ text. has_float (view value.now) ≡ false →
+        string_bytes text ≡ compact_text (view value.now) ++ line_feed ∷ []) }
 {
     let mut text = value.to_string(alloc)?;
     text.push('\n')?;
@@ -128,10 +139,14 @@ fn import_file<'words, F: Folder>(
     alloc: Global,
     file: &'words str,
 ) -> Result<String, Fault<'words>>
-    ensures text { IfOk result (λ text. OnFile (F.contents folder.now) file.now (λ source. Imports source (string_bytes text))) }
-    ensures not_json { IsErrOf result Fault.NotJson → OnFile (F.contents folder.now) file.now (λ source. read_text source ≡ None) }
-    ensures not_tree { IsErrOf result Fault.NotTree → OnFile (F.contents folder.now) file.now (λ source. OnValue source (HasNone json)) }
-    ensures not_normal { IsErrOf result Fault.NotNormal → OnFile (F.contents folder.now) file.now (λ source. OnValue source IsNotImported) }
+    ensures text { IfOk result (λ text. OnFile (F.contents folder.now) file.now
+        (λ source. Imports source (string_bytes text))) }
+    ensures not_json { IsErrOf result Fault.NotJson → OnFile (F.contents folder.now) file.now
+        (λ source. read_text source ≡ None) }
+    ensures not_tree { IsErrOf result Fault.NotTree → OnFile (F.contents folder.now) file.now
+        (λ source. OnValue source (HasNone json)) }
+    ensures not_normal { IsErrOf result Fault.NotNormal → OnFile (F.contents folder.now) file.now
+        (λ source. OnValue source IsNotImported) }
     ensures fault { IfErr result IsOfTidying }
     ensures named { IfErr result (NamesOneOf (file.now ∷ [])) }
     ensures not_utf8 { IfErr result (SaysNoUtf8 (F.contents folder.now)) }
