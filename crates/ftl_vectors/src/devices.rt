@@ -3,9 +3,9 @@ ghost use Rattle.std.specs.Prelude.{◌≤◌, IfOk};
 
 use crate::tally::Tally;
 use anyhow::Result;
-use ftl_engine::run_thin;
 use fluent_serve::serve::RunError;
 use fluent_serve::stream::{FromRead, FromWrite};
+use ftl_engine::run_thin;
 use std::alloc::Global;
 use std::io;
 use std::io::{ErrorKind, Read, Write};

@@ -1,9 +1,9 @@
 //! Want of memory: `rt try --fail-alloc N` refuses an allocation, as `docs/CHECKS.md` says.
 use crate::devices::{ANSWERS, REQUESTS, SOURCE, are_whole};
 use crate::tally::Tally;
-use ftl_engine::run_thin;
 use fluent_serve::serve::RunError;
 use fluent_serve::stream::{FromRead, FromWrite};
+use ftl_engine::run_thin;
 use std::alloc::Global;
 
 /// Room for the answers, in bytes.

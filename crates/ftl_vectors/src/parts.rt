@@ -1,11 +1,11 @@
 //! The parts of the engine, each by itself.
 use crate::tally::Tally;
 use anyhow::Result;
+use fluent_serve::serve::Engine;
 use fluent_syntax::parser::parse;
 use ftl_engine::catalog::Catalog;
 use ftl_engine::engine::Thin;
 use ftl_engine::entry::{Element, read_entry};
-use fluent_serve::serve::Engine;
 use ftl_engine::text::{PLACEABLE_LIMIT, format_message};
 use std::alloc::Global;
 

@@ -1,8 +1,8 @@
 //! Sources, requests and answers of the thin engine, by the rules of `docs/protocol.md`.
 use crate::tally::Tally;
 use anyhow::{Context, Result};
-use ftl_engine::run_thin;
 use fluent_serve::stream::{FromRead, FromWrite};
+use ftl_engine::run_thin;
 use serde_json::Value;
 use std::alloc::Global;
 use std::fs;
