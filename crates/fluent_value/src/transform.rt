@@ -15,3 +15,11 @@ pub trait TextTransform: Drop {
     fn transform<'t>(&self, alloc: Global, text: &'t str) -> Result<CowStr<'t>, AllocError>
         ensures { IfOk result (λ new. cow_str_bytes new ≡ transformed self.now text.now) };
 }
+
+impl TextTransform for Box<dyn TextTransform> {
+    ghost transformed = { λ it. (TextTransform-box it).transformed it.value };
+
+    fn transform<'t>(&self, alloc: Global, text: &'t str) -> Result<CowStr<'t>, AllocError> {
+        (**self).transform(alloc, text)
+    }
+}
