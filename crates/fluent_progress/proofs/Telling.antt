@@ -78,6 +78,11 @@ missed-tells env id (Some v) place e h = absurd (some-none v e)
     some-none : {A : Type 0} (v : A) → Some v ≡ None → ⊥
     some-none v e = false≢true (sym (ap is_some e))
 
+-- where none was given there is none
+pub not-given : {A : Type 0} (o : Option A) → false ≡ is_some o → o ≡ None
+not-given None given = refl
+not-given (Some v) given = absurd (false≢true given)
+
 -- an error was told, and its text refused
 pub faulty-tells : {A : Type 0} {s t : State} (v : A) (e : Unresolved) → t ≡ with_error e s → TellsSome s t (faulty v e s.budget)
 faulty-tells v e h = record { told = e ∷ []; first = begins-all (e ∷ []); errors = ap (λ (x : State). x.errors) h }
