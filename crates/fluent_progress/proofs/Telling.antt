@@ -1,5 +1,5 @@
 -- Telling an error is a step, and what refused steps tell.
-use Rattle.std.proofs.Common.{◌≡◌, ℕ, ◌+◌, Bool, true, false, cond, Option, None, Some, [], ◌∷◌, refl, ap, sym, ◌∙◌, arith}
+use Rattle.std.proofs.Common.{◌≡◌, ℕ, ◌+◌, Bool, true, false, cond, Option, None, Some, [], ◌∷◌, refl, ap, sym, arith}
 use Rattle.std.specs.Prelude.{is_some, OnErr, OnOk, Result, Ok, Err}
 use Rattle.std.proofs.lemmas.Bool.{false≢true}
 use Rattle.fluent_errors.specs.Errors.{Unresolved, unknown, to_variable}
