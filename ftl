@@ -36,4 +36,7 @@ if ! is_built; then
     trap - EXIT
 fi
 
+# Placeables that nest deep take stack: as much of it as the system lets this process have.
+ulimit -s "$(ulimit -H -s)" 2>/dev/null || :
+
 exec "$program" "$@"

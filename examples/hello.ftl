@@ -2,3 +2,7 @@
 hello-world = Hello, world!
 welcome = Welcome, { $name }.
 inbox = You have { $count } new messages, { $name }.
+unread = { $count ->
+    [one] One message is unread.
+   *[other] { $count } messages are unread.
+}

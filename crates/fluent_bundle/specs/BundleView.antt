@@ -28,13 +28,13 @@ module _ {M C F G X : Type 0} {V : X → Type 0} where
 -- formatter answers, the categories of a plural source and how it shows values, and what a transform makes of a text.
 abbrev pub environment_of : {S M C F G X : Type 0} {V : X → Type 0}
     (shown : S → Text) (gives : F → List (Value S) → List (Text × Value S) → Value S) (formats : G → M → Value S → Option Text)
-    (category_of : M → Plurals) (stringified : M → (A : Type 0) → (A → Text) → A → Text) (transformed : (x : X) × V x → Text → Text)
+    (category_of : M → Plurals) (stringified : M → (A : Type 0) → (A → Text) → A → Text) (transformed : DynBox X Global V → Text → Text)
     → FluentBundle M C F G X V → plain.Environment S F
 environment_of {S} shown gives formats category_of stringified transformed bundle = let held = bundle_of bundle in record {
   find = find held.ids;
   call = gives;
   isolating = held.isolating;
-  transformed = transformed_by (λ it. transformed (it.vtable, it.value)) held.transform;
+  transformed = transformed_by transformed held.transform;
   formatted = formatted_by formats held.plurals held.formatter;
   plurals = category_of held.plurals;
   shown = stringified held.plurals S shown;

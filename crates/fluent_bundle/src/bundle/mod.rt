@@ -5,6 +5,7 @@ ghost use Rattle.fluent_bundle.specs.BundleView.{bundle_of};
 ghost use Rattle.fluent_bundle.specs.Contents.{empty};
 
 mod adding;
+mod formatting;
 mod lookup;
 mod scope;
 mod settings;

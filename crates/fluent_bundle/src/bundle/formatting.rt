@@ -1,0 +1,96 @@
+//! What the patterns of a bundle give.
+
+ghost use Rattle.std.specs.Prelude.{◌≡◌, ◌++◌, IfOk, IsOkAnd, IsSome, OnErr, OnOk};
+ghost use Rattle.std.specs.Cow.{IsBorrowedStr, cow_str_bytes};
+ghost use Rattle.fluent_ast.specs.View.{pattern_view};
+ghost use Rattle.fluent_bundle.specs.Asked.{ShowsAsIs, TellsAll, TellsFirst, WritesFirst, asked, handed, lone_text};
+ghost use Rattle.fluent_bundle.specs.BundleView.{bundle_of, environment_of};
+
+use super::FluentBundle;
+use crate::resolver::answer::{answer, hand_out, write_answer};
+use fluent_ast::Pattern;
+use fluent_errors::FluentError;
+use fluent_progress::{Lent, Place};
+use fluent_value::{
+    FluentArgs, FluentFunction, FluentType, MemoizerKind, TextTransform, ValueFormatter,
+};
+use fluent_write::{TextWrite, WriteError};
+use std::alloc::AllocError;
+use std::borrow::CowStr;
+
+impl<'r, 's, M, C, F, G> FluentBundle<'r, 's, M, C, F, G>
+where
+    M: MemoizerKind,
+    C: FluentType + Drop,
+    F: FluentFunction<C>,
+    G: ValueFormatter<C, M>,
+{
+    /// Writes what a pattern gives for these arguments, piece by piece. Its errors are put behind those of the list.
+    ///
+    /// # Errors
+    /// [`Writer`](WriteError::Writer) if the writer refuses a piece, [`Memory`](WriteError::Memory) if memory runs out. The writer
+    /// then took a beginning of the text, and the list holds the old errors, and behind them the first of the pattern's.
+    pub fn write_pattern<W: TextWrite>(
+        &self,
+        w: &mut W,
+        pattern: &'r Pattern<&'s str>,
+        args: Option<&FluentArgs<'_, C>>,
+        errors: &mut Vec<FluentError>,
+    ) -> Result<(), WriteError>
+        ensures wrote { OnOk result (W.text w.new ≡ W.text w.old ++ (asked C.meaning (environment_of C.text F.gives G.formats M.category_of M.stringified transformed self.now) args.entry pattern.now).value) }
+        ensures wrote_first { OnErr result (WritesFirst (W.text w.old) (W.text w.new) (asked C.meaning (environment_of C.text F.gives G.formats M.category_of M.stringified transformed self.now) args.entry pattern.now)) }
+        ensures told { OnOk result (TellsAll errors.old errors.new (asked C.meaning (environment_of C.text F.gives G.formats M.category_of M.stringified transformed self.now) args.entry pattern.now)) }
+        ensures told_first { OnErr result (TellsFirst errors.old errors.new (asked C.meaning (environment_of C.text F.gives G.formats M.category_of M.stringified transformed self.now) args.entry pattern.now)) }
+    {
+        let lent = self.lent();
+        let place = Place {
+            ids: &self.environment.ids,
+            context: &lent,
+            arguments: args,
+        };
+        write_answer(w, &place, pattern, errors)
+    }
+
+    /// What a pattern gives for these arguments. Its errors are put behind those of the list. The formatter, where one is set, is
+    /// asked once more, for the whole text.
+    ///
+    /// A pattern of one text is borrowed from its source where neither a transform nor a formatter is set. That takes no memory and
+    /// succeeds.
+    ///
+    /// # Errors
+    /// Memory ran out. The list then holds the old errors, and behind them the first of the pattern's.
+    pub fn format_pattern(
+        &self,
+        pattern: &'r Pattern<&'s str>,
+        args: Option<&FluentArgs<'_, C>>,
+        errors: &mut Vec<FluentError>,
+    ) -> Result<CowStr<'s>, AllocError>
+        ensures text { IfOk result (λ text. cow_str_bytes text ≡ (handed C.meaning (environment_of C.text F.gives G.formats M.category_of M.stringified transformed self.now) args.entry pattern.now).value) }
+        ensures told { OnOk result (TellsAll errors.old errors.new (handed C.meaning (environment_of C.text F.gives G.formats M.category_of M.stringified transformed self.now) args.entry pattern.now)) }
+        ensures refused { OnErr result (TellsFirst errors.old errors.new (handed C.meaning (environment_of C.text F.gives G.formats M.category_of M.stringified transformed self.now) args.entry pattern.now)) }
+        ensures borrowed { ShowsAsIs (bundle_of self.now) → IsSome (lone_text (pattern_view _ (λ s. s.now) pattern.now)) → IsOkAnd result IsBorrowedStr }
+    {
+        let lent = self.lent();
+        let place = Place {
+            ids: &self.environment.ids,
+            context: &lent,
+            arguments: args,
+        };
+        let text = answer(&place, pattern, errors)?;
+        hand_out(&lent, text)
+    }
+}
+
+impl<'r, 's, M, C, F, G> FluentBundle<'r, 's, M, C, F, G> {
+    /// What patterns are resolved in, lent.
+    pub(crate) fn lent(&self) -> Lent<'_, M, G, Box<dyn TextTransform>> {
+        let environment = &self.environment;
+        Lent {
+            plurals: &environment.plurals,
+            isolating: environment.isolating,
+            transform: environment.transform.as_ref(),
+            formatter: environment.formatter.as_ref(),
+            alloc: environment.alloc,
+        }
+    }
+}
