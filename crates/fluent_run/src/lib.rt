@@ -5,15 +5,15 @@
 //! is written is `answers` of `fluent_answers`, and nothing else.
 #![tactic(auto)]
 
+mod answering;
 mod arguments;
 mod catalog;
 mod desk;
 mod reply;
-mod run;
 mod settings;
 mod transform;
 
+pub use answering::run;
 pub use fluent_serve::serve::RunError;
 pub use fluent_serve::stream::{FromRead, FromWrite, Sink, Source};
-pub use run::run;
 pub use settings::Settings;
