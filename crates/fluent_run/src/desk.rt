@@ -4,9 +4,11 @@ ghost use Rattle.std.specs.Prelude.{◌≡◌, ◌++◌, [], ◌∷◌, IfOk, On
 ghost use Rattle.fluent_answers.specs.Answers.{line_from, pattern_asked, told};
 ghost use Rattle.fluent_ast.specs.View.{pattern_view};
 ghost use Rattle.fluent_check.specs.Added.{all_by_id};
-ghost use Rattle.fluent_meaning.specs.Ids.{find, number_pair, with_ids};
+ghost use Rattle.fluent_meaning.specs.Ids.{attribute_named, find, number_pair, with_ids};
 ghost use Rattle.fluent_meaning.specs.Substitution.{answer_written};
-ghost use Rattle.fluent_run.specs.DeskView.{arguments_view, desk_ids, environment_in};
+ghost use Rattle.fluent_requests.specs.Frames.{frame_of, ok};
+ghost use Rattle.fluent_resource.specs.MessageView.{message_of};
+ghost use Rattle.fluent_run.specs.DeskView.{arguments_view, desk_ids, environment_in, reply_by};
 ghost use Rattle.fluent_run.specs.ReplyView.{reply_view};
 ghost use Rattle.fluent_serve.specs.Exchange.{IsFrontOf};
 ghost use Rattle.fluent_serve.specs.RequestView.{request_view};
@@ -17,10 +19,11 @@ use crate::reply::{ErrorLine, Reply};
 use crate::settings::Settings;
 use crate::transform::NoTransform;
 use fluent_ast::Pattern;
+use fluent_environment::laws::attributes_agree;
 use fluent_ids::FluentIds;
 use fluent_progress::{Lent, Place, Progress};
 use fluent_resolver::pattern::write_pattern;
-use fluent_resource::FluentResource;
+use fluent_resource::{FluentMessage, FluentResource};
 use fluent_serve::answer::Answer;
 use fluent_serve::request::{Request, read_request};
 use fluent_serve::serve::Engine;
@@ -65,7 +68,7 @@ impl<'b, 'r, 's, M: MemoizerKind> Desk<'b, 'r, 's, M> {
         let message = self.ids.get_message(request.id)?;
         match request.attribute {
             None => message.value(),
-            Some(name) => Some(message.get_attribute(name)?.value()),
+            Some(name) => attribute_value(&message, name),
         }
     }
 
@@ -105,6 +108,8 @@ impl<'b, 'r, 's, M: MemoizerKind> Desk<'b, 'r, 's, M> {
         pattern: &'r Pattern<&'s str>,
         out: &mut Vec<u8>,
     ) -> Result<(), AllocError>
+        ensures ok { OnOk result (out.new.items ≡ out.old.items ++ frame_of (ok (reply_by M.category_of M.stringified self.now (request_view request.now) (pattern_view _ (λ s. s.now) pattern.now)))) }
+        ensures front { IsFrontOf out.old.items out.new.items }
     {
         let arguments = valued_arguments(alloc, &request.arguments)?;
         let reply = self.resolve(alloc, pattern, &arguments)?;
@@ -127,6 +132,18 @@ impl<'b, 'r, 's, M: MemoizerKind> Desk<'b, 'r, 's, M> {
             None => Answer::<ErrorLine<'_>>::Nothing.push_to(alloc, out),
         }
     }
+}
+
+/// The value of the first attribute of a name.
+fn attribute_value<'r, 's>(
+    message: &FluentMessage<'r, 's>,
+    name: &str,
+) -> Option<&'r Pattern<&'s str>>
+    ensures { option_map (pattern_view _ (λ s. s.now)) (option_copied result) ≡ attribute_named name.now (message_of message.now).attributes }
+{
+    attributes_agree();
+    let attribute = message.get_attribute(name)?;
+    Some(attribute.value())
 }
 
 impl<'b, 'r, 's, M: MemoizerKind> Engine for Desk<'b, 'r, 's, M> {
