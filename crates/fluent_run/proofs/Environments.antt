@@ -39,11 +39,12 @@ module _ {M : Type 0} (category_of : M → Plurals) (stringified : M → (S : Ty
   }
 
   -- so each line is answered as it must be
-  pub line-same : (desk : Desk M) (plurals : M) (settings : Settings) (resources : List FluentResource) (sources : List (Bor Text)) →
-      map entries_view resources ≡ map runtime_tree (texts sources) →
-      desk_ids desk ≡ with_ids settings.overriding (number_pair ∷ []) (all_by_id resources) → desk.plurals.now ≡ plurals → desk.isolating ≡ settings.isolating →
+  pub line-same : (desk : Desk M) (plurals : M) (settings : Settings) (lent resources : List FluentResource) (sources : List (Bor Text)) →
+      lent ≡ resources → map entries_view resources ≡ map runtime_tree (texts sources) →
+      desk_ids desk ≡ with_ids settings.overriding (number_pair ∷ []) (all_by_id lent) → desk.plurals.now ≡ plurals → desk.isolating ≡ settings.isolating →
       (line : Text) → line_from (environment_in category_of stringified desk) line ≡ line_by category_of stringified plurals settings sources line
-  line-same desk plurals settings resources sources read ids by isolating line =
-      ap (λ x. line_from (environment-of x desk.isolating desk.plurals.now) line) (ids ∙ ids-read settings.overriding resources sources read)
+  line-same desk plurals settings lent resources sources these read ids by isolating line =
+      ap (λ x. line_from (environment-of x desk.isolating desk.plurals.now) line)
+      (ids ∙ (ap (λ rs. with_ids settings.overriding (number_pair ∷ []) (all_by_id rs)) these ∙ ids-read settings.overriding resources sources read))
       ∙ ap (λ x. line_from (environment-of (ids_of settings.overriding (texts sources)) x desk.plurals.now) line) isolating
       ∙ ap (λ x. line_from (environment-of (ids_of settings.overriding (texts sources)) settings.isolating x) line) by

@@ -14,8 +14,8 @@ use Rattle.fluent_value.specs.Value.{Value, number_or_text}
 
 module _ {F : Type 0} (env : Environment (Unit {0}) F) (line : Text) where
   -- what the line asks for, with values
-  with-values : (o : Option (Request Text)) → o ≡ request_of (λ s. s) line → option_map (with_values number_or_text) o ≡ request_of number_or_text line
-  with-values o is = ap (option_map (with_values number_or_text)) is ∙ sym (values_are_read (Value (Unit {0})) number_or_text line)
+  with-values : (o : Option (Request Text)) → o ≡ request_of (λ s. s) line → option_map (with_values (number_or_text {S = Unit {0}})) o ≡ request_of (number_or_text {S = Unit {0}}) line
+  with-values o is = ap (option_map (with_values (number_or_text {S = Unit {0}}))) is ∙ sym (values_are_read (Value (Unit {0})) number_or_text line)
 
   -- it is no request
   pub line-bad : None ≡ request_of (λ s. s) line → frame_of bad ≡ line_from env line

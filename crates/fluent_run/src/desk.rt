@@ -15,14 +15,13 @@ ghost use Rattle.fluent_serve.specs.RequestView.{request_view};
 
 use crate::arguments::valued_arguments;
 use crate::catalog::ids_of;
-use crate::reply::{ErrorLine, Reply};
+use crate::reply::{ErrorLine, Reply, resolve};
 use crate::settings::Settings;
 use crate::transform::NoTransform;
 use fluent_ast::Pattern;
 use fluent_environment::laws::attributes_agree;
 use fluent_ids::FluentIds;
-use fluent_progress::{Lent, Place, Progress};
-use fluent_resolver::pattern::write_pattern;
+use fluent_progress::{Lent, Place};
 use fluent_resource::{FluentMessage, FluentResource};
 use fluent_serve::answer::Answer;
 use fluent_serve::request::{Request, read_request};
@@ -73,11 +72,11 @@ impl<'b, 'r, 's, M: MemoizerKind> Desk<'b, 'r, 's, M> {
     }
 
     /// What a pattern gives for these arguments.
-    fn resolve(
-        &self,
+    fn reply_to<'x>(
+        &'x self,
         alloc: Global,
         pattern: &'r Pattern<&'s str>,
-        arguments: &FluentArgs<'_, NoCustom>,
+        arguments: &'x FluentArgs<'_, NoCustom>,
     ) -> Result<Reply, AllocError>
         ensures { IfOk result (λ reply. reply_view reply ≡ told (answer_written (environment_in M.category_of M.stringified self.now) (arguments_view arguments.now) (pattern_view _ (λ s. s.now) pattern.now))) }
     {
@@ -93,11 +92,7 @@ impl<'b, 'r, 's, M: MemoizerKind> Desk<'b, 'r, 's, M> {
             context: &context,
             arguments: Some(arguments),
         };
-        let mut progress = Progress::new(alloc, Some(Vec::new(alloc)));
-        let mut text = String::new(alloc);
-        write_pattern(&mut text, &place, None, &mut progress, pattern)?;
-        let errors = progress.into_errors().unwrap_or_else(|| Vec::new(alloc));
-        Ok(Reply { text, errors })
+        resolve(&place, pattern)
     }
 
     /// Puts the answer to a request that asks for a pattern behind `out`. After an error a front of it may stand there.
@@ -112,7 +107,7 @@ impl<'b, 'r, 's, M: MemoizerKind> Desk<'b, 'r, 's, M> {
         ensures front { IsFrontOf out.old.items out.new.items }
     {
         let arguments = valued_arguments(alloc, &request.arguments)?;
-        let reply = self.resolve(alloc, pattern, &arguments)?;
+        let reply = self.reply_to(alloc, pattern, &arguments)?;
         let lines = reply.error_lines(alloc)?;
         let text = reply.text.as_str();
         let errors = lines.as_slice();
@@ -146,7 +141,7 @@ fn attribute_value<'r, 's>(
     Some(attribute.value())
 }
 
-impl<'b, 'r, 's, M: MemoizerKind> Engine for Desk<'b, 'r, 's, M> {
+impl<'b, 'r, 's: 'r, M: MemoizerKind> Engine for Desk<'b, 'r, 's, M> {
     ghost use Rattle.fluent_answers.specs.Answers.{line_from as from};
     ghost use Rattle.fluent_run.specs.DeskView.{environment_in as inside};
 
