@@ -1,12 +1,15 @@
 #![tactic(auto)]
 
-//! Tidying Fluent sources, without a change to any text that they show.
+//! What a desk does with Fluent sources: it answers from them, checks them and tidies them, and tidying changes no text that
+//! they show.
 //!
-//! A translation file gets damaged, is put together from others, or has been written by another tool. These calls give
+//! A translation file gets damaged, is put together from others, or has been written by another tool. The calls that tidy give
 //! it back in order: with the messages and terms that it had, or not at all.
 //!
 //! | Call | Gives |
 //! |---|---|
+//! | [`run`] | the answers to a stream of request lines |
+//! | [`check`] | what is damaged in sources, and which of their ids stand twice |
 //! | [`clean`] | the source without the stretches that can't be read |
 //! | [`join`] | several sources as one, each cleaned |
 //! | [`normalize`] | the source as the serializer writes it, where that is read back as the same tree |
@@ -19,7 +22,7 @@
 //! normalize(alloc, source)?;  // "key1 = Value 1\nkey2 = { $x }\n"
 //! ```
 //!
-//! Sources with a carriage return are refused, since written text ends its lines in a line feed alone. No call changes
+//! The calls that tidy refuse sources with a carriage return, since written text ends its lines in a line feed alone. No call changes
 //! what it was handed. [`laws`] says what stays when sources are tidied, over plain data.
 
 mod cleaning;
@@ -34,6 +37,8 @@ mod trees;
 
 pub use cleaning::clean;
 pub use error::{CleanError, ImportError, NormalizeError};
+pub use fluent_check::{Report, check};
+pub use fluent_run::{FromRead, FromWrite, RunError, Settings, Sink, Source, run};
 pub use joining::join;
 pub use normalizing::normalize;
 pub use trees::{export, import};
