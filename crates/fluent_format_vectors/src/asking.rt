@@ -2,23 +2,29 @@
 
 use crate::bundle::Bundle;
 use crate::own::Args;
-use crate::told::Wanted;
-use fluent_ast::Pattern;
+use crate::told::{Wanted, are_counted};
+use fluent_ast::{InlineExpression, Pattern};
 use fluent_bundle::FluentError;
+use fluent_bundle::resolver::Scope;
 use std::alloc::{AllocError, Global};
 
-/// A pattern of a bundle, and the arguments that it is asked with.
+/// A pattern that a bundle is asked for, the arguments that it is asked with, and an expression that refers to it.
 #[derive(Clone, Copy)]
 pub struct Asked<'b, 'r, 's, 'a> {
     pub bundle: &'b Bundle<'r, 's>,
     pub pattern: &'r Pattern<&'s str>,
     pub arguments: Option<&'b Args<'a>>,
+    pub reference: &'r InlineExpression<&'s str>,
 }
 
 impl Asked<'_, '_, '_, '_> {
-    /// Whether the pattern gives what it must. The only error is that memory runs out.
+    /// Whether the pattern gives what it must, by each call. The only error is that memory runs out.
     pub fn gives(self, alloc: Global, wanted: Wanted<'_>) -> Result<bool, AllocError> {
-        self.is_formatted(alloc, wanted)
+        Ok(
+            self.is_formatted(alloc, wanted)?
+                && self.is_written(alloc, wanted)?
+                && self.is_tracked(alloc, wanted)?,
+        )
     }
 
     /// Whether `format_pattern` gives the text, and tells the errors. Where memory is refused, it must have told the first of them.
@@ -41,5 +47,33 @@ impl Asked<'_, '_, '_, '_> {
             .bundle
             .format_pattern(self.pattern, self.arguments, errors)?;
         Ok(given.as_str() == text)
+    }
+
+    /// Whether a new scope writes the text where the pattern is referred to, tells the errors and counts what it must.
+    fn is_tracked(self, alloc: Global, wanted: Wanted<'_>) -> Result<bool, AllocError> {
+        let mut errors = Vec::new(alloc);
+        let is_text = self.is_referred(alloc, &mut errors, wanted)?;
+        Ok(is_text && wanted.are_all(alloc, &errors)?)
+    }
+
+    /// Whether a new scope writes the text and counts what it must.
+    fn is_referred(
+        self,
+        alloc: Global,
+        errors: &mut Vec<FluentError>,
+        wanted: Wanted<'_>,
+    ) -> Result<bool, AllocError> {
+        let mut scope = Scope::new(self.bundle, self.arguments, Some(errors));
+        let mut text = String::new(alloc);
+        if scope
+            .track(&mut text, self.pattern, self.reference)
+            .is_err()
+        {
+            return Err(AllocError);
+        }
+        Ok(
+            text.as_str() == wanted.written
+                && are_counted(wanted.json, scope.placeables(), scope.entered()),
+        )
     }
 }

@@ -1,10 +1,12 @@
 //! The bundles that are asked.
 
+use crate::json::is_set;
 use crate::own::{Brackets, Function, Token};
 use fluent_ast::Pattern;
 use fluent_bundle::{
     AddResourceError, EnglishPlurals, FluentBundle, FluentResource, ResourceError,
 };
+use serde_json::Value as Json;
 use std::alloc::{AllocError, Global};
 
 pub type Bundle<'r, 's> = FluentBundle<'r, 's, EnglishPlurals, Token, Function, Brackets>;
@@ -22,6 +24,19 @@ pub struct Settings {
     pub transform: bool,
     /// Whether values are put in brackets.
     pub formatter: bool,
+}
+
+impl Settings {
+    /// The settings of a row.
+    pub fn of(json: &Json) -> Settings {
+        Settings {
+            isolating: is_set(json, "isolating", true),
+            overriding: is_set(json, "overriding", false),
+            functions: is_set(json, "functions", false),
+            transform: is_set(json, "transform", false),
+            formatter: is_set(json, "formatter", false),
+        }
+    }
 }
 
 /// A resource, also where parts of its source are no entries. The only error is that memory runs out.

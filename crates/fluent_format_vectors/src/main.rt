@@ -4,17 +4,25 @@
 
 mod asking;
 mod bundle;
+mod calls;
+mod json;
 mod own;
+mod pieces;
+mod plain;
 mod rows;
 mod tally;
 mod told;
+mod trees;
+mod values;
 
 use anyhow::Result;
 use tally::Tally;
 
 fn main(rt: HostRuntime) -> Result<()> {
-    tell(&rt, "rows", rows::try_rows(&rt, "rows.jsonl")?)?;
-    tell(&rt, "own", rows::try_rows(&rt, "own.jsonl")?)?;
+    for file in ["rows.jsonl", "own.jsonl", "trees.jsonl", "calls.jsonl"] {
+        tell(&rt, file, rows::try_rows(&rt, file)?)?;
+    }
+    tell(&rt, "plain", plain::try_plain(rt.alloc()))?;
     Ok(())
 }
 

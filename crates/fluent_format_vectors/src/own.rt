@@ -11,7 +11,7 @@ use std::alloc::{AllocError, Global};
 use std::borrow::CowStr;
 
 /// A value that is shown as `c`.
-#[derive(Clone, Copy, Debug, PartialEq, Eq)]
+#[derive(Clone, Copy)]
 pub struct Token;
 
 impl FluentType for Token {
@@ -43,7 +43,7 @@ pub type Value<'a> = FluentValue<'a, Token>;
 pub type Args<'a> = FluentArgs<'a, Token>;
 
 /// A function.
-#[derive(Clone, Copy, Debug, PartialEq, Eq)]
+#[derive(Clone, Copy)]
 pub enum Function {
     /// How many bytes the first value has, if it is a text.
     Length,
@@ -80,7 +80,7 @@ impl FluentFunction<Token> for Function {
 }
 
 /// A formatter that puts texts in brackets, and has no text for any other value.
-#[derive(Clone, Copy, Debug, PartialEq, Eq)]
+#[derive(Clone, Copy)]
 pub struct Brackets;
 
 impl<M> ValueFormatter<Token, M> for Brackets {

@@ -1,5 +1,6 @@
 //! What a pattern must give, and the errors that are told.
 
+use crate::json::text_in;
 use fluent_bundle::FluentError;
 use serde_json::Value as Json;
 use std::alloc::{AllocError, Global};
@@ -13,13 +14,25 @@ pub struct Wanted<'row> {
     pub written: &'row str,
     /// The texts of the errors.
     pub errors: &'row [Json],
-    /// How many placeables are counted, where the row tells.
-    pub placeables: Option<u64>,
-    /// How many patterns are entered, where the row tells.
-    pub entered: Option<u64>,
+    /// The object that says so.
+    pub json: &'row Json,
 }
 
-impl Wanted<'_> {
+impl<'row> Wanted<'row> {
+    /// What an object says that its pattern must give, if there is one.
+    pub fn of(json: &'row Json) -> Option<Wanted<'row>> {
+        let text = match json.get("text") {
+            Some(text) => text.as_str()?,
+            None => "",
+        };
+        Some(Wanted {
+            text,
+            written: text_in(json, "written").unwrap_or(text),
+            errors: json.get("errors")?.as_array()?,
+            json,
+        })
+    }
+
     /// Whether these are all the errors, in their order. The only error is that memory runs out.
     pub fn are_all(self, alloc: Global, told: &[FluentError]) -> Result<bool, AllocError> {
         Ok(told.len() == self.errors.len() && self.are_first(alloc, told)?)
@@ -33,6 +46,19 @@ impl Wanted<'_> {
             }
         }
         Ok(told.len() <= self.errors.len())
+    }
+}
+
+/// Whether so many placeables are counted and so many patterns entered as an object says, where it does.
+pub fn are_counted(json: &Json, placeables: u8, entered: u128) -> bool {
+    is_count(json, "placeables", u128::from(placeables)) && is_count(json, "entered", entered)
+}
+
+/// Whether a count is the one under a name, if there is one.
+fn is_count(json: &Json, name: &str, count: u128) -> bool {
+    match json.get(name).and_then(Json::as_u64) {
+        Some(wanted) => u128::from(wanted) == count,
+        None => true,
     }
 }
 
