@@ -17,8 +17,17 @@ use fluent_write::WriteError;
 use serde_json::Value as Json;
 use std::alloc::{AllocError, Global};
 
-type Called<'b, 'r, 's, 'a, 'e> =
-    Scope<'b, 'r, 's, 'a, 'e, EnglishPlurals, Token, Function, Brackets>;
+type Called<'b, 'r, 's, 'a, 'e> = Scope<
+    'b,
+    'r,
+    's,
+    'a,
+    'e,
+    EnglishPlurals,
+    Token,
+    Function,
+    Brackets,
+>;
 
 /// What a scope is made for, and a pattern made by hand.
 #[derive(Clone, Copy)]
@@ -148,7 +157,11 @@ fn are_given<'r, 's>(
 
 /// Whether the values are these.
 fn are_values(values: &[Value<'_>], json: &[Json]) -> bool {
-    values.len() == json.len() && values.iter().zip(json).all(|(value, json)| is_value(value, json))
+    values.len() == json.len()
+        && values
+            .iter()
+            .zip(json)
+            .all(|(value, json)| is_value(value, json))
 }
 
 /// Whether the arguments are the members of this object.
@@ -192,11 +205,13 @@ fn arguments_in<'r, 's>(expression: &'r Expression<&'s str>) -> Option<&'r CallA
         Expression::Inline(InlineExpression::FunctionReference { id: _, arguments }) => {
             Some(arguments)
         }
-        Expression::Inline(InlineExpression::TermReference {
-            id: _,
-            attribute: _,
-            arguments,
-        }) => arguments.as_ref(),
+        Expression::Inline(
+            InlineExpression::TermReference {
+                id: _,
+                attribute: _,
+                arguments,
+            },
+        ) => arguments.as_ref(),
         _ => None,
     }
 }

@@ -15,7 +15,8 @@ use std::borrow::CowStr;
 
 type Bundle<'r, 's> = FluentBundle<'r, 's, EnglishPlurals, NoCustom, NoFunction, NoFormatter>;
 
-const SOURCE: &str = "hello = Hello!\nintro = Hi, { $name }!\na = x{ \"y\" }z\nbig = { NUMBER(5, minimumFractionDigits: 18446744073709551615) }\n";
+const SOURCE: &str =
+    "hello = Hello!\nintro = Hi, { $name }!\na = x{ \"y\" }z\nbig = { NUMBER(5, minimumFractionDigits: 18446744073709551615) }\n";
 
 /// Tries the calls of a bundle and of a scope. Where memory is refused, they are all tried once more.
 pub fn try_plain(alloc: Global) -> Tally {
@@ -119,7 +120,8 @@ fn keeps_errors(alloc: Global, bundle: &Bundle<'_, 'static>) -> Result<bool, All
 fn is_too_large(alloc: Global, bundle: &Bundle<'_, 'static>) -> bool {
     let mut errors = Vec::new(alloc);
     match value_of(bundle, "big") {
-        Ok(pattern) => bundle.format_pattern(pattern, None, &mut errors).is_err() && errors.is_empty(),
+        Ok(pattern) => bundle.format_pattern(pattern, None, &mut errors).is_err()
+            && errors.is_empty(),
         Err(AllocError) => false,
     }
 }

@@ -120,10 +120,7 @@ fn arguments_of(alloc: Global, json: &Json) -> Result<CallArguments<&str>, Alloc
     })
 }
 
-fn positional_of<'row>(
-    alloc: Global,
-    json: &'row [Json],
-) -> Result<Vec<Inline<'row>>, AllocError> {
+fn positional_of<'row>(alloc: Global, json: &'row [Json]) -> Result<Vec<Inline<'row>>, AllocError> {
     let mut positional = Vec::new(alloc);
     for argument in json {
         positional.push(argument_of(alloc, argument)?)?;
