@@ -4,7 +4,7 @@ ghost use Rattle.std.specs.Prelude.{◌≡◌, ◌++◌, IfOk, IsOkAnd, IsSome, 
 ghost use Rattle.std.specs.Cow.{IsBorrowedStr, cow_str_bytes};
 ghost use Rattle.fluent_ast.specs.View.{pattern_view};
 ghost use Rattle.fluent_bundle.specs.Asked.{ShowsAsIs, TellsAll, TellsFirst, WritesFirst, asked, handed, lone_text};
-ghost use Rattle.fluent_bundle.specs.BundleView.{bundle_of, environment_of};
+ghost use Rattle.fluent_bundle.specs.BundleView.{IsLent, bundle_of, environment_of};
 
 use super::FluentBundle;
 use crate::resolver::answer::{answer, hand_out, write_answer};
@@ -83,7 +83,9 @@ where
 
 impl<'r, 's, M, C, F, G> FluentBundle<'r, 's, M, C, F, G> {
     /// What patterns are resolved in, lent.
-    pub(crate) fn lent(&self) -> Lent<'_, M, G, Box<dyn TextTransform>> {
+    pub(crate) fn lent(&self) -> Lent<'_, M, G, Box<dyn TextTransform>>
+        ensures { IsLent (bundle_of self.now) result }
+    {
         let environment = &self.environment;
         Lent {
             plurals: &environment.plurals,
