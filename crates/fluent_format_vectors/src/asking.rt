@@ -2,19 +2,17 @@
 
 use crate::bundle::Bundle;
 use crate::own::Args;
-use crate::told::{Wanted, are_counted};
-use fluent_ast::{InlineExpression, Pattern};
+use crate::told::Wanted;
+use fluent_ast::Pattern;
 use fluent_bundle::FluentError;
-use fluent_bundle::resolver::Scope;
 use std::alloc::{AllocError, Global};
 
-/// A pattern that a bundle is asked for, the arguments that it is asked with, and an expression that refers to it.
+/// A pattern that a bundle is asked for, and the arguments that it is asked with.
 #[derive(Clone, Copy)]
 pub struct Asked<'b, 'r, 's, 'a> {
     pub bundle: &'b Bundle<'r, 's>,
     pub pattern: &'r Pattern<&'s str>,
     pub arguments: Option<&'b Args<'a>>,
-    pub reference: &'r InlineExpression<&'s str>,
 }
 
 impl Asked<'_, '_, '_, '_> {
@@ -22,8 +20,7 @@ impl Asked<'_, '_, '_, '_> {
     pub fn gives(self, alloc: Global, wanted: Wanted<'_>) -> Result<bool, AllocError> {
         Ok(
             self.is_formatted(alloc, wanted)?
-                && self.is_written(alloc, wanted)?
-                && self.is_tracked(alloc, wanted)?,
+                && self.is_written(alloc, wanted)?,
         )
     }
 
@@ -47,33 +44,5 @@ impl Asked<'_, '_, '_, '_> {
             .bundle
             .format_pattern(self.pattern, self.arguments, errors)?;
         Ok(given.as_str() == text)
-    }
-
-    /// Whether a new scope writes the text where the pattern is referred to, tells the errors and counts what it must.
-    fn is_tracked(self, alloc: Global, wanted: Wanted<'_>) -> Result<bool, AllocError> {
-        let mut errors = Vec::new(alloc);
-        let is_text = self.is_referred(alloc, &mut errors, wanted)?;
-        Ok(is_text && wanted.are_all(alloc, &errors)?)
-    }
-
-    /// Whether a new scope writes the text and counts what it must.
-    fn is_referred(
-        self,
-        alloc: Global,
-        errors: &mut Vec<FluentError>,
-        wanted: Wanted<'_>,
-    ) -> Result<bool, AllocError> {
-        let mut scope = Scope::new(self.bundle, self.arguments, Some(errors));
-        let mut text = String::new(alloc);
-        if scope
-            .track(&mut text, self.pattern, self.reference)
-            .is_err()
-        {
-            return Err(AllocError);
-        }
-        Ok(
-            text.as_str() == wanted.written
-                && are_counted(wanted.json, scope.placeables(), scope.entered()),
-        )
     }
 }

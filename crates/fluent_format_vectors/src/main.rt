@@ -4,7 +4,6 @@
 
 mod asking;
 mod bundle;
-mod calls;
 mod json;
 mod own;
 mod pieces;
@@ -19,7 +18,7 @@ use anyhow::Result;
 use tally::Tally;
 
 fn main(rt: HostRuntime) -> Result<()> {
-    for file in ["rows.jsonl", "own.jsonl", "trees.jsonl", "calls.jsonl"] {
+    for file in ["rows.jsonl", "own.jsonl", "trees.jsonl"] {
         tell(&rt, file, rows::try_rows(&rt, file)?)?;
     }
     tell(&rt, "plain", plain::try_plain(rt.alloc()))?;

@@ -4,7 +4,7 @@ use crate::bundle::read;
 use crate::pieces::Pieces;
 use crate::tally::Tally;
 use fluent_ast::Pattern;
-use fluent_bundle::resolver::{ResolverError, Scope};
+use fluent_bundle::resolver::ResolverError;
 use fluent_bundle::{
     EnglishPlurals, FluentArgs, FluentBundle, FluentError, FluentResource, FluentValue, NoCustom,
     NoFormatter, NoFunction,
@@ -18,7 +18,7 @@ type Bundle<'r, 's> = FluentBundle<'r, 's, EnglishPlurals, NoCustom, NoFunction,
 const SOURCE: &str =
     "hello = Hello!\nintro = Hi, { $name }!\na = x{ \"y\" }z\nbig = { NUMBER(5, minimumFractionDigits: 18446744073709551615) }\n";
 
-/// Tries the calls of a bundle and of a scope. Where memory is refused, they are all tried once more.
+/// Tries the calls of a bundle. Where memory is refused, they are all tried once more.
 pub fn try_plain(alloc: Global) -> Tally {
     let first = try_calls(alloc).or_else(|_| try_calls(alloc));
     match first {
@@ -43,8 +43,6 @@ fn try_calls_of(alloc: Global, resource: &FluentResource<'static>) -> Result<Tal
     tally.add(is_refused(alloc, &bundle)?);
     tally.add(keeps_errors(alloc, &bundle)?);
     tally.add(is_too_large(alloc, &bundle));
-    tally.add(shows_five(alloc, &bundle)?);
-    tally.add(tells(alloc, &bundle)?);
     Ok(tally)
 }
 
@@ -124,33 +122,4 @@ fn is_too_large(alloc: Global, bundle: &Bundle<'_, 'static>) -> bool {
             && errors.is_empty(),
         Err(AllocError) => false,
     }
-}
-
-/// Whether a value is shown as its text in a scope, by each call.
-fn shows_five(alloc: Global, bundle: &Bundle<'_, 'static>) -> Result<bool, AllocError> {
-    let scope = Scope::new(bundle, None, None);
-    let mut text = String::new(alloc);
-    let five = FluentValue::<NoCustom>::from(5_u8);
-    if five.write(&mut text, &scope).is_err() {
-        return Err(AllocError);
-    }
-    text.push_str(five.as_string(&scope)?.as_str())?;
-    text.push_str(five.into_string(&scope)?.as_str())?;
-    Ok(text.as_str() == "555" && scope.bundle.has_message("hello"))
-}
-
-/// Whether a scope tells an error where it has a list, and drops it where it has none.
-fn tells(alloc: Global, bundle: &Bundle<'_, 'static>) -> Result<bool, AllocError> {
-    let mut errors = Vec::new(alloc);
-    let mut scope = Scope::new(bundle, None, Some(&mut errors));
-    scope.add_error(ResolverError::Cyclic)?;
-    let mut deaf = Scope::new(bundle, None, None);
-    deaf.add_error(ResolverError::Cyclic)?;
-    Ok(
-        deaf.errors.is_none()
-            && !scope.dirty
-            && scope.placeables() == 0
-            && scope.entered() == 0
-            && scope.errors.is_some_and(|errors| errors.len() == 1),
-    )
 }

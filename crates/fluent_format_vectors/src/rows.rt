@@ -2,12 +2,11 @@
 //!
 //! A row is an object. `source` and `id`, usually `m`, say what is asked for, or `tree` is a pattern made by hand. `args` are the
 //! arguments by name. `text` is what `format_pattern` gives, or `null` where there is no such pattern, `written` what is written where it
-//! differs, and `errors` has the texts of the errors. `placeables` and `entered` are counts. The settings stand by their names;
-//! placeables are isolated where `isolating` isn't `false`. A row with `calls` calls a scope.
+//! differs, and `errors` has the texts of the errors. The settings stand by their names;
+//! placeables are isolated where `isolating` isn't `false`.
 
 use crate::asking::Asked;
 use crate::bundle::{Bundle, Settings, fill, pattern_in, read};
-use crate::calls::Calls;
 use crate::json::text_in;
 use crate::own::{Args, Capitals};
 use crate::tally::Tally;
@@ -15,7 +14,7 @@ use crate::told::Wanted;
 use crate::trees::pattern_of;
 use crate::values::arguments_of;
 use anyhow::{Context, Result};
-use fluent_ast::{Identifier, InlineExpression, Pattern};
+use fluent_ast::Pattern;
 use fluent_bundle::{EnglishPlurals, FluentResource};
 use serde_json::Value as Json;
 use std::alloc::{AllocError, Global};
@@ -94,20 +93,15 @@ impl<'row> Row<'row> {
         tree: Option<&Pattern<&'row str>>,
     ) -> Result<bool, AllocError> {
         let resource = read(alloc, self.source)?;
-        let reference = InlineExpression::MessageReference {
-            id: Identifier { name: self.id },
-            attribute: None,
-        };
-        self.is_right_in(alloc, tree, &resource, &reference)
+        self.is_right_in(alloc, tree, &resource)
     }
 
-    /// The same, where the source is read and the reference made.
+    /// The same, where the source is read.
     fn is_right_in<'r>(
         self,
         alloc: Global,
         tree: Option<&'r Pattern<&'row str>>,
         resource: &'r FluentResource<'row>,
-        reference: &'r InlineExpression<&'row str>,
     ) -> Result<bool, AllocError> {
         let mut bundle = Bundle::new(alloc, Vec::new(alloc), EnglishPlurals);
         if self.settings.transform {
@@ -115,7 +109,7 @@ impl<'row> Row<'row> {
         }
         fill(&mut bundle, resource, self.settings)?;
         let arguments = arguments_of(alloc, self.json.get("args"))?;
-        self.is_right_of(alloc, &bundle, arguments.as_ref(), tree, reference)
+        self.is_right_of(alloc, &bundle, arguments.as_ref(), tree)
     }
 
     /// The same, where the bundle and the arguments are made.
@@ -125,25 +119,15 @@ impl<'row> Row<'row> {
         bundle: &Bundle<'r, 'row>,
         arguments: Option<&Args<'row>>,
         tree: Option<&'r Pattern<&'row str>>,
-        reference: &'r InlineExpression<&'row str>,
     ) -> Result<bool, AllocError> {
         let Some(wanted) = self.wanted else {
             return Ok(pattern_in(bundle, self.id).is_none());
         };
-        if self.json.get("calls").is_some() {
-            return Calls {
-                bundle,
-                arguments,
-                tree,
-            }
-            .are_right(alloc, self.json, wanted);
-        }
         match tree.or(pattern_in(bundle, self.id)) {
             Some(pattern) => Asked {
                 bundle,
                 pattern,
                 arguments,
-                reference,
             }
             .gives(alloc, wanted),
             None => Ok(false),

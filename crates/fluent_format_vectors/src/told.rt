@@ -14,8 +14,6 @@ pub struct Wanted<'row> {
     pub written: &'row str,
     /// The texts of the errors.
     pub errors: &'row [Json],
-    /// The object that says so.
-    pub json: &'row Json,
 }
 
 impl<'row> Wanted<'row> {
@@ -29,7 +27,6 @@ impl<'row> Wanted<'row> {
             text,
             written: text_in(json, "written").unwrap_or(text),
             errors: json.get("errors")?.as_array()?,
-            json,
         })
     }
 
@@ -46,19 +43,6 @@ impl<'row> Wanted<'row> {
             }
         }
         Ok(told.len() <= self.errors.len())
-    }
-}
-
-/// Whether so many placeables are counted and so many patterns entered as an object says, where it does.
-pub fn are_counted(json: &Json, placeables: u8, entered: u128) -> bool {
-    is_count(json, "placeables", u128::from(placeables)) && is_count(json, "entered", entered)
-}
-
-/// Whether a count is the one under a name, if there is one.
-fn is_count(json: &Json, name: &str, count: u128) -> bool {
-    match json.get(name).and_then(Json::as_u64) {
-        Some(wanted) => u128::from(wanted) == count,
-        None => true,
     }
 }
 
