@@ -1,0 +1,99 @@
+//! The bundles that are asked.
+
+use crate::json::is_set;
+use crate::own::{Brackets, Function, Token};
+use fluent_ast::Pattern;
+use fluent_bundle::{
+    AddResourceError, EnglishPlurals, FluentBundle, FluentResource, ResourceError,
+};
+use serde_json::Value as Json;
+use std::alloc::{AllocError, Global};
+
+pub type Bundle<'r, 's> = FluentBundle<'r, 's, EnglishPlurals, Token, Function, Brackets>;
+
+/// What a bundle holds beside its resource and `NUMBER`, and how it is set.
+#[derive(Clone, Copy)]
+pub struct Settings {
+    /// Whether placeables stand between marks.
+    pub isolating: bool,
+    /// Whether the last entry of an id stays, and not the first.
+    pub overriding: bool,
+    /// Whether it has the program's functions.
+    pub functions: bool,
+    /// Whether texts become capitals.
+    pub transform: bool,
+    /// Whether values are put in brackets.
+    pub formatter: bool,
+}
+
+impl Settings {
+    /// The settings of a row.
+    pub fn of(json: &Json) -> Settings {
+        Settings {
+            isolating: is_set(json, "isolating", true),
+            overriding: is_set(json, "overriding", false),
+            functions: is_set(json, "functions", false),
+            transform: is_set(json, "transform", false),
+            formatter: is_set(json, "formatter", false),
+        }
+    }
+}
+
+/// A resource, also where parts of its source are no entries. The only error is that memory runs out.
+pub fn read(alloc: Global, source: &str) -> Result<FluentResource<'_>, AllocError> {
+    match FluentResource::try_new(alloc, source) {
+        Ok(resource) => Ok(resource),
+        Err(ResourceError::Broken(resource, _)) => Ok(resource),
+        Err(ResourceError::Memory) => Err(AllocError),
+    }
+}
+
+/// Sets a new bundle, but for its transform, and adds functions and a resource to it. The only error is that memory runs out.
+pub fn fill<'r, 's>(
+    bundle: &mut Bundle<'r, 's>,
+    resource: &'r FluentResource<'s>,
+    settings: Settings,
+) -> Result<(), AllocError> {
+    bundle.set_use_isolating(settings.isolating);
+    if settings.formatter {
+        bundle.set_formatter(Some(Brackets));
+    }
+    if settings.functions {
+        add_functions(bundle)?;
+    }
+    if bundle.add_builtins().is_err() {
+        return Err(AllocError);
+    }
+    if settings.overriding {
+        return bundle.add_resource_overriding(resource);
+    }
+    match bundle.add_resource(resource) {
+        Err(AddResourceError::Memory) => Err(AllocError),
+        _ => Ok(()),
+    }
+}
+
+/// Adds the functions of the program.
+fn add_functions(bundle: &mut Bundle<'_, '_>) -> Result<(), AllocError> {
+    for (id, function) in [
+        ("STRLEN", Function::Length),
+        ("FIRST", Function::First),
+        ("NAMED", Function::Named),
+    ] {
+        if bundle.add_function(id, function).is_err() {
+            return Err(AllocError);
+        }
+    }
+    Ok(())
+}
+
+/// The value of a message, or of the attribute whose name stands behind a point.
+pub fn pattern_in<'r, 's>(bundle: &Bundle<'r, 's>, id: &str) -> Option<&'r Pattern<&'s str>> {
+    match id.split_once('.') {
+        Some((id, name)) => {
+            let attribute = bundle.get_message(id)?.get_attribute(name)?;
+            Some(attribute.value())
+        }
+        None => bundle.get_message(id)?.value(),
+    }
+}

@@ -1,0 +1,31 @@
+//! Asks bundles for what their patterns give, and prints of each kind how many rows there were and how many of them gave something
+//! else than they must.
+#![tactic(auto)]
+
+mod asking;
+mod bundle;
+mod json;
+mod own;
+mod pieces;
+mod plain;
+mod rows;
+mod tally;
+mod told;
+mod trees;
+mod values;
+
+use anyhow::Result;
+use tally::Tally;
+
+fn main(rt: HostRuntime) -> Result<()> {
+    for file in ["rows.jsonl", "own.jsonl", "trees.jsonl"] {
+        tell(&rt, file, rows::try_rows(&rt, file)?)?;
+    }
+    tell(&rt, "plain", plain::try_plain(rt.alloc()))?;
+    Ok(())
+}
+
+fn tell(rt: &HostRuntime, name: &str, tally: Tally) -> Result<()> {
+    println!(rt; "{name}: {} rows, {} wrong", tally.rows, tally.wrong)?;
+    Ok(())
+}

@@ -1,0 +1,136 @@
+//! Messages that are asked for, and what they must give, as the files of `data` have them: a row a line.
+//!
+//! A row is an object. `source` and `id`, usually `m`, say what is asked for, or `tree` is a pattern made by hand. `args` are the
+//! arguments by name. `text` is what `format_pattern` gives, or `null` where there is no such pattern, `written` what is written where it
+//! differs, and `errors` has the texts of the errors. The settings stand by their names;
+//! placeables are isolated where `isolating` isn't `false`.
+
+use crate::asking::Asked;
+use crate::bundle::{Bundle, Settings, fill, pattern_in, read};
+use crate::json::text_in;
+use crate::own::{Args, Capitals};
+use crate::tally::Tally;
+use crate::told::Wanted;
+use crate::trees::pattern_of;
+use crate::values::arguments_of;
+use anyhow::{Context, Result};
+use fluent_ast::Pattern;
+use fluent_bundle::{EnglishPlurals, FluentResource};
+use serde_json::Value as Json;
+use std::alloc::{AllocError, Global};
+use std::fs;
+
+/// A pattern that is asked for, and what it must give, if it is there.
+#[derive(Clone, Copy)]
+struct Row<'row> {
+    source: &'row str,
+    id: &'row str,
+    settings: Settings,
+    wanted: Option<Wanted<'row>>,
+    json: &'row Json,
+}
+
+/// Tries each row of a file, and prints those that are wrong.
+pub fn try_rows(rt: &HostRuntime, file: &str) -> Result<Tally> {
+    let text = fs::read_to_string(rt, file).context("the rows")?;
+    let mut tally = Tally::new();
+    for line in text.as_str().lines() {
+        let is_right = is_right_again(rt.alloc(), line);
+        if !is_right {
+            println!(rt; "wrong: {line}")?;
+        }
+        tally.add(is_right);
+    }
+    Ok(tally)
+}
+
+/// Whether what a line says is so. Where memory is refused, it is tried once more.
+fn is_right_again(alloc: Global, line: &str) -> bool {
+    match is_right(alloc, line) {
+        Ok(is_right) => is_right,
+        Err(AllocError) => is_right(alloc, line).unwrap_or(false),
+    }
+}
+
+/// Whether what a line says is so. The only error is that memory runs out.
+fn is_right(alloc: Global, line: &str) -> Result<bool, AllocError> {
+    let Ok(json) = Json::from_str(alloc, line) else {
+        return Err(AllocError);
+    };
+    match Row::of(&json) {
+        Some(row) => row.is_right(alloc),
+        None => Ok(false),
+    }
+}
+
+impl<'row> Row<'row> {
+    /// The row that an object is.
+    fn of(json: &'row Json) -> Option<Row<'row>> {
+        Some(Row {
+            source: text_in(json, "source")?,
+            id: text_in(json, "id").unwrap_or("m"),
+            settings: Settings::of(json),
+            wanted: Wanted::of(json),
+            json,
+        })
+    }
+
+    /// Whether the pattern gives what it must. The only error is that memory runs out.
+    fn is_right(self, alloc: Global) -> Result<bool, AllocError> {
+        match self.json.get("tree") {
+            Some(Json::Array(elements)) => {
+                let pattern = pattern_of(alloc, elements)?;
+                self.is_right_with(alloc, Some(&pattern))
+            }
+            _ => self.is_right_with(alloc, None),
+        }
+    }
+
+    /// The same, with the pattern that is made by hand.
+    fn is_right_with(
+        self,
+        alloc: Global,
+        tree: Option<&Pattern<&'row str>>,
+    ) -> Result<bool, AllocError> {
+        let resource = read(alloc, self.source)?;
+        self.is_right_in(alloc, tree, &resource)
+    }
+
+    /// The same, where the source is read.
+    fn is_right_in<'r>(
+        self,
+        alloc: Global,
+        tree: Option<&'r Pattern<&'row str>>,
+        resource: &'r FluentResource<'row>,
+    ) -> Result<bool, AllocError> {
+        let mut bundle = Bundle::new(alloc, Vec::new(alloc), EnglishPlurals);
+        if self.settings.transform {
+            bundle.set_transform(Some(Box::new(alloc, Capitals)?));
+        }
+        fill(&mut bundle, resource, self.settings)?;
+        let arguments = arguments_of(alloc, self.json.get("args"))?;
+        self.is_right_of(alloc, &bundle, arguments.as_ref(), tree)
+    }
+
+    /// The same, where the bundle and the arguments are made.
+    fn is_right_of<'r>(
+        self,
+        alloc: Global,
+        bundle: &Bundle<'r, 'row>,
+        arguments: Option<&Args<'row>>,
+        tree: Option<&'r Pattern<&'row str>>,
+    ) -> Result<bool, AllocError> {
+        let Some(wanted) = self.wanted else {
+            return Ok(pattern_in(bundle, self.id).is_none());
+        };
+        match tree.or(pattern_in(bundle, self.id)) {
+            Some(pattern) => Asked {
+                bundle,
+                pattern,
+                arguments,
+            }
+            .gives(alloc, wanted),
+            None => Ok(false),
+        }
+    }
+}
