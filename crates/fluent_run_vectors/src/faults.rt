@@ -6,6 +6,9 @@ use crate::tally::Tally;
 use fluent_run::RunError;
 use std::alloc::Global;
 
+/// How many calls of a writer are tried, one after the other.
+const WRITES: usize = 24;
+
 /// Tries readers that fail at each of their calls: all whole lines that came have their answers, and nothing else is written. It
 /// changes nothing that the reader would work again.
 pub fn reads_fail(alloc: Global, row: &Row<'_>, tally: &mut Tally) {
@@ -14,9 +17,7 @@ pub fn reads_fail(alloc: Global, row: &Row<'_>, tally: &mut Tally) {
     }
     for piece in [1, 7, 4096] {
         for calls in 0..=calls_for(row.requests, piece) {
-            let failing = Manner::for_calls(calls, piece);
-            tally.add(ends_with_read(alloc, row, failing));
-            tally.add(is_same(alloc, row, (failing, ALWAYS), (failing.healing(), ALWAYS)));
+            tally.add(ends_with_read(alloc, row, Manner::for_calls(calls, piece)));
         }
     }
 }
@@ -30,7 +31,9 @@ fn ends_with_read(alloc: Global, row: &Row<'_>, failing: Manner) -> bool {
     let run = Run::of(alloc, row, failing, ALWAYS);
     let taken = failing.calls.saturating_mul(failing.piece);
     let came = row.requests.get(..taken).unwrap_or(row.requests);
-    run.ended == Err(RunError::Read) && run.wrote(first(&row.answers, whole_lines(came)))
+    run.ended == Err(RunError::Read)
+        && run.wrote(first(&row.answers, whole_lines(came)))
+        && run.is_like(&Run::of(alloc, row, failing.healing(), ALWAYS))
 }
 
 /// Tries writers that fail at each of their calls: a front of the answers is written. It changes nothing that the writer would work
@@ -40,10 +43,8 @@ pub fn writes_fail(alloc: Global, row: &Row<'_>, tally: &mut Tally) {
         return;
     }
     for piece in [0, 1, 7, 4096] {
-        for calls in 0..40 {
-            let failing = Manner::for_calls(calls, piece);
-            tally.add(ends_with_write(alloc, row, failing));
-            tally.add(is_same(alloc, row, (ALWAYS, failing), (ALWAYS, failing.healing())));
+        for calls in 0..WRITES {
+            tally.add(ends_with_write(alloc, row, Manner::for_calls(calls, piece)));
         }
     }
 }
@@ -51,14 +52,9 @@ pub fn writes_fail(alloc: Global, row: &Row<'_>, tally: &mut Tally) {
 fn ends_with_write(alloc: Global, row: &Row<'_>, failing: Manner) -> bool {
     let run = Run::of(alloc, row, ALWAYS, failing);
     let room = failing.calls.saturating_mul(failing.piece);
-    match run.ended {
+    let ends_right = match run.ended {
         Ok(()) => run.given.len() <= room && run.wrote(&row.answers),
         Err(error) => error == RunError::Write && is_front(&run.given, &row.answers),
-    }
-}
-
-/// Whether a run over devices of the one kind is like a run over those of the other.
-fn is_same(alloc: Global, row: &Row<'_>, one: (Manner, Manner), other: (Manner, Manner)) -> bool {
-    let first = Run::of(alloc, row, one.0, one.1);
-    first.is_like(&Run::of(alloc, row, other.0, other.1))
+    };
+    ends_right && run.is_like(&Run::of(alloc, row, ALWAYS, failing.healing()))
 }
