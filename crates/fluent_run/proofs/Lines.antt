@@ -1,5 +1,5 @@
 -- The answer to a line, by what it asks for.
-use Rattle.std.proofs.Common.{◌≡◌, List, [], Option, Some, None, option_map, map, sym, ap, ◌∙◌}
+use Rattle.std.proofs.Common.{◌≡◌, [], Option, Some, None, option_map, map, sym, ap, ◌∙◌}
 use Rattle.fluent_answers.specs.Answers.{line_from, pattern_asked, reply_to, told}
 use Rattle.fluent_grammar.specs.Tree.{Elements}
 use Rattle.fluent_grammar.specs.Words.{Text}

@@ -1,5 +1,5 @@
 -- What a pattern gives when it is resolved, as an answer tells it.
-use Rattle.std.proofs.Common.{◌≡◌, false, List, [], ◌∷◌, ◌++◌, Some, None, map, refl, sym, ap, ◌∙◌}
+use Rattle.std.proofs.Common.{◌≡◌, false, List, [], ◌∷◌, ◌++◌, Some, None, map, refl, ap, ◌∙◌}
 use Rattle.fluent_answers.specs.Answers.{told}
 use Rattle.fluent_errors.specs.Errors.{Reported, Unresolved, unresolved}
 use Rattle.fluent_errors.specs.Texts.{resolver_text}

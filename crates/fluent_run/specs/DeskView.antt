@@ -1,14 +1,19 @@
 -- What lines are answered from, as plain data.
-use Rattle.std.specs.Prelude.{List, [], None, map}
-use Rattle.fluent_answers.specs.Answers.{told}
+use Rattle.std.specs.Prelude.{Bool, List, [], ◌∷◌, Option, None, map, option_map}
+use denote.Ref.{Bor}
+use Rattle.fluent_answers.specs.Answers.{pattern_asked, told}
+use Rattle.fluent_ast.specs.View.{pattern_view}
+use Rattle.fluent_ast.specs.declared.Pattern.{Pattern}
+use Rattle.fluent_check.specs.Added.{all_by_id}
 use Rattle.fluent_grammar.specs.Tree.{Elements}
 use Rattle.fluent_grammar.specs.Words.{Text}
 use Rattle.fluent_ids.specs.IdsView.{ids_view}
 use Rattle.fluent_meaning.specs.Environment.{Environment}
-use Rattle.fluent_meaning.specs.Ids.{Ids, find}
+use Rattle.fluent_meaning.specs.Ids.{Ids, find, number_pair, with_ids}
 use Rattle.fluent_meaning.specs.Substitution.{answer_written}
 use Rattle.fluent_requests.specs.Frames.{Reply}
 use Rattle.fluent_requests.specs.Requests.{Request}
+use Rattle.fluent_resource.specs.declared.resource.FluentResource.{FluentResource}
 use Rattle.fluent_run.specs.declared.desk.Desk.{Desk}
 use Rattle.fluent_run.specs.RunView.{no_text}
 use Rattle.fluent_value.specs.Args.{all_set}
@@ -19,9 +24,24 @@ use Rattle.fluent_value.specs.declared.args.FluentArgs.{FluentArgs}
 use Rattle.fluent_value.specs.declared.custom.NoCustom.{NoCustom}
 use Rattle.fluent_value.specs.declared.function.NoFunction.{NoFunction}
 
+-- the ids of resources: `NUMBER` stands first, then their messages and terms come, one resource after the other
+abbrev pub ids_added : Bool → List FluentResource → Ids NoFunction
+ids_added overriding resources = with_ids overriding (number_pair ∷ []) (all_by_id resources)
+
 -- what the ids stand for
 abbrev pub desk_ids : {M : Type 0} → Desk M → Ids NoFunction
 desk_ids desk = ids_view NoFunction desk.ids
+
+-- the pattern that a request asks for
+abbrev pub asked_of : {M : Type 0} → Desk M → Request Text → Option Elements
+asked_of desk request = pattern_asked request.attribute (find (desk_ids desk) request.id)
+
+-- the elements of a pattern, and those of one that may be absent
+abbrev pub elements_of : Pattern (Bor Text) → Elements
+elements_of pattern = pattern_view _ (λ s. s.now) pattern
+
+abbrev pub elements_found : Option (Bor (Pattern (Bor Text))) → Option Elements
+elements_found found = option_map (λ p. elements_of p.now) found
 
 -- the values of a request by their names
 abbrev pub arguments_view : FluentArgs NoCustom → List (Text × Value (Unit {0}))
@@ -45,6 +65,10 @@ module _ {M : Type 0} (category_of : M → Plurals) (stringified : M → (S : Ty
     shown = stringified desk.plurals.now (Unit {0}) no_text;
   }
 
-  -- what a pattern gives for the arguments of a request, the last of a name counting
-  abbrev pub reply_by : Desk M → Request Text → Elements → Reply
-  reply_by desk request es = told (answer_written (environment_in desk) (all_set [] (map valued request.arguments)) es)
+  -- what a pattern gives for these arguments
+  abbrev pub reply_by : Desk M → List (Text × Value (Unit {0})) → Elements → Reply
+  reply_by desk args es = told (answer_written (environment_in desk) args es)
+
+  -- and for those of a request, the last of a name counting
+  abbrev pub reply_for : Desk M → Request Text → Elements → Reply
+  reply_for desk request es = reply_by desk (all_set [] (map valued request.arguments)) es

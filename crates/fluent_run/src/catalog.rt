@@ -1,9 +1,10 @@
 //! The ids of sources that were read.
 
-ghost use Rattle.std.specs.Prelude.{◌≡◌, [], ◌∷◌, IfOk, OnOk};
-ghost use Rattle.fluent_check.specs.Added.{by_id, all_by_id};
+ghost use Rattle.std.specs.Prelude.{◌≡◌, false, IfOk, OnOk};
+ghost use Rattle.fluent_check.specs.Added.{by_id};
 ghost use Rattle.fluent_ids.specs.IdsView.{ids_view};
-ghost use Rattle.fluent_meaning.specs.Ids.{number_pair, with_ids};
+ghost use Rattle.fluent_meaning.specs.Ids.{number_pair, with_id, with_ids};
+ghost use Rattle.fluent_run.specs.DeskView.{ids_added};
 ghost use Rattle.fluent_value.specs.declared.function.NoFunction.{NoFunction as Function};
 
 use fluent_ids::{AddFunctionError, AddResourceError, FluentIds};
@@ -21,23 +22,24 @@ pub(crate) fn ids_of<'r, 's>(
     resources: &'r [FluentResource<'s>],
     overriding: bool,
 ) -> Result<FluentIds<'r, 's, NoFunction>, AllocError>
-    ensures { IfOk result (λ ids. ids_view Function ids ≡ with_ids overriding (number_pair ∷ []) (all_by_id resources.now)) }
+    ensures { IfOk result (λ ids. ids_view Function ids ≡ ids_added overriding resources.now) }
 {
-    let mut ids = number_alone(alloc)?;
+    let mut ids = FluentIds::new(alloc);
+    add_number(&mut ids)?;
     for resource in resources {
         add(&mut ids, resource, overriding)?;
     }
     Ok(ids)
 }
 
-/// `NUMBER` alone.
-fn number_alone<'r, 's>(alloc: Global) -> Result<FluentIds<'r, 's, NoFunction>, AllocError>
-    ensures { IfOk result (λ ids. ids_view Function ids ≡ number_pair ∷ []) }
+/// Adds `NUMBER`, unless its id stands for something.
+fn add_number(ids: &mut FluentIds<'_, '_, NoFunction>) -> Result<(), AllocError>
+    ensures { OnOk result (ids_view Function ids.new ≡
+        with_id false (ids_view Function ids.old) number_pair) }
 {
-    let mut ids = FluentIds::new(alloc);
     match ids.add_builtins() {
-        Ok(()) => Ok(ids),
-        Err(AddFunctionError::Overriding(_)) => Ok(ids),
+        Ok(()) => Ok(()),
+        Err(AddFunctionError::Overriding(_)) => Ok(()),
         Err(AddFunctionError::Memory) => Err(AllocError),
     }
 }
@@ -48,7 +50,8 @@ fn add<'r, 's>(
     resource: &'r FluentResource<'s>,
     overriding: bool,
 ) -> Result<(), AllocError>
-    ensures { OnOk result (ids_view Function ids.new ≡ with_ids overriding (ids_view Function ids.old) (by_id resource.now)) }
+    ensures { OnOk result (ids_view Function ids.new ≡
+        with_ids overriding (ids_view Function ids.old) (by_id resource.now)) }
 {
     if overriding {
         return ids.add_resource_overriding(resource);

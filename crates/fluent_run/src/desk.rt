@@ -1,14 +1,11 @@
 //! Answers request lines from the messages and terms of sources.
 
-ghost use Rattle.std.specs.Prelude.{◌≡◌, ◌++◌, [], ◌∷◌, IfOk, OnOk, option_copied, option_map};
-ghost use Rattle.fluent_answers.specs.Answers.{line_from, pattern_asked, told};
-ghost use Rattle.fluent_ast.specs.View.{pattern_view};
-ghost use Rattle.fluent_check.specs.Added.{all_by_id};
-ghost use Rattle.fluent_meaning.specs.Ids.{attribute_named, find, number_pair, with_ids};
-ghost use Rattle.fluent_meaning.specs.Substitution.{answer_written};
+ghost use Rattle.std.specs.Prelude.{◌≡◌, ◌++◌, IfOk, OnOk};
+ghost use Rattle.fluent_answers.specs.Answers.{line_from};
+ghost use Rattle.fluent_meaning.specs.Ids.{attribute_named};
 ghost use Rattle.fluent_requests.specs.Frames.{frame_of, ok};
 ghost use Rattle.fluent_resource.specs.MessageView.{message_of};
-ghost use Rattle.fluent_run.specs.DeskView.{arguments_view, desk_ids, environment_in, reply_by};
+ghost use Rattle.fluent_run.specs.DeskView.{arguments_view, asked_of, desk_ids, elements_found, environment_in, ids_added, elements_of, reply_by, reply_for};
 ghost use Rattle.fluent_run.specs.ReplyView.{reply_view};
 ghost use Rattle.fluent_serve.specs.Exchange.{IsFrontOf};
 ghost use Rattle.fluent_serve.specs.RequestView.{request_view};
@@ -48,7 +45,7 @@ impl<'b, 'r, 's, M: MemoizerKind> Desk<'b, 'r, 's, M> {
         settings: Settings,
         plurals: &'b M,
     ) -> Result<Self, AllocError>
-        ensures ids { IfOk result (λ desk. desk_ids desk ≡ with_ids settings.overriding (number_pair ∷ []) (all_by_id resources.now)) }
+        ensures ids { IfOk result (λ desk. desk_ids desk ≡ ids_added settings.overriding resources.now) }
         ensures plurals { IfOk result (λ desk. desk.plurals.now ≡ plurals.now) }
         ensures isolating { IfOk result (λ desk. desk.isolating ≡ settings.isolating) }
     {
@@ -62,7 +59,7 @@ impl<'b, 'r, 's, M: MemoizerKind> Desk<'b, 'r, 's, M> {
 
     /// The pattern that a request asks for: a message's value, or its first attribute of the name.
     fn pattern_of(&self, request: &Request<'_>) -> Option<&'r Pattern<&'s str>>
-        ensures { option_map (pattern_view _ (λ s. s.now)) (option_copied result) ≡ pattern_asked (request_view request.now).attribute (find (desk_ids self.now) request.now.id.now) }
+        ensures { elements_found result ≡ asked_of self.now (request_view request.now) }
     {
         let message = self.ids.get_message(request.id)?;
         match request.attribute {
@@ -78,7 +75,8 @@ impl<'b, 'r, 's, M: MemoizerKind> Desk<'b, 'r, 's, M> {
         pattern: &'r Pattern<&'s str>,
         arguments: &'x FluentArgs<'_, NoCustom>,
     ) -> Result<Reply, AllocError>
-        ensures { IfOk result (λ reply. reply_view reply ≡ told (answer_written (environment_in M.category_of M.stringified self.now) (arguments_view arguments.now) (pattern_view _ (λ s. s.now) pattern.now))) }
+        ensures { IfOk result (λ reply. reply_view reply ≡
+            reply_by M.category_of M.stringified self.now (arguments_view arguments.now) (elements_of pattern.now)) }
     {
         let context: Lent<'_, M, NoFormatter, NoTransform> = Lent {
             plurals: self.plurals,
@@ -103,20 +101,19 @@ impl<'b, 'r, 's, M: MemoizerKind> Desk<'b, 'r, 's, M> {
         pattern: &'r Pattern<&'s str>,
         out: &mut Vec<u8>,
     ) -> Result<(), AllocError>
-        ensures ok { OnOk result (out.new.items ≡ out.old.items ++ frame_of (ok (reply_by M.category_of M.stringified self.now (request_view request.now) (pattern_view _ (λ s. s.now) pattern.now)))) }
+        ensures ok { OnOk result (out.new.items ≡ out.old.items ++ frame_of (ok
+            (reply_for M.category_of M.stringified self.now (request_view request.now) (elements_of pattern.now)))) }
         ensures front { IsFrontOf out.old.items out.new.items }
     {
         let arguments = valued_arguments(alloc, &request.arguments)?;
         let reply = self.reply_to(alloc, pattern, &arguments)?;
-        let lines = reply.error_lines(alloc)?;
-        let text = reply.text.as_str();
-        let errors = lines.as_slice();
-        Answer::Text { text, errors }.push_to(alloc, out)
+        reply.push_to(alloc, out)
     }
 
     /// Puts what is written for `line` behind `out`. After an error a front of it may stand there.
     fn push_answer(&self, alloc: Global, line: &[u8], out: &mut Vec<u8>) -> Result<(), AllocError>
-        ensures ok { OnOk result (out.new.items ≡ out.old.items ++ line_from (environment_in M.category_of M.stringified self.now) line.now) }
+        ensures ok { OnOk result (out.new.items ≡
+            out.old.items ++ line_from (environment_in M.category_of M.stringified self.now) line.now) }
         ensures front { IsFrontOf out.old.items out.new.items }
     {
         let Some(request) = read_request(alloc, line)? else {
@@ -134,7 +131,7 @@ fn attribute_value<'r, 's>(
     message: &FluentMessage<'r, 's>,
     name: &str,
 ) -> Option<&'r Pattern<&'s str>>
-    ensures { option_map (pattern_view _ (λ s. s.now)) (option_copied result) ≡ attribute_named name.now (message_of message.now).attributes }
+    ensures { elements_found result ≡ attribute_named name.now (message_of message.now).attributes }
 {
     attributes_agree();
     let attribute = message.get_attribute(name)?;

@@ -1,18 +1,21 @@
 //! The text of a pattern, and the errors that came up while it was made.
 
-ghost use Rattle.std.specs.Prelude.{◌≡◌, IfOk, List, Some, map};
+ghost use Rattle.std.specs.Prelude.{◌≡◌, ◌++◌, IfOk, List, OnOk, Some, map};
 ghost use Rattle.fluent_answers.specs.Answers.{told};
-ghost use Rattle.fluent_ast.specs.View.{pattern_view};
 ghost use Rattle.fluent_errors.specs.Errors.{Reported};
 ghost use Rattle.fluent_errors.specs.View.{bundle_view};
 ghost use Rattle.fluent_meaning.specs.Substitution.{answer_written};
 ghost use Rattle.fluent_progress.specs.Views.{args_or_none, given_args, resolved_in, state};
-ghost use Rattle.fluent_run.specs.ReplyView.{error_text, line_of, reply_view};
+ghost use Rattle.fluent_requests.specs.Frames.{frame_of, ok};
+ghost use Rattle.fluent_run.specs.DeskView.{elements_of};
+ghost use Rattle.fluent_run.specs.ReplyView.{line_of, reply_view};
+ghost use Rattle.fluent_serve.specs.Exchange.{IsFrontOf};
 
 use fluent_ast::Pattern;
 use fluent_errors::FluentError;
 use fluent_progress::{Context, Place, Progress};
 use fluent_resolver::pattern::write_pattern;
+use fluent_serve::answer::Answer;
 use fluent_value::{FluentType, ValueScope};
 use std::alloc::{AllocError, Global};
 use std::fmt;
@@ -47,7 +50,9 @@ pub(crate) fn resolve<'b, 'r, 's, 'a, C: FluentType + Drop, F, E: Context<C, F>>
     place: &Place<'b, 'r, 's, 'a, C, F, E>,
     pattern: &'r Pattern<&'s str>,
 ) -> Result<Reply, AllocError>
-    ensures { IfOk result (λ reply. reply_view reply ≡ told (answer_written (resolved_in E.environment place.now) (args_or_none C.meaning (given_args C.meaning place.now.arguments)) (pattern_view _ (λ s. s.now) pattern.now))) }
+    ensures { IfOk result (λ reply. reply_view reply ≡
+        told (answer_written (resolved_in E.environment place.now)
+        (args_or_none C.meaning (given_args C.meaning place.now.arguments)) (elements_of pattern.now))) }
 {
     let alloc = place.context.alloc();
     let mut progress = Progress::new(alloc, Some(Vec::new(alloc)));
@@ -68,12 +73,26 @@ fn told_by(alloc: Global, progress: Progress<'_, '_>) -> Vec<FluentError>
 }
 
 impl Reply {
+    /// Puts the answer that tells the reply behind `out`. After an error a front of it may stand there.
+    ///
+    /// # Errors
+    /// Memory ran out.
+    pub(crate) fn push_to(&self, alloc: Global, out: &mut Vec<u8>) -> Result<(), AllocError>
+        ensures ok { OnOk result (out.new.items ≡ out.old.items ++ frame_of (ok (reply_view self.now))) }
+        ensures front { IsFrontOf out.old.items out.new.items }
+    {
+        let lines = self.error_lines(alloc)?;
+        let text = self.text.as_str();
+        let errors = lines.as_slice();
+        Answer::Text { text, errors }.push_to(alloc, out)
+    }
+
     /// The errors, as an answer tells them.
     ///
     /// # Errors
     /// Memory ran out.
-    pub(crate) fn error_lines(&self, alloc: Global) -> Result<Vec<ErrorLine<'_>>, AllocError>
-        ensures { IfOk result (λ lines. map line_of lines.items ≡ map error_text (map bundle_view self.now.errors.items)) }
+    fn error_lines(&self, alloc: Global) -> Result<Vec<ErrorLine<'_>>, AllocError>
+        ensures { IfOk result (λ lines. map line_of lines.items ≡ (reply_view self.now).errors) }
     {
         let mut lines = Vec::new(alloc);
         for error in &self.errors {

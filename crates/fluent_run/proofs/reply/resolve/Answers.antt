@@ -2,7 +2,7 @@ use Rattle.std.proofs.Common.{map, Some, None, ap, ◌∙◌}
 use Rattle.fluent_ast.specs.View.{pattern_view}
 use Rattle.fluent_errors.specs.View.{bundle_view}
 use Rattle.fluent_progress.specs.Telling.{fresh}
-use Rattle.fluent_progress.specs.Views.{args_or_none, given_args, place_view, resolved_in, state}
+use Rattle.fluent_progress.specs.Views.{args_or_none, given_args, place_view, resolved_in}
 use Rattle.fluent_run.proofs.Replies.{at-outset, resolved}
 use Rattle.fluent_run.proofs.reply.resolve.Goals as goal
 

@@ -1,4 +1,4 @@
-use Rattle.std.proofs.Common.{Some, None, sym}
+use Rattle.std.proofs.Common.{Some, None}
 use Rattle.fluent_ast.specs.View.{pattern_view}
 use Rattle.fluent_run.specs.DeskView.{environment_in}
 use Rattle.fluent_run.proofs.Lines.{line-bad, line-found}

@@ -1,0 +1,23 @@
+//! Counts of what was right and what was wrong.
+
+/// How many were tried, and how many of them were wrong.
+#[derive(Clone, Copy, Debug)]
+pub struct Tally {
+    pub tried: u32,
+    pub wrong: u32,
+}
+
+impl Tally {
+    /// None yet.
+    pub fn new() -> Tally {
+        Tally { tried: 0, wrong: 0 }
+    }
+
+    /// Counts one more.
+    pub fn add(&mut self, is_right: bool) {
+        self.tried = self.tried.saturating_add(1);
+        if !is_right {
+            self.wrong = self.wrong.saturating_add(1);
+        }
+    }
+}
