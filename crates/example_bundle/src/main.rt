@@ -30,22 +30,32 @@ mail = { $count ->
 type Bundle<'r, 's> = FluentBundle<'r, 's, EnglishPlurals, Day, IsOpen, NoFormatter>;
 
 fn main(rt: HostRuntime) -> Result<()> {
+    match FluentResource::try_new(rt.alloc(), SOURCE) {
+        Ok(resource) => show(&rt, &resource),
+        Err(_) => bail!("the source has errors"),
+    }
+}
+
+/// Builds a bundle, and prints some of its texts.
+fn show(rt: &HostRuntime, resource: &FluentResource<'static>) -> Result<()> {
     let alloc = rt.alloc();
-    let Ok(resource) = FluentResource::try_new(alloc, SOURCE) else {
-        bail!("the source has errors");
-    };
     let mut bundle = Bundle::new(alloc, Vec::new(alloc), EnglishPlurals);
     bundle.set_use_isolating(false);
-    if bundle.add_function("IS_OPEN", IsOpen).is_err() || bundle.add_resource(&resource).is_err() {
-        bail!("not added");
+    let is_built = bundle.add_function("IS_OPEN", IsOpen).is_ok()
+        && bundle.add_resource(resource).is_ok();
+    if is_built {
+        say_all(rt, &bundle)
+    } else {
+        bail!("not added")
     }
+}
+
+fn say_all<'r, 's: 'r>(rt: &HostRuntime, bundle: &Bundle<'r, 's>) -> Result<()> {
     for day in [Day(5), Day(7)] {
-        let args = day_args(alloc, day)?;
-        say(&rt, &bundle, "hours", &args)?;
+        say(rt, bundle, "hours", &day_args(rt.alloc(), day)?)?;
     }
     for count in [0_u32, 1, 5] {
-        let args = mail_args(alloc, count)?;
-        say(&rt, &bundle, "mail", &args)?;
+        say(rt, bundle, "mail", &mail_args(rt.alloc(), count)?)?;
     }
     Ok(())
 }
@@ -63,7 +73,8 @@ fn mail_args(alloc: Global, count: u32) -> Result<FluentArgs<'static, Day>> {
     Ok(args)
 }
 
-/// Prints the text of a message, and a line for each error.
+/// Prints the text of a message. Where a part of it can't be had, the text says so in braces, and its errors tell why: see
+/// `docs/errors.md`.
 fn say<'r, 's: 'r>(
     rt: &HostRuntime,
     bundle: &Bundle<'r, 's>,
@@ -74,9 +85,6 @@ fn say<'r, 's: 'r>(
     let pattern = message.value().context("no value")?;
     let mut errors: Vec<FluentError> = Vec::new(rt.alloc());
     let text = bundle.format_pattern(pattern, Some(args), &mut errors)?;
-    println!(rt; "{text}")?;
-    for error in &errors {
-        println!(rt; "{error}")?;
-    }
+    println!(rt; "{text} ({} errors)", errors.len())?;
     Ok(())
 }
