@@ -32,9 +32,17 @@ told a = record { text = a.value; errors = map resolver_text a.errors }
 abbrev pub reply_to : {S F : Type 0} → Environment S F → Request (Value S) → Option Reply
 reply_to env r = option_map (λ es. told (answer_written env (all_set [] r.arguments) es)) (pattern_asked r.attribute (env.find r.id))
 
+-- what is written for one line
+abbrev pub line_from : {S F : Type 0} → Environment S F → Text → Text
+line_from env = answer_line number_or_text (reply_to env)
+
 -- what is written for a stream of request lines: nothing passes from one line to the next
 abbrev pub answers_from : {S F : Type 0} → Environment S F → Text → Text
-answers_from env bytes = frames.answers (answer_line number_or_text (reply_to env)) bytes
+answers_from env bytes = frames.answers (line_from env) bytes
+
+-- the same, by sources and settings
+abbrev pub line_answered : {S : Type 0} → Type 0 → Plurals → (S → Text) → Settings → List Text → Text → Text
+line_answered F plurals shown settings sources = line_from (environment_of {F = F} plurals shown settings sources)
 
 abbrev pub answers : {S : Type 0} → Type 0 → Plurals → (S → Text) → Settings → List Text → Text → Text
-answers F plurals shown settings sources bytes = answers_from (environment_of {F = F} plurals shown settings sources) bytes
+answers F plurals shown settings sources bytes = frames.answers (line_answered F plurals shown settings sources) bytes

@@ -1,5 +1,5 @@
 -- The notices of resources that are added one after the other.
-use Rattle.std.proofs.Common.{◌≡◌, ℕ, ◌+◌, ◌<◌, false, List, [], ◌∷◌, ◌++◌, length, get_or, take, map, refl, sym, ap, ◌∙◌, append-nil}
+use Rattle.std.proofs.Common.{◌≡◌, ℕ, ◌+◌, ◌<◌, false, List, [], ◌∷◌, ◌++◌, length, get_or, take, map, refl, sym, ap, ◌∙◌, append-nil, Bool}
 use Rattle.std.proofs.lemmas.List.{take_more}
 use Rattle.std.proofs.lemmas.Grind.{flat_map-append}
 use Rattle.fluent_grammar.specs.Words.{Text}
@@ -21,8 +21,8 @@ all_by_id-more rs k r inside is =
     ∙ ap (λ x. all_by_id (take k rs) ++ x) (append-nil (by_id (get_or rs k r)) ∙ ap by_id (sym is))
 
 module _ (start : Ids NoFunction) (rs : List FluentResource) (k : ℕ) (r : FluentResource) (inside : k < length rs) (is : r ≡ get_or rs k r) where
-  pub ids-next : with_ids false start (all_by_id (take (k + 1) rs)) ≡ with_ids false (with_ids false start (all_by_id (take k rs))) (by_id r)
-  ids-next = ap (with_ids false start) (all_by_id-more rs k r inside is) ∙ with_ids-++ false start (all_by_id (take k rs)) (by_id r)
+  pub ids-next : (overriding : Bool) → with_ids overriding start (all_by_id (take (k + 1) rs)) ≡ with_ids overriding (with_ids overriding start (all_by_id (take k rs))) (by_id r)
+  ids-next overriding = ap (with_ids overriding start) (all_by_id-more rs k r inside is) ∙ with_ids-++ overriding start (all_by_id (take k rs)) (by_id r)
 
   pub notices-next : notices start (all_by_id (take (k + 1) rs)) ≡ notices start (all_by_id (take k rs)) ++ notices (with_ids false start (all_by_id (take k rs))) (by_id r)
   notices-next = ap (notices start) (all_by_id-more rs k r inside is) ∙ notices-++ start (all_by_id (take k rs)) (by_id r)

@@ -1,16 +1,15 @@
 //! The notices of entries whose id was there.
 
-ghost use Rattle.std.specs.Prelude.{◌≡◌, ◌++◌, [], ◌∷◌, false, IfOk, OnOk, map};
+ghost use Rattle.std.specs.Prelude.{◌≡◌, ◌++◌, [], ◌∷◌, false, IfOk, OnOk};
 ghost use Rattle.fluent_answers.specs.Sources.{notices_of};
 ghost use Rattle.fluent_check.specs.ReportView.{notices_view, texts};
 ghost use Rattle.fluent_check.specs.Added.{by_id, all_by_id, ids_in};
-ghost use Rattle.fluent_grammar.specs.Tiling.{runtime_tree};
 ghost use Rattle.fluent_meaning.specs.Ids.{notices, number_pair, with_ids};
-ghost use Rattle.fluent_resource.specs.ResourceView.{entries_view};
 
+use crate::sources::read_sources;
 use fluent_errors::FluentError;
 use fluent_ids::{AddFunctionError, AddResourceError, FluentIds};
-use fluent_resource::{FluentResource, ResourceError};
+use fluent_resource::FluentResource;
 use fluent_value::NoFunction;
 use std::alloc::{AllocError, Global};
 
@@ -23,31 +22,6 @@ pub(crate) fn notices_of_sources(
 {
     let resources = read_sources(alloc, sources)?;
     notices_of_resources(alloc, &resources)
-}
-
-/// What is read of each source, errors aside.
-fn read_sources<'s>(
-    alloc: Global,
-    sources: &[&'s str],
-) -> Result<Vec<FluentResource<'s>>, AllocError>
-    ensures { IfOk result (λ read. map entries_view read.items ≡ map runtime_tree (texts sources.now)) }
-{
-    let mut resources = Vec::new(alloc);
-    for source in sources {
-        resources.push(read_source(alloc, source)?)?;
-    }
-    Ok(resources)
-}
-
-/// What is read of a source, errors aside.
-fn read_source<'s>(alloc: Global, source: &'s str) -> Result<FluentResource<'s>, AllocError>
-    ensures { IfOk result (λ read. entries_view read ≡ runtime_tree source.now) }
-{
-    match FluentResource::try_new(alloc, source) {
-        Ok(resource) => Ok(resource),
-        Err(ResourceError::Broken(resource, _)) => Ok(resource),
-        Err(ResourceError::Memory) => Err(AllocError),
-    }
 }
 
 /// The ids that were added, and the notices that came.

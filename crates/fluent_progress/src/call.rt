@@ -14,14 +14,14 @@ use fluent_ids::{Entry, FunctionRef};
 use fluent_value::{FluentArgs, FluentType, FluentValue};
 use std::alloc::AllocError;
 
-impl<'r, 's, C: FluentType, F, E: Context<C, F>> Place<'r, 's, C, F, E> {
+impl<'b, 'r, 's, 'a, C: FluentType, F, E: Context<C, F>> Place<'b, 'r, 's, 'a, C, F, E> {
     /// What the function of an id gives for these values, if the id stands for one. The only error is that memory runs out.
-    pub fn call<'a, 'n>(
+    pub fn call<'v, 'n>(
         &self,
         id: &str,
-        positional: &[FluentValue<'a, C>],
+        positional: &[FluentValue<'v, C>],
         named: &FluentArgs<'n, C>,
-    ) -> Result<Option<FluentValue<'a, C>>, AllocError>
+    ) -> Result<Option<FluentValue<'v, C>>, AllocError>
         ensures { IfOk result (λ value. option_map (value_view C.meaning) value ≡ function_result (resolved_in E.environment self.now) (find (ids_view F self.now.ids.now) id.now) (map (value_view C.meaning) positional.now) (args_view C.meaning named.now)) }
     {
         let function = match self.ids.get(id) {

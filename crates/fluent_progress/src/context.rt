@@ -1,7 +1,7 @@
 //! What patterns are resolved in.
 
-ghost use Rattle.std.specs.Prelude.{◌≡◌, IfOk, map};
-ghost use Rattle.std.specs.Cow.{cow_str_bytes};
+ghost use Rattle.std.specs.Prelude.{◌≡◌, Bool, false, IfOk, IsOkAnd, map};
+ghost use Rattle.std.specs.Cow.{cow_str_bytes, IsBorrowedStr};
 ghost use Rattle.fluent_environment.specs.Settings.{result_of};
 ghost use Rattle.fluent_ids.specs.EntryView.{function_meaning};
 ghost use Rattle.fluent_meaning.specs.Environment.{Environment, value_text};
@@ -21,6 +21,9 @@ pub trait Context<C: FluentType, F>: ValueScope<C> {
     /// All of it as plain data.
     ghost environment: { Self → Environment C.Meaning F };
 
+    /// Whether a transform is set.
+    ghost has_transform: { Self → Bool };
+
     /// What a function gives for these values. The only error is that memory runs out.
     fn call<'a, 'n>(
         &self,
@@ -30,9 +33,11 @@ pub trait Context<C: FluentType, F>: ValueScope<C> {
     ) -> Result<FluentValue<'a, C>, AllocError>
         ensures { IfOk result (λ value. value_view C.meaning value ≡ result_of (environment self.now).call (function_meaning F function.now) (map (value_view C.meaning) positional.now) (args_view C.meaning named.now)) };
 
-    /// What becomes of a text of a pattern. The only error is that memory runs out.
+    /// What becomes of a text of a pattern. Where no transform is set it is the text itself, borrowed, which takes no memory and
+    /// succeeds. The only error is that memory runs out.
     fn transform<'t>(&self, text: &'t str) -> Result<CowStr<'t>, AllocError>
-        ensures { IfOk result (λ new. cow_str_bytes new ≡ (environment self.now).transformed text.now) };
+        ensures text { IfOk result (λ new. cow_str_bytes new ≡ (environment self.now).transformed text.now) }
+        ensures borrowed { has_transform self.now ≡ false → IsOkAnd result IsBorrowedStr };
 
     /// Whether placeables stand between isolation marks.
     fn is_isolating(&self) -> bool

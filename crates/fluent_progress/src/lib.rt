@@ -9,6 +9,7 @@
 mod call;
 mod context;
 pub mod fallback;
+mod lent;
 pub mod marks;
 pub mod path;
 mod place;
@@ -20,6 +21,7 @@ pub mod variable;
 pub mod variant;
 
 pub use context::Context;
+pub use lent::Lent;
 pub use place::Place;
 pub use progress::Progress;
 pub use target::Target;

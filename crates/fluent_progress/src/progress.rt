@@ -1,15 +1,15 @@
 //! What resolving has come to so far.
 
-ghost use Rattle.std.specs.Prelude.{◌≡◌, false, true, IfOk, OnErr, OnOk};
-ghost use Rattle.fluent_errors.specs.View.{resolver_view};
+ghost use Rattle.std.specs.Prelude.{◌≡◌, [], false, true, IfOk, OnErr, OnOk, map, option_map};
+ghost use Rattle.fluent_errors.specs.View.{bundle_view, resolver_view};
 ghost use Rattle.fluent_meaning.specs.Steps.{done, entering, opens};
 ghost use Rattle.fluent_meaning.specs.Told.{Finds, after};
-ghost use Rattle.fluent_progress.specs.Telling.{with_error};
-ghost use Rattle.fluent_progress.specs.Views.{state};
+ghost use Rattle.fluent_progress.specs.Telling.{fresh, with_error};
+ghost use Rattle.fluent_progress.specs.Views.{path_of, state};
 
 use fluent_ast::Pattern;
 use fluent_errors::{FluentError, ResolverError};
-use std::alloc::AllocError;
+use std::alloc::{AllocError, Global};
 
 /// How many placeables one answer may open.
 const MOST_PLACEABLES: u8 = 100;
@@ -30,6 +30,28 @@ pub struct Progress<'r, 's> {
 }
 
 impl Progress<'_, '_> {
+    /// What an answer starts with: these errors, told before and where they are wanted, and nothing counted or entered. It takes no
+    /// memory.
+    pub fn new(alloc: Global, errors: Option<Vec<FluentError>>) -> Self
+        ensures state { state result ≡ fresh (option_map (λ es. map bundle_view es.items) errors.entry) }
+        ensures path { path_of result ≡ [] }
+    {
+        Progress {
+            errors,
+            placeables: 0,
+            dirty: false,
+            entered: 0,
+            path: Vec::new(alloc),
+        }
+    }
+
+    /// The errors told so far, where they are wanted.
+    pub fn into_errors(self) -> Option<Vec<FluentError>>
+        ensures { result ≡ self.entry.errors }
+    {
+        self.errors
+    }
+
     /// Tells an error, where errors are wanted. The only error of the call is that memory runs out; nothing is told then.
     pub fn add_error(&mut self, error: ResolverError) -> Result<(), AllocError>
         ensures told { OnOk result (state self.new ≡ with_error (resolver_view error) (state self.old)) }

@@ -82,7 +82,7 @@ fn unknown_term(
     })
 }
 
-impl<'r, 's, C: FluentType, F, E: Context<C, F>> Place<'r, 's, C, F, E> {
+impl<'b, 'r, 's, 'a, C: FluentType, F, E: Context<C, F>> Place<'b, 'r, 's, 'a, C, F, E> {
     /// What a message reference means. The only error is that memory runs out.
     pub fn message_target(
         &self,

@@ -1,14 +1,16 @@
 //! Variables.
 
-ghost use Rattle.std.specs.Prelude.{◌≡◌, ◌++◌, ◌∷◌, true, IfOk, OnErr, OnOk, option_copied, option_map, string_bytes};
+ghost use Rattle.std.specs.Prelude.{◌≡◌, ◌++◌, ◌∷◌, is_some, true, IfOk, OnErr, OnOk, option_map, string_bytes};
 ghost use Rattle.fluent_ast.specs.View.{name_of};
 ghost use Rattle.fluent_grammar.specs.Words.{dollar};
 ghost use Rattle.fluent_meaning.specs.Fallback.{braced};
 ghost use Rattle.fluent_meaning.specs.Refused.{TellsSome};
 ghost use Rattle.fluent_meaning.specs.Substitution as s;
 ghost use Rattle.fluent_meaning.specs.Told.{Finds, Writes, after};
+ghost use Rattle.fluent_progress.specs.Results.{given_text};
 ghost use Rattle.fluent_progress.specs.Views.{args_or_none, given_args, place_view, resolved_in, state};
 ghost use Rattle.fluent_value.specs.Args.{argument};
+ghost use Rattle.fluent_value.specs.ArgsView.{args_view};
 ghost use Rattle.fluent_value.specs.View.{value_view};
 
 use crate::context::Context;
@@ -18,7 +20,7 @@ use crate::value::write_value;
 use fluent_ast::Identifier;
 use fluent_errors::{ReferenceKind, ResolverError};
 use fluent_value::{FluentArgs, FluentType, FluentValue};
-use std::alloc::AllocError;
+use std::alloc::{AllocError, Global};
 
 /// Writes the name of a variable in braces.
 fn write_name(out: &mut String, id: &str) -> Result<(), AllocError>
@@ -29,28 +31,94 @@ fn write_name(out: &mut String, id: &str) -> Result<(), AllocError>
     out.push_str("}")
 }
 
-impl<'r, 's, C: FluentType, F, E: Context<C, F>> Place<'r, 's, C, F, E> {
-    /// The value of a variable: inside a term one of its arguments, else one of the request's.
-    fn variable<'l>(
-        &'l self,
-        locals: Option<&'l FluentArgs<'r, C>>,
+/// Writes the value of an argument of this name where there is one, and answers whether there is. The only error is that memory runs
+/// out.
+fn write_argument<C: FluentType, F, E: Context<C, F>>(
+    out: &mut String,
+    context: &E,
+    arguments: &FluentArgs<'_, C>,
+    id: &str,
+) -> Result<bool, AllocError>
+    ensures given { IfOk result (λ is_given. is_given ≡ is_some (argument id.now (args_view C.meaning arguments.now))) }
+    ensures wrote { OnOk result (string_bytes out.new ≡ string_bytes out.old ++ given_text (E.environment context.now) (argument id.now (args_view C.meaning arguments.now))) }
+{
+    match arguments.get(id) {
+        Some(value) => {
+            write_value(out, context, value)?;
+            Ok(true)
+        }
+        None => Ok(false),
+    }
+}
+
+/// A copy of the argument of this name, in which a borrowed text stays borrowed. The only error is that memory runs out.
+fn copied<'v, C: FluentType>(
+    alloc: Global,
+    arguments: &FluentArgs<'v, C>,
+    id: &str,
+) -> Result<Option<FluentValue<'v, C>>, AllocError>
+    ensures { IfOk result (λ copy. option_map (value_view C.meaning) copy ≡ argument id.now (args_view C.meaning arguments.now)) }
+{
+    match arguments.get(id) {
+        Some(value) => Ok(Some(value.try_clone(alloc)?)),
+        None => Ok(None),
+    }
+}
+
+/// A copy of the argument of this name, which borrows nothing. The only error is that memory runs out.
+fn owned<'v, C: FluentType>(
+    alloc: Global,
+    arguments: &FluentArgs<'_, C>,
+    id: &str,
+) -> Result<Option<FluentValue<'v, C>>, AllocError>
+    ensures { IfOk result (λ copy. option_map (value_view C.meaning) copy ≡ argument id.now (args_view C.meaning arguments.now)) }
+{
+    match arguments.get(id) {
+        Some(value) => Ok(Some(value.into_owned(alloc)?)),
+        None => Ok(None),
+    }
+}
+
+impl<'b, 'r, 's, 'a, C: FluentType, F, E: Context<C, F>> Place<'b, 'r, 's, 'a, C, F, E> {
+    /// Writes the value of a variable where it has one, inside a term that of one of its arguments, else that of one of the request's,
+    /// and answers whether it has one. The only error is that memory runs out.
+    fn write_given(
+        &self,
+        out: &mut String,
+        locals: Option<&FluentArgs<'s, C>>,
         id: &str,
-    ) -> Option<&'l FluentValue<'r, C>>
-        ensures { option_map (value_view C.meaning) (option_copied result) ≡ argument id.now (s.locals_or (args_or_none C.meaning (given_args C.meaning self.now.arguments)) (given_args C.meaning locals.entry)) }
+    ) -> Result<bool, AllocError>
+        ensures given { IfOk result (λ is_given. is_given ≡ is_some (argument id.now (s.locals_or (args_or_none C.meaning (given_args C.meaning self.now.arguments)) (given_args C.meaning locals.entry)))) }
+        ensures wrote { OnOk result (string_bytes out.new ≡ string_bytes out.old ++ given_text (E.environment self.now.context.now) (argument id.now (s.locals_or (args_or_none C.meaning (given_args C.meaning self.now.arguments)) (given_args C.meaning locals.entry)))) }
     {
-        match locals {
-            Some(locals) => locals.get(id),
-            None => match self.arguments {
-                Some(arguments) => arguments.get(id),
-                None => None,
-            },
+        match (locals, self.arguments) {
+            (Some(locals), _) => write_argument(out, self.context, locals, id),
+            (None, Some(arguments)) => write_argument(out, self.context, arguments, id),
+            (None, None) => Ok(false),
+        }
+    }
+
+    /// A copy of the value of a variable: inside a term of one of its arguments, else of one of the request's, which then borrows
+    /// nothing. The only error is that memory runs out.
+    fn variable_copy(
+        &self,
+        locals: Option<&FluentArgs<'s, C>>,
+        id: &str,
+    ) -> Result<Option<FluentValue<'s, C>>, AllocError>
+        ensures { IfOk result (λ copy. option_map (value_view C.meaning) copy ≡ argument id.now (s.locals_or (args_or_none C.meaning (given_args C.meaning self.now.arguments)) (given_args C.meaning locals.entry))) }
+    {
+        let alloc = self.context.alloc();
+        match (locals, self.arguments) {
+            (Some(locals), _) => copied(alloc, locals, id),
+            (None, Some(arguments)) => owned(alloc, arguments, id),
+            (None, None) => Ok(None),
         }
     }
 
     /// Tells that a variable is missing, which is told outside terms alone.
     fn tell_missing(
         &self,
-        locals: Option<&FluentArgs<'r, C>>,
+        locals: Option<&FluentArgs<'s, C>>,
         progress: &mut Progress<'r, 's>,
         id: &str,
     ) -> Result<(), AllocError>
@@ -69,7 +137,7 @@ impl<'r, 's, C: FluentType, F, E: Context<C, F>> Place<'r, 's, C, F, E> {
     pub fn write_variable(
         &self,
         out: &mut String,
-        locals: Option<&FluentArgs<'r, C>>,
+        locals: Option<&FluentArgs<'s, C>>,
         progress: &mut Progress<'r, 's>,
         id: &Identifier<&str>,
     ) -> Result<(), AllocError>
@@ -77,28 +145,26 @@ impl<'r, 's, C: FluentType, F, E: Context<C, F>> Place<'r, 's, C, F, E> {
         ensures refused { OnErr result (TellsSome (state progress.old) (state progress.new) (s.variable_written (resolved_in E.environment self.now) (name_of _ (λ s. s.now) id.now) (s.variable (resolved_in E.environment self.now) (name_of _ (λ s. s.now) id.now) (place_view C.meaning self.now locals.entry progress.old)) (place_view C.meaning self.now locals.entry progress.old) (state progress.old).budget)) }
         ensures path { progress.new.path ≡ progress.old.path }
     {
-        match self.variable(locals, id.name) {
-            Some(value) => write_value(out, self.context, value),
-            None => {
-                self.tell_missing(locals, progress, id.name)?;
-                write_name(out, id.name)
-            }
+        if self.write_given(out, locals, id.name)? {
+            return Ok(());
         }
+        self.tell_missing(locals, progress, id.name)?;
+        write_name(out, id.name)
     }
 
     /// The value of a variable, as a selector or an argument. The only error is that memory runs out.
     pub fn variable_value(
         &self,
-        locals: Option<&FluentArgs<'r, C>>,
+        locals: Option<&FluentArgs<'s, C>>,
         progress: &mut Progress<'r, 's>,
         id: &Identifier<&str>,
-    ) -> Result<FluentValue<'r, C>, AllocError>
+    ) -> Result<FluentValue<'s, C>, AllocError>
         ensures found { IfOk result (λ found. Finds (value_view C.meaning found) (state progress.old) (state progress.new) (s.variable_found (resolved_in E.environment self.now) (name_of _ (λ s. s.now) id.now) (s.variable (resolved_in E.environment self.now) (name_of _ (λ s. s.now) id.now) (place_view C.meaning self.now locals.entry progress.old)) (place_view C.meaning self.now locals.entry progress.old))) }
         ensures refused { OnErr result (TellsSome (state progress.old) (state progress.new) (s.variable_found (resolved_in E.environment self.now) (name_of _ (λ s. s.now) id.now) (s.variable (resolved_in E.environment self.now) (name_of _ (λ s. s.now) id.now) (place_view C.meaning self.now locals.entry progress.old)) (place_view C.meaning self.now locals.entry progress.old) (state progress.old).budget)) }
         ensures path { progress.new.path ≡ progress.old.path }
     {
-        match self.variable(locals, id.name) {
-            Some(value) => value.try_clone(self.context.alloc()),
+        match self.variable_copy(locals, id.name)? {
+            Some(value) => Ok(value),
             None => {
                 self.tell_missing(locals, progress, id.name)?;
                 Ok(FluentValue::Error)

@@ -22,13 +22,13 @@ use std::borrow::CowStr;
 
 /// What the function of an id gives for these arguments, if it is known. Arguments are resolved in all cases.
 #[cycle(resolving)]
-pub(crate) fn call_result<'r, 's, C: FluentType + Drop, F, E: Context<C, F>>(
-    place: &Place<'r, 's, C, F, E>,
-    locals: Option<&FluentArgs<'r, C>>,
+pub(crate) fn call_result<'b, 'r, 's, 'a, C: FluentType + Drop, F, E: Context<C, F>>(
+    place: &Place<'b, 'r, 's, 'a, C, F, E>,
+    locals: Option<&FluentArgs<'s, C>>,
     progress: &mut Progress<'r, 's>,
     id: &'r Identifier<&'s str>,
     arguments: &'r CallArguments<&'s str>,
-) -> Result<Option<FluentValue<'r, C>>, AllocError>
+) -> Result<Option<FluentValue<'s, C>>, AllocError>
     ensures found { IfOk result (λ found. Finds (option_map (value_view C.meaning) found) (state progress.old) (state progress.new) (λ b. mapped (λ called. function_result (resolved_in E.environment place.now) ((resolved_in E.environment place.now).find (name_of _ (λ s. s.now) id.now)) called.positional called.named) (s.arguments_found (resolved_in E.environment place.now) (t.with_arguments (arguments_view _ (λ s. s.now) arguments.now)) (place_view C.meaning place.now locals.entry progress.old) b))) }
     ensures refused { OnErr result (TellsSome (state progress.old) (state progress.new) (mapped (λ called. function_result (resolved_in E.environment place.now) ((resolved_in E.environment place.now).find (name_of _ (λ s. s.now) id.now)) called.positional called.named) (s.arguments_found (resolved_in E.environment place.now) (t.with_arguments (arguments_view _ (λ s. s.now) arguments.now)) (place_view C.meaning place.now locals.entry progress.old) (state progress.old).budget))) }
     ensures path { OnOk result (progress.new.path.items ≡ progress.old.path.items) }
@@ -40,12 +40,12 @@ pub(crate) fn call_result<'r, 's, C: FluentType + Drop, F, E: Context<C, F>>(
 
 /// The named arguments of a term reference. Its positional ones are resolved and dropped.
 #[cycle(resolving)]
-pub(crate) fn own_arguments<'r, 's, C: FluentType + Drop, F, E: Context<C, F>>(
-    place: &Place<'r, 's, C, F, E>,
-    locals: Option<&FluentArgs<'r, C>>,
+pub(crate) fn own_arguments<'b, 'r, 's, 'a, C: FluentType + Drop, F, E: Context<C, F>>(
+    place: &Place<'b, 'r, 's, 'a, C, F, E>,
+    locals: Option<&FluentArgs<'s, C>>,
     progress: &mut Progress<'r, 's>,
     arguments: &'r Option<CallArguments<&'s str>>,
-) -> Result<FluentArgs<'r, C>, AllocError>
+) -> Result<FluentArgs<'s, C>, AllocError>
     ensures found { IfOk result (λ found. Finds (args_view C.meaning found) (state progress.old) (state progress.new) (λ b. mapped (λ called. called.named) (s.arguments_found (resolved_in E.environment place.now) (maybe_arguments (option_map (arguments_view _ (λ s. s.now)) arguments.now)) (place_view C.meaning place.now locals.entry progress.old) b))) }
     ensures refused { OnErr result (TellsSome (state progress.old) (state progress.new) (mapped (λ called. called.named) (s.arguments_found (resolved_in E.environment place.now) (maybe_arguments (option_map (arguments_view _ (λ s. s.now)) arguments.now)) (place_view C.meaning place.now locals.entry progress.old) (state progress.old).budget))) }
     ensures path { OnOk result (progress.new.path.items ≡ progress.old.path.items) }
@@ -61,12 +61,12 @@ pub(crate) fn own_arguments<'r, 's, C: FluentType + Drop, F, E: Context<C, F>>(
 
 /// The values of positional arguments. The only error is that memory runs out.
 #[cycle(resolving)]
-pub fn positional_values<'r, 's, C: FluentType + Drop, F, E: Context<C, F>>(
-    place: &Place<'r, 's, C, F, E>,
-    locals: Option<&FluentArgs<'r, C>>,
+pub fn positional_values<'b, 'r, 's, 'a, C: FluentType + Drop, F, E: Context<C, F>>(
+    place: &Place<'b, 'r, 's, 'a, C, F, E>,
+    locals: Option<&FluentArgs<'s, C>>,
     progress: &mut Progress<'r, 's>,
     arguments: &'r Vec<InlineExpression<&'s str>>,
-) -> Result<Vec<FluentValue<'r, C>>, AllocError>
+) -> Result<Vec<FluentValue<'s, C>>, AllocError>
     ensures found { IfOk result (λ found. Finds (map (value_view C.meaning) found.items) (state progress.old) (state progress.new) (s.positional_found (resolved_in E.environment place.now) (inlines_of (map (inline_view _ (λ s. s.now)) arguments.now.items)) (place_view C.meaning place.now locals.entry progress.old))) }
     ensures refused { OnErr result (TellsSome (state progress.old) (state progress.new) ((s.positional_found (resolved_in E.environment place.now) (inlines_of (map (inline_view _ (λ s. s.now)) arguments.now.items)) (place_view C.meaning place.now locals.entry progress.old)) (state progress.old).budget)) }
     ensures path { OnOk result (progress.new.path.items ≡ progress.old.path.items) }
@@ -80,12 +80,12 @@ pub fn positional_values<'r, 's, C: FluentType + Drop, F, E: Context<C, F>>(
 
 /// The values of named arguments: of a name that comes twice the last one. The only error is that memory runs out.
 #[cycle(resolving)]
-pub fn named_values<'r, 's, C: FluentType + Drop, F, E: Context<C, F>>(
-    place: &Place<'r, 's, C, F, E>,
-    locals: Option<&FluentArgs<'r, C>>,
+pub fn named_values<'b, 'r, 's, 'a, C: FluentType + Drop, F, E: Context<C, F>>(
+    place: &Place<'b, 'r, 's, 'a, C, F, E>,
+    locals: Option<&FluentArgs<'s, C>>,
     progress: &mut Progress<'r, 's>,
     arguments: &'r Vec<NamedArgument<&'s str>>,
-) -> Result<FluentArgs<'r, C>, AllocError>
+) -> Result<FluentArgs<'s, C>, AllocError>
     ensures found { IfOk result (λ found. Finds (args_view C.meaning found) (state progress.old) (state progress.new) (λ b. mapped (all_set []) (s.named_found (resolved_in E.environment place.now) (nameds_of (map (named_view _ (λ s. s.now)) arguments.now.items)) (place_view C.meaning place.now locals.entry progress.old) b))) }
     ensures refused { OnErr result (TellsSome (state progress.old) (state progress.new) (mapped (all_set []) (s.named_found (resolved_in E.environment place.now) (nameds_of (map (named_view _ (λ s. s.now)) arguments.now.items)) (place_view C.meaning place.now locals.entry progress.old) (state progress.old).budget))) }
     ensures path { OnOk result (progress.new.path.items ≡ progress.old.path.items) }

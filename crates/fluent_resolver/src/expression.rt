@@ -25,10 +25,10 @@ use std::alloc::AllocError;
 
 /// Writes an expression. The only error is that memory runs out.
 #[cycle(resolving)]
-pub fn write_expression<'r, 's, C: FluentType + Drop, F, E: Context<C, F>>(
+pub fn write_expression<'b, 'r, 's, 'a, C: FluentType + Drop, F, E: Context<C, F>>(
     out: &mut String,
-    place: &Place<'r, 's, C, F, E>,
-    locals: Option<&FluentArgs<'r, C>>,
+    place: &Place<'b, 'r, 's, 'a, C, F, E>,
+    locals: Option<&FluentArgs<'s, C>>,
     progress: &mut Progress<'r, 's>,
     expression: &'r Expression<&'s str>,
 ) -> Result<(), AllocError>
@@ -46,10 +46,10 @@ pub fn write_expression<'r, 's, C: FluentType + Drop, F, E: Context<C, F>>(
 
 /// Writes the variant of a select that is chosen.
 #[cycle(resolving)]
-fn write_select<'r, 's, C: FluentType + Drop, F, E: Context<C, F>>(
+fn write_select<'b, 'r, 's, 'a, C: FluentType + Drop, F, E: Context<C, F>>(
     out: &mut String,
-    place: &Place<'r, 's, C, F, E>,
-    locals: Option<&FluentArgs<'r, C>>,
+    place: &Place<'b, 'r, 's, 'a, C, F, E>,
+    locals: Option<&FluentArgs<'s, C>>,
     progress: &mut Progress<'r, 's>,
     selector: &'r InlineExpression<&'s str>,
     variants: &'r Vec<Variant<&'s str>>,
@@ -69,9 +69,9 @@ fn write_select<'r, 's, C: FluentType + Drop, F, E: Context<C, F>>(
 
 /// The variant of a select that is chosen.
 #[cycle(resolving)]
-fn choose<'r, 's, C: FluentType + Drop, F, E: Context<C, F>>(
-    place: &Place<'r, 's, C, F, E>,
-    locals: Option<&FluentArgs<'r, C>>,
+fn choose<'b, 'r, 's, 'a, C: FluentType + Drop, F, E: Context<C, F>>(
+    place: &Place<'b, 'r, 's, 'a, C, F, E>,
+    locals: Option<&FluentArgs<'s, C>>,
     progress: &mut Progress<'r, 's>,
     selector: &'r InlineExpression<&'s str>,
     variants: &'r Vec<Variant<&'s str>>,
@@ -86,10 +86,10 @@ fn choose<'r, 's, C: FluentType + Drop, F, E: Context<C, F>>(
 
 /// Writes an inline expression. The only error is that memory runs out.
 #[cycle(resolving)]
-pub fn write_inline<'r, 's, C: FluentType + Drop, F, E: Context<C, F>>(
+pub fn write_inline<'b, 'r, 's, 'a, C: FluentType + Drop, F, E: Context<C, F>>(
     out: &mut String,
-    place: &Place<'r, 's, C, F, E>,
-    locals: Option<&FluentArgs<'r, C>>,
+    place: &Place<'b, 'r, 's, 'a, C, F, E>,
+    locals: Option<&FluentArgs<'s, C>>,
     progress: &mut Progress<'r, 's>,
     inline: &'r InlineExpression<&'s str>,
 ) -> Result<(), AllocError>
@@ -125,10 +125,10 @@ pub fn write_inline<'r, 's, C: FluentType + Drop, F, E: Context<C, F>>(
 
 /// Writes a call, whose function is known or not.
 #[cycle(resolving)]
-fn write_call<'r, 's, C: FluentType + Drop, F, E: Context<C, F>>(
+fn write_call<'b, 'r, 's, 'a, C: FluentType + Drop, F, E: Context<C, F>>(
     out: &mut String,
-    place: &Place<'r, 's, C, F, E>,
-    locals: Option<&FluentArgs<'r, C>>,
+    place: &Place<'b, 'r, 's, 'a, C, F, E>,
+    locals: Option<&FluentArgs<'s, C>>,
     progress: &mut Progress<'r, 's>,
     inline: &'r InlineExpression<&'s str>,
     id: &'r Identifier<&'s str>,
@@ -151,10 +151,10 @@ fn write_call<'r, 's, C: FluentType + Drop, F, E: Context<C, F>>(
 
 /// Writes a term reference: its own arguments are the only ones inside it.
 #[cycle(resolving)]
-fn write_term<'r, 's, C: FluentType + Drop, F, E: Context<C, F>>(
+fn write_term<'b, 'r, 's, 'a, C: FluentType + Drop, F, E: Context<C, F>>(
     out: &mut String,
-    place: &Place<'r, 's, C, F, E>,
-    locals: Option<&FluentArgs<'r, C>>,
+    place: &Place<'b, 'r, 's, 'a, C, F, E>,
+    locals: Option<&FluentArgs<'s, C>>,
     progress: &mut Progress<'r, 's>,
     inline: &'r InlineExpression<&'s str>,
     id: &'r Identifier<&'s str>,

@@ -19,10 +19,10 @@ use std::alloc::AllocError;
 
 /// Writes a pattern. The only error is that memory runs out.
 #[cycle(resolving)]
-pub fn write_pattern<'r, 's, C: FluentType + Drop, F, E: Context<C, F>>(
+pub fn write_pattern<'b, 'r, 's, 'a, C: FluentType + Drop, F, E: Context<C, F>>(
     out: &mut String,
-    place: &Place<'r, 's, C, F, E>,
-    locals: Option<&FluentArgs<'r, C>>,
+    place: &Place<'b, 'r, 's, 'a, C, F, E>,
+    locals: Option<&FluentArgs<'s, C>>,
     progress: &mut Progress<'r, 's>,
     pattern: &'r Pattern<&'s str>,
 ) -> Result<(), AllocError>
@@ -46,10 +46,10 @@ pub fn write_pattern<'r, 's, C: FluentType + Drop, F, E: Context<C, F>>(
 
 /// Writes a placeable of a pattern: it counts one.
 #[cycle(resolving)]
-pub fn write_placeable<'r, 's, C: FluentType + Drop, F, E: Context<C, F>>(
+pub fn write_placeable<'b, 'r, 's, 'a, C: FluentType + Drop, F, E: Context<C, F>>(
     out: &mut String,
-    place: &Place<'r, 's, C, F, E>,
-    locals: Option<&FluentArgs<'r, C>>,
+    place: &Place<'b, 'r, 's, 'a, C, F, E>,
+    locals: Option<&FluentArgs<'s, C>>,
     progress: &mut Progress<'r, 's>,
     whole: &'r Pattern<&'s str>,
     expression: &'r Expression<&'s str>,
@@ -71,10 +71,10 @@ pub fn write_placeable<'r, 's, C: FluentType + Drop, F, E: Context<C, F>>(
 /// Writes a placeable of a pattern that was opened before, its isolation marks aside. The first pattern in which one opens
 /// goes on the path.
 #[cycle(resolving)]
-pub fn write_opened<'r, 's, C: FluentType + Drop, F, E: Context<C, F>>(
+pub fn write_opened<'b, 'r, 's, 'a, C: FluentType + Drop, F, E: Context<C, F>>(
     out: &mut String,
-    place: &Place<'r, 's, C, F, E>,
-    locals: Option<&FluentArgs<'r, C>>,
+    place: &Place<'b, 'r, 's, 'a, C, F, E>,
+    locals: Option<&FluentArgs<'s, C>>,
     progress: &mut Progress<'r, 's>,
     whole: &'r Pattern<&'s str>,
     expression: &'r Expression<&'s str>,
@@ -91,10 +91,10 @@ pub fn write_opened<'r, 's, C: FluentType + Drop, F, E: Context<C, F>>(
 
 /// Writes what a reference comes to: the pattern that it means, or its fallback.
 #[cycle(resolving)]
-pub(crate) fn write_target<'r, 's, C: FluentType + Drop, F, E: Context<C, F>>(
+pub(crate) fn write_target<'b, 'r, 's, 'a, C: FluentType + Drop, F, E: Context<C, F>>(
     out: &mut String,
-    place: &Place<'r, 's, C, F, E>,
-    locals: Option<&FluentArgs<'r, C>>,
+    place: &Place<'b, 'r, 's, 'a, C, F, E>,
+    locals: Option<&FluentArgs<'s, C>>,
     progress: &mut Progress<'r, 's>,
     inline: &'r InlineExpression<&'s str>,
     target: Target<'r, 's>,
@@ -114,10 +114,10 @@ pub(crate) fn write_target<'r, 's, C: FluentType + Drop, F, E: Context<C, F>>(
 
 /// Writes a pattern that an expression refers to. The only error is that memory runs out.
 #[cycle(resolving)]
-pub fn write_referred<'r, 's, C: FluentType + Drop, F, E: Context<C, F>>(
+pub fn write_referred<'b, 'r, 's, 'a, C: FluentType + Drop, F, E: Context<C, F>>(
     out: &mut String,
-    place: &Place<'r, 's, C, F, E>,
-    locals: Option<&FluentArgs<'r, C>>,
+    place: &Place<'b, 'r, 's, 'a, C, F, E>,
+    locals: Option<&FluentArgs<'s, C>>,
     progress: &mut Progress<'r, 's>,
     inline: &'r InlineExpression<&'s str>,
     pattern: &'r Pattern<&'s str>,

@@ -21,12 +21,12 @@ use std::borrow::CowStr;
 
 /// The value of an expression, as a selector or an argument. The only error is that memory runs out.
 #[cycle(resolving)]
-pub fn value_of<'r, 's, C: FluentType + Drop, F, E: Context<C, F>>(
-    place: &Place<'r, 's, C, F, E>,
-    locals: Option<&FluentArgs<'r, C>>,
+pub fn value_of<'b, 'r, 's, 'a, C: FluentType + Drop, F, E: Context<C, F>>(
+    place: &Place<'b, 'r, 's, 'a, C, F, E>,
+    locals: Option<&FluentArgs<'s, C>>,
     progress: &mut Progress<'r, 's>,
     inline: &'r InlineExpression<&'s str>,
-) -> Result<FluentValue<'r, C>, AllocError>
+) -> Result<FluentValue<'s, C>, AllocError>
     ensures found { IfOk result (λ found. Finds (value_view C.meaning found) (state progress.old) (state progress.new) (s.value_found (resolved_in E.environment place.now) (inline_view _ (λ s. s.now) inline.now) (place_view C.meaning place.now locals.entry progress.old))) }
     ensures refused { OnErr result (TellsSome (state progress.old) (state progress.new) ((s.value_found (resolved_in E.environment place.now) (inline_view _ (λ s. s.now) inline.now) (place_view C.meaning place.now locals.entry progress.old)) (state progress.old).budget)) }
     ensures path { OnOk result (progress.new.path.items ≡ progress.old.path.items) }
@@ -58,12 +58,12 @@ pub fn value_of<'r, 's, C: FluentType + Drop, F, E: Context<C, F>>(
 
 /// The text that an expression writes, as a value.
 #[cycle(resolving)]
-fn text_value<'r, 's, C: FluentType + Drop, F, E: Context<C, F>>(
-    place: &Place<'r, 's, C, F, E>,
-    locals: Option<&FluentArgs<'r, C>>,
+fn text_value<'b, 'r, 's, 'a, C: FluentType + Drop, F, E: Context<C, F>>(
+    place: &Place<'b, 'r, 's, 'a, C, F, E>,
+    locals: Option<&FluentArgs<'s, C>>,
     progress: &mut Progress<'r, 's>,
     inline: &'r InlineExpression<&'s str>,
-) -> Result<FluentValue<'r, C>, AllocError>
+) -> Result<FluentValue<'s, C>, AllocError>
     ensures found { IfOk result (λ found. Finds (value_view C.meaning found) (state progress.old) (state progress.new) (λ b. mapped v.text (s.inline_written (resolved_in E.environment place.now) (inline_view _ (λ s. s.now) inline.now) (place_view C.meaning place.now locals.entry progress.old) b))) }
     ensures refused { OnErr result (TellsSome (state progress.old) (state progress.new) (s.inline_written (resolved_in E.environment place.now) (inline_view _ (λ s. s.now) inline.now) (place_view C.meaning place.now locals.entry progress.old) (state progress.old).budget)) }
     ensures path { OnOk result (progress.new.path.items ≡ progress.old.path.items) }

@@ -11,7 +11,7 @@ loop-resource-preserved c =
     let rs = c.args.resources.now in
     let k = c.loop-resource.resource-index in
     let r = c.resource-item.result in (
-      c.in_ok-add.ensures.ids ∙ ap (λ ids. with_ids false ids (by_id r)) c.loop-resource.invariant.0 ∙ sym (ids-next (number_pair ∷ []) rs k r c.loop-resource-test.true c.resource-item.is),
+      c.in_ok-add.ensures.ids ∙ ap (λ ids. with_ids false ids (by_id r)) c.loop-resource.invariant.0 ∙ sym (ids-next (number_pair ∷ []) rs k r c.loop-resource-test.true c.resource-item.is false),
       c.in_ok-add.ensures.told ∙ ap (λ told. told ++ notices (ids_in c.loop-resource.added) (by_id r)) c.loop-resource.invariant.1
           ∙ ap (λ ids. notices {F = NoFunction} (number_pair ∷ []) (all_by_id (take k rs)) ++ notices ids (by_id r)) c.loop-resource.invariant.0 ∙ sym (notices-next (number_pair ∷ []) rs k r c.loop-resource-test.true c.resource-item.is),
     )

@@ -1,0 +1,37 @@
+//! Sources, read for use at run time.
+
+ghost use Rattle.std.specs.Prelude.{◌≡◌, IfOk, map};
+ghost use Rattle.fluent_check.specs.ReportView.{texts};
+ghost use Rattle.fluent_grammar.specs.Tiling.{runtime_tree};
+ghost use Rattle.fluent_resource.specs.ResourceView.{entries_view};
+
+use fluent_resource::{FluentResource, ResourceError};
+use std::alloc::{AllocError, Global};
+
+/// What is read of each source, in their order. What is no entry is passed over: a resource has it as junk.
+///
+/// # Errors
+/// Memory ran out.
+pub fn read_sources<'s>(
+    alloc: Global,
+    sources: &[&'s str],
+) -> Result<Vec<FluentResource<'s>>, AllocError>
+    ensures { IfOk result (λ read. map entries_view read.items ≡ map runtime_tree (texts sources.now)) }
+{
+    let mut resources = Vec::new(alloc);
+    for source in sources {
+        resources.push(read_source(alloc, source)?)?;
+    }
+    Ok(resources)
+}
+
+/// What is read of a source, errors aside.
+fn read_source<'s>(alloc: Global, source: &'s str) -> Result<FluentResource<'s>, AllocError>
+    ensures { IfOk result (λ read. entries_view read ≡ runtime_tree source.now) }
+{
+    match FluentResource::try_new(alloc, source) {
+        Ok(resource) => Ok(resource),
+        Err(ResourceError::Broken(resource, _)) => Ok(resource),
+        Err(ResourceError::Memory) => Err(AllocError),
+    }
+}

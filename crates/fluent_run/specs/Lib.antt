@@ -1,0 +1,3 @@
+pub mod RunView
+pub mod DeskView
+pub mod ReplyView

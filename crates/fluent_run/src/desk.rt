@@ -1,0 +1,146 @@
+//! Answers request lines from the messages and terms of sources.
+
+ghost use Rattle.std.specs.Prelude.{◌≡◌, ◌++◌, [], ◌∷◌, IfOk, OnOk, option_copied, option_map};
+ghost use Rattle.fluent_answers.specs.Answers.{line_from, pattern_asked, told};
+ghost use Rattle.fluent_ast.specs.View.{pattern_view};
+ghost use Rattle.fluent_check.specs.Added.{all_by_id};
+ghost use Rattle.fluent_meaning.specs.Ids.{find, number_pair, with_ids};
+ghost use Rattle.fluent_meaning.specs.Substitution.{answer_written};
+ghost use Rattle.fluent_run.specs.DeskView.{arguments_view, desk_ids, environment_in};
+ghost use Rattle.fluent_run.specs.ReplyView.{reply_view};
+ghost use Rattle.fluent_serve.specs.Exchange.{IsFrontOf};
+ghost use Rattle.fluent_serve.specs.RequestView.{request_view};
+
+use crate::arguments::valued_arguments;
+use crate::catalog::ids_of;
+use crate::reply::{ErrorLine, Reply};
+use crate::settings::Settings;
+use crate::transform::NoTransform;
+use fluent_ast::Pattern;
+use fluent_ids::FluentIds;
+use fluent_progress::{Lent, Place, Progress};
+use fluent_resolver::pattern::write_pattern;
+use fluent_resource::FluentResource;
+use fluent_serve::answer::Answer;
+use fluent_serve::request::{Request, read_request};
+use fluent_serve::serve::Engine;
+use fluent_value::{FluentArgs, MemoizerKind, NoCustom, NoFormatter, NoFunction};
+use std::alloc::{AllocError, Global};
+
+/// What lines are answered from: the ids of the sources, the plural source, and whether placeables stand between isolation marks.
+#[derive(Drop)]
+pub(crate) struct Desk<'b, 'r, 's, M> {
+    ids: FluentIds<'r, 's, NoFunction>,
+    plurals: &'b M,
+    isolating: bool,
+}
+
+impl<'b, 'r, 's, M: MemoizerKind> Desk<'b, 'r, 's, M> {
+    /// Answers from resources, in their order.
+    ///
+    /// # Errors
+    /// Memory ran out.
+    pub(crate) fn new(
+        alloc: Global,
+        resources: &'r [FluentResource<'s>],
+        settings: Settings,
+        plurals: &'b M,
+    ) -> Result<Self, AllocError>
+        ensures ids { IfOk result (λ desk. desk_ids desk ≡ with_ids settings.overriding (number_pair ∷ []) (all_by_id resources.now)) }
+        ensures plurals { IfOk result (λ desk. desk.plurals.now ≡ plurals.now) }
+        ensures isolating { IfOk result (λ desk. desk.isolating ≡ settings.isolating) }
+    {
+        let ids = ids_of(alloc, resources, settings.overriding)?;
+        Ok(Desk {
+            ids,
+            plurals,
+            isolating: settings.isolating,
+        })
+    }
+
+    /// The pattern that a request asks for: a message's value, or its first attribute of the name.
+    fn pattern_of(&self, request: &Request<'_>) -> Option<&'r Pattern<&'s str>>
+        ensures { option_map (pattern_view _ (λ s. s.now)) (option_copied result) ≡ pattern_asked (request_view request.now).attribute (find (desk_ids self.now) request.now.id.now) }
+    {
+        let message = self.ids.get_message(request.id)?;
+        match request.attribute {
+            None => message.value(),
+            Some(name) => Some(message.get_attribute(name)?.value()),
+        }
+    }
+
+    /// What a pattern gives for these arguments.
+    fn resolve(
+        &self,
+        alloc: Global,
+        pattern: &'r Pattern<&'s str>,
+        arguments: &FluentArgs<'_, NoCustom>,
+    ) -> Result<Reply, AllocError>
+        ensures { IfOk result (λ reply. reply_view reply ≡ told (answer_written (environment_in M.category_of M.stringified self.now) (arguments_view arguments.now) (pattern_view _ (λ s. s.now) pattern.now))) }
+    {
+        let context: Lent<'_, M, NoFormatter, NoTransform> = Lent {
+            plurals: self.plurals,
+            isolating: self.isolating,
+            transform: None,
+            formatter: None,
+            alloc,
+        };
+        let place = Place {
+            ids: &self.ids,
+            context: &context,
+            arguments: Some(arguments),
+        };
+        let mut progress = Progress::new(alloc, Some(Vec::new(alloc)));
+        let mut text = String::new(alloc);
+        write_pattern(&mut text, &place, None, &mut progress, pattern)?;
+        let errors = progress.into_errors().unwrap_or_else(|| Vec::new(alloc));
+        Ok(Reply { text, errors })
+    }
+
+    /// Puts the answer to a request that asks for a pattern behind `out`. After an error a front of it may stand there.
+    fn push_reply(
+        &self,
+        alloc: Global,
+        request: &Request<'_>,
+        pattern: &'r Pattern<&'s str>,
+        out: &mut Vec<u8>,
+    ) -> Result<(), AllocError>
+    {
+        let arguments = valued_arguments(alloc, &request.arguments)?;
+        let reply = self.resolve(alloc, pattern, &arguments)?;
+        let lines = reply.error_lines(alloc)?;
+        let text = reply.text.as_str();
+        let errors = lines.as_slice();
+        Answer::Text { text, errors }.push_to(alloc, out)
+    }
+
+    /// Puts what is written for `line` behind `out`. After an error a front of it may stand there.
+    fn push_answer(&self, alloc: Global, line: &[u8], out: &mut Vec<u8>) -> Result<(), AllocError>
+        ensures ok { OnOk result (out.new.items ≡ out.old.items ++ line_from (environment_in M.category_of M.stringified self.now) line.now) }
+        ensures front { IsFrontOf out.old.items out.new.items }
+    {
+        let Some(request) = read_request(alloc, line)? else {
+            return Answer::<ErrorLine<'_>>::Bad.push_to(alloc, out);
+        };
+        match self.pattern_of(&request) {
+            Some(pattern) => self.push_reply(alloc, &request, pattern, out),
+            None => Answer::<ErrorLine<'_>>::Nothing.push_to(alloc, out),
+        }
+    }
+}
+
+impl<'b, 'r, 's, M: MemoizerKind> Engine for Desk<'b, 'r, 's, M> {
+    ghost use Rattle.fluent_answers.specs.Answers.{line_from as from};
+    ghost use Rattle.fluent_run.specs.DeskView.{environment_in as inside};
+
+    ghost reply = { λ desk. from (inside M.category_of M.stringified desk) };
+
+    fn reply(&self, alloc: Global, line: &[u8], out: &mut Vec<u8>) -> Result<(), AllocError> {
+        let len = out.len();
+        let outcome = self.push_answer(alloc, line, out);
+        if outcome.is_err() {
+            out.truncate(len);
+        }
+        outcome
+    }
+}
