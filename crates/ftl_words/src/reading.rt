@@ -41,7 +41,8 @@ pub fn read_command<'words>(
 ) -> Result<Command<'words>, WordsError>
     ensures command { IfOk result (λ command.
         command_of (texts words.now) ≡ Some (command_view command)) }
-    ensures bad { IsErrOf result WordsError.Bad → command_of (texts words.now) ≡ None }
+    ensures nothing { IfErr result (λ error. ¬ (error ≡ WordsError.Memory)
+        → command_of (texts words.now) ≡ None) }
     ensures not_help { IsErrOf result WordsError.Bad → ¬ AskForHelpAlone (texts words.now) }
     ensures help { (text : _) → IsErrOf result (WordsError.Help text)
         → AskForHelp (texts words.now) }
@@ -54,8 +55,8 @@ pub fn read_command<'words>(
 
 /// What an error of `clap` is told as.
 fn refusal(alloc: Global, error: &Error) -> WordsError
-    ensures not_memory { result ≡ WordsError.Bad
-        → ¬ (kind_of error.now ≡ ErrorKind.OutOfMemory) }
+    ensures memory { kind_of error.now ≡ ErrorKind.OutOfMemory
+        → result ≡ WordsError.Memory }
     ensures not_help { result ≡ WordsError.Bad
         → ¬ (kind_of error.now ≡ ErrorKind.DisplayHelp) }
     ensures help { (text : _) → result ≡ WordsError.Help text
@@ -78,8 +79,8 @@ fn command_met<'words>(
 ) -> Result<Command<'words>, WordsError>
     ensures command { IfOk result (λ command.
         asked_of (subcommand_rows_of matches.now) ≡ Some (command_view command)) }
-    ensures bad { IsErrOf result WordsError.Bad
-        → asked_of (subcommand_rows_of matches.now) ≡ None }
+    ensures nothing { IfErr result (λ error. ¬ (error ≡ WordsError.Memory)
+        → asked_of (subcommand_rows_of matches.now) ≡ None) }
     ensures no_help { IfErr result (λ error. (text : _) → ¬ (error ≡ WordsError.Help text)) }
 {
     match matches.subcommand() {
@@ -96,8 +97,8 @@ fn command_named<'words>(
 ) -> Result<Command<'words>, WordsError>
     ensures command { IfOk result (λ command.
         asked_by (name.now, rows_of (found_of found.now)) ≡ Some (command_view command)) }
-    ensures bad { IsErrOf result WordsError.Bad
-        → asked_by (name.now, rows_of (found_of found.now)) ≡ None }
+    ensures nothing { IfErr result (λ error. ¬ (error ≡ WordsError.Memory)
+        → asked_by (name.now, rows_of (found_of found.now)) ≡ None) }
     ensures no_help { IfErr result (λ error. (text : _) → ¬ (error ≡ WordsError.Help text)) }
 {
     match name {
