@@ -1,5 +1,5 @@
 -- Telling an error is a step, and what refused steps tell.
-use Rattle.std.proofs.Common.{◌≡◌, ℕ, ◌+◌, Bool, true, false, cond, Option, None, Some, [], ◌∷◌, refl, ap, sym, ◌∙◌, arith}
+use Rattle.std.proofs.Common.{◌≡◌, ℕ, ◌+◌, Bool, true, false, cond, Option, None, Some, [], ◌∷◌, refl, ap, sym, arith}
 use Rattle.std.specs.Prelude.{is_some, OnErr, OnOk, Result, Ok, Err}
 use Rattle.std.proofs.lemmas.Bool.{false≢true}
 use Rattle.fluent_errors.specs.Errors.{Unresolved, unknown, to_variable}
@@ -77,6 +77,11 @@ missed-tells env id (Some v) place e h = absurd (some-none v e)
   where
     some-none : {A : Type 0} (v : A) → Some v ≡ None → ⊥
     some-none v e = false≢true (sym (ap is_some e))
+
+-- where none was given there is none
+pub not-given : {A : Type 0} (o : Option A) → false ≡ is_some o → o ≡ None
+not-given None given = refl
+not-given (Some v) given = absurd (false≢true given)
 
 -- an error was told, and its text refused
 pub faulty-tells : {A : Type 0} {s t : State} (v : A) (e : Unresolved) → t ≡ with_error e s → TellsSome s t (faulty v e s.budget)

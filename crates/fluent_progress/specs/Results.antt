@@ -1,7 +1,7 @@
 -- What a call gives, where its function is known, and the text of a value that may be absent.
 use Rattle.std.specs.Prelude.{List, [], Option, None, Some}
 use Rattle.fluent_grammar.specs.Words.{Text}
-use Rattle.fluent_meaning.specs.Environment.{Environment, value_text}
+use Rattle.fluent_meaning.specs.Environment.{Environment}
 use Rattle.fluent_meaning.specs.Ids.{Meaning, number_function, function, message, term}
 use Rattle.fluent_value.specs.Builtins.{number_called}
 use Rattle.fluent_value.specs.Value.{Value}
@@ -15,7 +15,7 @@ module _ {S F : Type 0} (env : Environment S F) where
   function_result (Some (message m)) positional named = None
   function_result (Some (term m)) positional named = None
 
-  -- the text of a value that is there, and else nothing
-  abbrev pub given_text : Option (Value S) → Text
-  given_text None = []
-  given_text (Some value) = value_text env value
+-- the text of a value that is there, and else nothing
+abbrev pub given_text : {S : Type 0} → (Value S → Text) → Option (Value S) → Text
+given_text shown None = []
+given_text shown (Some value) = shown value

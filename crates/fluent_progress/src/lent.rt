@@ -1,5 +1,6 @@
 //! What is lent while a pattern is resolved, as what it is resolved in.
 
+ghost use Rattle.std.proofs.Common.{refl};
 ghost use Rattle.std.specs.Prelude.{is_some};
 ghost use Rattle.fluent_environment.specs.Settings.{formatted_by};
 ghost use Rattle.fluent_progress.specs.LentView.{lent_view};

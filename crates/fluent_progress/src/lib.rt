@@ -2,8 +2,14 @@
 
 //! Steps of resolving that enter no pattern.
 //!
-//! [`Progress`] is what resolving has come to so far, and a [`Context`] what patterns are resolved in. The modules have the steps
-//! that work on them: counting, the path, fallbacks, values, variables, targets of references and choices among variants.
+//! [`Progress`] is what resolving has come to so far: it starts with [`Progress::new`], and gives back the errors that it was
+//! given and those told since. A [`Place`] lends the rest for as long as a pattern is resolved: the messages and terms, the
+//! arguments of the request, and a [`Context`], which says what functions give and how texts and values are shown. Whoever has
+//! a plural source and settings lends them as a [`Lent`], which is such a context. The modules have the steps that work on all
+//! this: counting, the path, fallbacks, values, variables, targets of references and choices among variants.
+//!
+//! A value of a term's own arguments is borrowed from the sources of the messages and terms. A value of the request's arguments
+//! may live shorter than they do, so it is written from where it stands, and copied where it becomes a selector or an argument.
 //! Contracts state each step by the definitions of `fluent_meaning`.
 
 mod call;

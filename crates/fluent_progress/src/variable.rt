@@ -3,6 +3,7 @@
 ghost use Rattle.std.specs.Prelude.{◌≡◌, ◌++◌, ◌∷◌, is_some, true, IfOk, OnErr, OnOk, option_map, string_bytes};
 ghost use Rattle.fluent_ast.specs.View.{name_of};
 ghost use Rattle.fluent_grammar.specs.Words.{dollar};
+ghost use Rattle.fluent_meaning.specs.Environment.{value_text};
 ghost use Rattle.fluent_meaning.specs.Fallback.{braced};
 ghost use Rattle.fluent_meaning.specs.Refused.{TellsSome};
 ghost use Rattle.fluent_meaning.specs.Substitution as s;
@@ -40,7 +41,7 @@ fn write_argument<C: FluentType, F, E: Context<C, F>>(
     id: &str,
 ) -> Result<bool, AllocError>
     ensures given { IfOk result (λ is_given. is_given ≡ is_some (argument id.now (args_view C.meaning arguments.now))) }
-    ensures wrote { OnOk result (string_bytes out.new ≡ string_bytes out.old ++ given_text (E.environment context.now) (argument id.now (args_view C.meaning arguments.now))) }
+    ensures wrote { OnOk result (string_bytes out.new ≡ string_bytes out.old ++ given_text (value_text (E.environment context.now)) (argument id.now (args_view C.meaning arguments.now))) }
 {
     match arguments.get(id) {
         Some(value) => {
@@ -89,7 +90,7 @@ impl<'b, 'r, 's, 'a, C: FluentType, F, E: Context<C, F>> Place<'b, 'r, 's, 'a, C
         id: &str,
     ) -> Result<bool, AllocError>
         ensures given { IfOk result (λ is_given. is_given ≡ is_some (argument id.now (s.locals_or (args_or_none C.meaning (given_args C.meaning self.now.arguments)) (given_args C.meaning locals.entry)))) }
-        ensures wrote { OnOk result (string_bytes out.new ≡ string_bytes out.old ++ given_text (E.environment self.now.context.now) (argument id.now (s.locals_or (args_or_none C.meaning (given_args C.meaning self.now.arguments)) (given_args C.meaning locals.entry)))) }
+        ensures wrote { OnOk result (string_bytes out.new ≡ string_bytes out.old ++ given_text (value_text (E.environment self.now.context.now)) (argument id.now (s.locals_or (args_or_none C.meaning (given_args C.meaning self.now.arguments)) (given_args C.meaning locals.entry)))) }
     {
         match (locals, self.arguments) {
             (Some(locals), _) => write_argument(out, self.context, locals, id),

@@ -1,0 +1,4 @@
+pub mod Environments
+pub mod Lines
+pub mod Replies
+pub mod Valued

@@ -4,23 +4,25 @@ ghost use Rattle.std.specs.Prelude.{◌≡◌, ◌++◌, [], ◌∷◌, IfOk, On
 ghost use Rattle.fluent_answers.specs.Answers.{line_from, pattern_asked, told};
 ghost use Rattle.fluent_ast.specs.View.{pattern_view};
 ghost use Rattle.fluent_check.specs.Added.{all_by_id};
-ghost use Rattle.fluent_meaning.specs.Ids.{find, number_pair, with_ids};
+ghost use Rattle.fluent_meaning.specs.Ids.{attribute_named, find, number_pair, with_ids};
 ghost use Rattle.fluent_meaning.specs.Substitution.{answer_written};
-ghost use Rattle.fluent_run.specs.DeskView.{arguments_view, desk_ids, environment_in};
+ghost use Rattle.fluent_requests.specs.Frames.{frame_of, ok};
+ghost use Rattle.fluent_resource.specs.MessageView.{message_of};
+ghost use Rattle.fluent_run.specs.DeskView.{arguments_view, desk_ids, environment_in, reply_by};
 ghost use Rattle.fluent_run.specs.ReplyView.{reply_view};
 ghost use Rattle.fluent_serve.specs.Exchange.{IsFrontOf};
 ghost use Rattle.fluent_serve.specs.RequestView.{request_view};
 
 use crate::arguments::valued_arguments;
 use crate::catalog::ids_of;
-use crate::reply::{ErrorLine, Reply};
+use crate::reply::{ErrorLine, Reply, resolve};
 use crate::settings::Settings;
 use crate::transform::NoTransform;
 use fluent_ast::Pattern;
+use fluent_environment::laws::attributes_agree;
 use fluent_ids::FluentIds;
-use fluent_progress::{Lent, Place, Progress};
-use fluent_resolver::pattern::write_pattern;
-use fluent_resource::FluentResource;
+use fluent_progress::{Lent, Place};
+use fluent_resource::{FluentMessage, FluentResource};
 use fluent_serve::answer::Answer;
 use fluent_serve::request::{Request, read_request};
 use fluent_serve::serve::Engine;
@@ -65,16 +67,16 @@ impl<'b, 'r, 's, M: MemoizerKind> Desk<'b, 'r, 's, M> {
         let message = self.ids.get_message(request.id)?;
         match request.attribute {
             None => message.value(),
-            Some(name) => Some(message.get_attribute(name)?.value()),
+            Some(name) => attribute_value(&message, name),
         }
     }
 
     /// What a pattern gives for these arguments.
-    fn resolve(
-        &self,
+    fn reply_to<'x>(
+        &'x self,
         alloc: Global,
         pattern: &'r Pattern<&'s str>,
-        arguments: &FluentArgs<'_, NoCustom>,
+        arguments: &'x FluentArgs<'_, NoCustom>,
     ) -> Result<Reply, AllocError>
         ensures { IfOk result (λ reply. reply_view reply ≡ told (answer_written (environment_in M.category_of M.stringified self.now) (arguments_view arguments.now) (pattern_view _ (λ s. s.now) pattern.now))) }
     {
@@ -90,11 +92,7 @@ impl<'b, 'r, 's, M: MemoizerKind> Desk<'b, 'r, 's, M> {
             context: &context,
             arguments: Some(arguments),
         };
-        let mut progress = Progress::new(alloc, Some(Vec::new(alloc)));
-        let mut text = String::new(alloc);
-        write_pattern(&mut text, &place, None, &mut progress, pattern)?;
-        let errors = progress.into_errors().unwrap_or_else(|| Vec::new(alloc));
-        Ok(Reply { text, errors })
+        resolve(&place, pattern)
     }
 
     /// Puts the answer to a request that asks for a pattern behind `out`. After an error a front of it may stand there.
@@ -105,9 +103,11 @@ impl<'b, 'r, 's, M: MemoizerKind> Desk<'b, 'r, 's, M> {
         pattern: &'r Pattern<&'s str>,
         out: &mut Vec<u8>,
     ) -> Result<(), AllocError>
+        ensures ok { OnOk result (out.new.items ≡ out.old.items ++ frame_of (ok (reply_by M.category_of M.stringified self.now (request_view request.now) (pattern_view _ (λ s. s.now) pattern.now)))) }
+        ensures front { IsFrontOf out.old.items out.new.items }
     {
         let arguments = valued_arguments(alloc, &request.arguments)?;
-        let reply = self.resolve(alloc, pattern, &arguments)?;
+        let reply = self.reply_to(alloc, pattern, &arguments)?;
         let lines = reply.error_lines(alloc)?;
         let text = reply.text.as_str();
         let errors = lines.as_slice();
@@ -129,7 +129,19 @@ impl<'b, 'r, 's, M: MemoizerKind> Desk<'b, 'r, 's, M> {
     }
 }
 
-impl<'b, 'r, 's, M: MemoizerKind> Engine for Desk<'b, 'r, 's, M> {
+/// The value of the first attribute of a name.
+fn attribute_value<'r, 's>(
+    message: &FluentMessage<'r, 's>,
+    name: &str,
+) -> Option<&'r Pattern<&'s str>>
+    ensures { option_map (pattern_view _ (λ s. s.now)) (option_copied result) ≡ attribute_named name.now (message_of message.now).attributes }
+{
+    attributes_agree();
+    let attribute = message.get_attribute(name)?;
+    Some(attribute.value())
+}
+
+impl<'b, 'r, 's: 'r, M: MemoizerKind> Engine for Desk<'b, 'r, 's, M> {
     ghost use Rattle.fluent_answers.specs.Answers.{line_from as from};
     ghost use Rattle.fluent_run.specs.DeskView.{environment_in as inside};
 

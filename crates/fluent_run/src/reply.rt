@@ -1,10 +1,19 @@
 //! The text of a pattern, and the errors that came up while it was made.
 
-ghost use Rattle.std.specs.Prelude.{◌≡◌, IfOk, Some, map};
+ghost use Rattle.std.specs.Prelude.{◌≡◌, IfOk, List, Some, map};
+ghost use Rattle.fluent_answers.specs.Answers.{told};
+ghost use Rattle.fluent_ast.specs.View.{pattern_view};
+ghost use Rattle.fluent_errors.specs.Errors.{Reported};
 ghost use Rattle.fluent_errors.specs.View.{bundle_view};
-ghost use Rattle.fluent_run.specs.ReplyView.{error_text, line_of};
+ghost use Rattle.fluent_meaning.specs.Substitution.{answer_written};
+ghost use Rattle.fluent_progress.specs.Views.{args_or_none, given_args, resolved_in, state};
+ghost use Rattle.fluent_run.specs.ReplyView.{error_text, line_of, reply_view};
 
+use fluent_ast::Pattern;
 use fluent_errors::FluentError;
+use fluent_progress::{Context, Place, Progress};
+use fluent_resolver::pattern::write_pattern;
+use fluent_value::{FluentType, ValueScope};
 use std::alloc::{AllocError, Global};
 use std::fmt;
 
@@ -27,6 +36,34 @@ impl fmt::Display for ErrorLine<'_> {
             FluentError::ResolverError(error) => write!(f, "{error}"),
             error => write!(f, "{error}"),
         }
+    }
+}
+
+/// What a pattern gives.
+///
+/// # Errors
+/// Memory ran out.
+pub(crate) fn resolve<'b, 'r, 's, 'a, C: FluentType + Drop, F, E: Context<C, F>>(
+    place: &Place<'b, 'r, 's, 'a, C, F, E>,
+    pattern: &'r Pattern<&'s str>,
+) -> Result<Reply, AllocError>
+    ensures { IfOk result (λ reply. reply_view reply ≡ told (answer_written (resolved_in E.environment place.now) (args_or_none C.meaning (given_args C.meaning place.now.arguments)) (pattern_view _ (λ s. s.now) pattern.now))) }
+{
+    let alloc = place.context.alloc();
+    let mut progress = Progress::new(alloc, Some(Vec::new(alloc)));
+    let mut text = String::new(alloc);
+    write_pattern(&mut text, place, None, &mut progress, pattern)?;
+    let errors = told_by(alloc, progress);
+    Ok(Reply { text, errors })
+}
+
+/// The errors that were told.
+fn told_by(alloc: Global, progress: Progress<'_, '_>) -> Vec<FluentError>
+    ensures { (list : List Reported) → (state progress.entry).errors ≡ Some list → map bundle_view result.items ≡ list }
+{
+    match progress.into_errors() {
+        Some(errors) => errors,
+        None => Vec::new(alloc),
     }
 }
 

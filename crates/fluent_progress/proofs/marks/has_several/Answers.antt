@@ -1,7 +1,7 @@
-use Rattle.std.proofs.Common.{◌≡◌, ℕ, List, Bor, map, length, ap, sym, ◌∙◌, refl, rules}
+use Rattle.std.proofs.Common.{◌≡◌, ℕ, List, Bor, length, ap, sym, ◌∙◌, refl, rules}
 use Rattle.fluent_ast.proofs.Views.{pattern_view-out}
-use Rattle.fluent_ast.specs.View.{element_view, elements_of, pattern_view}
-use Rattle.fluent_ast.specs.declared.Pattern.{Pattern, out-Pattern}
+use Rattle.fluent_ast.specs.View.{element_view}
+use Rattle.fluent_ast.specs.declared.Pattern.{out-Pattern}
 use Rattle.fluent_meaning.proofs.Opening.{several-is}
 use Rattle.fluent_meaning.specs.Substitution.{several}
 use Rattle.fluent_progress.proofs.marks.has_several.Goals as goal

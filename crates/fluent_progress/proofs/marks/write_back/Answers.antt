@@ -1,4 +1,4 @@
-use Rattle.std.proofs.Common.{◌≡◌, ◌++◌, [], cond, ap, sym, ◌∙◌}
+use Rattle.std.proofs.Common.{◌++◌, [], cond, ap, sym, ◌∙◌}
 use Rattle.std.specs.Prelude.{encode_utf8, string_bytes}
 use Rattle.fluent_meaning.proofs.Opening.{back-bytes}
 use Rattle.fluent_progress.proofs.marks.write_back.Goals as goal

@@ -1,4 +1,4 @@
-use Rattle.std.proofs.Common.{◌≡◌, ℕ, ◌+◌, ◌<◌, Bool, true, false, List, [], ◌∷◌, Bor, map, drop, refl, sym, ◌∙◌, Decides, rules}
+use Rattle.std.proofs.Common.{◌≡◌, ℕ, List, Bor, sym, ◌∙◌, Decides, rules}
 use Rattle.fluent_grammar.specs.Tree.{Elements}
 use Rattle.fluent_ast.specs.declared.Pattern.{Pattern}
 use Rattle.fluent_ast.specs.View.{pattern_view}

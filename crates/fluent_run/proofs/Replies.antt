@@ -1,0 +1,57 @@
+-- What a pattern gives when it is resolved, as an answer tells it.
+use Rattle.std.proofs.Common.{◌≡◌, false, List, [], ◌∷◌, ◌++◌, Some, None, map, refl, sym, ap, ◌∙◌}
+use Rattle.fluent_answers.specs.Answers.{told}
+use Rattle.fluent_errors.specs.Errors.{Reported, Unresolved, unresolved}
+use Rattle.fluent_errors.specs.Texts.{resolver_text}
+use Rattle.fluent_grammar.specs.Tree.{Elements}
+use Rattle.fluent_grammar.specs.Words.{Text}
+use Rattle.fluent_meaning.specs.Environment.{Environment}
+use Rattle.fluent_meaning.specs.Steps.{Done, may_open}
+use Rattle.fluent_meaning.specs.Substitution.{Place, outset, pattern_written, answer_written, most_placeables}
+use Rattle.fluent_meaning.specs.Told.{State, Writes, after, budget_of}
+use Rattle.fluent_requests.specs.Frames.{Reply}
+use Rattle.fluent_run.specs.ReplyView.{error_text, line_of}
+use Rattle.fluent_run.specs.declared.reply.ErrorLine.{ErrorLine}
+use Rattle.fluent_serve.specs.AnswerView.{and_text, error_texts}
+use Rattle.fluent_value.specs.Value.{Value}
+
+-- errors of resolving are told by their own texts
+told-texts : (es : List Unresolved) → map error_text (map unresolved es) ≡ map resolver_text es
+told-texts [] = refl
+told-texts (e ∷ es) = ap (λ ts. resolver_text e ∷ ts) (told-texts es)
+
+-- nothing was told, opened or entered yet
+abbrev pub unstarted : State
+unstarted = record { errors = Some []; budget = budget_of false 0; placeables = 0; entered = 0 }
+
+abbrev pub reply : Text → List Reported → Reply
+reply s errors = record { text = s; errors = map error_text errors }
+
+-- a text that was written behind nothing, and errors that were told behind none
+written : (a : Done Text) (held now : Text) (s t : State) (errors : List Reported) → held ≡ [] → s ≡ unstarted →
+    now ≡ held ++ a.value → t ≡ after s a → ((list : List Reported) → t.errors ≡ Some list → errors ≡ list) → reply now errors ≡ told a
+written a held now s t errors nothing start text state listed =
+    let behind : now ≡ a.value = text ∙ ap (λ h. h ++ a.value) nothing in
+    let same : errors ≡ map unresolved a.errors = listed (map unresolved a.errors) (ap (λ x. x.errors) state ∙ ap (λ x. (after x a).errors) start) in
+    ap (λ x. reply x errors) behind
+    ∙ ap (λ es. let r : Reply = record { text = a.value; errors = es } in r) (ap (map error_text) same ∙ told-texts a.errors)
+
+-- with nothing entered a place is a request's own
+pub at-outset : {S : Type 0} (args : List (Text × Value S)) (path : List Elements) → path ≡ [] → let p : Place S = record { arguments = args; locals = None; path = path } in p ≡ outset args
+at-outset {S} args path empty = ap (λ es. let p : Place S = record { arguments = args; locals = None; path = es } in p) empty
+
+-- the same for a pattern
+pub resolved : {S F : Type 0} (env : Environment S F) (args : List (Text × Value S)) (es : Elements) (place : Place S) (held now : Text) (s t : State) (errors : List Reported) →
+    place ≡ outset args → held ≡ [] → s ≡ unstarted → Writes held now s t (pattern_written env es place) →
+    ((list : List Reported) → t.errors ≡ Some list → errors ≡ list) → reply now errors ≡ told (answer_written env args es)
+resolved env args es place held now s t errors at_outset nothing start wrote listed =
+    let a = pattern_written env es place s.budget in
+    let asked-for : a ≡ pattern_written env es (outset args) (may_open most_placeables) =
+    ap (λ p. pattern_written env es p s.budget) at_outset
+    ∙ ap (λ x. pattern_written env es (outset args) x.budget) start in
+    written a held now s t errors nothing start wrote.text wrote.state listed ∙ ap told asked-for
+
+-- an error is shown as its line
+pub line-texts : (lines : List ErrorLine) → error_texts (λ l. Some (line_of l)) lines ≡ Some (map line_of lines)
+line-texts [] = refl
+line-texts (l ∷ ls) = ap (and_text (Some (line_of l))) (line-texts ls)
