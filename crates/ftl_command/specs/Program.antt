@@ -1,5 +1,5 @@
 -- What the program does for its words, and how far it came before a fault.
-use Rattle.std.specs.Prelude.{◌≡◌, Bool, List, [], ◌∷◌, ◌++◌, ⊤, Option, Some, None, IfSome}
+use Rattle.std.specs.Prelude.{◌≡◌, List, [], ◌∷◌, ◌++◌, ⊤, Option, Some, None, IfSome}
 use Rattle.std.specs.Io.KnownBytes.{Appends, IsAtEnd}
 use Rattle.fluent_number.specs.Plurals.{english}
 use Rattle.fluent_value.specs.declared.function.NoFunction.{NoFunction}

@@ -23,7 +23,8 @@ pub fn check_files<'words, F: Folder, O: Sink>(
     files: &[&'words str],
     writer: &mut O,
 ) -> Result<Ended, Fault<'words>>
-    ensures checked { IfOk result (λ end. OnReport (F.contents folder.now) (texts files.now) (λ text.
+    ensures checked { IfOk result (λ end.
+        OnReport (F.contents folder.now) (texts files.now) (λ text.
         Appends (O.contents writer.old) (O.contents writer.new) text × (end ≡ end_by text))) }
     ensures writes { OnOk result (O.failures writer.new ≡ O.failures writer.old) }
     ensures not_words { IfErr result (λ fault. fault ≢ Fault.CommandLine) }
@@ -31,7 +32,8 @@ pub fn check_files<'words, F: Folder, O: Sink>(
     ensures named { IfErr result (NamesOneOf (texts files.now)) }
     ensures not_utf8 { IfErr result (SaysNoUtf8 (F.contents folder.now)) }
     ensures unwritten { IfErr result (λ fault. fault ≢ Fault.Output → writer.new ≡ writer.old) }
-    ensures output { IsErrOf result Fault.Output → OnReport (F.contents folder.now) (texts files.now)
+    ensures output { IsErrOf result Fault.Output
+        → OnReport (F.contents folder.now) (texts files.now)
         (WritesFront (O.contents writer.old) (O.contents writer.new)) }
     ensures failed { IsErrOf result Fault.Output
         → HasFailed (O.failures writer.old) (O.failures writer.new) }

@@ -33,7 +33,8 @@ pub fn program<R: Files, I: io::Read + Drop, O: io::Write + Drop, F: io::Write +
     ensures statuses { Contains (0 ∷ 1 ∷ 2 ∷ 3 ∷ 4 ∷ []) result }
     ensures refused { result ≡ 2 → command_of (texts words.now) ≡ None }
     ensures not_help { result ≡ 2 → ¬ AskForHelpAlone (texts words.now) }
-    ensures served { result ≡ 0 → command_of (texts words.now) ≡ None → AskForHelp (texts words.now) }
+    ensures served { result ≡ 0 → command_of (texts words.now) ≡ None
+        → AskForHelp (texts words.now) }
 {
     let mut reader = FromRead::new(input);
     let mut writer = FromWrite::new(output);
@@ -67,7 +68,8 @@ pub fn run_command<'words, F: Folder, I: Source, O: Sink>(
     ensures done { IfOk result (λ end. IsDone (F.contents folder.now)
         (devices I.remaining reader.old reader.new O.contents writer.old writer.new)
         (command_of (texts words.now)) end) }
-    ensures help { OnOk result (command_of (texts words.now) ≡ None → AskForHelp (texts words.now)) }
+    ensures help { OnOk result (command_of (texts words.now) ≡ None
+        → AskForHelp (texts words.now)) }
     ensures reads { OnOk result (I.failures reader.new ≡ I.failures reader.old) }
     ensures writes { OnOk result (O.failures writer.new ≡ O.failures writer.old) }
     ensures no_input { WithoutInput (command_of (texts words.now)) (reader.new ≡ reader.old) }

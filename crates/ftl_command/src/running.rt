@@ -39,15 +39,15 @@ pub fn run_files<'words, F: Folder, I: Source, O: Sink>(
 
     // What was answered before another fault stays written.
     ensures memory { IsErrOf result Fault.Memory
-        → OnRun (F.contents folder.now) (run_of settings files.now)
-        (AnswersFirst (devices I.remaining reader.old reader.new O.contents writer.old writer.new)) }
+        → OnRun (F.contents folder.now) (run_of settings files.now) (AnswersFirst
+        (devices I.remaining reader.old reader.new O.contents writer.old writer.new)) }
     ensures input { IsErrOf result Fault.Input
         → OnRun (F.contents folder.now) (run_of settings files.now) (λ line. AnswersWhole
         (devices I.remaining reader.old reader.new O.contents writer.old writer.new) line
         (HasFailed (I.failures reader.old) (I.failures reader.new)) 4294967296) }
     ensures output { IsErrOf result Fault.Output
-        → OnRun (F.contents folder.now) (run_of settings files.now)
-        (AnswersFront (devices I.remaining reader.old reader.new O.contents writer.old writer.new)) }
+        → OnRun (F.contents folder.now) (run_of settings files.now) (AnswersFront
+        (devices I.remaining reader.old reader.new O.contents writer.old writer.new)) }
     ensures failed { IsErrOf result Fault.Output
         → HasFailed (O.failures writer.old) (O.failures writer.new) }
 {

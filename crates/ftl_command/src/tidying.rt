@@ -124,8 +124,9 @@ fn join_files<'words, F: Folder>(
 ) -> Result<String, Fault<'words>>
     ensures text { IfOk result (λ text. OnTexts (F.contents folder.now) (texts files.now)
         (λ sources. string_bytes text ≡ joined sources)) }
-    ensures carriage_return { IsErrOf result Fault.CarriageReturn → OnTexts
-        (F.contents folder.now) (texts files.now) (λ sources. IsTrue (list_any holds_return sources)) }
+    ensures carriage_return { IsErrOf result Fault.CarriageReturn
+        → OnTexts (F.contents folder.now) (texts files.now)
+        (λ sources. IsTrue (list_any holds_return sources)) }
     ensures fault { IfErr result IsOfTidying }
     ensures named { IfErr result (NamesOneOf (texts files.now)) }
     ensures not_utf8 { IfErr result (SaysNoUtf8 (F.contents folder.now)) }
