@@ -8,7 +8,9 @@ use Rattle.fluent_requests.specs.Text.{Text}
 use Rattle.fluent_serve.specs.Texts.{texts}
 use Rattle.fluent_desk.specs.declared.error.ImportError.{ImportError}
 use Rattle.fluent_desk.specs.declared.error.ImportError.TheVariants as import
-use Rattle.ftl_command.specs.Faults.{NamesOneOf, status_of, import_fault}
+use Rattle.ftl_command.specs.Faults.{NamesOneOf, end_status, status_of, import_fault}
+use Rattle.ftl_command.specs.declared.ended.Ended.{Ended}
+use Rattle.ftl_command.specs.declared.ended.Ended.TheVariants.{Done, Found}
 use Rattle.ftl_command.specs.declared.fault.Fault.{Fault}
 use Rattle.ftl_command.specs.declared.fault.Fault.TheVariants.{CarriageReturn, NotNormal, NotTree, NotJson, CommandLine, FileUnreadable, FileNotUtf8, Input, Output, Memory}
 
@@ -46,6 +48,11 @@ status_of-among (FileNotUtf8 file) = Contains-get_or (0 ∷ 1 ∷ 2 ∷ 3 ∷ 4 
 status_of-among Input = Contains-get_or (0 ∷ 1 ∷ 2 ∷ 3 ∷ 4 ∷ []) 3 0 (lit< tt)
 status_of-among Output = Contains-get_or (0 ∷ 1 ∷ 2 ∷ 3 ∷ 4 ∷ []) 3 0 (lit< tt)
 status_of-among Memory = Contains-get_or (0 ∷ 1 ∷ 2 ∷ 3 ∷ 4 ∷ []) 4 0 (lit< tt)
+
+-- and so is that of an end without a fault
+pub end_status-among : (end : Ended) → Contains (0 ∷ 1 ∷ 2 ∷ 3 ∷ 4 ∷ []) (end_status end)
+end_status-among Done = Contains-get_or (0 ∷ 1 ∷ 2 ∷ 3 ∷ 4 ∷ []) 0 0 (lit< tt)
+end_status-among Found = Contains-get_or (0 ∷ 1 ∷ 2 ∷ 3 ∷ 4 ∷ []) 1 0 (lit< tt)
 
 -- what is told as no tree
 pub shape_told : (error : ImportError) → import_fault error ≡ NotTree → error ≡ import.Shape

@@ -1,4 +1,2 @@
-mod CommandRows
-pub mod FilesOfCommands
 pub mod FaultLemmas
 pub mod RunLemmas

@@ -1,13 +1,14 @@
 -- What the program does before it answers.
-use Rattle.std.proofs.Common.{Bool, ℕ, ◌+◌, ◌<◌, List, [], ◌∷◌, ◌++◌, length, take, map, get_or, ◌≡◌, Option, Some, None, refl}
+use Rattle.std.proofs.Common.{ℕ, ◌+◌, ◌<◌, List, [], ◌∷◌, ◌++◌, length, take, map, get_or, ◌≡◌, Option, Some, None, refl}
 use Rattle.std.proofs.lemmas.List.{take_more, map-append}
 use denote.Ref.{Bor}
 use Rattle.std.specs.Prelude.{IfSome}
 use Rattle.fluent_requests.specs.Text.{Text}
-use Rattle.ftl_engine.specs.Thin.{thin_line}
 use Rattle.fluent_serve.specs.Exchange.{devices_of, AnswersFirst}
 use Rattle.fluent_serve.specs.Texts.{texts}
-use Rattle.ftl_command.specs.Program.{AreHeld, OnFiles}
+use Rattle.ftl_words.specs.Meaning.{Asked, Run, run, check, tidy}
+use Rattle.ftl_command.specs.Files.{AreHeld}
+use Rattle.ftl_command.specs.Program.{OnRun, AfterMemory, WithoutInput, line_for}
 use Rattle.fluent_serve.proofs.Runs.{nothing_served}
 
 -- what a file holds, or nothing where that is not known
@@ -44,9 +45,22 @@ held_next text contents files i d sources source inside each one =
     (held_behind contents (texts (take i files)) (map text sources) (get_or files i d).now (text source) each one)
 
 -- nothing is read and nothing written: no line is answered
-pub before_answers : (contents : Text → Option Text) (isolating : Bool) (files : List Text) (left held : Option Text) → OnFiles contents isolating files (AnswersFirst (devices_of left left held held))
-before_answers contents isolating files left held = record {
-  sources = texts_of contents files;
-  held = are_held contents files;
-  outcome = nothing_served left held (thin_line (texts_of contents files) isolating);
+pub before_answers : (contents : Text → Option Text) (r : Run) (left held : Option Text) → OnRun contents r (AnswersFirst (devices_of left left held held))
+before_answers contents r left held = record {
+  sources = texts_of contents r.files;
+  held = are_held contents r.files;
+  outcome = nothing_served left held (line_for r (texts_of contents r.files));
 }
+
+-- the same of every command: nothing is done
+pub nothing_done : (contents : Text → Option Text) (left held : Option Text) (asked : Option Asked) → AfterMemory contents (devices_of left left held held) asked
+nothing_done contents left held None = refl
+nothing_done contents left held (Some (run r)) = before_answers contents r left held
+nothing_done contents left held (Some (check files)) = refl
+nothing_done contents left held (Some (tidy t)) = refl
+
+pub kept_input : {R : Type 0} (asked : Option Asked) (reader : R) → WithoutInput asked (reader ≡ reader)
+kept_input None reader = refl
+kept_input (Some (run r)) reader = tt
+kept_input (Some (check files)) reader = refl
+kept_input (Some (tidy t)) reader = refl

@@ -11,8 +11,15 @@ use Rattle.fluent_desk.specs.declared.error.ImportError.{ImportError}
 use Rattle.fluent_desk.specs.declared.error.ImportError.TheVariants as import
 use Rattle.fluent_serve.specs.declared.serve.RunError.{RunError}
 use Rattle.fluent_serve.specs.declared.serve.RunError.TheVariants.{Memory as RunMemory, Read as RunRead, Write as RunWrite}
+use Rattle.ftl_command.specs.declared.ended.Ended.{Ended}
+use Rattle.ftl_command.specs.declared.ended.Ended.TheVariants.{Done, Found}
 
--- what can't be tidied is 1, bad words are 2, what cannot be read or written is 3, and want of memory is 4
+-- without a fault the status is 0, or 1 where something was found in the sources
+abbrev pub end_status : Ended → ℕ
+end_status Done = 0
+end_status Found = 1
+
+-- what can't be tidied is 1, bad words are 2, what cannot be read or written is 3, and where memory runs out it is 4
 abbrev pub status_of : Fault → ℕ
 status_of CarriageReturn = 1
 status_of NotNormal = 1

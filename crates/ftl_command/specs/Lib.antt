@@ -1,4 +1,3 @@
-pub mod Words
-pub mod CommandView
 pub mod Faults
+pub mod Files
 pub mod Program

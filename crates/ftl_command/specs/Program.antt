@@ -1,50 +1,70 @@
--- What the program does for its words. `contents` is what a file of a name holds, where that is known.
-use Rattle.std.specs.Prelude.{◌≡◌, Bool, List, [], ◌∷◌, ◌++◌, ⊤, Option, Some, None, IfSome}
-use Rattle.std.specs.Io.KnownBytes.{Appends}
+-- What the program does for its words, and how far it came before a fault.
+use Rattle.std.specs.Prelude.{◌≡◌, List, [], ◌∷◌, ◌++◌, ⊤, Option, Some, None, IfSome}
+use Rattle.std.specs.Io.KnownBytes.{Appends, IsAtEnd}
+use Rattle.fluent_number.specs.Plurals.{english}
+use Rattle.fluent_value.specs.declared.function.NoFunction.{NoFunction}
 use Rattle.fluent_requests.specs.Text.{Text, line_feed}
-use Rattle.fluent_serve.specs.Exchange.{IsFrontOf}
-use Rattle.ftl_engine.specs.Thin.{thin_line}
-use Rattle.ftl_command.specs.Words.{Tidy, clean, normalize, join, export, import, Asked, run, tidy}
+use Rattle.fluent_requests.specs.Frames.{answers}
+use Rattle.fluent_answers.specs.Answers.{line_answered}
+use Rattle.fluent_serve.specs.Exchange.{Devices, IsFrontOf, AnswersAll, AnswersFirst, AnswersWhole, AnswersFront}
+use Rattle.fluent_serve.specs.Texts.{texts}
+use Rattle.fluent_run.specs.RunView.{no_text}
+use Rattle.fluent_run.specs.declared.settings.Settings.{Settings}
+use denote.Ref.{Bor}
 use Rattle.serde_json.specs.Data.{Data}
 use Rattle.serde_json.specs.Read.{read as read_text}
 use Rattle.serde_json.specs.Written.{compact_text}
 use Rattle.fluent_grammar.specs.Tiling.{tree}
 use Rattle.fluent_cut.specs.Cut.{cut}
-use Rattle.fluent_json.specs.Json.{json}
-use Rattle.fluent_desk.specs.Trees.{IsImported}
 use Rattle.fluent_cut.specs.Joined.{joined}
 use Rattle.fluent_normal.specs.Normal.{IsNormalText}
+use Rattle.fluent_json.specs.Json.{json}
+use Rattle.fluent_desk.specs.Trees.{IsImported}
+use Rattle.ftl_report.specs.Report.{report_text}
+use Rattle.ftl_words.specs.Meaning.{Asked, Run, Tidy, run, check, tidy, clean, normalize, join, export, import}
+use Rattle.ftl_command.specs.Files.{OnFile, OnTexts}
+use Rattle.ftl_command.specs.declared.ended.Ended.{Ended}
+use Rattle.ftl_command.specs.declared.ended.Ended.TheVariants.{Done, Found}
 
--- a text for each file: what the file holds, where that is known
-abbrev pub AreHeld : (Text → Option Text) → List Text → List Text → Type 0
-AreHeld contents [] [] = ⊤
-AreHeld contents [] (s ∷ ss) = ⊥
-AreHeld contents (f ∷ fs) [] = ⊥
-AreHeld contents (f ∷ fs) (s ∷ ss) = IfSome (contents f) (λ held. s ≡ held) × AreHeld contents fs ss
+-- ---- a run
+
+-- a run with these settings, on these files
+abbrev pub run_of : Settings → List (Bor Text) → Run
+run_of settings files = record { isolating = settings.isolating; overriding = settings.overriding; files = texts files }
+
+-- what is written for a line, from sources, by the plural rules of English
+abbrev pub line_for : Run → List Text → Text → Text
+line_for r sources = line_answered NoFunction english no_text (record { isolating = r.isolating; overriding = r.overriding }) sources
 
 -- the outcome holds of the answers from the files' texts: of what is written for a line
-pub record OnFiles (contents : Text → Option Text) (isolating : Bool) (files : List Text) (Outcome : (Text → Text) → Type 0) : Type 0 where
-  pub sources : List Text
-  pub held : AreHeld contents files sources
-  pub outcome : Outcome (thin_line sources isolating)
+abbrev pub OnRun : (Text → Option Text) → Run → ((Text → Text) → Type 0) → Type 0
+OnRun contents r Outcome = OnTexts contents r.files (λ sources. Outcome (line_for r sources))
 
--- the words ask for a run, and the outcome holds of its answers; of other commands nothing is said
-abbrev pub OnRun : (Text → Option Text) → Option Asked → ((Text → Text) → Type 0) → Type 0
-OnRun contents None Outcome = ⊥
-OnRun contents (Some (run r)) Outcome = OnFiles contents r.isolating r.files Outcome
-OnRun contents (Some (tidy t)) Outcome = ⊤
+-- The answers to all of the input are written, and nothing else. Of a reader that doesn't tell its bytes: to those that it gave.
+pub record Answered (d : Devices) (line : Text → Text) : Type 0 where
+  pub exact : IfSome d.left_before (λ input. Appends d.held_before d.held_after (answers line input))
+  pub given : AnswersAll d line
+  pub end : IsAtEnd d.left_after
 
--- the outcome holds of a file's text
-pub record OnFile (contents : Text → Option Text) (file : Text) (Outcome : Text → Type 0) : Type 0 where
-  pub source : Text
-  pub held : IfSome (contents file) (λ held. source ≡ held)
-  pub outcome : Outcome source
+-- ---- a text that is written
 
--- and of the texts of several
-pub record OnTexts (contents : Text → Option Text) (files : List Text) (Outcome : List Text → Type 0) : Type 0 where
-  pub sources : List Text
-  pub held : AreHeld contents files sources
-  pub outcome : Outcome sources
+abbrev pub Writes : Devices → Text → Type 0
+Writes d text = Appends d.held_before d.held_after text
+
+-- a front of it is
+pub record WritesFront (before after : Option Text) (text : Text) : Type 0 where
+  pub given : Text
+  pub written : Appends before after given
+  pub front : IsFrontOf given text
+
+-- a report is written; without a line the sources are fine
+abbrev pub end_by : Text → Ended
+end_by [] = Done
+end_by (b ∷ bs) = Found
+
+-- the outcome holds of the report on the files' texts
+abbrev pub OnReport : (Text → Option Text) → List Text → (Text → Type 0) → Type 0
+OnReport contents files Outcome = OnTexts contents files (λ sources. Outcome (report_text sources))
 
 -- the compact JSON text of a cut source's tree, and a line feed
 abbrev pub json_line : Text → Text
@@ -70,24 +90,51 @@ Tidies contents (join files) text = OnTexts contents files (λ sources. text ≡
 Tidies contents (export file) text = OnFile contents file (λ source. text ≡ json_line source)
 Tidies contents (import file) text = OnFile contents file (λ source. Imports source text)
 
--- the words ask to tidy, and the outcome holds of what the sources are tidied into; of other commands nothing is said
+-- the outcome holds of it
 pub record Tidied (contents : Text → Option Text) (t : Tidy) (Outcome : Text → Type 0) : Type 0 where
   pub text : Text
   pub tidies : Tidies contents t text
   pub outcome : Outcome text
 
-abbrev pub OnTidy : (Text → Option Text) → Option Asked → (Text → Type 0) → Type 0
-OnTidy contents None Outcome = ⊥
-OnTidy contents (Some (run r)) Outcome = ⊤
-OnTidy contents (Some (tidy t)) Outcome = Tidied contents t Outcome
+-- ---- what the words ask for; with nothing asked for, help is shown
 
--- of commands other than those that tidy nothing is said
-abbrev pub ForTidy : Option Asked → Type 0 → Type 0
-ForTidy None Fact = ⊤
-ForTidy (Some (run r)) Fact = ⊤
-ForTidy (Some (tidy t)) Fact = Fact
+-- it is done, and the program ends so
+abbrev pub IsDone : (Text → Option Text) → Devices → Option Asked → Ended → Type 0
+IsDone contents d None end = end ≡ Done
+IsDone contents d (Some (run r)) end = (end ≡ Done) × OnRun contents r (Answered d)
+IsDone contents d (Some (check files)) end = OnReport contents files (λ text. Writes d text × (end ≡ end_by text))
+IsDone contents d (Some (tidy t)) end = (end ≡ Done) × Tidied contents t (Writes d)
 
--- the files that the words name
+-- memory ran out: the first lines of a run are answered, and of another command nothing is written
+abbrev pub AfterMemory : (Text → Option Text) → Devices → Option Asked → Type 0
+AfterMemory contents d None = d.held_after ≡ d.held_before
+AfterMemory contents d (Some (run r)) = OnRun contents r (AnswersFirst d)
+AfterMemory contents d (Some (check files)) = d.held_after ≡ d.held_before
+AfterMemory contents d (Some (tidy t)) = d.held_after ≡ d.held_before
+
+-- the input failed, or came to no end: all whole lines of a run are answered; another command reads no input
+abbrev pub AfterInput : (Text → Option Text) → Devices → Type 0 → Option Asked → Type 0
+AfterInput contents d Failed None = ⊥
+AfterInput contents d Failed (Some (run r)) = OnRun contents r (λ line. AnswersWhole d line Failed 4294967296)
+AfterInput contents d Failed (Some (check files)) = ⊥
+AfterInput contents d Failed (Some (tidy t)) = ⊥
+
+-- the output failed: a front of what was to be written is
+abbrev pub AfterOutput : (Text → Option Text) → Devices → Option Asked → Type 0
+AfterOutput contents d None = ⊤
+AfterOutput contents d (Some (run r)) = OnRun contents r (AnswersFront d)
+AfterOutput contents d (Some (check files)) = OnReport contents files (WritesFront d.held_before d.held_after)
+AfterOutput contents d (Some (tidy t)) = Tidied contents t (WritesFront d.held_before d.held_after)
+
+-- a fact about what commands without input leave as it was
+abbrev pub WithoutInput : Option Asked → Type 0 → Type 0
+WithoutInput None Fact = Fact
+WithoutInput (Some (run r)) Fact = ⊤
+WithoutInput (Some (check files)) Fact = Fact
+WithoutInput (Some (tidy t)) Fact = Fact
+
+-- ---- the files that the words name
+
 abbrev pub files_of : Tidy → List Text
 files_of (clean file) = file ∷ []
 files_of (normalize file) = file ∷ []
@@ -98,10 +145,5 @@ files_of (import file) = file ∷ []
 abbrev pub files_named : Option Asked → List Text
 files_named None = []
 files_named (Some (run r)) = r.files
+files_named (Some (check files)) = files
 files_named (Some (tidy t)) = files_of t
-
--- a front of the text is written
-pub record WritesFront (before after : Option Text) (text : Text) : Type 0 where
-  pub given : Text
-  pub written : Appends before after given
-  pub front : IsFrontOf given text

@@ -3,7 +3,7 @@ ghost use Rattle.std.specs.Prelude.{◌≡◌, map, IfOk, IfErr, IfSome, ◌⊎�
 ghost use Rattle.std.specs.IoError.{error_kind, raw_os_error};
 ghost use Rattle.fluent_serve.specs.Texts.{texts};
 ghost use Rattle.ftl_command.specs.Faults.{NamesOneOf, IsOfFiles, SaysNoUtf8};
-ghost use Rattle.ftl_command.specs.Program.{AreHeld};
+ghost use Rattle.ftl_command.specs.Files.{AreHeld};
 
 use crate::fault::Fault;
 use crate::folder::Folder;
@@ -15,9 +15,10 @@ use std::io::ErrorKind;
 pub fn read_sources<'words, F: Folder>(
     folder: &F,
     alloc: Global,
-    files: &'words [&'words str],
+    files: &[&'words str],
 ) -> Result<Vec<String>, Fault<'words>>
-    ensures held { IfOk result (λ sources. AreHeld (F.contents folder.now) (texts files.now) (map string_bytes sources.items)) }
+    ensures held { IfOk result (λ sources.
+        AreHeld (F.contents folder.now) (texts files.now) (map string_bytes sources.items)) }
     ensures named { IfErr result (NamesOneOf (texts files.now)) }
     ensures fault { IfErr result IsOfFiles }
     ensures not_utf8 { IfErr result (SaysNoUtf8 (F.contents folder.now)) }
@@ -36,7 +37,8 @@ pub fn read_source<'words, F: Folder>(
     alloc: Global,
     file: &'words str,
 ) -> Result<String, Fault<'words>>
-    ensures held { IfOk result (λ text. IfSome (F.contents folder.now file.now) (λ held. string_bytes text ≡ held)) }
+    ensures held { IfOk result (λ text.
+        IfSome (F.contents folder.now file.now) (λ held. string_bytes text ≡ held)) }
     ensures named { IfErr result (NamesOneOf (file.now ∷ [])) }
     ensures fault { IfErr result IsOfFiles }
     ensures not_utf8 { IfErr result (SaysNoUtf8 (F.contents folder.now)) }
@@ -54,7 +56,8 @@ pub fn read_source<'words, F: Folder>(
 /// What the error of a read is told as: a growth that was refused, or else the file.
 fn read_fault(file: &str, error: io::Error) -> Fault<'_>
     ensures one { (result ≡ Fault.FileUnreadable file.entry) ⊎ (result ≡ Fault.Memory) }
-    ensures memory { (result ≡ Fault.Memory) ↔ ((error_kind error ≡ ErrorKind.OutOfMemory) × (raw_os_error error ≡ None)) }
+    ensures memory { (result ≡ Fault.Memory)
+        ↔ ((error_kind error ≡ ErrorKind.OutOfMemory) × (raw_os_error error ≡ None)) }
 {
     if error.kind() == ErrorKind::OutOfMemory && error.raw_os_error().is_none() {
         Fault::Memory

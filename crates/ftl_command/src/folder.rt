@@ -17,7 +17,8 @@ pub trait Folder {
 
     /// Reads a file to its end.
     fn read(&self, alloc: Global, name: &str) -> io::Result<Vec<u8>>
-        ensures { IfOk result (λ bytes. IfSome (contents self.now name.now) (λ held. bytes.items ≡ held)) };
+        ensures { IfOk result (λ bytes.
+            IfSome (contents self.now name.now) (λ held. bytes.items ≡ held)) };
 }
 
 /// The system's files. What they hold is not known.

@@ -1,13 +1,19 @@
-//! The command `ftl`: its words, its files, its streams and its faults.
+//! The command `ftl`: its commands, its files, its streams and its faults.
+//!
+//! [`program`] does what the words behind the program's name ask for, and gives the status that it ends with. The words are read by
+//! [`read_command`].
 #![tactic(auto)]
 
 pub mod borrowed;
+pub mod checking;
 pub mod commands;
+pub mod ended;
 pub mod fault;
 pub mod files;
 pub mod folder;
 pub mod output;
+pub mod running;
 pub mod tidying;
-pub mod words;
 
 pub use commands::program;
+pub use ftl_words::read_command;

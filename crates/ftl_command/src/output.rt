@@ -1,18 +1,21 @@
 //! Standard output.
-ghost use Rattle.std.specs.Prelude.{◌≡◌, OnOk, OnErr, IfErr};
+ghost use Rattle.std.specs.Prelude.{◌≡◌, IfOk, OnOk, OnErr, IfErr};
 ghost use Rattle.std.specs.Io.KnownBytes.{Appends};
 ghost use Rattle.fluent_serve.specs.Devices.{HasFailed};
 ghost use Rattle.ftl_command.specs.Program.{WritesFront};
 
+use crate::ended::Ended;
 use crate::fault::Fault;
 use fluent_serve::serve::write_all;
 use fluent_serve::stream::Sink;
 
 /// Writes a text. After a fault a front of it was written.
 pub fn write_text<'words, O: Sink>(writer: &mut O, text: &str) -> Result<(), Fault<'words>>
-    ensures written { OnOk result (Appends (O.contents writer.old) (O.contents writer.new) text.now) }
+    ensures written { OnOk result
+        (Appends (O.contents writer.old) (O.contents writer.new) text.now) }
     ensures writes { OnOk result (O.failures writer.new ≡ O.failures writer.old) }
-    ensures front { OnErr result (WritesFront (O.contents writer.old) (O.contents writer.new) text.now) }
+    ensures front { OnErr result
+        (WritesFront (O.contents writer.old) (O.contents writer.new) text.now) }
     ensures failed { OnErr result (HasFailed (O.failures writer.old) (O.failures writer.new)) }
     ensures fault { IfErr result (λ fault. fault ≡ Fault.Output) }
 {
@@ -20,4 +23,19 @@ pub fn write_text<'words, O: Sink>(writer: &mut O, text: &str) -> Result<(), Fau
         Ok(()) => Ok(()),
         Err(_) => Err(Fault::Output),
     }
+}
+
+/// Writes the text of help, and ends with that.
+pub fn write_help<'words, O: Sink>(writer: &mut O, text: &str) -> Result<Ended, Fault<'words>>
+    ensures ended { IfOk result (λ end. end ≡ Ended.Done) }
+    ensures written { OnOk result
+        (Appends (O.contents writer.old) (O.contents writer.new) text.now) }
+    ensures writes { OnOk result (O.failures writer.new ≡ O.failures writer.old) }
+    ensures front { OnErr result
+        (WritesFront (O.contents writer.old) (O.contents writer.new) text.now) }
+    ensures failed { OnErr result (HasFailed (O.failures writer.old) (O.failures writer.new)) }
+    ensures fault { IfErr result (λ fault. fault ≡ Fault.Output) }
+{
+    write_text(writer, text)?;
+    Ok(Ended::Done)
 }

@@ -1,5 +1,7 @@
 //! What the sources' files are tidied into.
-ghost use Rattle.std.specs.Prelude.{◌≡◌, ◌⊎◌, ◌∷◌, ◌++◌, [], Some, None, false, IfOk, IfErr, IsErrOf, IsTrue, string_bytes};
+ghost use Rattle.std.specs.Prelude.{◌≡◌, ◌≢◌, ◌⊎◌, ◌∷◌, ◌++◌, [], Some, None, false, IfOk, OnOk, IfErr, IsErrOf, IsTrue, string_bytes};
+ghost use Rattle.std.specs.Io.KnownBytes.{Appends};
+ghost use Rattle.fluent_serve.specs.Devices.{HasFailed};
 ghost use Rattle.std.specs.List.{list_any};
 ghost use Rattle.serde_json.specs.Read.{read as read_text};
 ghost use Rattle.serde_json.specs.View.{view};
@@ -12,29 +14,59 @@ ghost use Rattle.fluent_desk.specs.Sources.{holds_return};
 ghost use Rattle.fluent_desk.specs.Trees.{IsNotImported};
 ghost use Rattle.fluent_requests.specs.Text.{line_feed};
 ghost use Rattle.fluent_serve.specs.Texts.{texts};
-ghost use Rattle.ftl_command.specs.CommandView.{tidy_view};
+ghost use Rattle.ftl_words.specs.CommandView.{tidy_view};
 ghost use Rattle.ftl_command.specs.Faults.{NamesOneOf, SaysNoUtf8, IsOfTidying};
-ghost use Rattle.ftl_command.specs.Program.{OnFile, OnTexts, OnValue, Imports, Tidies, json_line, files_of};
+ghost use Rattle.ftl_command.specs.Files.{OnFile, OnTexts};
+ghost use Rattle.ftl_command.specs.Program.{OnValue, Imports, Tidies, Tidied, WritesFront, json_line, files_of};
 
 use crate::borrowed::borrow_texts;
+use crate::ended::Ended;
 use crate::fault::Fault;
 use crate::files::{read_source, read_sources};
 use crate::folder::Folder;
-use crate::words::Tidy;
+use crate::output::write_text;
 use fluent_desk::{clean, export, import, join, normalize};
+use fluent_serve::stream::Sink;
+use ftl_words::Tidy;
 use serde_json::Value;
 use std::alloc::{AllocError, Global};
+
+/// Writes what the sources' files are tidied into.
+pub fn write_tidied<'words, F: Folder, O: Sink>(
+    folder: &F,
+    alloc: Global,
+    tidy: &Tidy<'words>,
+    writer: &mut O,
+) -> Result<Ended, Fault<'words>>
+    ensures ended { IfOk result (λ end. end ≡ Ended.Done) }
+    ensures tidied { OnOk result (Tidied (F.contents folder.now) (tidy_view tidy.now)
+        (Appends (O.contents writer.old) (O.contents writer.new))) }
+    ensures writes { OnOk result (O.failures writer.new ≡ O.failures writer.old) }
+    ensures named { IfErr result (NamesOneOf (files_of (tidy_view tidy.now))) }
+    ensures not_utf8 { IfErr result (SaysNoUtf8 (F.contents folder.now)) }
+    ensures not_words { IfErr result (λ fault. fault ≢ Fault.CommandLine) }
+    ensures not_input { IfErr result (λ fault. fault ≢ Fault.Input) }
+    ensures unwritten { IfErr result (λ fault. fault ≢ Fault.Output → writer.new ≡ writer.old) }
+    ensures output { IsErrOf result Fault.Output → Tidied (F.contents folder.now)
+        (tidy_view tidy.now) (WritesFront (O.contents writer.old) (O.contents writer.new)) }
+    ensures failed { IsErrOf result Fault.Output
+        → HasFailed (O.failures writer.old) (O.failures writer.new) }
+{
+    let text = tidied_text(folder, alloc, tidy)?;
+    write_text(writer, text.as_str())?;
+    Ok(Ended::Done)
+}
 
 /// The text that the sources' files are tidied into.
 pub fn tidied_text<'words, F: Folder>(
     folder: &F,
     alloc: Global,
-    tidy: Tidy<'words>,
+    tidy: &Tidy<'words>,
 ) -> Result<String, Fault<'words>>
     ensures text { IfOk result (λ text. Tidies
-        (F.contents folder.now) (tidy_view tidy.entry) (string_bytes text)) }
+        (F.contents folder.now) (tidy_view tidy.now) (string_bytes text)) }
     ensures fault { IfErr result IsOfTidying }
-    ensures named { IfErr result (NamesOneOf (files_of (tidy_view tidy.entry))) }
+    ensures named { IfErr result (NamesOneOf (files_of (tidy_view tidy.now))) }
     ensures not_utf8 { IfErr result (SaysNoUtf8 (F.contents folder.now)) }
 {
     match tidy {
@@ -88,12 +120,13 @@ fn normalize_file<'words, F: Folder>(
 fn join_files<'words, F: Folder>(
     folder: &F,
     alloc: Global,
-    files: &'words [&'words str],
+    files: &[&'words str],
 ) -> Result<String, Fault<'words>>
     ensures text { IfOk result (λ text. OnTexts (F.contents folder.now) (texts files.now)
         (λ sources. string_bytes text ≡ joined sources)) }
-    ensures carriage_return { IsErrOf result Fault.CarriageReturn → OnTexts
-        (F.contents folder.now) (texts files.now) (λ sources. IsTrue (list_any holds_return sources)) }
+    ensures carriage_return { IsErrOf result Fault.CarriageReturn
+        → OnTexts (F.contents folder.now) (texts files.now)
+        (λ sources. IsTrue (list_any holds_return sources)) }
     ensures fault { IfErr result IsOfTidying }
     ensures named { IfErr result (NamesOneOf (texts files.now)) }
     ensures not_utf8 { IfErr result (SaysNoUtf8 (F.contents folder.now)) }

@@ -3,12 +3,17 @@ ghost use Rattle.std.specs.Prelude.{◌≤◌, IfOk};
 
 use crate::tally::Tally;
 use anyhow::Result;
-use fluent_serve::serve::RunError;
-use fluent_serve::stream::{FromRead, FromWrite};
-use ftl_engine::run_thin;
+use fluent_run::{FromRead, FromWrite, RunError, Settings, run};
+use fluent_value::EnglishPlurals;
 use std::alloc::Global;
 use std::io;
 use std::io::{ErrorKind, Read, Write};
+
+/// With isolation marks, and the first entry of an id.
+pub const ISOLATING: Settings = Settings {
+    isolating: true,
+    overriding: false,
+};
 
 pub const SOURCE: &str = "intro = Welcome, { $name }.\n";
 
@@ -92,7 +97,14 @@ impl Run {
         let mut given = Vec::new(alloc);
         let mut reader = FromRead::new(Reader(REQUESTS, reading));
         let mut writer = FromWrite::new(Writer(&mut given, writing));
-        let ended = run_thin(alloc, &[SOURCE], true, &mut reader, &mut writer);
+        let ended = run(
+            alloc,
+            &[SOURCE],
+            ISOLATING,
+            &EnglishPlurals,
+            &mut reader,
+            &mut writer,
+        );
         Run { ended, given }
     }
 }
@@ -138,7 +150,14 @@ fn takes_few_calls(alloc: Global) -> Result<bool> {
     let mut given = Vec::new(alloc);
     let mut reader = FromRead::new(Reader(requests.as_bytes(), few));
     let mut writer = FromWrite::new(Writer(&mut given, few));
-    let ended = run_thin(alloc, &["a = b\n"], true, &mut reader, &mut writer);
+    let ended = run(
+        alloc,
+        &["a = b\n"],
+        ISOLATING,
+        &EnglishPlurals,
+        &mut reader,
+        &mut writer,
+    );
     Ok(ended.is_ok() && given.as_slice() == answers.as_bytes())
 }
 

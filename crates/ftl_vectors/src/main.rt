@@ -1,11 +1,10 @@
-//! Runs the command `ftl`, and the engine behind it, on the rows of `data/rows.jsonl` and `data/runs.jsonl`, and over
+//! Runs the command `ftl`, and the call behind its `run`, on the rows of `data/rows.jsonl` and `data/runs.jsonl`, and over
 //! devices that fail or move little at a time, and prints of each kind how many runs there were and how many were wrong.
 #![tactic(auto)]
 
 mod devices;
 mod faults;
 mod memory;
-mod parts;
 mod rows;
 mod runs;
 mod tally;
@@ -16,7 +15,6 @@ use tally::Tally;
 fn main(rt: HostRuntime) -> Result<()> {
     let alloc = rt.alloc();
     tell(&rt, "memory", memory::try_memory(alloc))?;
-    tell(&rt, "parts", parts::try_parts(alloc)?)?;
     tell(&rt, "rows", rows::try_rows(&rt)?)?;
     tell(&rt, "pieces", devices::try_pieces(alloc)?)?;
     tell(&rt, "failed reads", devices::try_failed_reads(alloc)?)?;

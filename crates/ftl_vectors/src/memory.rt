@@ -1,9 +1,8 @@
 //! Want of memory: `rt try --fail-alloc N` refuses an allocation, as `docs/CHECKS.md` says.
-use crate::devices::{ANSWERS, REQUESTS, SOURCE, are_whole};
+use crate::devices::{ANSWERS, ISOLATING, REQUESTS, SOURCE, are_whole};
 use crate::tally::Tally;
-use fluent_serve::serve::RunError;
-use fluent_serve::stream::{FromRead, FromWrite};
-use ftl_engine::run_thin;
+use fluent_run::{FromRead, FromWrite, RunError, run};
+use fluent_value::EnglishPlurals;
 use std::alloc::Global;
 
 /// Room for the answers, in bytes.
@@ -15,7 +14,14 @@ pub fn try_memory(alloc: Global) -> Tally {
     let mut rest = room.as_mut_slice();
     let mut reader = FromRead::new(REQUESTS);
     let mut writer = FromWrite::new(&mut rest);
-    let ended = run_thin(alloc, &[SOURCE], true, &mut reader, &mut writer);
+    let ended = run(
+        alloc,
+        &[SOURCE],
+        ISOLATING,
+        &EnglishPlurals,
+        &mut reader,
+        &mut writer,
+    );
     let left = rest.len();
     let given = &room[..ROOM.saturating_sub(left)];
     let is_right = match ended {

@@ -72,22 +72,28 @@ pub fn try_devices(rt: &HostRuntime) -> Tally {
     let input = "ftl: standard input: cannot read\n";
     let output = "ftl: standard output: cannot write\n";
     let missing = "ftl: missing.ftl: cannot read\n";
+    let report = "source 1";
     let rows = [
-        ("a.ftl", never, ALWAYS, "", input),
-        ("a.ftl", once, ALWAYS, ANSWERS[0], input),
-        ("a.ftl", once, nothing, "", output),
-        ("a.ftl", ALWAYS, head, "ok 20 0\n", output),
-        ("missing.ftl", never, never, "", missing),
+        ("run", "a.ftl", never, ALWAYS, "", input),
+        ("run", "a.ftl", once, ALWAYS, ANSWERS[0], input),
+        ("run", "a.ftl", once, nothing, "", output),
+        ("run", "a.ftl", ALWAYS, head, "ok 20 0\n", output),
+        ("run", "missing.ftl", never, never, "", missing),
+        ("check", "damaged.ftl", never, head, report, output),
+        ("check", "damaged.ftl", never, never, "", output),
+        ("clean", "damaged.ftl", never, nothing, "", output),
+        ("help", "run", never, never, "", output),
+        ("check", "missing.ftl", never, never, "", missing),
     ];
     let mut tally = Tally::new();
-    for (file, reading, writing, answers, fault) in rows {
+    for (command, file, reading, writing, answers, fault) in rows {
         let wanted = End {
             status: 3,
             answers,
             fault,
         };
         let reader = Reader(REQUESTS, reading);
-        tally.add(ends(rt, &["run", file], reader, writing, wanted));
+        tally.add(ends(rt, &[command, file], reader, writing, wanted));
     }
     tally
 }

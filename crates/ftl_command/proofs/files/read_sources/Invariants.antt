@@ -1,6 +1,6 @@
 use Rattle.std.proofs.Common.{map, take, string_bytes}
 use Rattle.fluent_serve.specs.Texts.{texts}
-use Rattle.ftl_command.specs.Program.{AreHeld}
+use Rattle.ftl_command.specs.Files.{AreHeld}
 use Rattle.ftl_command.proofs.files.read_sources.Given as goal
 
 abbrev pub invariant-loop-file : goal.invariant-loop-file

@@ -1,0 +1,65 @@
+//! The report on the sources in files.
+ghost use Rattle.std.specs.Prelude.{◌≡◌, ◌≢◌, IfOk, IfErr, OnOk, IsErrOf, string_bytes};
+ghost use Rattle.std.specs.Io.KnownBytes.{Appends};
+ghost use Rattle.fluent_serve.specs.Texts.{texts};
+ghost use Rattle.fluent_serve.specs.Devices.{HasFailed};
+ghost use Rattle.ftl_command.specs.Faults.{NamesOneOf, SaysNoUtf8, IsOfFiles};
+ghost use Rattle.ftl_command.specs.Program.{OnReport, WritesFront, end_by};
+
+use crate::borrowed::borrow_texts;
+use crate::ended::Ended;
+use crate::fault::Fault;
+use crate::files::read_sources;
+use crate::folder::Folder;
+use crate::output::write_text;
+use fluent_serve::stream::Sink;
+use ftl_report::check_text;
+use std::alloc::Global;
+
+/// Writes a line for each error of the sources in `files`, and then one for each entry whose id was there.
+pub fn check_files<'words, F: Folder, O: Sink>(
+    folder: &F,
+    alloc: Global,
+    files: &[&'words str],
+    writer: &mut O,
+) -> Result<Ended, Fault<'words>>
+    ensures checked { IfOk result (λ end.
+        OnReport (F.contents folder.now) (texts files.now) (λ text.
+        Appends (O.contents writer.old) (O.contents writer.new) text × (end ≡ end_by text))) }
+    ensures writes { OnOk result (O.failures writer.new ≡ O.failures writer.old) }
+    ensures not_words { IfErr result (λ fault. fault ≢ Fault.CommandLine) }
+    ensures not_input { IfErr result (λ fault. fault ≢ Fault.Input) }
+    ensures named { IfErr result (NamesOneOf (texts files.now)) }
+    ensures not_utf8 { IfErr result (SaysNoUtf8 (F.contents folder.now)) }
+    ensures unwritten { IfErr result (λ fault. fault ≢ Fault.Output → writer.new ≡ writer.old) }
+    ensures output { IsErrOf result Fault.Output
+        → OnReport (F.contents folder.now) (texts files.now)
+        (WritesFront (O.contents writer.old) (O.contents writer.new)) }
+    ensures failed { IsErrOf result Fault.Output
+        → HasFailed (O.failures writer.old) (O.failures writer.new) }
+{
+    let report = report_on(folder, alloc, files)?;
+    write_text(writer, report.as_str())?;
+    Ok(if report.is_empty() {
+        Ended::Done
+    } else {
+        Ended::Found
+    })
+}
+
+/// The report on the sources in files, as text.
+fn report_on<'words, F: Folder>(
+    folder: &F,
+    alloc: Global,
+    files: &[&'words str],
+) -> Result<String, Fault<'words>>
+    ensures report { IfOk result (λ text. OnReport (F.contents folder.now) (texts files.now)
+        (λ report. string_bytes text ≡ report)) }
+    ensures fault { IfErr result IsOfFiles }
+    ensures named { IfErr result (NamesOneOf (texts files.now)) }
+    ensures not_utf8 { IfErr result (SaysNoUtf8 (F.contents folder.now)) }
+{
+    let texts = read_sources(folder, alloc, files)?;
+    let sources = borrow_texts(alloc, &texts)?;
+    Ok(check_text(alloc, &sources)?)
+}

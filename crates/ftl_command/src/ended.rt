@@ -1,0 +1,24 @@
+//! How the program ends where it met no fault.
+ghost use Rattle.std.specs.Prelude.{◌≡◌};
+ghost use Rattle.ftl_command.specs.Faults.{end_status};
+
+/// How a command ended that met no fault.
+#[derive(Clone, Copy, Debug, PartialEq, Eq)]
+pub enum Ended {
+    /// What was asked for is done.
+    Done,
+    /// It is done, and something was found in the sources.
+    Found,
+}
+
+impl Ended {
+    /// The status that the program ends with.
+    pub fn status(self) -> u8
+        ensures { result ≡ end_status self }
+    {
+        match self {
+            Ended::Done => 0,
+            Ended::Found => 1,
+        }
+    }
+}

@@ -1,0 +1,1 @@
+NUMBER = x

@@ -1,0 +1,51 @@
+-- What some words ask for, by computing.
+use Rattle.std.proofs.Common.{◌≡◌, [], ◌∷◌, true, false, Some, refl, codes}
+use Rattle.clap.specs.declared.error.kind.ErrorKind.TheVariants.{ArgumentConflict, MissingRequiredArgument, MissingSubcommand, UnknownArgument}
+use Rattle.clap.proofs.OnLiterals.{clap_on_literals}
+use Rattle.ftl_words.specs.Meaning.{AskForHelpAlone, check, clean, command_of, faults_of, join, run, tidy}
+
+no_words : faults_of [] ≡ MissingSubcommand ∷ []
+unfolding clap_on_literals
+no_words = refl
+
+no_file : faults_of (codes "run" ∷ codes "--overriding" ∷ []) ≡ MissingRequiredArgument ∷ []
+unfolding clap_on_literals
+no_file = refl
+
+an_unknown_option : faults_of (codes "run" ∷ codes "-x" ∷ codes "a" ∷ []) ≡ UnknownArgument ∷ []
+unfolding clap_on_literals
+an_unknown_option = refl
+
+an_option_twice : faults_of (codes "run" ∷ codes "--no-isolating" ∷ codes "--no-isolating" ∷ codes "a" ∷ []) ≡ ArgumentConflict ∷ []
+unfolding clap_on_literals
+an_option_twice = refl
+
+two_to_clean : faults_of (codes "clean" ∷ codes "a" ∷ codes "b" ∷ []) ≡ UnknownArgument ∷ []
+unfolding clap_on_literals
+two_to_clean = refl
+
+help : AskForHelpAlone (codes "join" ∷ codes "--help" ∷ [])
+unfolding clap_on_literals
+help = refl
+
+two_files : command_of (codes "run" ∷ codes "a" ∷ codes "b-" ∷ [])
+    ≡ Some (run (record { isolating = true; overriding = false; files = codes "a" ∷ codes "b-" ∷ [] }))
+unfolding clap_on_literals
+two_files = refl
+
+options_between_files : command_of (codes "run" ∷ codes "a" ∷ codes "--no-isolating" ∷ codes "--overriding" ∷ codes "b" ∷ [])
+    ≡ Some (run (record { isolating = false; overriding = true; files = codes "a" ∷ codes "b" ∷ [] }))
+unfolding clap_on_literals
+options_between_files = refl
+
+files_behind_two_hyphens : command_of (codes "check" ∷ codes "--" ∷ codes "-a" ∷ codes "--b" ∷ []) ≡ Some (check (codes "-a" ∷ codes "--b" ∷ []))
+unfolding clap_on_literals
+files_behind_two_hyphens = refl
+
+one_to_clean : command_of (codes "clean" ∷ codes "a" ∷ []) ≡ Some (tidy (clean (codes "a")))
+unfolding clap_on_literals
+one_to_clean = refl
+
+two_to_join : command_of (codes "join" ∷ codes "a" ∷ codes "b" ∷ []) ≡ Some (tidy (join (codes "a" ∷ codes "b" ∷ [])))
+unfolding clap_on_literals
+two_to_join = refl

@@ -1,0 +1,57 @@
+-- The program `ftl` and its commands, as `clap` is told of them.
+use Rattle.std.specs.Prelude.{◌≡◌, List, [], ◌∷◌, Some, true, false, codes}
+use Rattle.clap.specs.Lexer.{usize_max}
+use Rattle.clap.specs.Words.{App, Rule, Shape, Text, new_app, new_rule, rule_of, shape_of, with_subcommand}
+use Rattle.clap.specs.Simple.{new_shape, on_top}
+use Rattle.clap.specs.declared.builder.action.ArgAction.TheVariants.{SetTrue}
+use Rattle.clap.specs.declared.builder.arg.Arg.{Arg}
+use Rattle.clap.specs.declared.builder.command.Command.{Command}
+use Rattle.clap.specs.declared.builder.command.Command.TheViews.{out-Command as fields_of}
+
+-- `--name`
+abbrev pub flag_rule : Text → Rule
+flag_rule name = record (new_rule name) { long = Some name; action = Some SetTrue }
+
+-- one file
+abbrev pub file_rule : Rule
+file_rule = record (new_rule (codes "FILE")) { required = true }
+
+-- one or more
+abbrev pub files_rule : Rule
+files_rule = record file_rule { range = Some (record { start_inclusive = 1; end_inclusive = usize_max }) }
+
+-- a command with these arguments
+abbrev pub shaped : Text → List Rule → Shape
+shaped name rules = record (new_shape name) { rules = rules }
+
+-- one more command, with this argument alone
+abbrev pub with_command : App → Text → Rule → App
+with_command a name argument = with_subcommand a (shaped name (argument ∷ []))
+
+abbrev pub run_shape : Shape
+run_shape = shaped (codes "run") (flag_rule (codes "no-isolating") ∷ flag_rule (codes "overriding") ∷ files_rule ∷ [])
+
+-- the program, of which a command has to be named, and whose first word is no name of its own
+abbrev pub bare_program : App
+bare_program = on_top (λ s. record s { no_binary_name = true; subcommand_required = true }) (new_app (codes "ftl"))
+
+abbrev pub program_app : App
+program_app = record {
+  top = record bare_program.top { is_leaf = false };
+  subs = run_shape
+      ∷ shaped (codes "check") (files_rule ∷ [])
+      ∷ shaped (codes "clean") (file_rule ∷ [])
+      ∷ shaped (codes "normalize") (file_rule ∷ [])
+      ∷ shaped (codes "join") (files_rule ∷ [])
+      ∷ shaped (codes "export") (file_rule ∷ [])
+      ∷ shaped (codes "import") (file_rule ∷ [])
+      ∷ [];
+}
+
+-- the argument is told so, and for its own command alone
+abbrev pub IsLocal : Rule → Arg → Type 0
+IsLocal rule a = (rule_of a ≡ rule) × (a.global ≡ false)
+
+-- the command is told so, with no argument for other commands
+abbrev pub IsShaped : Shape → Command → Type 0
+IsShaped shape c = (shape_of c ≡ shape) × ((fields_of c).has_globals ≡ false)

@@ -1,0 +1,91 @@
+-- What words ask for, by what `clap` makes of them.
+use Rattle.std.specs.Prelude.{◌≡◌, Bool, not, if◌then◌else◌, List, [], ◌∷◌, Option, Some, None, map, option_map, unwrap_or, false, codes}
+use Rattle.std.specs.Option.{option_map_or}
+use Rattle.std.specs.Str.{bytes_eq}
+use denote.Ref.{Bor}
+use Rattle.clap.specs.Words.{Kinds, IsAmong, Row, Text, all_of, fault_of, first_of, subcommand_of}
+use Rattle.clap.specs.declared.error.kind.ErrorKind.TheVariants.{DisplayHelp}
+use Rattle.ftl_words.specs.Commands.{program_app}
+
+-- answer the request lines of standard input, from the sources in these files
+pub record Run : Type 0 where
+  pub isolating : Bool
+  pub overriding : Bool
+  pub files : List Text
+
+-- write what a file's source is tidied into, or what several are joined into; or its JSON tree, or the text of one
+pub data Tidy : Type 0 where
+  clean : Text → Tidy
+  normalize : Text → Tidy
+  join : List Text → Tidy
+  export : Text → Tidy
+  import : Text → Tidy
+
+-- what the words ask for
+pub data Asked : Type 0 where
+  run : Run → Asked
+  check : List Text → Asked
+  tidy : Tidy → Asked
+
+-- ---- what `clap` found for a command
+
+-- a flag that was given
+abbrev pub is_given : Text → List Row → Bool
+is_given name rows = option_map_or (λ s. bytes_eq s (codes "true")) (first_of name rows) false
+
+abbrev pub file_in : List Row → Option Text
+file_in rows = first_of (codes "FILE") rows
+
+abbrev pub files_in : List Row → List Text
+files_in rows = unwrap_or (all_of (codes "FILE") rows) []
+
+abbrev pub run_in : List Row → Run
+run_in rows = record {
+  isolating = not (is_given (codes "no-isolating") rows);
+  overriding = is_given (codes "overriding") rows;
+  files = files_in rows;
+}
+
+-- a command on one file
+abbrev pub on_file : (Text → Tidy) → List Row → Option Asked
+on_file command rows = option_map (λ file. tidy (command file)) (file_in rows)
+
+-- a command by its name, with what was found for it
+abbrev pub asked_by : Text × List Row → Option Asked
+asked_by found =
+    if bytes_eq found.0 (codes "run") then Some (run (run_in found.1))
+    else if bytes_eq found.0 (codes "check") then Some (check (files_in found.1))
+    else if bytes_eq found.0 (codes "clean") then on_file clean found.1
+    else if bytes_eq found.0 (codes "normalize") then on_file normalize found.1
+    else if bytes_eq found.0 (codes "join") then Some (tidy (join (files_in found.1)))
+    else if bytes_eq found.0 (codes "export") then on_file export found.1
+    else if bytes_eq found.0 (codes "import") then on_file import found.1
+    else None
+
+abbrev pub asked_of : Option (Text × List Row) → Option Asked
+asked_of None = None
+asked_of (Some found) = asked_by found
+
+-- ---- words
+
+-- what is wrong with the words, as `clap` has it: a request for help is a fault too
+abbrev pub faults_of : List Text → Kinds
+faults_of words = fault_of program_app words
+
+abbrev pub without_faults : Kinds → Option Asked → Option Asked
+without_faults [] asked = asked
+without_faults (k ∷ ks) asked = None
+
+-- what the words ask for, where nothing is wrong with them
+abbrev pub command_of : List Text → Option Asked
+command_of words = without_faults (faults_of words) (asked_of (subcommand_of program_app words))
+
+abbrev pub AskForHelp : List Text → Type 0
+AskForHelp words = IsAmong DisplayHelp (faults_of words)
+
+-- nothing but a request for help
+abbrev pub AskForHelpAlone : List Text → Type 0
+AskForHelpAlone words = faults_of words ≡ DisplayHelp ∷ []
+
+abbrev pub texts : List (Bor Text) → List Text
+texts words = map (λ w. w.now) words

@@ -1,0 +1,139 @@
+//! The program and its commands, as `clap` is told of them.
+ghost use Rattle.std.specs.Prelude.{◌≡◌, ◌∷◌, [], false, codes, IfOk};
+ghost use Rattle.clap.specs.Words.{app_of, rule_of};
+ghost use Rattle.ftl_words.specs.Commands.{IsShaped, IsLocal, shaped, with_command};
+ghost use Rattle.ftl_words.specs.Commands.{flag_rule, file_rule, files_rule, bare_program, program_app, run_shape};
+
+use clap::{Arg, ArgAction, Command};
+use std::alloc::{AllocError, Global};
+
+/// The program with all its commands.
+pub(crate) fn program<'a>(alloc: Global) -> Result<Command<'a>, AllocError>
+    ensures { IfOk result (λ program. app_of program ≡ program_app) }
+{
+    let run = run(alloc)?;
+    let program = bare_program(alloc)?.subcommand(run)?;
+    let program = with_files(
+        alloc,
+        program,
+        "check",
+        "Tells what is damaged in sources, and which ids stand in them twice",
+    )?;
+    let program = with_file(
+        alloc,
+        program,
+        "clean",
+        "Takes out the stretches that can't be read",
+    )?;
+    let program = with_file(
+        alloc,
+        program,
+        "normalize",
+        "Writes a source as the serializer writes it",
+    )?;
+    let program = with_files(
+        alloc,
+        program,
+        "join",
+        "Cleans sources and puts them together",
+    )?;
+    let program = with_file(
+        alloc,
+        program,
+        "export",
+        "Writes the JSON tree of the cleaned source",
+    )?;
+    with_file(alloc, program, "import", "Writes the text of a JSON tree")
+}
+
+/// The program before its commands.
+fn bare_program<'a>(alloc: Global) -> Result<Command<'a>, AllocError>
+    ensures { IfOk result (λ program. app_of program ≡ bare_program) }
+{
+    Command::new(alloc, "ftl")
+        .about("Answers, checks and tidies Fluent sources")
+        .no_binary_name(true)
+        .subcommand_required(true)
+        .bin_name("ftl")
+}
+
+/// The program with one more command, on one file.
+fn with_file<'a>(
+    alloc: Global,
+    program: Command<'a>,
+    name: &'a str,
+    about: &'a str,
+) -> Result<Command<'a>, AllocError>
+    ensures { IfOk result (λ more.
+        app_of more ≡ with_command (app_of program.entry) name.entry.now file_rule) }
+{
+    program.subcommand(command_of(alloc, name, about, file(alloc))?)
+}
+
+/// The program with one more command, on one or more files.
+fn with_files<'a>(
+    alloc: Global,
+    program: Command<'a>,
+    name: &'a str,
+    about: &'a str,
+) -> Result<Command<'a>, AllocError>
+    ensures { IfOk result (λ more.
+        app_of more ≡ with_command (app_of program.entry) name.entry.now files_rule) }
+{
+    program.subcommand(command_of(alloc, name, about, files(alloc))?)
+}
+
+/// A command with this argument alone.
+fn command_of<'a>(
+    alloc: Global,
+    name: &'a str,
+    about: &'a str,
+    argument: Arg<'a>,
+) -> Result<Command<'a>, AllocError>
+    ensures { argument.entry.global ≡ false
+        → IfOk result (IsShaped (shaped name.entry.now (rule_of argument.entry ∷ []))) }
+{
+    Command::new(alloc, name).about(about).arg(argument)
+}
+
+/// The command `run`.
+fn run<'a>(alloc: Global) -> Result<Command<'a>, AllocError>
+    ensures { IfOk result (IsShaped run_shape) }
+{
+    let isolating = flag(alloc, "no-isolating").help(
+        "Sets no marks around the values of placeables",
+    );
+    let overriding = flag(alloc, "overriding").help(
+        "Lets the last entry of an id count, and not the first",
+    );
+    Command::new(alloc, "run")
+        .about("Answers the request lines of standard input")
+        .arg(isolating)?
+        .arg(overriding)?
+        .arg(files(alloc))
+}
+
+/// A flag of this name.
+fn flag<'a>(alloc: Global, name: &'a str) -> Arg<'a>
+    ensures { IsLocal (flag_rule name.entry.now) result }
+{
+    Arg::new(alloc, name).long(name).action(ArgAction::SetTrue)
+}
+
+/// The file that a command is on.
+fn file<'a>(alloc: Global) -> Arg<'a>
+    ensures { IsLocal file_rule result }
+{
+    Arg::new(alloc, "FILE")
+        .required(true)
+        .help("The file to read")
+}
+
+/// The files that a command is on.
+fn files<'a>(alloc: Global) -> Arg<'a>
+    ensures { IsLocal files_rule result }
+{
+    file(alloc)
+        .num_args(1..)
+        .help("The files to read, in their order")
+}

@@ -1,0 +1,147 @@
+//! From words to what they ask for.
+ghost use Rattle.std.specs.Prelude.{◌≡◌, IfOk, IfErr, IsErrOf, Some, None};
+ghost use Rattle.clap.specs.Words.{found_of, kind_of, rows_of, subcommand_rows_of};
+ghost use Rattle.ftl_words.specs.Meaning.{AskForHelp, AskForHelpAlone, command_of, texts};
+ghost use Rattle.ftl_words.specs.Meaning.{asked_by, asked_of, file_in, files_in, is_given};
+ghost use Rattle.ftl_words.specs.CommandView.{command_view};
+ghost use Rattle.ftl_words.specs.declared.reading.WordsError.TheVariants.{Memory};
+
+use crate::command::{Command, Tidy};
+use crate::program::program;
+use clap::error::ErrorKind;
+use clap::{ArgMatches, Error};
+use std::alloc::{AllocError, Global};
+
+/// Why words are no command.
+#[derive(Debug, PartialEq, Eq, Drop)]
+pub enum WordsError {
+    /// Memory ran out.
+    Memory,
+    /// The words are no command of the program.
+    Bad,
+    /// The words ask for help, which is this text.
+    Help(String),
+}
+
+impl From<AllocError> for WordsError {
+    ghost from_gives = { λ _ error. error ≡ Memory };
+
+    fn from(_error: AllocError) -> Self {
+        WordsError::Memory
+    }
+}
+
+/// Reads the words behind the program's name: a command, its flags and its files, as `clap` has them.
+///
+/// # Errors
+/// `Bad`: the words are no command. `Help`: they ask for help. `Memory`: memory ran out.
+pub fn read_command<'words>(
+    alloc: Global,
+    words: &'words [&'words str],
+) -> Result<Command<'words>, WordsError>
+    ensures command { IfOk result (λ command.
+        command_of (texts words.now) ≡ Some (command_view command)) }
+    ensures nothing { IfErr result (λ error. ¬ (error ≡ WordsError.Memory)
+        → command_of (texts words.now) ≡ None) }
+    ensures not_help { IsErrOf result WordsError.Bad → ¬ AskForHelpAlone (texts words.now) }
+    ensures help { (text : _) → IsErrOf result (WordsError.Help text)
+        → AskForHelp (texts words.now) }
+{
+    match program(alloc)?.try_get_matches_from(words) {
+        Ok(matches) => command_met(alloc, &matches),
+        Err(error) => Err(refusal(alloc, &error)),
+    }
+}
+
+/// What an error of `clap` is told as.
+fn refusal(alloc: Global, error: &Error) -> WordsError
+    ensures memory { kind_of error.now ≡ ErrorKind.OutOfMemory
+        → result ≡ WordsError.Memory }
+    ensures not_help { result ≡ WordsError.Bad
+        → ¬ (kind_of error.now ≡ ErrorKind.DisplayHelp) }
+    ensures help { (text : _) → result ≡ WordsError.Help text
+        → kind_of error.now ≡ ErrorKind.DisplayHelp }
+{
+    match error.kind() {
+        ErrorKind::OutOfMemory => WordsError::Memory,
+        ErrorKind::DisplayHelp => match error.to_string(alloc) {
+            Ok(text) => WordsError::Help(text),
+            Err(_) => WordsError::Memory,
+        },
+        _ => WordsError::Bad,
+    }
+}
+
+/// The command that was met.
+fn command_met<'words>(
+    alloc: Global,
+    matches: &ArgMatches<'words>,
+) -> Result<Command<'words>, WordsError>
+    ensures command { IfOk result (λ command.
+        asked_of (subcommand_rows_of matches.now) ≡ Some (command_view command)) }
+    ensures nothing { IfErr result (λ error. ¬ (error ≡ WordsError.Memory)
+        → asked_of (subcommand_rows_of matches.now) ≡ None) }
+    ensures no_help { IfErr result (λ error. (text : _) → ¬ (error ≡ WordsError.Help text)) }
+{
+    match matches.subcommand() {
+        Some((name, found)) => command_named(alloc, name, found),
+        None => Err(WordsError::Bad),
+    }
+}
+
+/// The command of a name, with what was found for it.
+fn command_named<'words>(
+    alloc: Global,
+    name: &str,
+    found: &ArgMatches<'words>,
+) -> Result<Command<'words>, WordsError>
+    ensures command { IfOk result (λ command.
+        asked_by (name.now, rows_of (found_of found.now)) ≡ Some (command_view command)) }
+    ensures nothing { IfErr result (λ error. ¬ (error ≡ WordsError.Memory)
+        → asked_by (name.now, rows_of (found_of found.now)) ≡ None) }
+    ensures no_help { IfErr result (λ error. (text : _) → ¬ (error ≡ WordsError.Help text)) }
+{
+    match name {
+        "run" => Ok(Command::Run {
+            isolating: !is_given(found, "no-isolating"),
+            overriding: is_given(found, "overriding"),
+            files: files_in(alloc, found)?,
+        }),
+        "check" => Ok(Command::Check {
+            files: files_in(alloc, found)?,
+        }),
+        "clean" => Ok(Command::Tidy(Tidy::Clean(file_in(found)?))),
+        "normalize" => Ok(Command::Tidy(Tidy::Normalize(file_in(found)?))),
+        "join" => Ok(Command::Tidy(Tidy::Join(files_in(alloc, found)?))),
+        "export" => Ok(Command::Tidy(Tidy::Export(file_in(found)?))),
+        "import" => Ok(Command::Tidy(Tidy::Import(file_in(found)?))),
+        _ => Err(WordsError::Bad),
+    }
+}
+
+/// Whether a flag was given.
+fn is_given(found: &ArgMatches<'_>, name: &str) -> bool
+    ensures { result ≡ is_given name.now (rows_of (found_of found.now)) }
+{
+    found.get_str(name) == Some("true")
+}
+
+/// The file that was given.
+fn file_in<'words>(found: &ArgMatches<'words>) -> Result<&'words str, WordsError>
+    ensures file { IfOk result (λ file. file_in (rows_of (found_of found.now)) ≡ Some file.now) }
+    ensures bad { IfErr result (λ error. error ≡ WordsError.Bad) }
+    ensures none { IfErr result (λ _. file_in (rows_of (found_of found.now)) ≡ None) }
+{
+    found.get_str("FILE").ok_or(WordsError::Bad)
+}
+
+/// The files that were given.
+fn files_in<'words>(
+    alloc: Global,
+    found: &ArgMatches<'words>,
+) -> Result<Vec<&'words str>, AllocError>
+    ensures { IfOk result (λ files.
+        texts files.items ≡ files_in (rows_of (found_of found.now))) }
+{
+    Vec::from_slice(alloc, found.get_raw("FILE").unwrap_or(&[]))
+}
