@@ -14,11 +14,11 @@ use Rattle.fluent_meaning.specs.Told.{State, Writes}
 use Rattle.fluent_progress.proofs.Telling.{tells-all}
 
 -- a piece that was made was written
-pub piece-written : {x y piece : Text} {s t : State} (f : Budget → Done Text) → Writes [] piece s t f → y ≡ x ++ piece → Writes x y s t f
-piece-written {x = x} f p h = record { text = h ∙ ap (λ r. x ++ r) p.text; state = p.state }
+pub piece-written : {x y empty piece : Text} {s t : State} (f : Budget → Done Text) → empty ≡ [] → Writes empty piece s t f → y ≡ x ++ piece → Writes x y s t f
+piece-written {x = x} {s = s} f e p h = record { text = h ∙ ap (λ r. x ++ r) (p.text ∙ ap (λ m. m ++ (f s.budget).value) e); state = p.state }
 
 -- it was refused
-pub piece-refused : {x y piece : Text} {s t : State} (f : Budget → Done Text) → Writes [] piece s t f → y ≡ x → WritesSome x y s t f
+pub piece-refused : {x y empty piece : Text} {s t : State} (f : Budget → Done Text) → Writes empty piece s t f → y ≡ x → WritesSome x y s t f
 piece-refused {x = x} {s = s} f p h = record { written = []; first = begins-none (f s.budget).value; text = h ∙ sym (append-nil x); tells = tells-all (f s.budget) p.state }
 
 -- it could not be made

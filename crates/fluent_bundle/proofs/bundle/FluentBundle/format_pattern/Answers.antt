@@ -1,0 +1,15 @@
+use Rattle.std.specs.Cow.{cow_str_bytes}
+use Rattle.fluent_progress.proofs.Telling.{on-err}
+use Rattle.fluent_bundle.proofs.Asking.{if-ok-same}
+use Rattle.fluent_bundle.proofs.LentBundle.{all-told, handed-is}
+use Rattle.fluent_bundle.proofs.bundle.FluentBundle.format_pattern.Goals as goal
+
+pub returns-clause-text : goal.returns-clause-text
+returns-clause-text g c =
+    if-ok-same c.hand_out.result cow_str_bytes
+    (handed-is g.C.FluentType.text g.F.FluentFunction.gives g.G.ValueFormatter.formats g.M.MemoizerKind.category_of g.M.MemoizerKind.stringified (λ z. (goal.TextTransform-dyn g z).transformed z.1) c.args.self.now c.lent-lent.result c.lent-lent.ensures g.C.FluentType.meaning c.args.args c.args.pattern.now (cow_str_bytes c.in_ok-text.text) c.in_ok-text.ensures.text)
+    c.hand_out.ensures.text
+
+pub returns-clause-refused : goal.returns-clause-refused
+returns-clause-refused g c =
+    on-err c.hand_out.result (all-told g.C.FluentType.text g.F.FluentFunction.gives g.G.ValueFormatter.formats g.M.MemoizerKind.category_of g.M.MemoizerKind.stringified (λ z. (goal.TextTransform-dyn g z).transformed z.1) c.args.self.now c.lent-lent.result c.lent-lent.ensures g.C.FluentType.meaning c.args.args c.args.pattern.now c.args.errors.now c.answer.new.errors c.in_ok-text.ensures.told)
