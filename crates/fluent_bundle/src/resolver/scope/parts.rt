@@ -1,12 +1,15 @@
 //! What each call of a scope is made of: the scope's own part is handed on, and put back at the end.
 
 ghost use Rattle.std.specs.Prelude.{◌≡◌, IfOk, None, OnErr, OnOk, is_some, map, option_map, string_bytes};
-ghost use Rattle.fluent_errors.specs.View.{bundle_view};
+ghost use Rattle.fluent_errors.specs.Errors.{unknown};
+ghost use Rattle.fluent_errors.specs.View.{bundle_view, reference_view};
 ghost use Rattle.fluent_ast.specs.View.{arguments_view, expression_view, inline_view, pattern_view};
 ghost use Rattle.fluent_bundle.specs.BundleView.{environment_of};
 ghost use Rattle.fluent_bundle.specs.ScopeView.{Keeps, called_of, path_of, place_of, root_of, state_of};
 ghost use Rattle.fluent_grammar.specs.Tree as t;
+ghost use Rattle.fluent_meaning.specs.Fallback.{braced, inline_fallback};
 ghost use Rattle.fluent_meaning.specs.Refused.{TellsSome};
+ghost use Rattle.fluent_meaning.specs.Steps.{faulty};
 ghost use Rattle.fluent_meaning.specs.Substitution as s;
 ghost use Rattle.fluent_meaning.specs.Told.{Finds, Writes};
 ghost use Rattle.fluent_progress.specs.Views as v;
@@ -15,7 +18,7 @@ ghost use Rattle.fluent_progress.specs.Views.{place_view, resolved_in, state};
 use super::Scope;
 use fluent_ast::{CallArguments, Expression, InlineExpression, Pattern};
 use fluent_errors::{FluentError, ReferenceKind, ResolverError};
-use fluent_progress::fallback::{fall_back, write_inline_braced};
+use fluent_progress::fallback::write_inline_braced;
 use fluent_progress::{Context, Place, Progress};
 use fluent_resolver::arguments::{named_values, positional_values};
 use fluent_resolver::pattern::{write_opened, write_referred};
@@ -98,6 +101,22 @@ impl<'b, 'r, 's, 'a, M, C, F, G> Scope<'b, 'r, 's, 'a, M, C, F, G> {
             self.root = Some(pattern);
         }
     }
+
+    /// Tells that what an expression refers to is unknown, and writes its fallback. The only error is that memory runs out.
+    fn write_unknown(
+        &mut self,
+        out: &mut String,
+        inline: &InlineExpression<&'s str>,
+        kind: ReferenceKind,
+    ) -> Result<(), AllocError>
+        ensures wrote { OnOk result (Writes (string_bytes out.old) (string_bytes out.new) (state_of self.old) (state_of self.new) (faulty (braced (inline_fallback (inline_view _ (λ s. s.now) inline.now))) (unknown (reference_view kind)))) }
+        ensures refused { OnErr result (TellsSome (state_of self.old) (state_of self.new) (faulty (braced (inline_fallback (inline_view _ (λ s. s.now) inline.now))) (unknown (reference_view kind)) (state_of self.old).budget)) }
+        ensures path { path_of self.new ≡ path_of self.old }
+        ensures kept { Keeps self.old self.new }
+    {
+        self.add_error(ResolverError::Reference(kind))?;
+        write_inline_braced(out, inline)
+    }
 }
 
 impl<'b, 'r, 's, 'a, M, C, F, G> Scope<'b, 'r, 's, 'a, M, C, F, G>
@@ -127,7 +146,7 @@ where
             context: &lent,
             arguments: self.arguments,
         };
-        let written = write_opened(out, &place, None, &mut progress, pattern, expression);
+        let written = opened(out, &place, &mut progress, pattern, expression);
         self.put_back(progress);
         written
     }
@@ -152,7 +171,7 @@ where
             context: &lent,
             arguments: self.arguments,
         };
-        let written = write_referred(out, &place, None, &mut progress, inline, pattern);
+        let written = referred(out, &place, &mut progress, inline, pattern);
         self.put_back(progress);
         written
     }
@@ -168,10 +187,10 @@ where
         ensures path { path_of self.new ≡ path_of self.old }
         ensures kept { Keeps self.old self.new }
     {
-        if let Some(kind) = ReferenceKind::of(self.bundle.environment.alloc, inline)? {
-            self.add_error(ResolverError::Reference(kind))?;
+        match ReferenceKind::of(self.bundle.environment.alloc, inline)? {
+            Some(kind) => self.write_unknown(out, inline, kind),
+            None => write_inline_braced(out, inline),
         }
-        write_inline_braced(out, inline)
     }
 
     /// The values of a call's arguments. The only error is that memory runs out.
@@ -196,6 +215,34 @@ where
         self.put_back(progress);
         found
     }
+}
+
+/// Writes a placeable that was opened before. The only error is that memory runs out.
+fn opened<'b, 'r, 's, 'a, C: FluentType + Drop, F, E: Context<C, F>>(
+    out: &mut String,
+    place: &Place<'b, 'r, 's, 'a, C, F, E>,
+    progress: &mut Progress<'r, 's>,
+    pattern: &'r Pattern<&'s str>,
+    expression: &'r Expression<&'s str>,
+) -> Result<(), AllocError>
+    ensures wrote { OnOk result (Writes (string_bytes out.old) (string_bytes out.new) (state progress.old) (state progress.new) (s.unmarked_written (resolved_in E.environment place.now) (pattern_view _ (λ s. s.now) pattern.now) (expression_view _ (λ s. s.now) expression.now) (place_view C.meaning place.now None progress.old))) }
+    ensures refused { OnErr result (TellsSome (state progress.old) (state progress.new) (s.unmarked_written (resolved_in E.environment place.now) (pattern_view _ (λ s. s.now) pattern.now) (expression_view _ (λ s. s.now) expression.now) (place_view C.meaning place.now None progress.old) (state progress.old).budget)) }
+{
+    write_opened(out, place, None, progress, pattern, expression)
+}
+
+/// Writes a pattern that an expression refers to. The only error is that memory runs out.
+fn referred<'b, 'r, 's, 'a, C: FluentType + Drop, F, E: Context<C, F>>(
+    out: &mut String,
+    place: &Place<'b, 'r, 's, 'a, C, F, E>,
+    progress: &mut Progress<'r, 's>,
+    inline: &'r InlineExpression<&'s str>,
+    pattern: &'r Pattern<&'s str>,
+) -> Result<(), AllocError>
+    ensures wrote { OnOk result (Writes (string_bytes out.old) (string_bytes out.new) (state progress.old) (state progress.new) (s.reference_written (resolved_in E.environment place.now) (inline_view _ (λ s. s.now) inline.now) (pattern_view _ (λ s. s.now) pattern.now) (place_view C.meaning place.now None progress.old))) }
+    ensures refused { OnErr result (TellsSome (state progress.old) (state progress.new) (s.reference_written (resolved_in E.environment place.now) (inline_view _ (λ s. s.now) inline.now) (pattern_view _ (λ s. s.now) pattern.now) (place_view C.meaning place.now None progress.old) (state progress.old).budget)) }
+{
+    write_referred(out, place, None, progress, inline, pattern)
 }
 
 /// The values of a call's arguments, positional ones first. The only error is that memory runs out.
