@@ -92,13 +92,13 @@ module _ {S M C F G X : Type 0} {V : X → Type 0}
   env_scope = environment_of shown gives formats category_of stringified transformed old.bundle.now
 
   abbrev here : s.Place S
-  here = record { arguments = args_or_none (given_args meaning mid.arguments); locals = None; path = v.path_of p }
+  here = record { arguments = args_or_none meaning (given_args meaning mid.arguments); locals = None; path = v.path_of p }
 
   envs : env_here ≡ env_scope
   envs = lent-is shown gives formats category_of stringified transformed mid.bundle.now lent is_lent ∙ ap (λ (b : Bor (FluentBundle M C F G X V)). environment_of shown gives formats category_of stringified transformed b.now) kept.bundle
 
   places : here ≡ place_of meaning old
-  places = λ i. record { arguments = args_or_none (given_args meaning (kept.arguments i)); locals = None; path = walked i }
+  places = λ i. record { arguments = args_or_none meaning (given_args meaning (kept.arguments i)); locals = None; path = walked i }
 
   step-is : {A : Type 0} (step : Environment S F → s.Place S → Budget → Done A) → step env_here here ≡ step env_scope (place_of meaning old)
   step-is step = λ i. step (envs i) (places i)

@@ -40,7 +40,7 @@ module _ {M C F G X : Type 0} {V : X → Type 0} where
   -- where resolving is: outside of terms
   abbrev pub place_of : {S : Type 0} → (C → S) → Scope M C F G X V → s.Place S
   place_of meaning scope = record {
-    arguments = args_or_none (given_args meaning scope.arguments);
+    arguments = args_or_none meaning (given_args meaning scope.arguments);
     locals = None;
     path = path_of scope;
   }
@@ -54,3 +54,7 @@ module _ {M C F G X : Type 0} {V : X → Type 0} where
 -- positional arguments, and those with a name
 abbrev pub called_of : {C S : Type 0} → (C → S) → Vec (FluentValue C) × FluentArgs C → s.Called S
 called_of meaning found = record { positional = map (value_view meaning) found.0.items; named = args_view meaning found.1 }
+
+-- without arguments
+abbrev pub no_arguments : {S : Type 0} → s.Called S
+no_arguments = record { positional = []; named = [] }

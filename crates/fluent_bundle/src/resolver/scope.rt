@@ -13,6 +13,7 @@ ghost use Rattle.fluent_progress.specs.Telling.{fresh, with_error};
 mod parts;
 mod showing;
 
+use self::parts::none_given;
 use crate::bundle::FluentBundle;
 use fluent_ast::{CallArguments, Expression, InlineExpression, Pattern};
 use fluent_errors::{FluentError, ResolverError};
@@ -189,7 +190,7 @@ where
         let alloc = self.bundle.environment.alloc;
         match arguments {
             Some(arguments) => self.find_arguments(arguments),
-            None => Ok((Vec::new(alloc), FluentArgs::new(alloc))),
+            None => Ok(none_given(alloc)),
         }
     }
 }

@@ -5,7 +5,7 @@ ghost use Rattle.fluent_errors.specs.Errors.{unknown};
 ghost use Rattle.fluent_errors.specs.View.{bundle_view, reference_view};
 ghost use Rattle.fluent_ast.specs.View.{arguments_view, expression_view, inline_view, pattern_view};
 ghost use Rattle.fluent_bundle.specs.BundleView.{environment_of};
-ghost use Rattle.fluent_bundle.specs.ScopeView.{Keeps, called_of, path_of, place_of, root_of, state_of};
+ghost use Rattle.fluent_bundle.specs.ScopeView.{Keeps, called_of, no_arguments, path_of, place_of, root_of, state_of};
 ghost use Rattle.fluent_grammar.specs.Tree as t;
 ghost use Rattle.fluent_meaning.specs.Fallback.{braced, inline_fallback};
 ghost use Rattle.fluent_meaning.specs.Refused.{TellsSome};
@@ -257,4 +257,13 @@ fn values<'b, 'r, 's, 'a, C: FluentType + Drop, F, E: Context<C, F>>(
     let positional = positional_values(place, None, progress, &arguments.positional)?;
     let named = named_values(place, None, progress, &arguments.named)?;
     Ok((positional, named))
+}
+
+/// The values of arguments that aren't there.
+pub(super) fn none_given<'s, C: FluentType>(
+    alloc: Global,
+) -> (Vec<FluentValue<'s, C>>, FluentArgs<'s, C>)
+    ensures { called_of C.meaning result ≡ no_arguments }
+{
+    (Vec::new(alloc), FluentArgs::new(alloc))
 }
