@@ -1,22 +1,21 @@
 -- What a scope hands on and takes back.
-use Rattle.std.proofs.Common.{◌≡◌, ◌∙◌, ◌++◌, ℕ, Bool, List, [], Option, None, Some, Bor, map, option_map, refl, ap, sym, arith}
+use Rattle.std.proofs.Common.{◌≡◌, ◌∙◌, ◌++◌, ℕ, List, Option, None, Some, Bor, map, option_map, refl, ap, sym, arith}
 use Rattle.std.specs.Prelude.{is_some}
 use Rattle.std.specs.Borrow.{MutBor}
 use Rattle.std.specs.Global.{Global, Vec}
 use Rattle.std.specs.declared.dyn_box.DynBox.{DynBox}
-use Rattle.fluent_errors.specs.Errors.{Reference, Unresolved, reference_of, unknown, unresolved}
+use Rattle.fluent_errors.specs.Errors.{Reference, reference_of, unknown, unresolved}
 use Rattle.fluent_errors.specs.View.{bundle_view}
 use Rattle.fluent_errors.specs.declared.bundle.FluentError.{FluentError}
 use Rattle.fluent_grammar.specs.Tree.{Inline}
 use Rattle.fluent_grammar.specs.Words.{Text}
-use Rattle.fluent_meaning.proofs.Refusals.{begins-as, tells-none}
+use Rattle.fluent_meaning.proofs.Refusals.{begins-as}
 use Rattle.fluent_meaning.proofs.States.{IsWithin}
 use Rattle.fluent_meaning.specs.Environment.{Environment}
-use Rattle.fluent_meaning.specs.Refused.{TellsSome, WritesSome}
-use Rattle.fluent_meaning.specs.Steps.{Budget, Done, done, faulty}
+use Rattle.fluent_meaning.specs.Refused.{TellsSome}
+use Rattle.fluent_meaning.specs.Steps.{Budget, Done}
 use Rattle.fluent_meaning.specs.Substitution as s
 use Rattle.fluent_meaning.specs.Told.{Finds, State, Writes, after, capped, in_byte}
-use Rattle.fluent_progress.specs.LentView.{lent_view}
 use Rattle.fluent_progress.specs.Views as v
 use Rattle.fluent_progress.specs.Views.{args_or_none, given_args, state}
 use Rattle.fluent_progress.specs.declared.lent.Lent.{Lent}

@@ -1,6 +1,5 @@
 -- A scope as plain data: what resolving has come to in it, and where it is.
 use Rattle.std.specs.Prelude.{◌≡◌, List, [], ◌∷◌, Option, None, Some, map, option_map}
-use Rattle.std.specs.Borrow.{MutBor}
 use Rattle.std.specs.Global.{Vec}
 use denote.Ref.{Bor}
 use Rattle.fluent_ast.specs.View.{pattern_view}
@@ -12,7 +11,6 @@ use Rattle.fluent_meaning.specs.Substitution as s
 use Rattle.fluent_meaning.specs.Told.{State, budget_of, capped, in_byte}
 use Rattle.fluent_progress.specs.Views.{args_or_none, given_args}
 use Rattle.fluent_value.specs.ArgsView.{args_view}
-use Rattle.fluent_value.specs.Value.{Value}
 use Rattle.fluent_value.specs.View.{value_view}
 use Rattle.fluent_value.specs.declared.args.FluentArgs.{FluentArgs}
 use Rattle.fluent_value.specs.declared.value.FluentValue.{FluentValue}

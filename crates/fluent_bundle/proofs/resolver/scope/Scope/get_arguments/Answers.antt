@@ -1,4 +1,4 @@
-use Rattle.std.proofs.Common.{Bor, List, [], ap, option_map, sym, ℕ, ◌∙◌}
+use Rattle.std.proofs.Common.{Bor, List, ap, option_map, sym, ℕ, ◌∙◌}
 use Rattle.std.proofs.lemmas.Result.{IfOk-weaker, on_err_weaker}
 use Rattle.std.specs.Prelude.{option_copied}
 use Rattle.fluent_ast.specs.View.{arguments_view, maybe_arguments}

@@ -1,10 +1,9 @@
 use Rattle.std.proofs.Common.{Bor, List, ℕ}
-use Rattle.std.proofs.lemmas.Result.{IfOk-weaker, on_err_weaker, on_ok_weaker}
-use Rattle.fluent_ast.specs.View.{arguments_view, expression_view, inline_view, pattern_view}
-use Rattle.fluent_grammar.specs.Tree as t
+use Rattle.std.proofs.lemmas.Result.{on_err_weaker, on_ok_weaker}
+use Rattle.fluent_ast.specs.View.{inline_view, pattern_view}
 use Rattle.fluent_meaning.specs.Substitution as s
 use Rattle.fluent_progress.proofs.Telling.{on-err, tells-same}
-use Rattle.fluent_bundle.proofs.Scopes.{put-finds, put-tells, put-writes}
+use Rattle.fluent_bundle.proofs.Scopes.{put-tells, put-writes}
 use Rattle.fluent_bundle.proofs.resolver.scope.Scope.write_referred.Goals as goal
 
 pub returns-in_err-progress-clause-refused : goal.returns-in_err-progress-clause-refused

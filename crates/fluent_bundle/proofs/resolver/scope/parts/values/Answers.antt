@@ -4,7 +4,6 @@ use Rattle.fluent_ast.specs.View.{arguments_view, inline_view, inlines_of, named
 use Rattle.fluent_ast.specs.declared.CallArguments.{out-CallArguments}
 use Rattle.fluent_ast.specs.declared.Pattern.{Pattern}
 use Rattle.fluent_grammar.specs.Tree as t
-use Rattle.fluent_meaning.proofs.Refusals.{tells-like}
 use Rattle.fluent_meaning.proofs.States.{finds-as}
 use Rattle.fluent_meaning.specs.Refused.{TellsSome}
 use Rattle.fluent_meaning.specs.Steps.{mapped}
