@@ -1,3 +1,4 @@
 pub mod Asking
 pub mod LentBundle
 pub mod Pieces
+pub mod Scopes

@@ -2,6 +2,8 @@
 
 pub(crate) mod answer;
 pub mod errors;
+mod scope;
 pub(crate) mod written;
 
 pub use errors::ResolverError;
+pub use scope::Scope;

@@ -1,0 +1,36 @@
+use Rattle.std.proofs.Common.{Bor, List, ap, option_map, sym, ℕ, ◌∙◌}
+use Rattle.std.proofs.lemmas.Result.{IfOk-weaker, on_err_weaker}
+use Rattle.std.specs.Prelude.{option_copied}
+use Rattle.fluent_ast.specs.View.{arguments_view, maybe_arguments}
+use Rattle.fluent_meaning.proofs.Equations.{arguments-none}
+use Rattle.fluent_meaning.proofs.States.{finds-as, finds-done}
+use Rattle.fluent_meaning.specs.Substitution as s
+use Rattle.fluent_resolver.proofs.Parts.{tells-as}
+use Rattle.fluent_bundle.proofs.Scopes.{scope-within}
+use Rattle.fluent_bundle.specs.BundleView.{environment_of}
+use Rattle.fluent_bundle.specs.ScopeView.{no_arguments, place_of, state_of}
+use Rattle.fluent_bundle.proofs.resolver.scope.Scope.get_arguments.Goals as goal
+
+pub returns-in-Some-clause-found : goal.returns-in-Some-clause-found
+returns-in-Some-clause-found g c =
+    let env = environment_of g.C.FluentType.text g.F.FluentFunction.gives g.G.ValueFormatter.formats g.M.MemoizerKind.category_of g.M.MemoizerKind.stringified (λ z. (goal.TextTransform-dyn g z).transformed z.1) c.args.self.now.bundle.now in
+    let here = place_of g.C.FluentType.meaning c.args.self.now in
+    let b = (state_of c.args.self.now).budget in
+    let given = ap (λ o. maybe_arguments (option_map (arguments_view (Bor (List ℕ)) (λ s. s.now)) (option_copied o))) c.in-Some.is in
+    IfOk-weaker c.find_arguments.result _ _ (λ x h. finds-as _ _ (ap (λ m. s.arguments_found env m here b) (sym given)) h) c.find_arguments.ensures.found
+
+pub returns-in-Some-clause-refused : goal.returns-in-Some-clause-refused
+returns-in-Some-clause-refused g c =
+    let env = environment_of g.C.FluentType.text g.F.FluentFunction.gives g.G.ValueFormatter.formats g.M.MemoizerKind.category_of g.M.MemoizerKind.stringified (λ z. (goal.TextTransform-dyn g z).transformed z.1) c.args.self.now.bundle.now in
+    let here = place_of g.C.FluentType.meaning c.args.self.now in
+    let b = (state_of c.args.self.now).budget in
+    let given = ap (λ o. maybe_arguments (option_map (arguments_view (Bor (List ℕ)) (λ s. s.now)) (option_copied o))) c.in-Some.is in
+    on_err_weaker c.find_arguments.result (tells-as (ap (λ m. s.arguments_found env m here b) (sym given))) c.find_arguments.ensures.refused
+
+pub returns-in-None-clause-found : goal.returns-in-None-clause-found
+returns-in-None-clause-found g c =
+    let env = environment_of g.C.FluentType.text g.F.FluentFunction.gives g.G.ValueFormatter.formats g.M.MemoizerKind.category_of g.M.MemoizerKind.stringified (λ z. (goal.TextTransform-dyn g z).transformed z.1) c.args.self.now.bundle.now in
+    let here = place_of g.C.FluentType.meaning c.args.self.now in
+    let b = (state_of c.args.self.now).budget in
+    let none = ap (λ o. maybe_arguments (option_map (arguments_view (Bor (List ℕ)) (λ s. s.now)) (option_copied o))) c.in-None.is in
+    finds-done _ no_arguments (state_of c.args.self.now) _ (scope-within c.args.self.now) (ap (λ m. s.arguments_found env m here b) none ∙ arguments-none env here b) c.none_given.ensures

@@ -1,0 +1,269 @@
+//! What each call of a scope is made of: the scope's own part is handed on, and put back at the end.
+
+ghost use Rattle.std.specs.Prelude.{◌≡◌, IfOk, None, OnErr, OnOk, is_some, map, option_map, string_bytes};
+ghost use Rattle.fluent_errors.specs.Errors.{unknown};
+ghost use Rattle.fluent_errors.specs.View.{bundle_view, reference_view};
+ghost use Rattle.fluent_ast.specs.View.{arguments_view, expression_view, inline_view, pattern_view};
+ghost use Rattle.fluent_bundle.specs.BundleView.{environment_of};
+ghost use Rattle.fluent_bundle.specs.ScopeView.{Keeps, called_of, no_arguments, path_of, place_of, root_of, state_of};
+ghost use Rattle.fluent_grammar.specs.Tree as t;
+ghost use Rattle.fluent_meaning.specs.Fallback.{braced, inline_fallback};
+ghost use Rattle.fluent_meaning.specs.Refused.{TellsSome};
+ghost use Rattle.fluent_meaning.specs.Steps.{faulty};
+ghost use Rattle.fluent_meaning.specs.Substitution as s;
+ghost use Rattle.fluent_meaning.specs.Told.{Finds, Writes};
+ghost use Rattle.fluent_progress.specs.Views as v;
+ghost use Rattle.fluent_progress.specs.Views.{place_view, resolved_in, state};
+
+use super::Scope;
+use fluent_ast::{CallArguments, Expression, InlineExpression, Pattern};
+use fluent_errors::{FluentError, ReferenceKind, ResolverError};
+use fluent_progress::fallback::write_inline_braced;
+use fluent_progress::{Context, Place, Progress};
+use fluent_resolver::arguments::{named_values, positional_values};
+use fluent_resolver::pattern::{write_opened, write_referred};
+use fluent_value::{
+    FluentArgs, FluentFunction, FluentType, FluentValue, MemoizerKind, ValueFormatter,
+};
+use std::alloc::{AllocError, Global};
+use std::mem;
+
+/// The path of a scope between two calls. The only error is that memory runs out.
+fn path<'r, 's>(
+    alloc: Global,
+    root: Option<&'r Pattern<&'s str>>,
+) -> Result<Vec<&'r Pattern<&'s str>>, AllocError>
+    ensures { IfOk result (λ path. map (λ x. pattern_view _ (λ s. s.now) x.now) path.items ≡ root_of root.entry) }
+{
+    let mut path = Vec::new(alloc);
+    if let Some(pattern) = root {
+        path.push(pattern)?;
+    }
+    Ok(path)
+}
+
+/// Takes the errors out of a list.
+fn taken(alloc: Global, list: &mut Option<&mut Vec<FluentError>>) -> Option<Vec<FluentError>>
+    ensures errors { option_map (λ es. map bundle_view es.items) result ≡ option_map (λ es. map bundle_view es.now.items) list.old }
+    ensures same { option_map (λ es. es.ghost_name) list.new ≡ option_map (λ es. es.ghost_name) list.old }
+{
+    match list {
+        Some(list) => Some(mem::replace(*list, Vec::new(alloc))),
+        None => None,
+    }
+}
+
+impl<'b, 'r, 's, 'a, M, C, F, G> Scope<'b, 'r, 's, 'a, M, C, F, G> {
+    /// What resolving has come to, taken out of the scope. The only error is that memory runs out; nothing has changed then.
+    fn progress(&mut self) -> Result<Progress<'r, 's>, AllocError>
+        ensures state { IfOk result (λ progress. state progress ≡ state_of self.old) }
+        ensures path { IfOk result (λ progress. v.path_of progress ≡ path_of self.old) }
+        ensures refused { OnErr result (state_of self.new ≡ state_of self.old) }
+        ensures path_left { path_of self.new ≡ path_of self.old }
+        ensures kept { Keeps self.old self.new }
+    {
+        let alloc = self.bundle.environment.alloc;
+        let path = path(alloc, self.root)?;
+        let errors = taken(alloc, &mut self.errors);
+        Ok(Progress {
+            errors,
+            placeables: self.placeables,
+            dirty: self.dirty,
+            entered: self.entered,
+            path,
+        })
+    }
+
+    /// Puts back what resolving has come to.
+    fn put_back(&mut self, progress: Progress<'r, 's>)
+        ensures state { is_some self.old.errors ≡ is_some progress.entry.errors → state_of self.new ≡ state progress.entry }
+        ensures path { path_of self.new ≡ path_of self.old }
+        ensures kept { Keeps self.old self.new }
+    {
+        self.dirty = progress.dirty;
+        self.placeables = progress.placeables;
+        self.entered = progress.entered;
+        let told = progress.into_errors();
+        if let Some(list) = &mut self.errors {
+            if let Some(told) = told {
+                **list = told;
+            }
+        }
+    }
+
+    /// The first pattern that is tracked stays on the path.
+    pub(super) fn stay_in(&mut self, pattern: &'r Pattern<&'s str>)
+        ensures path { path_of self.new ≡ s.rooted_path (pattern_view _ (λ s. s.now) pattern.now) (path_of self.old) }
+        ensures state { state_of self.new ≡ state_of self.old }
+        ensures kept { Keeps self.old self.new }
+    {
+        if self.root.is_none() {
+            self.root = Some(pattern);
+        }
+    }
+
+    /// Tells that what an expression refers to is unknown, and writes its fallback. The only error is that memory runs out.
+    fn write_unknown(
+        &mut self,
+        out: &mut String,
+        inline: &InlineExpression<&'s str>,
+        kind: ReferenceKind,
+    ) -> Result<(), AllocError>
+        ensures wrote { OnOk result (Writes (string_bytes out.old) (string_bytes out.new) (state_of self.old) (state_of self.new) (faulty (braced (inline_fallback (inline_view _ (λ s. s.now) inline.now))) (unknown (reference_view kind)))) }
+        ensures refused { OnErr result (TellsSome (state_of self.old) (state_of self.new) (faulty (braced (inline_fallback (inline_view _ (λ s. s.now) inline.now))) (unknown (reference_view kind)) (state_of self.old).budget)) }
+        ensures path { path_of self.new ≡ path_of self.old }
+        ensures kept { Keeps self.old self.new }
+    {
+        self.add_error(ResolverError::Reference(kind))?;
+        write_inline_braced(out, inline)
+    }
+}
+
+impl<'b, 'r, 's, 'a, M, C, F, G> Scope<'b, 'r, 's, 'a, M, C, F, G>
+where
+    M: MemoizerKind,
+    C: FluentType + Drop,
+    F: FluentFunction<C>,
+    G: ValueFormatter<C, M>,
+{
+    /// Writes a placeable that was opened before. The only error is that memory runs out.
+    pub(super) fn write_opened(
+        &mut self,
+        out: &mut String,
+        pattern: &'r Pattern<&'s str>,
+        expression: &'r Expression<&'s str>,
+    ) -> Result<(), AllocError>
+        ensures wrote { OnOk result (Writes (string_bytes out.old) (string_bytes out.new) (state_of self.old) (state_of self.new) (s.unmarked_written (environment_of C.text F.gives G.formats M.category_of M.stringified transformed self.old.bundle.now) (pattern_view _ (λ s. s.now) pattern.now) (expression_view _ (λ s. s.now) expression.now) (place_of C.meaning self.old))) }
+        ensures refused { OnErr result (TellsSome (state_of self.old) (state_of self.new) (s.unmarked_written (environment_of C.text F.gives G.formats M.category_of M.stringified transformed self.old.bundle.now) (pattern_view _ (λ s. s.now) pattern.now) (expression_view _ (λ s. s.now) expression.now) (place_of C.meaning self.old) (state_of self.old).budget)) }
+        ensures path { path_of self.new ≡ path_of self.old }
+        ensures kept { Keeps self.old self.new }
+    {
+        let mut progress = self.progress()?;
+        let bundle = self.bundle;
+        let lent = bundle.lent();
+        let place = Place {
+            ids: &bundle.environment.ids,
+            context: &lent,
+            arguments: self.arguments,
+        };
+        let written = opened(out, &place, &mut progress, pattern, expression);
+        self.put_back(progress);
+        written
+    }
+
+    /// Writes a pattern that an expression refers to. The only error is that memory runs out.
+    pub(super) fn write_referred(
+        &mut self,
+        out: &mut String,
+        pattern: &'r Pattern<&'s str>,
+        inline: &'r InlineExpression<&'s str>,
+    ) -> Result<(), AllocError>
+        ensures wrote { OnOk result (Writes (string_bytes out.old) (string_bytes out.new) (state_of self.old) (state_of self.new) (s.reference_written (environment_of C.text F.gives G.formats M.category_of M.stringified transformed self.old.bundle.now) (inline_view _ (λ s. s.now) inline.now) (pattern_view _ (λ s. s.now) pattern.now) (place_of C.meaning self.old))) }
+        ensures refused { OnErr result (TellsSome (state_of self.old) (state_of self.new) (s.reference_written (environment_of C.text F.gives G.formats M.category_of M.stringified transformed self.old.bundle.now) (inline_view _ (λ s. s.now) inline.now) (pattern_view _ (λ s. s.now) pattern.now) (place_of C.meaning self.old) (state_of self.old).budget)) }
+        ensures path { path_of self.new ≡ path_of self.old }
+        ensures kept { Keeps self.old self.new }
+    {
+        let mut progress = self.progress()?;
+        let bundle = self.bundle;
+        let lent = bundle.lent();
+        let place = Place {
+            ids: &bundle.environment.ids,
+            context: &lent,
+            arguments: self.arguments,
+        };
+        let written = referred(out, &place, &mut progress, inline, pattern);
+        self.put_back(progress);
+        written
+    }
+
+    /// Tells what an expression refers to as unknown, and writes its fallback. The only error is that memory runs out.
+    pub(super) fn write_missed(
+        &mut self,
+        out: &mut String,
+        inline: &InlineExpression<&'s str>,
+    ) -> Result<(), AllocError>
+        ensures wrote { OnOk result (Writes (string_bytes out.old) (string_bytes out.new) (state_of self.old) (state_of self.new) (s.missed_written (environment_of C.text F.gives G.formats M.category_of M.stringified transformed self.old.bundle.now) (inline_view _ (λ s. s.now) inline.now))) }
+        ensures refused { OnErr result (TellsSome (state_of self.old) (state_of self.new) (s.missed_written (environment_of C.text F.gives G.formats M.category_of M.stringified transformed self.old.bundle.now) (inline_view _ (λ s. s.now) inline.now) (state_of self.old).budget)) }
+        ensures path { path_of self.new ≡ path_of self.old }
+        ensures kept { Keeps self.old self.new }
+    {
+        match ReferenceKind::of(self.bundle.environment.alloc, inline)? {
+            Some(kind) => self.write_unknown(out, inline, kind),
+            None => write_inline_braced(out, inline),
+        }
+    }
+
+    /// The values of a call's arguments. The only error is that memory runs out.
+    pub(super) fn find_arguments(
+        &mut self,
+        arguments: &'r CallArguments<&'s str>,
+    ) -> Result<(Vec<FluentValue<'s, C>>, FluentArgs<'s, C>), AllocError>
+        ensures found { IfOk result (λ found. Finds (called_of C.meaning found) (state_of self.old) (state_of self.new) (s.arguments_found (environment_of C.text F.gives G.formats M.category_of M.stringified transformed self.old.bundle.now) (t.with_arguments (arguments_view _ (λ s. s.now) arguments.now)) (place_of C.meaning self.old))) }
+        ensures refused { OnErr result (TellsSome (state_of self.old) (state_of self.new) (s.arguments_found (environment_of C.text F.gives G.formats M.category_of M.stringified transformed self.old.bundle.now) (t.with_arguments (arguments_view _ (λ s. s.now) arguments.now)) (place_of C.meaning self.old) (state_of self.old).budget)) }
+        ensures path { path_of self.new ≡ path_of self.old }
+        ensures kept { Keeps self.old self.new }
+    {
+        let mut progress = self.progress()?;
+        let bundle = self.bundle;
+        let lent = bundle.lent();
+        let place = Place {
+            ids: &bundle.environment.ids,
+            context: &lent,
+            arguments: self.arguments,
+        };
+        let found = values(&place, &mut progress, arguments);
+        self.put_back(progress);
+        found
+    }
+}
+
+/// Writes a placeable that was opened before. The only error is that memory runs out.
+fn opened<'b, 'r, 's, 'a, C: FluentType + Drop, F, E: Context<C, F>>(
+    out: &mut String,
+    place: &Place<'b, 'r, 's, 'a, C, F, E>,
+    progress: &mut Progress<'r, 's>,
+    pattern: &'r Pattern<&'s str>,
+    expression: &'r Expression<&'s str>,
+) -> Result<(), AllocError>
+    ensures wrote { OnOk result (Writes (string_bytes out.old) (string_bytes out.new) (state progress.old) (state progress.new) (s.unmarked_written (resolved_in E.environment place.now) (pattern_view _ (λ s. s.now) pattern.now) (expression_view _ (λ s. s.now) expression.now) (place_view C.meaning place.now None progress.old))) }
+    ensures refused { OnErr result (TellsSome (state progress.old) (state progress.new) (s.unmarked_written (resolved_in E.environment place.now) (pattern_view _ (λ s. s.now) pattern.now) (expression_view _ (λ s. s.now) expression.now) (place_view C.meaning place.now None progress.old) (state progress.old).budget)) }
+{
+    write_opened(out, place, None, progress, pattern, expression)
+}
+
+/// Writes a pattern that an expression refers to. The only error is that memory runs out.
+fn referred<'b, 'r, 's, 'a, C: FluentType + Drop, F, E: Context<C, F>>(
+    out: &mut String,
+    place: &Place<'b, 'r, 's, 'a, C, F, E>,
+    progress: &mut Progress<'r, 's>,
+    inline: &'r InlineExpression<&'s str>,
+    pattern: &'r Pattern<&'s str>,
+) -> Result<(), AllocError>
+    ensures wrote { OnOk result (Writes (string_bytes out.old) (string_bytes out.new) (state progress.old) (state progress.new) (s.reference_written (resolved_in E.environment place.now) (inline_view _ (λ s. s.now) inline.now) (pattern_view _ (λ s. s.now) pattern.now) (place_view C.meaning place.now None progress.old))) }
+    ensures refused { OnErr result (TellsSome (state progress.old) (state progress.new) (s.reference_written (resolved_in E.environment place.now) (inline_view _ (λ s. s.now) inline.now) (pattern_view _ (λ s. s.now) pattern.now) (place_view C.meaning place.now None progress.old) (state progress.old).budget)) }
+{
+    write_referred(out, place, None, progress, inline, pattern)
+}
+
+/// The values of a call's arguments, positional ones first. The only error is that memory runs out.
+fn values<'b, 'r, 's, 'a, C: FluentType + Drop, F, E: Context<C, F>>(
+    place: &Place<'b, 'r, 's, 'a, C, F, E>,
+    progress: &mut Progress<'r, 's>,
+    arguments: &'r CallArguments<&'s str>,
+) -> Result<(Vec<FluentValue<'s, C>>, FluentArgs<'s, C>), AllocError>
+    ensures found { IfOk result (λ found. Finds (called_of C.meaning found) (state progress.old) (state progress.new) (s.arguments_found (resolved_in E.environment place.now) (t.with_arguments (arguments_view _ (λ s. s.now) arguments.now)) (place_view C.meaning place.now None progress.old))) }
+    ensures refused { OnErr result (TellsSome (state progress.old) (state progress.new) (s.arguments_found (resolved_in E.environment place.now) (t.with_arguments (arguments_view _ (λ s. s.now) arguments.now)) (place_view C.meaning place.now None progress.old) (state progress.old).budget)) }
+{
+    let positional = positional_values(place, None, progress, &arguments.positional)?;
+    let named = named_values(place, None, progress, &arguments.named)?;
+    Ok((positional, named))
+}
+
+/// The values of arguments that aren't there.
+pub(super) fn none_given<'s, C: FluentType>(
+    alloc: Global,
+) -> (Vec<FluentValue<'s, C>>, FluentArgs<'s, C>)
+    ensures { called_of C.meaning result ≡ no_arguments }
+{
+    (Vec::new(alloc), FluentArgs::new(alloc))
+}
