@@ -18,10 +18,7 @@ pub struct Asked<'b, 'r, 's, 'a> {
 impl Asked<'_, '_, '_, '_> {
     /// Whether the pattern gives what it must, by each call. The only error is that memory runs out.
     pub fn gives(self, alloc: Global, wanted: Wanted<'_>) -> Result<bool, AllocError> {
-        Ok(
-            self.is_formatted(alloc, wanted)?
-                && self.is_written(alloc, wanted)?,
-        )
+        Ok(self.is_formatted(alloc, wanted)? && self.is_written(alloc, wanted)?)
     }
 
     /// Whether `format_pattern` gives the text, and tells the errors. Where memory is refused, it must have told the first of them.
