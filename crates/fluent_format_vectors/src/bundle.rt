@@ -4,7 +4,7 @@ use crate::json::is_set;
 use crate::own::{Brackets, Function, Token};
 use fluent_ast::Pattern;
 use fluent_bundle::{
-    AddResourceError, EnglishPlurals, FluentBundle, FluentResource, ResourceError,
+    AddFunctionError, AddResourceError, EnglishPlurals, FluentBundle, FluentResource, ResourceError,
 };
 use serde_json::Value as Json;
 use std::alloc::{AllocError, Global};
@@ -48,43 +48,14 @@ pub fn read(alloc: Global, source: &str) -> Result<FluentResource<'_>, AllocErro
     }
 }
 
-/// Sets a new bundle, but for its transform, and adds functions and a resource to it. The only error is that memory runs out.
-pub fn fill<'r, 's>(
-    bundle: &mut Bundle<'r, 's>,
-    resource: &'r FluentResource<'s>,
-    settings: Settings,
-) -> Result<(), AllocError> {
-    bundle.set_use_isolating(settings.isolating);
-    if settings.formatter {
-        bundle.set_formatter(Some(Brackets));
-    }
-    if settings.functions {
-        add_functions(bundle)?;
-    }
-    if bundle.add_builtins().is_err() {
-        return Err(AllocError);
-    }
-    if settings.overriding {
-        return bundle.add_resource_overriding(resource);
-    }
-    match bundle.add_resource(resource) {
-        Err(AddResourceError::Memory) => Err(AllocError),
-        _ => Ok(()),
-    }
+/// Whether a function was added.
+pub fn is_function_added(added: Result<(), AddFunctionError>) -> bool {
+    added.is_ok()
 }
 
-/// Adds the functions of the program.
-fn add_functions(bundle: &mut Bundle<'_, '_>) -> Result<(), AllocError> {
-    for (id, function) in [
-        ("STRLEN", Function::Length),
-        ("FIRST", Function::First),
-        ("NAMED", Function::Named),
-    ] {
-        if bundle.add_function(id, function).is_err() {
-            return Err(AllocError);
-        }
-    }
-    Ok(())
+/// Whether the entries of a resource were added, if not all of them.
+pub fn is_resource_added(added: Result<(), AddResourceError>) -> bool {
+    !matches!(added, Err(AddResourceError::Memory))
 }
 
 /// The value of a message, or of the attribute whose name stands behind a point.

@@ -32,17 +32,21 @@ fn try_calls(alloc: Global) -> Result<Tally, AllocError> {
     try_calls_of(alloc, &resource)
 }
 
-fn try_calls_of(alloc: Global, resource: &FluentResource<'static>) -> Result<Tally, AllocError> {
+fn try_calls_of(alloc: Global, resource: &FluentResource<'_>) -> Result<Tally, AllocError> {
     let mut bundle = Bundle::new(alloc, Vec::new(alloc), EnglishPlurals);
     if bundle.add_builtins().is_err() || bundle.add_resource(resource).is_err() {
         return Err(AllocError);
     }
+    try_calls_on(alloc, &bundle)
+}
+
+fn try_calls_on(alloc: Global, bundle: &Bundle<'_, '_>) -> Result<Tally, AllocError> {
     let mut tally = Tally::new();
-    tally.add(is_borrowed(alloc, &bundle)?);
-    tally.add(is_written(alloc, &bundle)?);
-    tally.add(is_refused(alloc, &bundle)?);
-    tally.add(keeps_errors(alloc, &bundle)?);
-    tally.add(is_too_large(alloc, &bundle));
+    tally.add(is_borrowed(alloc, bundle)?);
+    tally.add(is_written(alloc, bundle)?);
+    tally.add(is_refused(alloc, bundle)?);
+    tally.add(keeps_errors(alloc, bundle)?);
+    tally.add(is_too_large(alloc, bundle));
     Ok(tally)
 }
 
@@ -55,7 +59,7 @@ fn value_of<'r, 's>(bundle: &Bundle<'r, 's>, id: &str) -> Result<&'r Pattern<&'s
 }
 
 /// Whether a text without placeables is handed out as it lies.
-fn is_borrowed(alloc: Global, bundle: &Bundle<'_, 'static>) -> Result<bool, AllocError> {
+fn is_borrowed(alloc: Global, bundle: &Bundle<'_, '_>) -> Result<bool, AllocError> {
     let pattern = value_of(bundle, "hello")?;
     let mut errors = Vec::new(alloc);
     match bundle.format_pattern(pattern, None, &mut errors) {
@@ -65,7 +69,7 @@ fn is_borrowed(alloc: Global, bundle: &Bundle<'_, 'static>) -> Result<bool, Allo
 }
 
 /// Whether a text is written to a `String`.
-fn is_written(alloc: Global, bundle: &Bundle<'_, 'static>) -> Result<bool, AllocError> {
+fn is_written(alloc: Global, bundle: &Bundle<'_, '_>) -> Result<bool, AllocError> {
     let mut arguments = FluentArgs::new(alloc);
     arguments.set(CowStr::Borrowed("name"), FluentValue::from("John"))?;
     is_written_with(alloc, bundle, &arguments)
@@ -73,7 +77,7 @@ fn is_written(alloc: Global, bundle: &Bundle<'_, 'static>) -> Result<bool, Alloc
 
 fn is_written_with(
     alloc: Global,
-    bundle: &Bundle<'_, 'static>,
+    bundle: &Bundle<'_, '_>,
     arguments: &FluentArgs<'_, NoCustom>,
 ) -> Result<bool, AllocError> {
     let pattern = value_of(bundle, "intro")?;
@@ -86,7 +90,7 @@ fn is_written_with(
 }
 
 /// Whether a writer that refuses its second piece holds the first.
-fn is_refused(alloc: Global, bundle: &Bundle<'_, 'static>) -> Result<bool, AllocError> {
+fn is_refused(alloc: Global, bundle: &Bundle<'_, '_>) -> Result<bool, AllocError> {
     let pattern = value_of(bundle, "a")?;
     let mut errors = Vec::new(alloc);
     let mut pieces = Pieces::new(alloc, 1);
@@ -100,7 +104,7 @@ fn is_refused(alloc: Global, bundle: &Bundle<'_, 'static>) -> Result<bool, Alloc
 }
 
 /// Whether errors are put behind those that are in the list.
-fn keeps_errors(alloc: Global, bundle: &Bundle<'_, 'static>) -> Result<bool, AllocError> {
+fn keeps_errors(alloc: Global, bundle: &Bundle<'_, '_>) -> Result<bool, AllocError> {
     let pattern = value_of(bundle, "intro")?;
     let mut errors = Vec::new(alloc);
     errors.push(FluentError::ResolverError(ResolverError::Cyclic))?;
@@ -115,7 +119,7 @@ fn keeps_errors(alloc: Global, bundle: &Bundle<'_, 'static>) -> Result<bool, All
 }
 
 /// Whether a text of more bytes than there is memory is refused, and tells no error.
-fn is_too_large(alloc: Global, bundle: &Bundle<'_, 'static>) -> bool {
+fn is_too_large(alloc: Global, bundle: &Bundle<'_, '_>) -> bool {
     let mut errors = Vec::new(alloc);
     match value_of(bundle, "big") {
         Ok(pattern) => bundle.format_pattern(pattern, None, &mut errors).is_err()

@@ -6,9 +6,9 @@
 //! placeables are isolated where `isolating` isn't `false`.
 
 use crate::asking::Asked;
-use crate::bundle::{Bundle, Settings, fill, pattern_in, read};
+use crate::bundle::{Bundle, Settings, is_function_added, is_resource_added, pattern_in, read};
 use crate::json::text_in;
-use crate::own::{Args, Capitals};
+use crate::own::{Args, Brackets, Capitals, Function};
 use crate::tally::Tally;
 use crate::told::Wanted;
 use crate::trees::pattern_of;
@@ -103,17 +103,43 @@ impl<'row> Row<'row> {
         tree: Option<&'r Pattern<&'row str>>,
         resource: &'r FluentResource<'row>,
     ) -> Result<bool, AllocError> {
+        let settings = self.settings;
         let mut bundle = Bundle::new(alloc, Vec::new(alloc), EnglishPlurals);
-        if self.settings.transform {
+        if settings.transform {
             bundle.set_transform(Some(Box::new(alloc, Capitals)?));
         }
-        fill(&mut bundle, resource, self.settings)?;
-        let arguments = arguments_of(alloc, self.json.get("args"))?;
-        self.is_right_of(alloc, &bundle, arguments.as_ref(), tree)
+        bundle.set_use_isolating(settings.isolating);
+        bundle.set_formatter(settings.formatter.then_some(Brackets));
+        let has_functions = !settings.functions
+            || (is_function_added(bundle.add_function("STRLEN", Function::Length))
+                && is_function_added(bundle.add_function("FIRST", Function::First))
+                && is_function_added(bundle.add_function("NAMED", Function::Named)));
+        let has_number = is_function_added(bundle.add_builtins());
+        let has_entries = if settings.overriding {
+            bundle.add_resource_overriding(resource).is_ok()
+        } else {
+            is_resource_added(bundle.add_resource(resource))
+        };
+        if has_functions && has_number && has_entries {
+            self.is_right_of(alloc, &bundle, tree)
+        } else {
+            Err(AllocError)
+        }
     }
 
-    /// The same, where the bundle and the arguments are made.
+    /// The same, where the bundle is made.
     fn is_right_of<'r>(
+        self,
+        alloc: Global,
+        bundle: &Bundle<'r, 'row>,
+        tree: Option<&'r Pattern<&'row str>>,
+    ) -> Result<bool, AllocError> {
+        let arguments = arguments_of(alloc, self.json.get("args"))?;
+        self.is_right_with_arguments(alloc, bundle, arguments.as_ref(), tree)
+    }
+
+    /// The same, where the arguments are made.
+    fn is_right_with_arguments<'r>(
         self,
         alloc: Global,
         bundle: &Bundle<'r, 'row>,
