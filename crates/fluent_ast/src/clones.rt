@@ -37,7 +37,8 @@ impl<'s, S: Slice<'s>> VariantKey<S> {
 impl<'s, S: Slice<'s>> Pattern<S> {
     /// The same pattern.
     pub fn try_clone(&self, alloc: Global) -> Result<Self, AllocError>
-        ensures { IfOk result (λ copy. pattern_view S S.text copy ≡ pattern_view S S.text self.now) }
+        ensures { IfOk result (λ copy. pattern_view S S.text copy
+            ≡ pattern_view S S.text self.now) }
     {
         clone_pattern(&Slices::new(), alloc, self)
     }
@@ -46,7 +47,8 @@ impl<'s, S: Slice<'s>> Pattern<S> {
 impl<'s, S: Slice<'s>> PatternElement<S> {
     /// The same element.
     pub fn try_clone(&self, alloc: Global) -> Result<Self, AllocError>
-        ensures { IfOk result (λ copy. element_view S S.text copy ≡ element_view S S.text self.now) }
+        ensures { IfOk result (λ copy. element_view S S.text copy
+            ≡ element_view S S.text self.now) }
     {
         clone_element(&Slices::new(), alloc, self)
     }
@@ -55,7 +57,8 @@ impl<'s, S: Slice<'s>> PatternElement<S> {
 impl<'s, S: Slice<'s>> Expression<S> {
     /// The same expression.
     pub fn try_clone(&self, alloc: Global) -> Result<Self, AllocError>
-        ensures { IfOk result (λ copy. expression_view S S.text copy ≡ expression_view S S.text self.now) }
+        ensures { IfOk result (λ copy. expression_view S S.text copy
+            ≡ expression_view S S.text self.now) }
     {
         clone_expression(&Slices::new(), alloc, self)
     }
@@ -73,7 +76,8 @@ impl<'s, S: Slice<'s>> InlineExpression<S> {
 impl<'s, S: Slice<'s>> Variant<S> {
     /// The same variant.
     pub fn try_clone(&self, alloc: Global) -> Result<Self, AllocError>
-        ensures { IfOk result (λ copy. variant_view S S.text copy ≡ variant_view S S.text self.now) }
+        ensures { IfOk result (λ copy. variant_view S S.text copy
+            ≡ variant_view S S.text self.now) }
     {
         clone_variant(&Slices::new(), alloc, self)
     }
@@ -82,7 +86,8 @@ impl<'s, S: Slice<'s>> Variant<S> {
 impl<'s, S: Slice<'s>> CallArguments<S> {
     /// The same arguments.
     pub fn try_clone(&self, alloc: Global) -> Result<Self, AllocError>
-        ensures { IfOk result (λ copy. arguments_view S S.text copy ≡ arguments_view S S.text self.now) }
+        ensures { IfOk result (λ copy. arguments_view S S.text copy
+            ≡ arguments_view S S.text self.now) }
     {
         clone_arguments(&Slices::new(), alloc, self)
     }
@@ -100,7 +105,8 @@ impl<'s, S: Slice<'s>> NamedArgument<S> {
 impl<'s, S: Slice<'s>> Comment<S> {
     /// The same comment.
     pub fn try_clone(&self, alloc: Global) -> Result<Self, AllocError>
-        ensures { IfOk result (λ copy. comment_view S S.text copy ≡ comment_view S S.text self.now) }
+        ensures { IfOk result (λ copy. comment_view S S.text copy
+            ≡ comment_view S S.text self.now) }
     {
         let mut content = Vec::new(alloc);
         for line in &self.content {
@@ -113,7 +119,8 @@ impl<'s, S: Slice<'s>> Comment<S> {
 impl<'s, S: Slice<'s>> Attribute<S> {
     /// The same attribute.
     pub fn try_clone(&self, alloc: Global) -> Result<Self, AllocError>
-        ensures { IfOk result (λ copy. attribute_view S S.text copy ≡ attribute_view S S.text self.now) }
+        ensures { IfOk result (λ copy. attribute_view S S.text copy
+            ≡ attribute_view S S.text self.now) }
     {
         let id = self.id.try_clone(alloc)?;
         let value = self.value.try_clone(alloc)?;
@@ -125,7 +132,8 @@ fn clone_attributes<'s, S: Slice<'s>>(
     alloc: Global,
     attributes: &[Attribute<S>],
 ) -> Result<Vec<Attribute<S>>, AllocError>
-    ensures { IfOk result (λ copies. map (attribute_view S S.text) copies.items ≡ map (attribute_view S S.text) attributes.now) }
+    ensures { IfOk result (λ copies. map (attribute_view S S.text) copies.items
+        ≡ map (attribute_view S S.text) attributes.now) }
 {
     let mut copies = Vec::new(alloc);
     for attribute in attributes {
@@ -138,7 +146,8 @@ fn clone_comment<'s, S: Slice<'s>>(
     alloc: Global,
     comment: &Option<Comment<S>>,
 ) -> Result<Option<Comment<S>>, AllocError>
-    ensures { IfOk result (λ copy. option_map (comment_view S S.text) copy ≡ option_map (comment_view S S.text) comment.now) }
+    ensures { IfOk result (λ copy. option_map (comment_view S S.text) copy
+        ≡ option_map (comment_view S S.text) comment.now) }
 {
     match comment {
         Some(comment) => Ok(Some(comment.try_clone(alloc)?)),
@@ -150,7 +159,8 @@ fn clone_value<'s, S: Slice<'s>>(
     alloc: Global,
     value: &Option<Pattern<S>>,
 ) -> Result<Option<Pattern<S>>, AllocError>
-    ensures { IfOk result (λ copy. option_map (pattern_view S S.text) copy ≡ option_map (pattern_view S S.text) value.now) }
+    ensures { IfOk result (λ copy. option_map (pattern_view S S.text) copy
+        ≡ option_map (pattern_view S S.text) value.now) }
 {
     match value {
         Some(value) => Ok(Some(value.try_clone(alloc)?)),
@@ -161,7 +171,8 @@ fn clone_value<'s, S: Slice<'s>>(
 impl<'s, S: Slice<'s>> Message<S> {
     /// The same message.
     pub fn try_clone(&self, alloc: Global) -> Result<Self, AllocError>
-        ensures { IfOk result (λ copy. message_view S S.text copy ≡ message_view S S.text self.now) }
+        ensures { IfOk result (λ copy. message_view S S.text copy
+            ≡ message_view S S.text self.now) }
     {
         Ok(Message {
             id: self.id.try_clone(alloc)?,
@@ -209,7 +220,8 @@ impl<'s, S: Slice<'s>> Entry<S> {
 impl<'s, S: Slice<'s>> Resource<S> {
     /// The same tree.
     pub fn try_clone(&self, alloc: Global) -> Result<Self, AllocError>
-        ensures { IfOk result (λ copy. resource_view S S.text copy ≡ resource_view S S.text self.now) }
+        ensures { IfOk result (λ copy. resource_view S S.text copy
+            ≡ resource_view S S.text self.now) }
     {
         let mut body = Vec::new(alloc);
         for entry in &self.body {

@@ -49,7 +49,8 @@ fn clone_accessor<S: Drop, T: Texts<S>>(
     alloc: Global,
     attribute: &Option<Identifier<S>>,
 ) -> Result<Option<Identifier<S>>, AllocError>
-    ensures { IfOk result (λ copy. option_map (name_of S T.text) copy ≡ option_map (name_of S T.text) attribute.now) }
+    ensures { IfOk result (λ copy. option_map (name_of S T.text) copy
+        ≡ option_map (name_of S T.text) attribute.now) }
 {
     match attribute {
         Some(id) => Ok(Some(clone_identifier(texts, alloc, id)?)),
@@ -98,7 +99,8 @@ pub(crate) fn clone_expression<S: Drop, T: Texts<S>>(
     alloc: Global,
     expression: &Expression<S>,
 ) -> Result<Expression<S>, AllocError>
-    ensures { IfOk result (λ copy. expression_view S T.text copy ≡ expression_view S T.text expression.now) }
+    ensures { IfOk result (λ copy. expression_view S T.text copy
+        ≡ expression_view S T.text expression.now) }
 {
     match expression {
         Expression::Select { selector, variants } => {
@@ -116,7 +118,8 @@ fn clone_variants<S: Drop, T: Texts<S>>(
     alloc: Global,
     variants: &[Variant<S>],
 ) -> Result<Vec<Variant<S>>, AllocError>
-    ensures { IfOk result (λ copies. map (variant_view S T.text) copies.items ≡ map (variant_view S T.text) variants.now) }
+    ensures { IfOk result (λ copies. map (variant_view S T.text) copies.items
+        ≡ map (variant_view S T.text) variants.now) }
 {
     let mut copies = Vec::new(alloc);
     for variant in variants {
@@ -188,7 +191,8 @@ fn clone_call<S: Drop, T: Texts<S>>(
     id: &Identifier<S>,
     arguments: &CallArguments<S>,
 ) -> Result<InlineExpression<S>, AllocError>
-    ensures { IfOk result (λ copy. inline_view S T.text copy ≡ inline_view S T.text (FunctionReference id.now arguments.now)) }
+    ensures { IfOk result (λ copy. inline_view S T.text copy
+        ≡ inline_view S T.text (FunctionReference id.now arguments.now)) }
 {
     let id = clone_identifier(texts, alloc, id)?;
     let arguments = clone_arguments(texts, alloc, arguments)?;
@@ -201,7 +205,8 @@ fn clone_message_reference<S: Drop, T: Texts<S>>(
     id: &Identifier<S>,
     attribute: &Option<Identifier<S>>,
 ) -> Result<InlineExpression<S>, AllocError>
-    ensures { IfOk result (λ copy. inline_view S T.text copy ≡ inline_view S T.text (MessageReference id.now attribute.now)) }
+    ensures { IfOk result (λ copy. inline_view S T.text copy
+        ≡ inline_view S T.text (MessageReference id.now attribute.now)) }
 {
     let id = clone_identifier(texts, alloc, id)?;
     let attribute = clone_accessor(texts, alloc, attribute)?;
@@ -216,7 +221,8 @@ fn clone_term_reference<S: Drop, T: Texts<S>>(
     attribute: &Option<Identifier<S>>,
     arguments: &Option<CallArguments<S>>,
 ) -> Result<InlineExpression<S>, AllocError>
-    ensures { IfOk result (λ copy. inline_view S T.text copy ≡ inline_view S T.text (TermReference id.now attribute.now arguments.now)) }
+    ensures { IfOk result (λ copy. inline_view S T.text copy
+        ≡ inline_view S T.text (TermReference id.now attribute.now arguments.now)) }
 {
     let id = clone_identifier(texts, alloc, id)?;
     let attribute = clone_accessor(texts, alloc, attribute)?;
@@ -237,7 +243,8 @@ pub(crate) fn clone_arguments<S: Drop, T: Texts<S>>(
     alloc: Global,
     arguments: &CallArguments<S>,
 ) -> Result<CallArguments<S>, AllocError>
-    ensures { IfOk result (λ copy. arguments_view S T.text copy ≡ arguments_view S T.text arguments.now) }
+    ensures { IfOk result (λ copy. arguments_view S T.text copy
+        ≡ arguments_view S T.text arguments.now) }
 {
     let positional = clone_positional(texts, alloc, &arguments.positional)?;
     let named = clone_all_named(texts, alloc, &arguments.named)?;
@@ -250,7 +257,8 @@ fn clone_positional<S: Drop, T: Texts<S>>(
     alloc: Global,
     arguments: &[InlineExpression<S>],
 ) -> Result<Vec<InlineExpression<S>>, AllocError>
-    ensures { IfOk result (λ copies. map (inline_view S T.text) copies.items ≡ map (inline_view S T.text) arguments.now) }
+    ensures { IfOk result (λ copies. map (inline_view S T.text) copies.items
+        ≡ map (inline_view S T.text) arguments.now) }
 {
     let mut copies = Vec::new(alloc);
     for argument in arguments {
@@ -265,7 +273,8 @@ fn clone_all_named<S: Drop, T: Texts<S>>(
     alloc: Global,
     arguments: &[NamedArgument<S>],
 ) -> Result<Vec<NamedArgument<S>>, AllocError>
-    ensures { IfOk result (λ copies. map (named_view S T.text) copies.items ≡ map (named_view S T.text) arguments.now) }
+    ensures { IfOk result (λ copies. map (named_view S T.text) copies.items
+        ≡ map (named_view S T.text) arguments.now) }
 {
     let mut copies = Vec::new(alloc);
     for argument in arguments {

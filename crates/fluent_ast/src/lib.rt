@@ -122,7 +122,8 @@ pub struct CallArguments<S> {
 impl<S> CallArguments<S> {
     /// No arguments. It takes no memory and succeeds.
     pub fn new(alloc: Global) -> Self
-        ensures { (text_of : S → List ℕ) → arguments_view S text_of result ≡ arguments no_inlines no_nameds }
+        ensures { (text_of : S → List ℕ) → arguments_view S text_of result
+            ≡ arguments no_inlines no_nameds }
     {
         CallArguments {
             positional: Vec::new(alloc),

@@ -73,7 +73,8 @@ pub(crate) fn count(alloc: Global, text: &[u8], reading: Reading, counts: &mut F
 }
 
 fn counts_of(alloc: Global, text: &str, reading: Reading) -> Result<FluentCounts, AllocError>
-    ensures { IfOk result (λ counts. Counted counts (tree_of reading text.now) (errors_of reading text.now)) }
+    ensures { IfOk result (λ counts. Counted counts (tree_of reading text.now)
+        (errors_of reading text.now)) }
 {
     match reading {
         Reading::Whole => counts_of_read(parse(alloc, text)),

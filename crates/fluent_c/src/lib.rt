@@ -49,7 +49,8 @@ pub extern "C" fn fluent_parse(alloc: Global, text: &[u8], counts: &mut FluentCo
 /// [`FLUENT_NO_MEMORY`] otherwise, and `counts` is unchanged then. All memory is freed when it returns.
 #[unsafe(no_mangle)]
 pub extern "C" fn fluent_parse_runtime(alloc: Global, text: &[u8], counts: &mut FluentCounts) -> u32
-    ensures counted { result ≡ 0 → Counted counts.new (runtime_tree text.now) (runtime_errors text.now) }
+    ensures counted { result ≡ 0 → Counted counts.new (runtime_tree text.now)
+        (runtime_errors text.now) }
     ensures not_utf8 { result ≡ 1 → ¬ (IsUtf8 text.now) }
     ensures utf8 { result ≢ 1 → IsUtf8 text.now }
     ensures unchanged { result ≢ 0 → counts.new ≡ counts.old }

@@ -59,7 +59,8 @@ impl FluentText {
 
     /// The vector's box, if there is a text.
     fn take(self, alloc: Global) -> Option<Loose<Vec<u8>, Global>>
-        ensures { MatchOption result (self.held ≡ false) (λ owner. vec_items owner.value ≡ self.text) }
+        ensures { MatchOption result (self.held ≡ false)
+            (λ owner. vec_items owner.value ≡ self.text) }
     {
         let FluentText {
             held,

@@ -34,7 +34,8 @@ struct Added<'r, 's> {
 impl<'r, 's> Added<'r, 's> {
     /// `NUMBER` alone.
     fn new(alloc: Global) -> Result<Self, AllocError>
-        ensures { IfOk result (λ added. (ids_in added ≡ number_pair ∷ []) × (notices_view added.told ≡ [])) }
+        ensures { IfOk result (λ added. (ids_in added ≡ number_pair ∷ [])
+            × (notices_view added.told ≡ [])) }
     {
         let mut ids = FluentIds::new(alloc);
         match ids.add_builtins() {
@@ -50,8 +51,10 @@ impl<'r, 's> Added<'r, 's> {
 
     /// Adds a resource, with its notices behind those that came before.
     fn add(&mut self, resource: &'r FluentResource<'s>) -> Result<(), AllocError>
-        ensures ids { OnOk result (ids_in self.new ≡ with_ids false (ids_in self.old) (by_id resource.now)) }
-        ensures told { OnOk result (notices_view self.new.told ≡ notices_view self.old.told ++ notices (ids_in self.old) (by_id resource.now)) }
+        ensures ids { OnOk result (ids_in self.new
+            ≡ with_ids false (ids_in self.old) (by_id resource.now)) }
+        ensures told { OnOk result (notices_view self.new.told
+            ≡ notices_view self.old.told ++ notices (ids_in self.old) (by_id resource.now)) }
     {
         match self.ids.add_resource(resource) {
             Ok(()) => Ok(()),
@@ -66,7 +69,8 @@ fn notices_of_resources(
     alloc: Global,
     resources: &[FluentResource<'_>],
 ) -> Result<Vec<FluentError>, AllocError>
-    ensures { IfOk result (λ told. notices_view told ≡ notices (number_pair ∷ []) (all_by_id resources.now)) }
+    ensures { IfOk result (λ told. notices_view told
+        ≡ notices (number_pair ∷ []) (all_by_id resources.now)) }
 {
     let mut added = Added::new(alloc)?;
     for resource in resources {

@@ -25,8 +25,10 @@ pub struct Report {
 /// # Errors
 /// Memory ran out.
 pub fn check(alloc: Global, sources: &[&str]) -> Result<Report, AllocError>
-    ensures errors { IfOk result (λ report. map errors_view report.errors.items ≡ map errors_told (texts sources.now)) }
-    ensures notices { IfOk result (λ report. notices_view report.notices ≡ notices_of NoFunction (texts sources.now)) }
+    ensures errors { IfOk result (λ report. map errors_view report.errors.items
+        ≡ map errors_told (texts sources.now)) }
+    ensures notices { IfOk result (λ report. notices_view report.notices
+        ≡ notices_of NoFunction (texts sources.now)) }
 {
     let errors = errors_of_sources(alloc, sources)?;
     let notices = notices_of_sources(alloc, sources)?;

@@ -16,7 +16,8 @@ pub fn read_sources<'s>(
     alloc: Global,
     sources: &[&'s str],
 ) -> Result<Vec<FluentResource<'s>>, AllocError>
-    ensures { IfOk result (λ read. map entries_view read.items ≡ map runtime_tree (texts sources.now)) }
+    ensures { IfOk result (λ read. map entries_view read.items
+        ≡ map runtime_tree (texts sources.now)) }
 {
     let mut resources = Vec::new(alloc);
     for source in sources {

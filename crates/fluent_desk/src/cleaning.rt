@@ -22,7 +22,8 @@ pub fn clean(alloc: Global, source: &str) -> Result<String, CleanError>
     ensures text { IfOk result (λ text. string_bytes text ≡ cut source.now) }
     ensures no_errors { IfOk result (λ text. errors (string_bytes text) ≡ []) }
     ensures same_list { IfOk result (λ text. list (string_bytes text) ≡ list source.now) }
-    ensures no_damage { errors source.now ≡ [] → IfOk result (λ text. string_bytes text ≡ source.now) }
+    ensures no_damage { errors source.now ≡ [] → IfOk result
+        (λ text. string_bytes text ≡ source.now) }
     ensures carriage_return { IsErrOf result CarriageReturn ↔ IsTrue (holds_return source.now) }
 {
     if has_return(source) {

@@ -20,7 +20,8 @@ pub fn push_cut(alloc: Global, text: &mut String, source: &str) -> Result<(), Al
 
 /// The errors of a source.
 fn read_errors(alloc: Global, source: &str) -> Result<Vec<ParserError>, AllocError>
-    ensures { IfOk result (λ found. map error_view found.items ≡ map error_told (errors source.now)) }
+    ensures { IfOk result (λ found. map error_view found.items
+        ≡ map error_told (errors source.now)) }
 {
     match parse(alloc, source) {
         Ok(_) => Ok(Vec::new(alloc)),

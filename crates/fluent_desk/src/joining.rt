@@ -23,8 +23,10 @@ use std::alloc::{AllocError, Global};
 pub fn join(alloc: Global, sources: &[&str]) -> Result<String, CleanError>
     ensures text { IfOk result (λ text. string_bytes text ≡ joined (texts sources.now)) }
     ensures no_errors { IfOk result (λ text. errors (string_bytes text) ≡ []) }
-    ensures same_lists { IfOk result (λ text. list (string_bytes text) ≡ lists (texts sources.now)) }
-    ensures carriage_return { IsErrOf result CarriageReturn ↔ IsTrue (list_any holds_return (texts sources.now)) }
+    ensures same_lists { IfOk result (λ text. list (string_bytes text)
+        ≡ lists (texts sources.now)) }
+    ensures carriage_return { IsErrOf result CarriageReturn ↔ IsTrue
+        (list_any holds_return (texts sources.now)) }
 {
     if any_return(sources) {
         return Err(CleanError::CarriageReturn);

@@ -40,7 +40,8 @@ pub fn normalize(alloc: Global, source: &str) -> Result<String, NormalizeError>
 
 /// The written text of the tree of a text, where it is read back as that tree.
 fn normalize_clean(alloc: Global, text: &str) -> Result<String, NormalizeError>
-    ensures text { IfOk result (λ new. IsCanonical (tree text.now) × (string_bytes new ≡ written (tree text.now))) }
+    ensures text { IfOk result (λ new. IsCanonical (tree text.now)
+        × (string_bytes new ≡ written (tree text.now))) }
     ensures not_normal { IfErr result (λ e. e ≡ NotNormal → IsCanonical (tree text.now) → ⊥) }
     ensures no_return { IfErr result (λ e. e ≢ CarriageReturn) }
 {

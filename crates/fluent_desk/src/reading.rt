@@ -29,7 +29,8 @@ pub fn is_read_as<'s, S: Slice<'s>>(
     text: S,
     tree: &Resource<S>,
 ) -> Result<bool, AllocError>
-    ensures { IfOk result (λ is. IsTrue is ↔ IsReadAs (S.text text) (resource_view S S.text tree.now)) }
+    ensures { IfOk result (λ is. IsTrue is ↔ IsReadAs (S.text text)
+        (resource_view S S.text tree.now)) }
 {
     match parse(alloc, text) {
         Ok(found) => Ok(found == *tree),

@@ -53,7 +53,8 @@ pub fn import(alloc: Global, value: &Value) -> Result<String, ImportError>
 
 /// The written text of a tree, where it is read back as that tree.
 fn write_back(alloc: Global, tree: &Resource<String>) -> Result<String, ImportError>
-    ensures text { IfOk result (λ text. IsCanonical (plain tree.now) × (string_bytes text ≡ written (plain tree.now))) }
+    ensures text { IfOk result (λ text. IsCanonical (plain tree.now)
+        × (string_bytes text ≡ written (plain tree.now))) }
     ensures not_normal { IfErr result (λ e. e ≡ NotNormal → IsCanonical (plain tree.now) → ⊥) }
     ensures no_shape { IfErr result (λ e. e ≢ Shape) }
 {

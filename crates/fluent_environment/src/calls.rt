@@ -21,7 +21,9 @@ impl<'r, 's, M, F, G> Environment<'r, 's, M, F, G> {
     ) -> Result<FluentValue<'a, C>, AllocError>
     where
         F: FluentFunction<C>,
-        ensures { IfOk result (λ value. value_view C.meaning value ≡ result_of F.gives (function_meaning F function.now) (map (value_view C.meaning) positional.now) (args_view C.meaning named.now)) }
+        ensures { IfOk result (λ value. value_view C.meaning value
+            ≡ result_of F.gives (function_meaning F function.now)
+            (map (value_view C.meaning) positional.now) (args_view C.meaning named.now)) }
     {
         match function {
             FunctionRef::Own(function) => function.call(self.alloc, positional, named),

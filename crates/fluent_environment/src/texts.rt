@@ -12,7 +12,8 @@ impl<'r, 's, M, F, G> Environment<'r, 's, M, F, G> {
     /// What becomes of a text of a pattern. Where no transform is set it is the text itself, borrowed, which takes no memory
     /// and succeeds. The only error is that memory runs out.
     pub fn transformed<'t>(&self, text: &'t str) -> Result<CowStr<'t>, AllocError>
-        ensures text { IfOk result (λ new. cow_str_bytes new ≡ transformed_by transformed self.now.transform text.now) }
+        ensures text { IfOk result (λ new. cow_str_bytes new
+            ≡ transformed_by transformed self.now.transform text.now) }
         ensures borrowed { is_some self.now.transform ≡ false → IsOkAnd result IsBorrowedStr }
     {
         match &self.transform {

@@ -14,19 +14,22 @@ use fluent_parser::laws as parser_laws;
 /// `==` of kinds of entries is an equivalence, and two are equal exactly where they are the same.
 pub fn equal_entry_kinds()
     ensures equivalence { IsEquivalence ⟦<EntryKind as PartialEq>⟧.eq }
-    ensures plain { (a b : Entry) → IsTrue (⟦<EntryKind as PartialEq>⟧.eq a b) ↔ (entry_view a ≡ entry_view b) }
+    ensures plain { (a b : Entry) → IsTrue (⟦<EntryKind as PartialEq>⟧.eq a b) ↔
+        (entry_view a ≡ entry_view b) }
 {}
 
 /// `==` of references is an equivalence, and two are equal exactly where they are of one kind with the same names.
 pub fn equal_references()
     ensures equivalence { IsEquivalence ⟦<ReferenceKind as PartialEq>⟧.eq }
-    ensures plain { (a b : Reference) → IsTrue (⟦<ReferenceKind as PartialEq>⟧.eq a b) ↔ (reference_view a ≡ reference_view b) }
+    ensures plain { (a b : Reference) → IsTrue (⟦<ReferenceKind as PartialEq>⟧.eq a b) ↔
+        (reference_view a ≡ reference_view b) }
 {}
 
 /// `==` of errors of resolving is an equivalence, and two are equal exactly where they tell the same.
 pub fn equal_resolver_errors()
     ensures equivalence { IsEquivalence ⟦<ResolverError as PartialEq>⟧.eq }
-    ensures plain { (a b : Resolver) → IsTrue (⟦<ResolverError as PartialEq>⟧.eq a b) ↔ (resolver_view a ≡ resolver_view b) }
+    ensures plain { (a b : Resolver) → IsTrue (⟦<ResolverError as PartialEq>⟧.eq a b) ↔
+        (resolver_view a ≡ resolver_view b) }
 {}
 
 /// `==` of errors of bundles is an equivalence.
@@ -43,7 +46,8 @@ fn equality_of<T: Eq>()
 
 /// Two errors of bundles are equal exactly where they tell the same.
 pub fn equal_errors()
-    ensures { (a b : Fluent) → IsTrue (⟦<FluentError as PartialEq>⟧.eq a b) ↔ (bundle_view a ≡ bundle_view b) }
+    ensures { (a b : Fluent) → IsTrue (⟦<FluentError as PartialEq>⟧.eq a b) ↔
+        (bundle_view a ≡ bundle_view b) }
 {
     parser_laws::equal_errors();
     equal_resolver_errors();

@@ -37,7 +37,8 @@ impl ReferenceKind {
         alloc: Global,
         expression: &InlineExpression<S>,
     ) -> Result<Option<Self>, AllocError>
-        ensures { IfOk result (λ kind. option_map reference_view kind ≡ reference_of (inline_view S S.text expression.now)) }
+        ensures { IfOk result (λ kind. option_map reference_view kind
+            ≡ reference_of (inline_view S S.text expression.now)) }
     {
         Ok(Some(match expression {
             InlineExpression::FunctionReference { id, arguments: _ } => ReferenceKind::Function {

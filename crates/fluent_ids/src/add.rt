@@ -26,7 +26,8 @@ impl<'r, 's, F: Drop> FluentIds<'r, 's, F> {
     pub fn add_resource(&mut self, resource: &'r FluentResource<'s>) -> Result<(), AddResourceError>
         ensures added { AddsFirst F result self.old self.new resource.now }
         ensures refused { KeepsAtMemory F result self.old self.new }
-        ensures told { TellsNotices result (notices (ids_view F self.old) (entries_by_id (entries_view resource.now))) }
+        ensures told { TellsNotices result (notices (ids_view F self.old)
+            (entries_by_id (entries_view resource.now))) }
     {
         let notices = self.notices(resource)?;
         self.make_room(resource)?;
@@ -46,7 +47,8 @@ impl<'r, 's, F: Drop> FluentIds<'r, 's, F> {
         &mut self,
         resource: &'r FluentResource<'s>,
     ) -> Result<(), AllocError>
-        ensures added { OnOk result (ids_view F self.new ≡ with_ids true (ids_view F self.old) (entries_by_id (entries_view resource.now))) }
+        ensures added { OnOk result (ids_view F self.new
+            ≡ with_ids true (ids_view F self.old) (entries_by_id (entries_view resource.now))) }
         ensures refused { OnErr result (ids_view F self.new ≡ ids_view F self.old) }
     {
         self.make_room(resource)?;
@@ -65,7 +67,8 @@ impl<'r, 's, F: Drop> FluentIds<'r, 's, F> {
     /// Puts in the messages and terms of a resource, for which there is room.
     fn put_all(&mut self, resource: &'r FluentResource<'s>, overriding: bool)
         requires { length (entries_view resource.now) ≤ spare self.old.entries }
-        ensures { ids_view F self.new ≡ with_ids overriding (ids_view F self.old) (entries_by_id (entries_view resource.now)) }
+        ensures { ids_view F self.new ≡ with_ids overriding (ids_view F self.old)
+            (entries_by_id (entries_view resource.now)) }
     {
         for plain in resource.body() {
             if let Some((id, entry)) = Entry::of(resource, plain) {
@@ -77,7 +80,8 @@ impl<'r, 's, F: Drop> FluentIds<'r, 's, F> {
     /// Puts in one entry, for which there is room.
     fn put(&mut self, id: &'s str, entry: Entry<'r, 's, F>, overriding: bool)
         requires { 0 < spare self.old.entries }
-        ensures ids { ids_view F self.new ≡ with_id overriding (ids_view F self.old) (id.now, meaning_of F entry.entry) }
+        ensures ids { ids_view F self.new ≡ with_id overriding (ids_view F self.old)
+            (id.now, meaning_of F entry.entry) }
         ensures room { spare self.old.entries ≤ spare self.new.entries + 1 }
     {
         if overriding || !self.contains(id) {

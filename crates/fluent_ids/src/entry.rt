@@ -36,7 +36,8 @@ impl<'r, 's, F> Entry<'r, 's, F> {
         resource: &'r FluentResource<'s>,
         entry: &'r ast::Entry<&'s str>,
     ) -> Option<(&'s str, Self)>
-        ensures { option_to_list (option_map (pair_of F) result) ≡ entries_by_id (entry_view _ (λ s. s.now) entry.now ∷ []) }
+        ensures { option_to_list (option_map (pair_of F) result)
+            ≡ entries_by_id (entry_view _ (λ s. s.now) entry.now ∷ []) }
     {
         match entry {
             ast::Entry::Message(message) => Some((

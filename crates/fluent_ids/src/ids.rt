@@ -30,7 +30,8 @@ impl<'r, 's, F> FluentIds<'r, 's, F> {
 
     /// What an id stands for.
     pub fn get(&self, id: &str) -> Option<&Entry<'r, 's, F>>
-        ensures { option_map (meaning_of F) (option_copied result) ≡ find (ids_view F self.now) id.now }
+        ensures { option_map (meaning_of F) (option_copied result)
+            ≡ find (ids_view F self.now) id.now }
     {
         self.entries.get(id)
     }

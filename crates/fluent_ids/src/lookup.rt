@@ -19,15 +19,18 @@ pub trait GetEntry<'s, F> {
 
     /// The message of an id.
     fn get_entry_message(&self, id: &str) -> Option<&Message<&'s str>>
-        ensures { option_map (message_view _ (λ s. s.now)) (option_copied result) ≡ message_in (find (ids self.now) id.now) };
+        ensures { option_map (message_view _ (λ s. s.now)) (option_copied result)
+            ≡ message_in (find (ids self.now) id.now) };
 
     /// The term of an id, which is its name without the minus.
     fn get_entry_term(&self, id: &str) -> Option<&Term<&'s str>>
-        ensures { option_map (term_view _ (λ s. s.now)) (option_copied result) ≡ term_in (find (ids self.now) id.now) };
+        ensures { option_map (term_view _ (λ s. s.now)) (option_copied result)
+            ≡ term_in (find (ids self.now) id.now) };
 
     /// The function of an id.
     fn get_entry_function(&self, id: &str) -> Option<FunctionRef<'_, F>>
-        ensures { option_map (function_meaning F) result ≡ function_in (find (ids self.now) id.now) };
+        ensures { option_map (function_meaning F) result
+            ≡ function_in (find (ids self.now) id.now) };
 }
 
 impl<'r, 's, F> GetEntry<'s, F> for FluentIds<'r, 's, F> {
@@ -71,7 +74,8 @@ impl<'r, 's, F> FluentIds<'r, 's, F> {
 
     /// The message of an id, lent as long as its resource is.
     fn message(&self, id: &str) -> Option<&'r Message<&'s str>>
-        ensures { option_map (message_view _ (λ s. s.now)) (option_copied result) ≡ message_in (find (ids_view F self.now) id.now) }
+        ensures { option_map (message_view _ (λ s. s.now)) (option_copied result)
+            ≡ message_in (find (ids_view F self.now) id.now) }
     {
         match self.get(id) {
             Some(Entry::Message((_, message))) => Some(message),

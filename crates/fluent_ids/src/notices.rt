@@ -59,8 +59,12 @@ impl<'s> Notices<'s> {
         id: &'s str,
         kind: EntryKind,
     ) -> Result<(), AllocError>
-        ensures told { OnOk result (told self.new ≡ told self.old ++ (if is_known (ids_view F ids.now) self.old id.now then overriding (e.entry_view kind) id.now ∷ [] else [])) }
-        ensures known { OnOk result ((other : List ℕ) → is_known (ids_view F ids.now) self.new other ≡ (bytes_eq id.now other || is_known (ids_view F ids.now) self.old other)) }
+        ensures told { OnOk result (told self.new ≡ told self.old
+            ++ (if is_known (ids_view F ids.now) self.old id.now then overriding (e.entry_view kind)
+            id.now ∷ [] else [])) }
+        ensures known { OnOk result ((other : List ℕ)
+            → is_known (ids_view F ids.now) self.new other
+            ≡ (bytes_eq id.now other || is_known (ids_view F ids.now) self.old other)) }
     {
         let is_new = !ids.contains(id) && self.seen.insert(id)?;
         if !is_new {
@@ -76,7 +80,8 @@ impl<'r, 's, F: Drop> FluentIds<'r, 's, F> {
         &self,
         resource: &'r FluentResource<'s>,
     ) -> Result<Vec<FluentError>, AllocError>
-        ensures { IfOk result (λ all. map bundle_view all.items ≡ notices (ids_view F self.now) (entries_by_id (entries_view resource.now))) }
+        ensures { IfOk result (λ all. map bundle_view all.items
+            ≡ notices (ids_view F self.now) (entries_by_id (entries_view resource.now))) }
     {
         let mut notices = Notices::new(self.alloc);
         for entry in resource.body() {

@@ -30,7 +30,8 @@ impl<'v> Members<'v> {
     fn take(&mut self, key: &str) -> Option<&'v Value>
         ensures some { IfSome result (λ value. left self.old
             ≡ member key.now (view value.now) (left self.new)) }
-        ensures none { IfNone result ((d : Data) (ms : MembersData) → left self.old ≢ member key.now d ms) }
+        ensures none { IfNone result ((d : Data) (ms : MembersData)
+            → left self.old ≢ member key.now d ms) }
     {
         let (name, value) = self.entries.next()?;
         if name.as_str() == key {
@@ -53,7 +54,8 @@ impl<'v> Members<'v> {
 
     /// The value at this key, or None where another key or more than one is left.
     fn one(mut self, key: &str) -> Option<&'v Value>
-        ensures some { IfSome result (λ v. left self.entry ≡ member key.now (view v.now) no_members) }
+        ensures some { IfSome result (λ v. left self.entry
+            ≡ member key.now (view v.now) no_members) }
         ensures none { IfNone result ((d : Data) → left self.entry ≢ member key.now d no_members) }
     {
         let value = self.take(key)?;

@@ -23,7 +23,8 @@ impl Object {
 
     /// An object of this `type`, without other keys.
     pub(crate) fn of_type(alloc: Global, kind: &str) -> Result<Object, AllocError>
-        ensures { IfOk result (λ made. given made ≡ members ((codes "type", string kind.now) ∷ [])) }
+        ensures { IfOk result (λ made. given made ≡ members
+            ((codes "type", string kind.now) ∷ [])) }
     {
         let object = Object {
             alloc,

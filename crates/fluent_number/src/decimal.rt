@@ -61,9 +61,15 @@ impl Model for Decimal {
 
     ghost view = { λ d. signed d.negative (d.whole * units_per_one + d.fraction) };
 
-    ghost invariant = { λ d. (d.fraction < units_per_one) × (d.negative ≡ true → 0 < d.whole + d.fraction) };
+    ghost invariant = { λ d. (d.fraction < units_per_one)
+        × (d.negative ≡ true → 0 < d.whole + d.fraction) };
 
-    ghost inverse = { λ z. record { negative = is_below_zero z; whole = unsigned_abs z / units_per_one; fraction = unsigned_abs z % units_per_one } };
+    ghost inverse = { λ z. record {
+      negative = is_below_zero z;
+      whole = unsigned_abs z /
+          units_per_one;
+      fraction = unsigned_abs z % units_per_one;
+    } };
 
     ghost use Rattle.fluent_number.specs.Parts.{sign_of-signed, whole_of-signed, fraction_of-signed};
 
@@ -81,7 +87,8 @@ impl Decimal {
     /// It is `None` for a fraction of 10<sup>18</sup> or more, which is no part of one.
     pub fn from_parts(negative: bool, whole: u64, fraction: u64) -> Option<Self>
         ensures some { IsSome result ↔ (fraction < units_per_one) }
-        ensures value { IfSome result (λ d. d ≡ signed negative (whole * units_per_one + fraction)) }
+        ensures value { IfSome result (λ d. d ≡ signed negative
+            (whole * units_per_one + fraction)) }
     {
         if fraction >= UNITS_PER_ONE {
             return None;

@@ -63,41 +63,54 @@ pub fn unsigned_integers_become_their_numbers<'a>()
     ensures u64 { BecomesNumber ⟦<FluentNumber as From<u64>>⟧.from_gives (λ n. pos n) }
     ensures ref_u64 { BecomesNumber ⟦<FluentNumber as From<&'a u64>>⟧.from_gives (λ n. pos n.now) }
     ensures usize { BecomesNumber ⟦<FluentNumber as From<usize>>⟧.from_gives (λ n. pos n) }
-    ensures ref_usize { BecomesNumber ⟦<FluentNumber as From<&'a usize>>⟧.from_gives (λ n. pos n.now) }
+    ensures ref_usize { BecomesNumber ⟦<FluentNumber as From<&'a usize>>⟧.from_gives
+        (λ n. pos n.now) }
 {}
 
 /// Each number becomes the integer of a signed type that is nearest to it once what stands behind its point is dropped, by
 /// value and by reference.
 pub fn numbers_become_signed_integers<'a>()
     ensures i8 { BecomesSigned 8 ⟦<i8 as From<FluentNumber>>⟧.from_gives (λ n. n.value) }
-    ensures ref_i8 { BecomesSigned 8 ⟦<i8 as From<&'a FluentNumber>>⟧.from_gives (λ n. n.now.value) }
+    ensures ref_i8 { BecomesSigned 8 ⟦<i8 as From<&'a FluentNumber>>⟧.from_gives
+        (λ n. n.now.value) }
     ensures i16 { BecomesSigned 16 ⟦<i16 as From<FluentNumber>>⟧.from_gives (λ n. n.value) }
-    ensures ref_i16 { BecomesSigned 16 ⟦<i16 as From<&'a FluentNumber>>⟧.from_gives (λ n. n.now.value) }
+    ensures ref_i16 { BecomesSigned 16 ⟦<i16 as From<&'a FluentNumber>>⟧.from_gives
+        (λ n. n.now.value) }
     ensures i32 { BecomesSigned 32 ⟦<i32 as From<FluentNumber>>⟧.from_gives (λ n. n.value) }
-    ensures ref_i32 { BecomesSigned 32 ⟦<i32 as From<&'a FluentNumber>>⟧.from_gives (λ n. n.now.value) }
+    ensures ref_i32 { BecomesSigned 32 ⟦<i32 as From<&'a FluentNumber>>⟧.from_gives
+        (λ n. n.now.value) }
     ensures i64 { BecomesSigned 64 ⟦<i64 as From<FluentNumber>>⟧.from_gives (λ n. n.value) }
-    ensures ref_i64 { BecomesSigned 64 ⟦<i64 as From<&'a FluentNumber>>⟧.from_gives (λ n. n.now.value) }
+    ensures ref_i64 { BecomesSigned 64 ⟦<i64 as From<&'a FluentNumber>>⟧.from_gives
+        (λ n. n.now.value) }
     ensures i128 { BecomesSigned 128 ⟦<i128 as From<FluentNumber>>⟧.from_gives (λ n. n.value) }
-    ensures ref_i128 { BecomesSigned 128 ⟦<i128 as From<&'a FluentNumber>>⟧.from_gives (λ n. n.now.value) }
+    ensures ref_i128 { BecomesSigned 128 ⟦<i128 as From<&'a FluentNumber>>⟧.from_gives
+        (λ n. n.now.value) }
     ensures isize { BecomesSigned 64 ⟦<isize as From<FluentNumber>>⟧.from_gives (λ n. n.value) }
-    ensures ref_isize { BecomesSigned 64 ⟦<isize as From<&'a FluentNumber>>⟧.from_gives (λ n. n.now.value) }
+    ensures ref_isize { BecomesSigned 64 ⟦<isize as From<&'a FluentNumber>>⟧.from_gives
+        (λ n. n.now.value) }
 {}
 
 /// Each number becomes the integer of an unsigned type that is nearest to it once what stands behind its point is dropped,
 /// by value and by reference.
 pub fn numbers_become_unsigned_integers<'a>()
     ensures u8 { BecomesUnsigned 8 ⟦<u8 as From<FluentNumber>>⟧.from_gives (λ n. n.value) }
-    ensures ref_u8 { BecomesUnsigned 8 ⟦<u8 as From<&'a FluentNumber>>⟧.from_gives (λ n. n.now.value) }
+    ensures ref_u8 { BecomesUnsigned 8 ⟦<u8 as From<&'a FluentNumber>>⟧.from_gives
+        (λ n. n.now.value) }
     ensures u16 { BecomesUnsigned 16 ⟦<u16 as From<FluentNumber>>⟧.from_gives (λ n. n.value) }
-    ensures ref_u16 { BecomesUnsigned 16 ⟦<u16 as From<&'a FluentNumber>>⟧.from_gives (λ n. n.now.value) }
+    ensures ref_u16 { BecomesUnsigned 16 ⟦<u16 as From<&'a FluentNumber>>⟧.from_gives
+        (λ n. n.now.value) }
     ensures u32 { BecomesUnsigned 32 ⟦<u32 as From<FluentNumber>>⟧.from_gives (λ n. n.value) }
-    ensures ref_u32 { BecomesUnsigned 32 ⟦<u32 as From<&'a FluentNumber>>⟧.from_gives (λ n. n.now.value) }
+    ensures ref_u32 { BecomesUnsigned 32 ⟦<u32 as From<&'a FluentNumber>>⟧.from_gives
+        (λ n. n.now.value) }
     ensures u64 { BecomesUnsigned 64 ⟦<u64 as From<FluentNumber>>⟧.from_gives (λ n. n.value) }
-    ensures ref_u64 { BecomesUnsigned 64 ⟦<u64 as From<&'a FluentNumber>>⟧.from_gives (λ n. n.now.value) }
+    ensures ref_u64 { BecomesUnsigned 64 ⟦<u64 as From<&'a FluentNumber>>⟧.from_gives
+        (λ n. n.now.value) }
     ensures u128 { BecomesUnsigned 128 ⟦<u128 as From<FluentNumber>>⟧.from_gives (λ n. n.value) }
-    ensures ref_u128 { BecomesUnsigned 128 ⟦<u128 as From<&'a FluentNumber>>⟧.from_gives (λ n. n.now.value) }
+    ensures ref_u128 { BecomesUnsigned 128 ⟦<u128 as From<&'a FluentNumber>>⟧.from_gives
+        (λ n. n.now.value) }
     ensures usize { BecomesUnsigned 64 ⟦<usize as From<FluentNumber>>⟧.from_gives (λ n. n.value) }
-    ensures ref_usize { BecomesUnsigned 64 ⟦<usize as From<&'a FluentNumber>>⟧.from_gives (λ n. n.now.value) }
+    ensures ref_usize { BecomesUnsigned 64 ⟦<usize as From<&'a FluentNumber>>⟧.from_gives
+        (λ n. n.now.value) }
 {}
 
 /// Equality of decimals, of options and of numbers is an equivalence.

@@ -59,7 +59,8 @@ impl FluentNumber {
 impl FromStr for FluentNumber {
     type Err = NotANumber;
 
-    ghost from_str_gives = { λ text read. MatchResult read (λ number. read_number text ≡ Some (number_of number)) (λ _. read_number text ≡ None) };
+    ghost from_str_gives = { λ text read. MatchResult read
+        (λ number. read_number text ≡ Some (number_of number)) (λ _. read_number text ≡ None) };
 
     fn from_str(text: &str) -> Result<Self, NotANumber> {
         read(text).ok_or(NotANumber)

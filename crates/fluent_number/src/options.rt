@@ -153,7 +153,8 @@ impl FluentNumberOptions {
     /// A key with no value or one of another kind changes nothing. The error is that memory was refused for the text of
     /// `currency`; the options are then unchanged.
     pub fn merge<S: OptionSource>(&mut self, alloc: Global, source: &S) -> Result<(), AllocError>
-        ensures ok { OnOk result (options_of self.new ≡ merged (S.text_under source.now) (S.number_under source.now) (options_of self.old)) }
+        ensures ok { OnOk result (options_of self.new
+            ≡ merged (S.text_under source.now) (S.number_under source.now) (options_of self.old)) }
         ensures err { OnErr result (options_of self.new ≡ options_of self.old) }
         ensures succeeds { IsNone (S.text_under source.now (codes "currency")) → IsOk result }
     {
@@ -178,7 +179,8 @@ impl FluentNumberOptions {
 
     /// Sets the counts of digits.
     fn merge_counts<S: OptionSource>(&mut self, source: &S)
-        ensures { options_of self.new ≡ with_counts (S.number_under source.now) (options_of self.old) }
+        ensures { options_of self.new ≡ with_counts (S.number_under source.now)
+            (options_of self.old) }
     {
         merge_count(
             source,
@@ -227,7 +229,8 @@ fn currency_display_or<S: OptionSource>(
     source: &S,
     before: FluentNumberCurrencyDisplayStyle,
 ) -> FluentNumberCurrencyDisplayStyle
-    ensures { result ≡ updated currency_display_named (S.text_under source.now (codes "currencyDisplay")) before }
+    ensures { result ≡ updated currency_display_named
+        (S.text_under source.now (codes "currencyDisplay")) before }
 {
     source
         .text("currencyDisplay")
@@ -236,7 +239,8 @@ fn currency_display_or<S: OptionSource>(
 
 /// Whether the source asks for grouping, or what was asked before.
 fn use_grouping_or<S: OptionSource>(source: &S, before: bool) -> bool
-    ensures { result ≡ updated asks_for_grouping (S.text_under source.now (codes "useGrouping")) before }
+    ensures { result ≡ updated asks_for_grouping (S.text_under source.now (codes "useGrouping"))
+        before }
 {
     source
         .text("useGrouping")

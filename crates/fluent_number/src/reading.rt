@@ -45,7 +45,8 @@ fn count_behind(fraction: Option<&[u8]>) -> Option<usize>
 
 /// The options that ask for so many digits behind the point and for nothing else.
 fn options_showing(minimum_fraction_digits: Option<usize>) -> FluentNumberOptions
-    ensures { options_of result ≡ record default_options { minimum_fraction_digits = minimum_fraction_digits } }
+    ensures { options_of result ≡ record default_options
+        { minimum_fraction_digits = minimum_fraction_digits } }
 {
     FluentNumberOptions {
         minimum_fraction_digits,
@@ -82,8 +83,10 @@ fn split_at_point(text: &[u8]) -> Option<Numeral<'_>>
     ensures count { IfSome result (λ n. n.count ≡ length (numeral_of text.now).whole) }
     ensures whole { IfSome result (λ n. n.whole ≡ digits_worth (numeral_of text.now).whole) }
     ensures small { IfSome result (λ n. n.whole < 2 ^ 64) }
-    ensures fraction { IfSome result (λ n. option_copied n.fraction ≡ (numeral_of text.now).fraction) }
-    ensures none { IfNone result (list_all is_ascii_digit (numeral_of text.now).whole ≡ true → 2 ^ 64 ≤ digits_worth (numeral_of text.now).whole) }
+    ensures fraction { IfSome result (λ n. option_copied n.fraction
+        ≡ (numeral_of text.now).fraction) }
+    ensures none { IfNone result (list_all is_ascii_digit (numeral_of text.now).whole ≡ true
+        → 2 ^ 64 ≤ digits_worth (numeral_of text.now).whole) }
 {
     let (count, whole) = leading_digits(text)?;
     let Ok(fraction) = fraction_behind(&text[count..]) else {
@@ -111,8 +114,10 @@ fn fraction_behind(text: &[u8]) -> Result<Option<&[u8]>, NotANumber>
 /// How many digits stand at the front of a text, and the number that they write, if it fits.
 fn leading_digits(text: &[u8]) -> Option<(usize, u64)>
     ensures count { IfSome result (λ d. d.0 ≡ prefix_len is_ascii_digit text.now) }
-    ensures worth { IfSome result (λ d. d.1 ≡ digits_worth (take (prefix_len is_ascii_digit text.now) text.now)) }
-    ensures none { IfNone result (2 ^ 64 ≤ digits_worth (take (prefix_len is_ascii_digit text.now) text.now)) }
+    ensures worth { IfSome result (λ d. d.1 ≡ digits_worth
+        (take (prefix_len is_ascii_digit text.now) text.now)) }
+    ensures none { IfNone result (2 ^ 64 ≤ digits_worth
+        (take (prefix_len is_ascii_digit text.now) text.now)) }
 {
     if text.len() <= SAFE_DIGITS {
         return Some(short_leading_digits(text));
@@ -153,7 +158,8 @@ fn followed_by(worth: u64, digit: u8) -> Option<u64>
 
 /// How many units the digits behind a point are, if they are digits and not too many.
 fn units_of_fraction(digits: &[u8]) -> Option<u64>
-    ensures { SomeIff result ((list_all is_ascii_digit digits.now ≡ true) × (length digits.now ≤ 18)) (digits_worth digits.now * 10 ^ (18 - length digits.now)) }
+    ensures { SomeIff result ((list_all is_ascii_digit digits.now ≡ true)
+        × (length digits.now ≤ 18)) (digits_worth digits.now * 10 ^ (18 - length digits.now)) }
 {
     if digits.len() > FRACTION_DIGITS {
         return None;

@@ -49,7 +49,8 @@ fn push_point_and(
 ) -> Result<(), AllocError>
     requires short { count ≤ 18 }
     requires below { digits < 10 ^ count }
-    ensures { OnOk result (string_bytes text.new ≡ string_bytes text.old ++ point_and least (last_digits count digits)) }
+    ensures { OnOk result (string_bytes text.new
+        ≡ string_bytes text.old ++ point_and least (last_digits count digits)) }
 {
     if count == 0 && least.is_none() {
         return Ok(());
@@ -82,7 +83,8 @@ fn cut_zeros(count: usize, digits: u64, zeros: usize) -> (usize, u64)
     requires some { 0 < digits }
     requires below { digits < 10 ^ count }
     requires few { zeros ≤ 18 }
-    ensures same { without_end_zeros (last_digits result.0 result.1) ≡ without_end_zeros (last_digits count digits) }
+    ensures same { without_end_zeros (last_digits result.0 result.1)
+        ≡ without_end_zeros (last_digits count digits) }
     ensures short { result.0 ≤ count }
     ensures below { result.1 < 10 ^ result.0 }
     ensures some { 0 < result.1 }
@@ -102,7 +104,8 @@ fn cut_zeros(count: usize, digits: u64, zeros: usize) -> (usize, u64)
 fn push_digits(text: &mut String, count: usize, digits: u64) -> Result<(), AllocError>
     requires short { count ≤ 18 }
     requires below { digits < 10 ^ count }
-    ensures { OnOk result (string_bytes text.new ≡ string_bytes text.old ++ last_digits count digits) }
+    ensures { OnOk result (string_bytes text.new
+        ≡ string_bytes text.old ++ last_digits count digits) }
 {
     let mut buffer = Buffer::new();
     let one_and_digits = buffer.format(power_of_ten(count) + digits);

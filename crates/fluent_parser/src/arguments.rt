@@ -39,7 +39,8 @@ impl<'p, S: Drop, T: Texts<S>> Parser<'p, S, T> {
     pub fn get_call_arguments(&mut self) -> Result<CallArguments<S>, Fault>
         requires tied { T.text self.old.source.now ≡ self.old.text.now }
         requires parenthesis { w.begins_with w.open_paren self.old.rest.now ≡ true }
-        ensures gives { Gives (arguments_view S T.text) self.new.rest.now result (whole.arguments [] (w.skip_blank (drop 1 self.old.rest.now))) }
+        ensures gives { Gives (arguments_view S T.text) self.new.rest.now result
+            (whole.arguments [] (w.skip_blank (drop 1 self.old.rest.now))) }
         ensures source { self.new.source.now ≡ self.old.source.now }
         ensures text { self.new.text.now ≡ self.old.text.now }
         ensures onward { length self.new.rest.now ≤ length self.old.rest.now }
@@ -71,7 +72,9 @@ impl<'p, S: Drop, T: Texts<S>> Parser<'p, S, T> {
         requires tied { T.text self.old.source.now ≡ self.old.text.now }
         requires indexed { IsIndexed S T.text others.now }
         ensures less { OnOk result (length self.new.rest.now < length self.old.rest.now) }
-        ensures gives { Gives (argument_view S T.text) self.new.rest.now result (argument_by (names_of (map (named_view S T.text) others.now.all.items)) self.old.rest.now) }
+        ensures gives { Gives (argument_view S T.text) self.new.rest.now result
+            (argument_by (names_of (map (named_view S T.text) others.now.all.items))
+            self.old.rest.now) }
         ensures named { IfOk result (IsNamed S T.text) }
         ensures source { self.new.source.now ≡ self.old.source.now }
         ensures text { self.new.text.now ≡ self.old.text.now }
@@ -98,7 +101,9 @@ impl<'p, S: Drop, T: Texts<S>> Parser<'p, S, T> {
         argument: InlineExpression<S>,
         others: &NamedArguments<'p, S>,
     ) -> Result<Argument<'p, S>, Fault>
-        ensures gives { Gives (argument_view S T.text) self.now.rest.now result (positional_by (names_of (map (named_view S T.text) others.now.all.items)) (inline_view S T.text argument) self.now.rest.now) }
+        ensures gives { Gives (argument_view S T.text) self.now.rest.now result
+            (positional_by (names_of (map (named_view S T.text) others.now.all.items))
+            (inline_view S T.text argument) self.now.rest.now) }
         ensures named { IfOk result (IsNamed S T.text) }
     {
         if others.all.is_empty() {
@@ -133,7 +138,9 @@ impl<'p, S: Drop, T: Texts<S>> Parser<'p, S, T> {
         requires tied { T.text self.old.source.now ≡ self.old.text.now }
         requires indexed { IsIndexed S T.text others.now }
         requires colon { w.begins_with w.colon self.old.rest.now ≡ true }
-        ensures gives { Gives (inline_view S T.text) self.new.rest.now result (argument_value_at (names_of (map (named_view S T.text) others.now.all.items)) name.now self.old.rest.now) }
+        ensures gives { Gives (inline_view S T.text) self.new.rest.now result
+            (argument_value_at (names_of (map (named_view S T.text) others.now.all.items)) name.now
+            self.old.rest.now) }
         ensures source { self.new.source.now ≡ self.old.source.now }
         ensures text { self.new.text.now ≡ self.old.text.now }
         ensures onward { length self.new.rest.now ≤ length self.old.rest.now }

@@ -45,7 +45,8 @@ impl<'p, S: Drop, T: Texts<S>> Parser<'p, S, T> {
     /// Passes over a line end, if one stands here.
     pub fn skip_eol(&mut self) -> bool
         ensures value { result ≡ is_some (w.after_line_end self.old.rest.now) }
-        ensures rest { self.new.rest.now ≡ unwrap_or (w.after_line_end self.old.rest.now) self.old.rest.now }
+        ensures rest { self.new.rest.now ≡ unwrap_or (w.after_line_end self.old.rest.now)
+            self.old.rest.now }
         ensures source { self.new.source.now ≡ self.old.source.now }
         ensures text { self.new.text.now ≡ self.old.text.now }
         ensures onward { length self.new.rest.now ≤ length self.old.rest.now }

@@ -26,8 +26,10 @@ pub struct Collected<S> {
 impl<S: Drop> Collected<S> {
     /// Of no parts.
     pub fn new(alloc: Global) -> Self
-        ensures entries { (text_of : S → List ℕ) (pieces : List Piece) → entries_with S text_of result pieces ≡ entries_of None pieces }
-        ensures errors { (pieces : List Piece) → errors_with S result pieces ≡ map error_told (errors_of pieces) }
+        ensures entries { (text_of : S → List ℕ) (pieces : List Piece)
+            → entries_with S text_of result pieces ≡ entries_of None pieces }
+        ensures errors { (pieces : List Piece) → errors_with S result pieces
+            ≡ map error_told (errors_of pieces) }
     {
         Collected {
             body: Vec::new(alloc),
@@ -38,8 +40,13 @@ impl<S: Drop> Collected<S> {
 
     /// Puts a part behind the others. `apart` says whether a blank line stands before it.
     pub fn push(&mut self, part: Part<S>, apart: bool) -> Result<(), AllocError>
-        ensures entries { IfOk result (λ u. (text_of : S → List ℕ) (piece : Piece) (pieces : List Piece) → Shows S text_of part apart piece → entries_with S text_of self.new pieces ≡ entries_with S text_of self.old (piece ∷ pieces)) }
-        ensures errors { IfOk result (λ u. (text_of : S → List ℕ) (piece : Piece) (pieces : List Piece) → Shows S text_of part apart piece → errors_with S self.new pieces ≡ errors_with S self.old (piece ∷ pieces)) }
+        ensures entries { IfOk result (λ u. (text_of : S → List ℕ) (piece : Piece)
+            (pieces : List Piece) → Shows S text_of part apart piece
+            → entries_with S text_of self.new pieces
+            ≡ entries_with S text_of self.old (piece ∷ pieces)) }
+        ensures errors { IfOk result (λ u. (text_of : S → List ℕ) (piece : Piece)
+            (pieces : List Piece) → Shows S text_of part apart piece
+            → errors_with S self.new pieces ≡ errors_with S self.old (piece ∷ pieces)) }
     {
         match part {
             Part::Entry(entry) => self.push_entry(entry, apart),
@@ -49,9 +56,12 @@ impl<S: Drop> Collected<S> {
 
     /// Puts junk behind the other entries, and its error behind the other errors.
     fn push_junk(&mut self, content: S, error: ParserError) -> Result<(), AllocError>
-        ensures body { IfOk result (λ u. (text_of : S → List ℕ) → body_of S text_of self.new ≡ body_of S text_of self.old ++ waiting (held_by S text_of self.old) ++ t.junk (text_of content) ∷ []) }
+        ensures body { IfOk result (λ u. (text_of : S → List ℕ)
+            → body_of S text_of self.new ≡ body_of S text_of self.old
+            ++ waiting (held_by S text_of self.old) ++ t.junk (text_of content) ∷ []) }
         ensures comment { IfOk result (λ u. self.new.comment ≡ None) }
-        ensures errors { IfOk result (λ u. self.new.errors.items ≡ self.old.errors.items ++ error ∷ []) }
+        ensures errors { IfOk result (λ u. self.new.errors.items
+            ≡ self.old.errors.items ++ error ∷ []) }
     {
         self.push_comment()?;
         self.body.push(Entry::Junk { content })?;
@@ -61,7 +71,9 @@ impl<S: Drop> Collected<S> {
 
     /// Puts an entry behind the others.
     fn push_entry(&mut self, added: Entry<S>, apart: bool) -> Result<(), AllocError>
-        ensures entries { IfOk result (λ u. (text_of : S → List ℕ) (pieces : List Piece) → entries_with S text_of self.new pieces ≡ entries_with S text_of self.old (entry apart (entry_view S text_of added) ∷ pieces)) }
+        ensures entries { IfOk result (λ u. (text_of : S → List ℕ) (pieces : List Piece)
+            → entries_with S text_of self.new pieces
+            ≡ entries_with S text_of self.old (entry apart (entry_view S text_of added) ∷ pieces)) }
         ensures errors { IfOk result (λ u. self.new.errors.items ≡ self.old.errors.items) }
     {
         match added {
@@ -82,7 +94,10 @@ impl<S: Drop> Collected<S> {
 
     /// Puts a message behind the other entries, with the comment right above it.
     fn push_message(&mut self, message: Message<S>, apart: bool) -> Result<(), AllocError>
-        ensures entries { IfOk result (λ u. (text_of : S → List ℕ) (pieces : List Piece) → entries_with S text_of self.new pieces ≡ entries_with S text_of self.old (entry apart (t.message (message_view S text_of message)) ∷ pieces)) }
+        ensures entries { IfOk result (λ u. (text_of : S → List ℕ) (pieces : List Piece)
+            → entries_with S text_of self.new pieces
+            ≡ entries_with S text_of self.old (entry apart
+            (t.message (message_view S text_of message)) ∷ pieces)) }
         ensures errors { IfOk result (λ u. self.new.errors.items ≡ self.old.errors.items) }
     {
         let comment = self.take_comment(apart)?;
@@ -93,7 +108,10 @@ impl<S: Drop> Collected<S> {
 
     /// Puts a term behind the other entries, with the comment right above it.
     fn push_term(&mut self, term: Term<S>, apart: bool) -> Result<(), AllocError>
-        ensures entries { IfOk result (λ u. (text_of : S → List ℕ) (pieces : List Piece) → entries_with S text_of self.new pieces ≡ entries_with S text_of self.old (entry apart (t.term (term_view S text_of term)) ∷ pieces)) }
+        ensures entries { IfOk result (λ u. (text_of : S → List ℕ) (pieces : List Piece)
+            → entries_with S text_of self.new pieces
+            ≡ entries_with S text_of self.old (entry apart (t.term (term_view S text_of term))
+            ∷ pieces)) }
         ensures errors { IfOk result (λ u. self.new.errors.items ≡ self.old.errors.items) }
     {
         let comment = self.take_comment(apart)?;
@@ -103,8 +121,11 @@ impl<S: Drop> Collected<S> {
 
     /// The comment that the next message or term takes. It doesn't take one from above a blank line.
     fn take_comment(&mut self, apart: bool) -> Result<Option<Comment<S>>, AllocError>
-        ensures taken { IfOk result (λ c. (text_of : S → List ℕ) → option_map (comment_view S text_of) c ≡ attached (held_by S text_of self.old) apart) }
-        ensures body { IfOk result (λ c. (text_of : S → List ℕ) → body_of S text_of self.new ≡ body_of S text_of self.old ++ left_alone (held_by S text_of self.old) apart) }
+        ensures taken { IfOk result (λ c. (text_of : S → List ℕ)
+            → option_map (comment_view S text_of) c ≡ attached (held_by S text_of self.old) apart) }
+        ensures body { IfOk result (λ c. (text_of : S → List ℕ)
+            → body_of S text_of self.new ≡ body_of S text_of self.old
+            ++ left_alone (held_by S text_of self.old) apart) }
         ensures comment { IfOk result (λ c. self.new.comment ≡ None) }
         ensures errors { self.new.errors.items ≡ self.old.errors.items }
     {
@@ -118,7 +139,9 @@ impl<S: Drop> Collected<S> {
 
     /// Puts the comment that waits behind the other entries.
     fn push_comment(&mut self) -> Result<(), AllocError>
-        ensures body { IfOk result (λ u. (text_of : S → List ℕ) → body_of S text_of self.new ≡ body_of S text_of self.old ++ waiting (held_by S text_of self.old)) }
+        ensures body { IfOk result (λ u. (text_of : S → List ℕ)
+            → body_of S text_of self.new ≡ body_of S text_of self.old
+            ++ waiting (held_by S text_of self.old)) }
         ensures comment { IfOk result (λ u. self.new.comment ≡ None) }
         ensures errors { self.new.errors.items ≡ self.old.errors.items }
     {
@@ -130,7 +153,8 @@ impl<S: Drop> Collected<S> {
 
     /// The tree, or the tree with the errors where there are any.
     pub fn finish(mut self) -> Result<Resource<S>, Error<S>>
-        ensures tree { (text_of : S → List ℕ) → HasTree S text_of result (entries_with S text_of self []) }
+        ensures tree { (text_of : S → List ℕ) → HasTree S text_of result
+            (entries_with S text_of self []) }
         ensures errors { HasErrors S result (errors_with S self []) }
     {
         let Ok(()) = self.push_comment() else {

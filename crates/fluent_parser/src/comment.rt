@@ -16,7 +16,8 @@ use fluent_words as words;
 
 /// The comment of so many signs: one, two or three.
 fn comment_of<S>(level: usize, content: Vec<S>) -> Entry<S>
-    ensures { (text_of : S → List ℕ) → entry_view S text_of result ≡ comment_of level (map text_of content.items) }
+    ensures { (text_of : S → List ℕ) → entry_view S text_of result
+        ≡ comment_of level (map text_of content.items) }
 {
     let comment = Comment { content };
     match level {
@@ -37,7 +38,8 @@ impl<'p, S: Drop, T: Texts<S>> Parser<'p, S, T> {
     pub fn get_comment(&mut self) -> Result<Entry<S>, Fault>
         requires tied { T.text self.old.source.now ≡ self.old.text.now }
         requires sign { w.begins_with w.number_sign self.old.rest.now ≡ true }
-        ensures gives { Gives (entry_view S T.text) self.new.rest.now result (comment_at self.old.rest.now) }
+        ensures gives { Gives (entry_view S T.text) self.new.rest.now result
+            (comment_at self.old.rest.now) }
         ensures source { self.new.source.now ≡ self.old.source.now }
         ensures text { self.new.text.now ≡ self.old.text.now }
         ensures onward { length self.new.rest.now ≤ length self.old.rest.now }
@@ -52,7 +54,8 @@ impl<'p, S: Drop, T: Texts<S>> Parser<'p, S, T> {
         requires tied { T.text self.old.source.now ≡ self.old.text.now }
         requires signs { level ≡ w.comment_level self.old.rest.now }
         requires some { 0 < level }
-        ensures gives { Gives (λ lines. map T.text lines.items) self.new.rest.now result (comment_content_by level self.old.rest.now) }
+        ensures gives { Gives (λ lines. map T.text lines.items) self.new.rest.now result
+            (comment_content_by level self.old.rest.now) }
         ensures source { self.new.source.now ≡ self.old.source.now }
         ensures text { self.new.text.now ≡ self.old.text.now }
         ensures onward { length self.new.rest.now ≤ length self.old.rest.now }
@@ -67,7 +70,8 @@ impl<'p, S: Drop, T: Texts<S>> Parser<'p, S, T> {
 
     /// Whether a line of a comment of this level stands here.
     fn is_comment_line(&self, level: usize) -> bool
-        ensures { result ≡ (w.comment_level self.now.rest.now == level && is_comment_line (drop level self.now.rest.now)) }
+        ensures { result ≡ (w.comment_level self.now.rest.now == level && is_comment_line
+            (drop level self.now.rest.now)) }
     {
         let line = self.bytes();
         words::comment_level(line) == level && words::is_comment_line(&line[level..])
@@ -77,7 +81,9 @@ impl<'p, S: Drop, T: Texts<S>> Parser<'p, S, T> {
     fn push_comment_line(&mut self, level: usize, lines: &mut Vec<S>) -> Result<(), Fault>
         requires tied { T.text self.old.source.now ≡ self.old.text.now }
         requires signs { level ≡ w.comment_level self.old.rest.now }
-        ensures gives { Gives (λ u. map T.text lines.new.items) self.new.rest.now result (lines_with (map T.text lines.old.items) (comment_line_at (drop level self.old.rest.now))) }
+        ensures gives { Gives (λ u. map T.text lines.new.items) self.new.rest.now result
+            (lines_with (map T.text lines.old.items)
+            (comment_line_at (drop level self.old.rest.now))) }
         ensures source { self.new.source.now ≡ self.old.source.now }
         ensures text { self.new.text.now ≡ self.old.text.now }
         ensures onward { length self.new.rest.now ≤ length self.old.rest.now - level }
@@ -92,7 +98,8 @@ impl<'p, S: Drop, T: Texts<S>> Parser<'p, S, T> {
     /// What stands behind the sign of a comment's line. None at the end of the text, where a sign adds no line.
     fn get_comment_line(&mut self) -> Result<Option<S>, Fault>
         requires { T.text self.old.source.now ≡ self.old.text.now }
-        ensures gives { Gives (line_of T.text) self.new.rest.now result (comment_line_at self.old.rest.now) }
+        ensures gives { Gives (line_of T.text) self.new.rest.now result
+            (comment_line_at self.old.rest.now) }
         ensures source { self.new.source.now ≡ self.old.source.now }
         ensures text { self.new.text.now ≡ self.old.text.now }
         ensures onward { length self.new.rest.now ≤ length self.old.rest.now }

@@ -17,7 +17,8 @@ pub fn pattern_of<S: Drop, T: Texts<S>>(
     pieces: Pieces<S>,
 ) -> Result<Option<Pattern<S>>, AllocError>
     requires { All (IsPiece S T.text) (items_of S pieces) }
-    ensures { IfOk result (λ p. option_map (pattern_view S T.text) p ≡ l.value_of (l.elements_of (map (piece_view S T.text) (items_of S pieces)))) }
+    ensures { IfOk result (λ p. option_map (pattern_view S T.text) p
+        ≡ l.value_of (l.elements_of (map (piece_view S T.text) (items_of S pieces)))) }
 {
     match pieces {
         Pieces::None => Ok(None),
@@ -33,7 +34,8 @@ fn pattern_of_one<S: Drop, T: Texts<S>>(
     piece: Piece<S>,
 ) -> Result<Option<Pattern<S>>, AllocError>
     requires { IsPiece S T.text piece }
-    ensures { IfOk result (λ p. option_map (pattern_view S T.text) p ≡ l.value_of (l.elements_of (piece_view S T.text piece ∷ []))) }
+    ensures { IfOk result (λ p. option_map (pattern_view S T.text) p
+        ≡ l.value_of (l.elements_of (piece_view S T.text piece ∷ []))) }
 {
     if is_blank(texts, &piece) {
         return Ok(None);
@@ -51,7 +53,8 @@ fn pattern_of_many<S: Drop, T: Texts<S>>(
     mut pieces: Vec<Piece<S>>,
 ) -> Result<Option<Pattern<S>>, AllocError>
     requires { All (IsPiece S T.text) pieces.items }
-    ensures { IfOk result (λ p. option_map (pattern_view S T.text) p ≡ l.value_of (l.elements_of (map (piece_view S T.text) pieces.items))) }
+    ensures { IfOk result (λ p. option_map (pattern_view S T.text) p
+        ≡ l.value_of (l.elements_of (map (piece_view S T.text) pieces.items))) }
 {
     let common_indent = common_indent(texts, pieces.as_slice());
     let kept = kept_len(texts, pieces.as_slice());
@@ -72,7 +75,8 @@ fn inner_elements<S: Drop, T: Texts<S>>(
     common_indent: Option<usize>,
 ) -> Result<Vec<PatternElement<S>>, AllocError>
     requires { All (IsPiece S T.text) pieces.items }
-    ensures { IfOk result (λ es. map (element_view S T.text) es.items ≡ map (element_in common_indent) (map (piece_view S T.text) pieces.items)) }
+    ensures { IfOk result (λ es. map (element_view S T.text) es.items
+        ≡ map (element_in common_indent) (map (piece_view S T.text) pieces.items)) }
 {
     let mut elements = Vec::with_capacity(alloc, pieces.len().saturating_add(1))?;
     for piece in pieces {
@@ -89,7 +93,8 @@ fn element<S: Drop, T: Texts<S>>(
     common_indent: Option<usize>,
 ) -> Result<PatternElement<S>, AllocError>
     requires { IsPiece S T.text piece }
-    ensures { IfOk result (λ e. element_view S T.text e ≡ element_in common_indent (piece_view S T.text piece)) }
+    ensures { IfOk result (λ e. element_view S T.text e
+        ≡ element_in common_indent (piece_view S T.text piece)) }
 {
     match piece {
         Piece::Placeable {
@@ -111,7 +116,8 @@ fn last_element<S: Drop, T: Texts<S>>(
     common_indent: Option<usize>,
 ) -> Result<PatternElement<S>, AllocError>
     requires { IsPiece S T.text piece }
-    ensures { IfOk result (λ e. element_view S T.text e ≡ element_last common_indent (piece_view S T.text piece)) }
+    ensures { IfOk result (λ e. element_view S T.text e
+        ≡ element_last common_indent (piece_view S T.text piece)) }
 {
     match piece {
         Piece::Placeable {
@@ -135,7 +141,8 @@ fn dedented<S: Drop, T: Texts<S>>(
     common_indent: Option<usize>,
 ) -> Result<S, AllocError>
     requires { IsIndented (T.text text) indent }
-    ensures { IfOk result (λ value. T.text value ≡ without_indent common_indent indent (T.text text)) }
+    ensures { IfOk result (λ value. T.text value
+        ≡ without_indent common_indent indent (T.text text)) }
 {
     let Some(indent) = indent else {
         return Ok(text);

@@ -26,7 +26,8 @@ impl<'p, S: Drop, T: Texts<S>> Parser<'p, S, T> {
     pub fn get_placeable(&mut self) -> Result<Expression<S>, Fault>
         requires tied { T.text self.old.source.now ≡ self.old.text.now }
         requires brace { w.begins_with w.open_brace self.old.rest.now ≡ true }
-        ensures gives { Gives (expression_view S T.text) self.new.rest.now result (placeable_by self.old.rest.now) }
+        ensures gives { Gives (expression_view S T.text) self.new.rest.now result
+            (placeable_by self.old.rest.now) }
         ensures less { length self.new.rest.now < length self.old.rest.now }
         ensures source { self.new.source.now ≡ self.old.source.now }
         ensures text { self.new.text.now ≡ self.old.text.now }
@@ -44,7 +45,8 @@ impl<'p, S: Drop, T: Texts<S>> Parser<'p, S, T> {
     #[tactic(auto, using(crate::proofs::Failing::handed, fluent_words::proofs::Counted::cuts), unfolding(crate::specs::Steps::expression_by, fluent_grammar::specs::Reading::select_or_inline_at, fluent_grammar::specs::Reading::select_at, fluent_grammar::specs::Reading::variants_after))]
     fn get_expression(&mut self) -> Result<Expression<S>, Fault>
         requires { T.text self.old.source.now ≡ self.old.text.now }
-        ensures gives { Gives (expression_view S T.text) self.new.rest.now result (expression_by self.old.rest.now) }
+        ensures gives { Gives (expression_view S T.text) self.new.rest.now result
+            (expression_by self.old.rest.now) }
         ensures source { self.new.source.now ≡ self.old.source.now }
         ensures text { self.new.text.now ≡ self.old.text.now }
         ensures onward { length self.new.rest.now ≤ length self.old.rest.now }
@@ -69,7 +71,8 @@ impl<'p, S: Drop, T: Texts<S>> Parser<'p, S, T> {
 
     /// An expression that no arrow follows.
     fn inline_expression(&self, inline: InlineExpression<S>) -> Result<Expression<S>, Fault>
-        ensures { Gives (expression_view S T.text) self.now.rest.now result (inline_by (inline_view S T.text inline) self.now.rest.now) }
+        ensures { Gives (expression_view S T.text) self.now.rest.now result
+            (inline_by (inline_view S T.text inline) self.now.rest.now) }
     {
         if let InlineExpression::TermReference {
             attribute: Some(_),
@@ -85,7 +88,8 @@ impl<'p, S: Drop, T: Texts<S>> Parser<'p, S, T> {
     #[cycle(parser)]
     pub fn get_inline_expression(&mut self) -> Result<InlineExpression<S>, Fault>
         requires { T.text self.old.source.now ≡ self.old.text.now }
-        ensures gives { Gives (inline_view S T.text) self.new.rest.now result (whole.inline self.old.rest.now) }
+        ensures gives { Gives (inline_view S T.text) self.new.rest.now result
+            (whole.inline self.old.rest.now) }
         ensures source { self.new.source.now ≡ self.old.source.now }
         ensures text { self.new.text.now ≡ self.old.text.now }
         ensures onward { length self.new.rest.now ≤ length self.old.rest.now }
@@ -114,7 +118,8 @@ impl<'p, S: Drop, T: Texts<S>> Parser<'p, S, T> {
     fn get_term_reference(&mut self) -> Result<InlineExpression<S>, Fault>
         requires tied { T.text self.old.source.now ≡ self.old.text.now }
         requires minus { w.begins_with w.hyphen self.old.rest.now ≡ true }
-        ensures gives { Gives (inline_view S T.text) self.new.rest.now result (term_at whole (drop 1 self.old.rest.now)) }
+        ensures gives { Gives (inline_view S T.text) self.new.rest.now result
+            (term_at whole (drop 1 self.old.rest.now)) }
         ensures source { self.new.source.now ≡ self.old.source.now }
         ensures text { self.new.text.now ≡ self.old.text.now }
         ensures onward { length self.new.rest.now ≤ length self.old.rest.now }
@@ -143,7 +148,8 @@ impl<'p, S: Drop, T: Texts<S>> Parser<'p, S, T> {
     #[tactic(auto, using(crate::proofs::Failing::handed, fluent_words::proofs::Counted::cuts), unfolding(fluent_grammar::specs::Reading::named_at, fluent_grammar::specs::Reading::called_at, fluent_grammar::specs::Reading::function_of))]
     fn get_named_reference(&mut self) -> Result<InlineExpression<S>, Fault>
         requires { T.text self.old.source.now ≡ self.old.text.now }
-        ensures gives { Gives (inline_view S T.text) self.new.rest.now result (named_at whole self.old.rest.now) }
+        ensures gives { Gives (inline_view S T.text) self.new.rest.now result
+            (named_at whole self.old.rest.now) }
         ensures source { self.new.source.now ≡ self.old.source.now }
         ensures text { self.new.text.now ≡ self.old.text.now }
         ensures onward { length self.new.rest.now ≤ length self.old.rest.now }
@@ -165,7 +171,8 @@ impl<'p, S: Drop, T: Texts<S>> Parser<'p, S, T> {
     /// A string or a number. Productions `StringLiteral` and `NumberLiteral`.
     pub fn get_literal(&mut self) -> Result<InlineExpression<S>, Fault>
         requires { T.text self.old.source.now ≡ self.old.text.now }
-        ensures gives { Gives (inline_view S T.text) self.new.rest.now result (string_or_number_at self.old.rest.now) }
+        ensures gives { Gives (inline_view S T.text) self.new.rest.now result
+            (string_or_number_at self.old.rest.now) }
         ensures source { self.new.source.now ≡ self.old.source.now }
         ensures text { self.new.text.now ≡ self.old.text.now }
         ensures onward { length self.new.rest.now ≤ length self.old.rest.now }
@@ -183,7 +190,8 @@ impl<'p, S: Drop, T: Texts<S>> Parser<'p, S, T> {
     fn get_variable_reference(&mut self) -> Result<InlineExpression<S>, Fault>
         requires tied { T.text self.old.source.now ≡ self.old.text.now }
         requires dollar { w.begins_with w.dollar self.old.rest.now ≡ true }
-        ensures gives { Gives (inline_view S T.text) self.new.rest.now result (mapped t.variable_reference (identifier_at (drop 1 self.old.rest.now))) }
+        ensures gives { Gives (inline_view S T.text) self.new.rest.now result
+            (mapped t.variable_reference (identifier_at (drop 1 self.old.rest.now))) }
         ensures source { self.new.source.now ≡ self.old.source.now }
         ensures text { self.new.text.now ≡ self.old.text.now }
         ensures onward { length self.new.rest.now ≤ length self.old.rest.now }
@@ -197,7 +205,8 @@ impl<'p, S: Drop, T: Texts<S>> Parser<'p, S, T> {
     #[tactic(auto, using(crate::proofs::Failing::handed), unfolding(fluent_grammar::specs::Reading::accessor_at))]
     fn get_attribute_accessor(&mut self) -> Result<Option<Identifier<S>>, Fault>
         requires { T.text self.old.source.now ≡ self.old.text.now }
-        ensures gives { Gives (option_map (name_of S T.text)) self.new.rest.now result (accessor_at self.old.rest.now) }
+        ensures gives { Gives (option_map (name_of S T.text)) self.new.rest.now result
+            (accessor_at self.old.rest.now) }
         ensures source { self.new.source.now ≡ self.old.source.now }
         ensures text { self.new.text.now ≡ self.old.text.now }
         ensures onward { length self.new.rest.now ≤ length self.old.rest.now }

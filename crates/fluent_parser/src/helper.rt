@@ -123,7 +123,8 @@ impl<'p, S: Drop, T: Texts<S>> Parser<'p, S, T> {
     pub fn take_byte_if(&mut self, byte: u8) -> bool
         requires { byte < 128 }
         ensures value { result ≡ w.begins_with byte self.old.rest.now }
-        ensures rest { self.new.rest.now ≡ (if w.begins_with byte self.old.rest.now then drop 1 self.old.rest.now else self.old.rest.now) }
+        ensures rest { self.new.rest.now ≡ (if w.begins_with byte self.old.rest.now then drop 1
+            self.old.rest.now else self.old.rest.now) }
         ensures source { self.new.source.now ≡ self.old.source.now }
         ensures text { self.new.text.now ≡ self.old.text.now }
         ensures onward { length self.new.rest.now ≤ length self.old.rest.now }

@@ -24,12 +24,14 @@ fn equality_of<T: Eq>()
 
 /// Two kinds of errors are equal exactly where they are one variant with the same text.
 pub fn equal_error_kinds()
-    ensures { (a b : Kind) → IsTrue (⟦<ErrorKind as PartialEq>⟧.eq a b) ↔ (kind_view a ≡ kind_view b) }
+    ensures { (a b : Kind) → IsTrue (⟦<ErrorKind as PartialEq>⟧.eq a b) ↔
+        (kind_view a ≡ kind_view b) }
 {}
 
 /// Two errors are equal exactly where they are of equal kinds, at one place and with one slice.
 pub fn equal_errors()
-    ensures { (a b : Error) → IsTrue (⟦<ParserError as PartialEq>⟧.eq a b) ↔ (error_view a ≡ error_view b) }
+    ensures { (a b : Error) → IsTrue (⟦<ParserError as PartialEq>⟧.eq a b) ↔
+        (error_view a ≡ error_view b) }
 {
     equal_error_kinds();
 }

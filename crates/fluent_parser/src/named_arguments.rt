@@ -40,7 +40,9 @@ impl<'p, S: Drop> NamedArguments<'p, S> {
     /// Puts an argument behind the others, whose name is this text.
     pub fn push(&mut self, argument: NamedArgument<S>, name: &'p str) -> Result<(), AllocError>
         ensures all { OnOk result (self.new.all.items ≡ self.old.all.items ++ argument ∷ []) }
-        ensures indexed { OnOk result ((text_of : S → List ℕ) → (named_view S text_of argument).name ≡ name.now → IsIndexed S text_of self.old → IsIndexed S text_of self.new) }
+        ensures indexed { OnOk result ((text_of : S → List ℕ)
+            → (named_view S text_of argument).name ≡ name.now → IsIndexed S text_of self.old
+            → IsIndexed S text_of self.new) }
     {
         if self.all.len() >= FEW {
             self.later.insert(name)?;
@@ -60,7 +62,8 @@ impl<'p, S: Drop> NamedArguments<'p, S> {
     /// Whether one of them has this name.
     pub fn has_name<T: Texts<S>>(&self, texts: &T, name: &str) -> bool
         requires { IsIndexed S T.text self.now }
-        ensures { result ≡ w.is_among name.now (names_of (map (named_view S T.text) self.now.all.items)) }
+        ensures { result ≡ w.is_among name.now (names_of
+            (map (named_view S T.text) self.now.all.items)) }
     {
         let few = FEW.min(self.all.len());
         is_among(texts, &self.all[..few], name) || self.later.contains(name)
@@ -69,7 +72,8 @@ impl<'p, S: Drop> NamedArguments<'p, S> {
 
 /// Whether one of these arguments has this name.
 fn is_among<S: Drop, T: Texts<S>>(texts: &T, arguments: &[NamedArgument<S>], name: &str) -> bool
-    ensures { result ≡ list_any (λ a. bytes_eq (named_view S T.text a).name name.now) arguments.now }
+    ensures { result ≡ list_any (λ a. bytes_eq (named_view S T.text a).name name.now)
+        arguments.now }
 {
     for argument in arguments {
         if has_name(texts, argument, name) {

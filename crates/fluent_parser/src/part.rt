@@ -32,8 +32,11 @@ impl<'p, S: Drop, T: Texts<S>> Parser<'p, S, T> {
     pub fn get_part(&mut self) -> Result<Part<S>, AllocError>
         requires tied { T.text self.old.source.now ≡ self.old.text.now }
         requires some { 0 < length self.old.rest.now }
-        ensures part { IfOk result (λ part. (apart : Bool) → Shows S T.text part apart (piece_of (length self.old.text.now - length self.old.rest.now) apart self.old.rest.now (entry_at self.old.rest.now))) }
-        ensures rest { IfOk result (λ part. self.new.rest.now ≡ behind_piece self.old.rest.now (entry_at self.old.rest.now)) }
+        ensures part { IfOk result (λ part. (apart : Bool)
+            → Shows S T.text part apart (piece_of (length self.old.text.now - length
+            self.old.rest.now) apart self.old.rest.now (entry_at self.old.rest.now))) }
+        ensures rest { IfOk result (λ part. self.new.rest.now
+            ≡ behind_piece self.old.rest.now (entry_at self.old.rest.now)) }
         ensures onward { IfOk result (λ part. length self.new.rest.now < length self.old.rest.now) }
         ensures source { self.new.source.now ≡ self.old.source.now }
         ensures text { self.new.text.now ≡ self.old.text.now }

@@ -24,7 +24,8 @@ impl<'p, S: Drop, T: Texts<S>> Parser<'p, S, T> {
     #[cycle(parser)]
     pub fn get_pattern(&mut self) -> Result<Option<Pattern<S>>, Fault>
         requires { T.text self.old.source.now ≡ self.old.text.now }
-        ensures gives { Gives (option_map (pattern_view S T.text)) self.new.rest.now result (pattern_by self.old.rest.now) }
+        ensures gives { Gives (option_map (pattern_view S T.text)) self.new.rest.now result
+            (pattern_by self.old.rest.now) }
         ensures source { self.new.source.now ≡ self.old.source.now }
         ensures text { self.new.text.now ≡ self.old.text.now }
         ensures onward { length self.new.rest.now ≤ length self.old.rest.now }
@@ -41,7 +42,9 @@ impl<'p, S: Drop, T: Texts<S>> Parser<'p, S, T> {
 
     /// Passes over the blank before a pattern, and says whether its first piece begins a line.
     fn skip_to_pattern(&mut self) -> bool
-        ensures place { (result, self.new.rest.now) ≡ first_place (w.skip_spaces self.old.rest.now) (w.after_line_end (w.skip_spaces self.old.rest.now)) }
+        ensures place { (result, self.new.rest.now)
+            ≡ first_place (w.skip_spaces self.old.rest.now)
+            (w.after_line_end (w.skip_spaces self.old.rest.now)) }
         ensures source { self.new.source.now ≡ self.old.source.now }
         ensures text { self.new.text.now ≡ self.old.text.now }
         ensures onward { length self.new.rest.now ≤ length self.old.rest.now }
@@ -59,9 +62,11 @@ impl<'p, S: Drop, T: Texts<S>> Parser<'p, S, T> {
     #[tactic(auto, using(crate::proofs::Failing::handed, fluent_words::proofs::Counted::cuts), unfolding(crate::specs::Steps::piece_by))]
     fn get_piece(&mut self, at_line_start: bool) -> Result<Option<(Piece<S>, bool)>, Fault>
         requires { T.text self.old.source.now ≡ self.old.text.now }
-        ensures gives { Gives (option_map (step_view S T.text)) self.new.rest.now result (piece_by at_line_start self.old.rest.now) }
+        ensures gives { Gives (option_map (step_view S T.text)) self.new.rest.now result
+            (piece_by at_line_start self.old.rest.now) }
         ensures right { IfOk result (λ found. IfSome found (λ p. IsPiece S T.text p.0)) }
-        ensures less { IfOk result (λ found. IfSome found (λ p. length self.new.rest.now < length self.old.rest.now)) }
+        ensures less { IfOk result (λ found. IfSome found
+            (λ p. length self.new.rest.now < length self.old.rest.now)) }
         ensures source { self.new.source.now ≡ self.old.source.now }
         ensures text { self.new.text.now ≡ self.old.text.now }
         ensures onward { length self.new.rest.now ≤ length self.old.rest.now }
@@ -87,9 +92,11 @@ impl<'p, S: Drop, T: Texts<S>> Parser<'p, S, T> {
     ) -> Result<Option<(Piece<S>, bool)>, Fault>
         requires tied { T.text self.old.source.now ≡ self.old.text.now }
         requires indent { indent ≡ indent_at at_line_start self.old.rest.now }
-        ensures gives { Gives (option_map (step_view S T.text)) self.new.rest.now result (piece_behind at_line_start indent (drop indent self.old.rest.now)) }
+        ensures gives { Gives (option_map (step_view S T.text)) self.new.rest.now result
+            (piece_behind at_line_start indent (drop indent self.old.rest.now)) }
         ensures right { IfOk result (λ found. IfSome found (λ p. IsPiece S T.text p.0)) }
-        ensures less { IfOk result (λ found. IfSome found (λ p. length self.new.rest.now < length self.old.rest.now)) }
+        ensures less { IfOk result (λ found. IfSome found
+            (λ p. length self.new.rest.now < length self.old.rest.now)) }
         ensures source { self.new.source.now ≡ self.old.source.now }
         ensures text { self.new.text.now ≡ self.old.text.now }
         ensures onward { length self.new.rest.now ≤ length self.old.rest.now }
@@ -127,8 +134,10 @@ impl<'p, S: Drop, T: Texts<S>> Parser<'p, S, T> {
         requires tied { T.text self.old.source.now ≡ self.old.text.now }
         requires indent { indent ≡ indent_at at_line_start self.old.rest.now }
         requires some { IsTextStart (drop indent self.old.rest.now) }
-        ensures gives { Gives (option_map (step_view S T.text)) self.new.rest.now result (text_step at_line_start indent (drop indent self.old.rest.now)) }
-        ensures less { IfOk result (λ found. IfSome found (λ p. length self.new.rest.now < length self.old.rest.now)) }
+        ensures gives { Gives (option_map (step_view S T.text)) self.new.rest.now result
+            (text_step at_line_start indent (drop indent self.old.rest.now)) }
+        ensures less { IfOk result (λ found. IfSome found
+            (λ p. length self.new.rest.now < length self.old.rest.now)) }
         ensures right { IfOk result (λ found. IfSome found (λ p. IsPiece S T.text p.0)) }
         ensures source { self.new.source.now ≡ self.old.source.now }
         ensures text { self.new.text.now ≡ self.old.text.now }

@@ -99,7 +99,8 @@ pub fn indent_of<S: Drop, T: Texts<S>>(texts: &T, piece: &Piece<S>) -> Option<us
 pub fn kept_len<S: Drop, T: Texts<S>>(texts: &T, pieces: &[Piece<S>]) -> usize
     requires { All (IsPiece S T.text) pieces.now }
     ensures within { result ≤ length pieces.now }
-    ensures kept { take result (map (piece_view S T.text) pieces.now) ≡ l.without_blank_end (map (piece_view S T.text) pieces.now) }
+    ensures kept { take result (map (piece_view S T.text) pieces.now)
+        ≡ l.without_blank_end (map (piece_view S T.text) pieces.now) }
 {
     let mut kept = pieces.len();
     while kept > 0 && is_blank(texts, &pieces[kept - 1]) {

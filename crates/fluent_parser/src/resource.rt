@@ -19,8 +19,11 @@ impl<'p, S: Drop, T: Texts<S>> Parser<'p, S, T> {
     /// All parts that are left, with their comments.
     pub fn get_parts(&mut self) -> Result<Collected<S>, AllocError>
         requires { T.text self.old.source.now ≡ self.old.text.now }
-        ensures entries { IfOk result (λ all. entries_with S T.text all [] ≡ entries_of None (pieces_left (length self.old.text.now) self.old.rest.now)) }
-        ensures errors { IfOk result (λ all. errors_with S all [] ≡ map error_told (errors_of (pieces_left (length self.old.text.now) self.old.rest.now))) }
+        ensures entries { IfOk result (λ all. entries_with S T.text all []
+            ≡ entries_of None (pieces_left (length self.old.text.now) self.old.rest.now)) }
+        ensures errors { IfOk result (λ all. errors_with S all []
+            ≡ map error_told (errors_of (pieces_left (length self.old.text.now)
+            self.old.rest.now))) }
     {
         let mut collected = Collected::new(self.alloc);
         'parts: loop {
@@ -37,8 +40,11 @@ impl<'p, S: Drop, T: Texts<S>> Parser<'p, S, T> {
     /// whatever follows.
     pub fn get_runtime_parts(&mut self) -> Result<Collected<S>, AllocError>
         requires { T.text self.old.source.now ≡ self.old.text.now }
-        ensures entries { IfOk result (λ all. entries_with S T.text all [] ≡ entries_of None (runtime_left (length self.old.text.now) self.old.rest.now)) }
-        ensures errors { IfOk result (λ all. errors_with S all [] ≡ map error_told (errors_of (runtime_left (length self.old.text.now) self.old.rest.now))) }
+        ensures entries { IfOk result (λ all. entries_with S T.text all []
+            ≡ entries_of None (runtime_left (length self.old.text.now) self.old.rest.now)) }
+        ensures errors { IfOk result (λ all. errors_with S all []
+            ≡ map error_told (errors_of (runtime_left (length self.old.text.now)
+            self.old.rest.now))) }
     {
         let mut collected = Collected::new(self.alloc);
         'parts: loop {

@@ -41,7 +41,8 @@ impl<'p, S: Drop, T: Texts<S>> Parser<'p, S, T> {
     #[tactic(auto, using(fluent_words::proofs::Counted::cuts), unfolding(fluent_grammar::specs::Reading::identifier_at))]
     pub fn get_identifier(&mut self) -> Result<Identifier<S>, Fault>
         requires { T.text self.old.source.now ≡ self.old.text.now }
-        ensures gives { Gives (name_of S T.text) self.new.rest.now result (identifier_at self.old.rest.now) }
+        ensures gives { Gives (name_of S T.text) self.new.rest.now result
+            (identifier_at self.old.rest.now) }
         ensures source { self.new.source.now ≡ self.old.source.now }
         ensures text { self.new.text.now ≡ self.old.text.now }
         ensures onward { length self.new.rest.now ≤ length self.old.rest.now }
@@ -112,7 +113,8 @@ impl<'p, S: Drop, T: Texts<S>> Parser<'p, S, T> {
     /// The refusal of what stands behind a backslash: a character, or a space at the end.
     fn unknown_escape(&self) -> Fault
         requires { w.begins_with w.backslash self.now.rest.now ≡ true }
-        ensures { Tells result (r.unknown_escape_sequence (character_or_space (drop 1 self.now.rest.now))) }
+        ensures { Tells result (r.unknown_escape_sequence
+            (character_or_space (drop 1 self.now.rest.now))) }
     {
         let escape = behind(self.rest(), 1);
         let text = if escape.is_empty() {
@@ -129,7 +131,8 @@ impl<'p, S: Drop, T: Texts<S>> Parser<'p, S, T> {
     /// The refusal of an escape with too few hex digits, which are shown with the character behind them.
     fn missing_digit(&self, digits: usize) -> Fault
         requires { digits ≡ prefix_len w.is_hex_digit self.now.rest.now }
-        ensures { Tells result (r.invalid_unicode_escape_sequence (take digits self.now.rest.now ++ first_char (drop digits self.now.rest.now))) }
+        ensures { Tells result (r.invalid_unicode_escape_sequence
+            (take digits self.now.rest.now ++ first_char (drop digits self.now.rest.now))) }
     {
         match String::from_str(self.alloc, with_next_char(self.rest(), digits)) {
             Ok(text) => Fault::Refused(ErrorKind::InvalidUnicodeEscapeSequence(text)),

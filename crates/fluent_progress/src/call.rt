@@ -22,7 +22,10 @@ impl<'b, 'r, 's, 'a, C: FluentType, F, E: Context<C, F>> Place<'b, 'r, 's, 'a, C
         positional: &[FluentValue<'v, C>],
         named: &FluentArgs<'n, C>,
     ) -> Result<Option<FluentValue<'v, C>>, AllocError>
-        ensures { IfOk result (λ value. option_map (value_view C.meaning) value ≡ function_result (resolved_in E.environment self.now) (find (ids_view F self.now.ids.now) id.now) (map (value_view C.meaning) positional.now) (args_view C.meaning named.now)) }
+        ensures { IfOk result (λ value. option_map (value_view C.meaning) value
+            ≡ function_result (resolved_in E.environment self.now)
+            (find (ids_view F self.now.ids.now) id.now) (map (value_view C.meaning) positional.now)
+            (args_view C.meaning named.now)) }
     {
         let function = match self.ids.get(id) {
             Some(Entry::Function(function)) => FunctionRef::Own(function),

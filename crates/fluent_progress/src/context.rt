@@ -31,12 +31,15 @@ pub trait Context<C: FluentType, F>: ValueScope<C> {
         positional: &[FluentValue<'a, C>],
         named: &FluentArgs<'n, C>,
     ) -> Result<FluentValue<'a, C>, AllocError>
-        ensures { IfOk result (λ value. value_view C.meaning value ≡ result_of (environment self.now).call (function_meaning F function.now) (map (value_view C.meaning) positional.now) (args_view C.meaning named.now)) };
+        ensures { IfOk result (λ value. value_view C.meaning value
+            ≡ result_of (environment self.now).call (function_meaning F function.now)
+            (map (value_view C.meaning) positional.now) (args_view C.meaning named.now)) };
 
     /// What becomes of a text of a pattern. Where no transform is set it is the text itself, borrowed, which takes no memory and
     /// succeeds. The only error is that memory runs out.
     fn transform<'t>(&self, text: &'t str) -> Result<CowStr<'t>, AllocError>
-        ensures text { IfOk result (λ new. cow_str_bytes new ≡ (environment self.now).transformed text.now) }
+        ensures text { IfOk result (λ new. cow_str_bytes new
+            ≡ (environment self.now).transformed text.now) }
         ensures borrowed { has_transform self.now ≡ false → IsOkAnd result IsBorrowedStr };
 
     /// Whether placeables stand between isolation marks.
@@ -44,7 +47,8 @@ pub trait Context<C: FluentType, F>: ValueScope<C> {
         ensures { result ≡ (environment self.now).isolating };
 
     /// A value is shown as its text.
-    ghost shows: { (x : Self) (v : Value C.Meaning) → value_text (environment x) v ≡ shown_text (Self.formatted x) (Self.shown x) v };
+    ghost shows: { (x : Self) (v : Value C.Meaning)
+        → value_text (environment x) v ≡ shown_text (Self.formatted x) (Self.shown x) v };
 
     /// Variants are chosen by the plural source.
     ghost chooses: { (x : Self) → (environment x).plurals ≡ Self.plurals x };

@@ -18,7 +18,8 @@ use std::alloc::AllocError;
 /// Writes the fallback of an expression. The only error is that memory runs out.
 #[cycle(fallbacks)]
 fn write_fallback(out: &mut String, expression: &Expression<&str>) -> Result<(), AllocError>
-    ensures { OnOk result (string_bytes out.new ≡ string_bytes out.old ++ fallback (expression_view _ (λ s. s.now) expression.now)) }
+    ensures { OnOk result (string_bytes out.new ≡ string_bytes out.old
+        ++ fallback (expression_view _ (λ s. s.now) expression.now)) }
 {
     match expression {
         Expression::Select {
@@ -35,7 +36,8 @@ fn write_inline_fallback(
     out: &mut String,
     inline: &InlineExpression<&str>,
 ) -> Result<(), AllocError>
-    ensures { OnOk result (string_bytes out.new ≡ string_bytes out.old ++ inline_fallback (inline_view _ (λ s. s.now) inline.now)) }
+    ensures { OnOk result (string_bytes out.new ≡ string_bytes out.old
+        ++ inline_fallback (inline_view _ (λ s. s.now) inline.now)) }
 {
     match inline {
         InlineExpression::StringLiteral { value } => {
@@ -89,7 +91,8 @@ fn write_inline_fallback(
 
 /// Writes the fallback of an expression in braces. The only error is that memory runs out.
 pub fn write_braced(out: &mut String, expression: &Expression<&str>) -> Result<(), AllocError>
-    ensures { OnOk result (string_bytes out.new ≡ string_bytes out.old ++ braced (fallback (expression_view _ (λ s. s.now) expression.now))) }
+    ensures { OnOk result (string_bytes out.new ≡ string_bytes out.old
+        ++ braced (fallback (expression_view _ (λ s. s.now) expression.now))) }
 {
     out.push_str("{")?;
     write_fallback(out, expression)?;
@@ -101,7 +104,8 @@ pub fn write_inline_braced(
     out: &mut String,
     inline: &InlineExpression<&str>,
 ) -> Result<(), AllocError>
-    ensures { OnOk result (string_bytes out.new ≡ string_bytes out.old ++ braced (inline_fallback (inline_view _ (λ s. s.now) inline.now))) }
+    ensures { OnOk result (string_bytes out.new ≡ string_bytes out.old
+        ++ braced (inline_fallback (inline_view _ (λ s. s.now) inline.now))) }
 {
     out.push_str("{")?;
     write_inline_fallback(out, inline)?;
@@ -117,8 +121,12 @@ pub fn fall_back(
     error: ResolverError,
 ) -> Result<(), AllocError>
     requires { times_too_many (resolver_view error ∷ []) ≡ 0 }
-    ensures wrote { OnOk result (Writes (string_bytes out.old) (string_bytes out.new) (state progress.old) (state progress.new) (faulty (braced (inline_fallback (inline_view _ (λ s. s.now) inline.now))) (resolver_view error))) }
-    ensures refused { OnErr result (TellsSome (state progress.old) (state progress.new) (faulty (braced (inline_fallback (inline_view _ (λ s. s.now) inline.now))) (resolver_view error) (state progress.old).budget)) }
+    ensures wrote { OnOk result (Writes (string_bytes out.old) (string_bytes out.new)
+        (state progress.old) (state progress.new) (faulty
+        (braced (inline_fallback (inline_view _ (λ s. s.now) inline.now))) (resolver_view error))) }
+    ensures refused { OnErr result (TellsSome (state progress.old) (state progress.new)
+        (faulty (braced (inline_fallback (inline_view _ (λ s. s.now) inline.now)))
+        (resolver_view error) (state progress.old).budget)) }
     ensures path { progress.new.path ≡ progress.old.path }
 {
     progress.add_error(error)?;

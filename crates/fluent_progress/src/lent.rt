@@ -39,7 +39,8 @@ where
 {
     ghost has_formatter = { λ lent. is_some lent.formatter };
 
-    ghost formatted = { λ lent. formatted_by (λ g. G.formats g.now) lent.plurals.now lent.formatter };
+    ghost formatted = { λ lent. formatted_by (λ g. G.formats g.now) lent.plurals.now
+        lent.formatter };
 
     ghost plurals = { λ lent. M.category_of lent.plurals.now };
 
@@ -73,7 +74,8 @@ where
     G: ValueFormatter<C, M>,
     T: TextTransform,
 {
-    ghost environment = { lent_view C.text F.gives G.formats M.category_of M.stringified T.transformed };
+    ghost environment = { lent_view C.text F.gives G.formats M.category_of M.stringified
+        T.transformed };
 
     ghost has_transform = { λ lent. is_some lent.transform };
 

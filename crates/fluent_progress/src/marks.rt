@@ -50,14 +50,16 @@ pub fn is_isolated<C: FluentType, F, E: Context<C, F>>(
     whole: &Pattern<&str>,
     expression: &Expression<&str>,
 ) -> bool
-    ensures { result ≡ is_isolated (E.environment context.now) (pattern_view _ (λ s. s.now) whole.now) (expression_view _ (λ s. s.now) expression.now) }
+    ensures { result ≡ is_isolated (E.environment context.now)
+        (pattern_view _ (λ s. s.now) whole.now) (expression_view _ (λ s. s.now) expression.now) }
 {
     context.is_isolating() && has_several(whole) && !is_bare(expression)
 }
 
 /// Writes the mark before an isolated placeable. The only error is that memory runs out.
 pub fn write_front(out: &mut String, is_isolated: bool) -> Result<(), AllocError>
-    ensures { OnOk result (string_bytes out.new ≡ string_bytes out.old ++ (if is_isolated then encode_utf8 0x2068 else [])) }
+    ensures { OnOk result (string_bytes out.new ≡ string_bytes out.old
+        ++ (if is_isolated then encode_utf8 0x2068 else [])) }
 {
     if is_isolated {
         out.push_str("\u{2068}")?;
@@ -67,7 +69,8 @@ pub fn write_front(out: &mut String, is_isolated: bool) -> Result<(), AllocError
 
 /// Writes the mark behind an isolated placeable. The only error is that memory runs out.
 pub fn write_back(out: &mut String, is_isolated: bool) -> Result<(), AllocError>
-    ensures { OnOk result (string_bytes out.new ≡ string_bytes out.old ++ (if is_isolated then encode_utf8 0x2069 else [])) }
+    ensures { OnOk result (string_bytes out.new ≡ string_bytes out.old
+        ++ (if is_isolated then encode_utf8 0x2069 else [])) }
 {
     if is_isolated {
         out.push_str("\u{2069}")?;
@@ -81,7 +84,9 @@ pub fn close(
     progress: &Progress<'_, '_>,
     expression: &Expression<&str>,
 ) -> Result<(), AllocError>
-    ensures { OnOk result (string_bytes out.new ≡ string_bytes out.old ++ (if is_shut (state progress.now).budget then braced (fallback (expression_view _ (λ s. s.now) expression.now)) else [])) }
+    ensures { OnOk result (string_bytes out.new ≡ string_bytes out.old
+        ++ (if is_shut (state progress.now).budget then braced
+        (fallback (expression_view _ (λ s. s.now) expression.now)) else [])) }
 {
     if progress.dirty {
         write_braced(out, expression)?;

@@ -27,7 +27,8 @@ impl<'r, 's> Progress<'r, 's> {
 
     /// Puts a pattern on the path. The only error is that memory runs out; nothing has changed then.
     pub fn enter_path(&mut self, pattern: &'r Pattern<&'s str>) -> Result<(), AllocError>
-        ensures path { OnOk result (self.new.path.items ≡ self.old.path.items ++ pattern.entry ∷ []) }
+        ensures path { OnOk result (self.new.path.items
+            ≡ self.old.path.items ++ pattern.entry ∷ []) }
         ensures state { state self.new ≡ state self.old }
     {
         self.path.push(pattern)?;
@@ -37,7 +38,8 @@ impl<'r, 's> Progress<'r, 's> {
     /// Puts a pattern on the path where it is empty, and answers whether it was. The only error is that memory runs out; nothing has
     /// changed then.
     pub fn enter_root(&mut self, whole: &'r Pattern<&'s str>) -> Result<bool, AllocError>
-        ensures path { OnOk result (path_of self.new ≡ rooted_path (pattern_view _ (λ s. s.now) whole.now) (path_of self.old)) }
+        ensures path { OnOk result (path_of self.new
+            ≡ rooted_path (pattern_view _ (λ s. s.now) whole.now) (path_of self.old)) }
         ensures before { IfOk result (λ is_root. path_left is_root self.new ≡ self.old.path.items) }
         ensures state { state self.new ≡ state self.old }
     {
@@ -60,7 +62,8 @@ impl<'r, 's> Progress<'r, 's> {
 
     /// Takes the last pattern off the path.
     pub fn leave_path(&mut self)
-        ensures path { self.new.path.items ≡ take (length self.old.path.items - 1) self.old.path.items }
+        ensures path { self.new.path.items ≡ take (length self.old.path.items - 1)
+            self.old.path.items }
         ensures state { state self.new ≡ state self.old }
     {
         self.path.pop();

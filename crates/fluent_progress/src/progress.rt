@@ -54,7 +54,8 @@ impl Progress<'_, '_> {
 
     /// Tells an error, where errors are wanted. The only error of the call is that memory runs out; nothing is told then.
     pub fn add_error(&mut self, error: ResolverError) -> Result<(), AllocError>
-        ensures told { OnOk result (state self.new ≡ with_error (resolver_view error) (state self.old)) }
+        ensures told { OnOk result (state self.new
+            ≡ with_error (resolver_view error) (state self.old)) }
         ensures refused { OnErr result (state self.new ≡ state self.old) }
         ensures path { self.new.path ≡ self.old.path }
     {
@@ -66,7 +67,8 @@ impl Progress<'_, '_> {
 
     /// Counts a pattern that is entered.
     pub fn count_entry(&mut self)
-        ensures counted { state self.new ≡ after (state self.old) (entering (done true (state self.old).budget)) }
+        ensures counted { state self.new ≡ after (state self.old)
+            (entering (done true (state self.old).budget)) }
         ensures path { self.new.path ≡ self.old.path }
     {
         self.entered = self.entered.saturating_add(1);
@@ -76,7 +78,8 @@ impl Progress<'_, '_> {
     /// nothing is counted or told then.
     pub fn open_placeable(&mut self) -> Result<bool, AllocError>
         requires { self.now.dirty ≡ false }
-        ensures opens { IfOk result (λ is_open. Finds is_open (state self.old) (state self.new) opens) }
+        ensures opens { IfOk result (λ is_open. Finds is_open (state self.old) (state self.new)
+            opens) }
         ensures refused { OnErr result (state self.new ≡ state self.old) }
         ensures path { self.new.path ≡ self.old.path }
     {

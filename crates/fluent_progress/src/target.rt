@@ -32,7 +32,8 @@ fn attribute_named<'r, 's>(
     attributes: &'r [Attribute<&'s str>],
     name: &str,
 ) -> Option<&'r Pattern<&'s str>>
-    ensures { option_map (pattern_view _ (λ s. s.now)) (option_copied result) ≡ ids.attribute_named name.now (map (attribute_view _ (λ s. s.now)) attributes.now) }
+    ensures { option_map (pattern_view _ (λ s. s.now)) (option_copied result)
+        ≡ ids.attribute_named name.now (map (attribute_view _ (λ s. s.now)) attributes.now) }
 {
     for attribute in attributes {
         if attribute.id.name == name {
@@ -44,7 +45,8 @@ fn attribute_named<'r, 's>(
 
 /// A copy of a name, if there is one.
 fn copied(alloc: Global, name: &Option<Identifier<&str>>) -> Result<Option<String>, AllocError>
-    ensures { IfOk result (λ copy. option_map string_bytes copy ≡ option_map (name_of _ (λ s. s.now)) name.now) }
+    ensures { IfOk result (λ copy. option_map string_bytes copy
+        ≡ option_map (name_of _ (λ s. s.now)) name.now) }
 {
     match name {
         Some(name) => Ok(Some(String::from_str(alloc, name.name)?)),
@@ -58,7 +60,9 @@ fn unknown_message(
     id: &Identifier<&str>,
     attribute: &Option<Identifier<&str>>,
 ) -> Result<ReferenceKind, AllocError>
-    ensures { IfOk result (λ kind. reference_view kind ≡ e.to_message (name_of _ (λ s. s.now) id.now) (option_map (name_of _ (λ s. s.now)) attribute.now)) }
+    ensures { IfOk result (λ kind. reference_view kind
+        ≡ e.to_message (name_of _ (λ s. s.now) id.now)
+        (option_map (name_of _ (λ s. s.now)) attribute.now)) }
 {
     let attribute = copied(alloc, attribute)?;
     Ok(ReferenceKind::Message {
@@ -73,7 +77,9 @@ fn unknown_term(
     id: &Identifier<&str>,
     attribute: &Option<Identifier<&str>>,
 ) -> Result<ReferenceKind, AllocError>
-    ensures { IfOk result (λ kind. reference_view kind ≡ e.to_term (name_of _ (λ s. s.now) id.now) (option_map (name_of _ (λ s. s.now)) attribute.now)) }
+    ensures { IfOk result (λ kind. reference_view kind
+        ≡ e.to_term (name_of _ (λ s. s.now) id.now)
+        (option_map (name_of _ (λ s. s.now)) attribute.now)) }
 {
     let attribute = copied(alloc, attribute)?;
     Ok(ReferenceKind::Term {
@@ -89,7 +95,10 @@ impl<'b, 'r, 's, 'a, C: FluentType, F, E: Context<C, F>> Place<'b, 'r, 's, 'a, C
         id: &Identifier<&str>,
         attribute: &Option<Identifier<&str>>,
     ) -> Result<Target<'r, 's>, AllocError>
-        ensures { IfOk result (λ target. target_view target ≡ s.message_target (name_of _ (λ s. s.now) id.now) (option_map (name_of _ (λ s. s.now)) attribute.now) (ids.find (ids_view F self.now.ids.now) (name_of _ (λ s. s.now) id.now))) }
+        ensures { IfOk result (λ target. target_view target
+            ≡ s.message_target (name_of _ (λ s. s.now) id.now)
+            (option_map (name_of _ (λ s. s.now)) attribute.now)
+            (ids.find (ids_view F self.now.ids.now) (name_of _ (λ s. s.now) id.now))) }
     {
         let alloc = self.context.alloc();
         let Some(Entry::Message((_, message))) = self.ids.get(id.name) else {
@@ -112,7 +121,10 @@ impl<'b, 'r, 's, 'a, C: FluentType, F, E: Context<C, F>> Place<'b, 'r, 's, 'a, C
         id: &Identifier<&str>,
         attribute: &Option<Identifier<&str>>,
     ) -> Result<Target<'r, 's>, AllocError>
-        ensures { IfOk result (λ target. target_view target ≡ s.term_target (name_of _ (λ s. s.now) id.now) (option_map (name_of _ (λ s. s.now)) attribute.now) (ids.find (ids_view F self.now.ids.now) (name_of _ (λ s. s.now) id.now))) }
+        ensures { IfOk result (λ target. target_view target
+            ≡ s.term_target (name_of _ (λ s. s.now) id.now)
+            (option_map (name_of _ (λ s. s.now)) attribute.now)
+            (ids.find (ids_view F self.now.ids.now) (name_of _ (λ s. s.now) id.now))) }
     {
         let alloc = self.context.alloc();
         let Some(Entry::Term((_, term))) = self.ids.get(id.name) else {

@@ -16,7 +16,8 @@ pub fn write_text<C: FluentType, F, E: Context<C, F>>(
     context: &E,
     text: &str,
 ) -> Result<(), AllocError>
-    ensures { OnOk result (string_bytes out.new ≡ string_bytes out.old ++ (E.environment context.now).transformed text.now) }
+    ensures { OnOk result (string_bytes out.new ≡ string_bytes out.old
+        ++ (E.environment context.now).transformed text.now) }
 {
     let text = context.transform(text)?;
     out.push_str(text.as_str())

@@ -17,7 +17,8 @@ pub fn write_value<C: FluentType, F, E: Context<C, F>>(
     context: &E,
     value: &FluentValue<'_, C>,
 ) -> Result<(), AllocError>
-    ensures { OnOk result (string_bytes out.new ≡ string_bytes out.old ++ value_text (E.environment context.now) (value_view C.meaning value.now)) }
+    ensures { OnOk result (string_bytes out.new ≡ string_bytes out.old
+        ++ value_text (E.environment context.now) (value_view C.meaning value.now)) }
 {
     match value.write(out, context) {
         Ok(()) => Ok(()),
@@ -31,7 +32,8 @@ pub fn write_number<C: FluentType + Drop, F, E: Context<C, F>>(
     context: &E,
     digits: &str,
 ) -> Result<(), AllocError>
-    ensures { OnOk result (string_bytes out.new ≡ string_bytes out.old ++ value_text (E.environment context.now) (number_or_text digits.now)) }
+    ensures { OnOk result (string_bytes out.new ≡ string_bytes out.old
+        ++ value_text (E.environment context.now) (number_or_text digits.now)) }
 {
     let value: FluentValue<'_, C> = FluentValue::try_number(digits);
     write_value(out, context, &value)
@@ -44,7 +46,9 @@ pub fn write_result<C: FluentType, F, E: Context<C, F>>(
     id: &str,
     value: &FluentValue<'_, C>,
 ) -> Result<(), AllocError>
-    ensures { OnOk result (string_bytes out.new ≡ string_bytes out.old ++ (result_written (E.environment context.now) id.now (value_view C.meaning value.now) (may_open 0)).value) }
+    ensures { OnOk result (string_bytes out.new ≡ string_bytes out.old
+        ++ (result_written (E.environment context.now) id.now (value_view C.meaning value.now)
+        (may_open 0)).value) }
 {
     if let FluentValue::Error = value {
         out.push_str(id)?;

@@ -25,7 +25,8 @@ use std::alloc::{AllocError, Global};
 
 /// Writes the name of a variable in braces.
 fn write_name(out: &mut String, id: &str) -> Result<(), AllocError>
-    ensures { OnOk result (string_bytes out.new ≡ string_bytes out.old ++ braced (dollar ∷ id.now)) }
+    ensures { OnOk result (string_bytes out.new ≡ string_bytes out.old
+        ++ braced (dollar ∷ id.now)) }
 {
     out.push_str("{$")?;
     out.push_str(id)?;
@@ -40,8 +41,11 @@ fn write_argument<C: FluentType, F, E: Context<C, F>>(
     arguments: &FluentArgs<'_, C>,
     id: &str,
 ) -> Result<bool, AllocError>
-    ensures given { IfOk result (λ is_given. is_given ≡ is_some (argument id.now (args_view C.meaning arguments.now))) }
-    ensures wrote { OnOk result (string_bytes out.new ≡ string_bytes out.old ++ given_text (value_text (E.environment context.now)) (argument id.now (args_view C.meaning arguments.now))) }
+    ensures given { IfOk result (λ is_given. is_given
+        ≡ is_some (argument id.now (args_view C.meaning arguments.now))) }
+    ensures wrote { OnOk result (string_bytes out.new
+        ≡ string_bytes out.old ++ given_text (value_text (E.environment context.now))
+        (argument id.now (args_view C.meaning arguments.now))) }
 {
     match arguments.get(id) {
         Some(value) => {
@@ -58,7 +62,8 @@ fn copied<'v, C: FluentType>(
     arguments: &FluentArgs<'v, C>,
     id: &str,
 ) -> Result<Option<FluentValue<'v, C>>, AllocError>
-    ensures { IfOk result (λ copy. option_map (value_view C.meaning) copy ≡ argument id.now (args_view C.meaning arguments.now)) }
+    ensures { IfOk result (λ copy. option_map (value_view C.meaning) copy
+        ≡ argument id.now (args_view C.meaning arguments.now)) }
 {
     match arguments.get(id) {
         Some(value) => Ok(Some(value.try_clone(alloc)?)),
@@ -72,7 +77,8 @@ fn owned<'v, C: FluentType>(
     arguments: &FluentArgs<'_, C>,
     id: &str,
 ) -> Result<Option<FluentValue<'v, C>>, AllocError>
-    ensures { IfOk result (λ copy. option_map (value_view C.meaning) copy ≡ argument id.now (args_view C.meaning arguments.now)) }
+    ensures { IfOk result (λ copy. option_map (value_view C.meaning) copy
+        ≡ argument id.now (args_view C.meaning arguments.now)) }
 {
     match arguments.get(id) {
         Some(value) => Ok(Some(value.into_owned(alloc)?)),
@@ -89,8 +95,13 @@ impl<'b, 'r, 's, 'a, C: FluentType, F, E: Context<C, F>> Place<'b, 'r, 's, 'a, C
         locals: Option<&FluentArgs<'s, C>>,
         id: &str,
     ) -> Result<bool, AllocError>
-        ensures given { IfOk result (λ is_given. is_given ≡ is_some (argument id.now (s.locals_or (args_or_none C.meaning (given_args C.meaning self.now.arguments)) (given_args C.meaning locals.entry)))) }
-        ensures wrote { OnOk result (string_bytes out.new ≡ string_bytes out.old ++ given_text (value_text (E.environment self.now.context.now)) (argument id.now (s.locals_or (args_or_none C.meaning (given_args C.meaning self.now.arguments)) (given_args C.meaning locals.entry)))) }
+        ensures given { IfOk result (λ is_given. is_given
+            ≡ is_some (argument id.now (s.locals_or (args_or_none C.meaning
+            (given_args C.meaning self.now.arguments)) (given_args C.meaning locals.entry)))) }
+        ensures wrote { OnOk result (string_bytes out.new
+            ≡ string_bytes out.old ++ given_text (value_text (E.environment self.now.context.now))
+            (argument id.now (s.locals_or (args_or_none C.meaning
+            (given_args C.meaning self.now.arguments)) (given_args C.meaning locals.entry)))) }
     {
         match (locals, self.arguments) {
             (Some(locals), _) => write_argument(out, self.context, locals, id),
@@ -106,7 +117,9 @@ impl<'b, 'r, 's, 'a, C: FluentType, F, E: Context<C, F>> Place<'b, 'r, 's, 'a, C
         locals: Option<&FluentArgs<'s, C>>,
         id: &str,
     ) -> Result<Option<FluentValue<'s, C>>, AllocError>
-        ensures { IfOk result (λ copy. option_map (value_view C.meaning) copy ≡ argument id.now (s.locals_or (args_or_none C.meaning (given_args C.meaning self.now.arguments)) (given_args C.meaning locals.entry))) }
+        ensures { IfOk result (λ copy. option_map (value_view C.meaning) copy
+            ≡ argument id.now (s.locals_or (args_or_none C.meaning
+            (given_args C.meaning self.now.arguments)) (given_args C.meaning locals.entry))) }
     {
         let alloc = self.context.alloc();
         match (locals, self.arguments) {
@@ -123,7 +136,10 @@ impl<'b, 'r, 's, 'a, C: FluentType, F, E: Context<C, F>> Place<'b, 'r, 's, 'a, C
         progress: &mut Progress<'r, 's>,
         id: &str,
     ) -> Result<(), AllocError>
-        ensures told { OnOk result (state progress.new ≡ after (state progress.old) (s.missing_variable (resolved_in E.environment self.now) true id.now (place_view C.meaning self.now locals.entry progress.old) (state progress.old).budget)) }
+        ensures told { OnOk result (state progress.new
+            ≡ after (state progress.old) (s.missing_variable (resolved_in E.environment self.now)
+            true id.now (place_view C.meaning self.now locals.entry progress.old)
+            (state progress.old).budget)) }
         ensures refused { OnErr result (state progress.new ≡ state progress.old) }
         ensures path { progress.new.path ≡ progress.old.path }
     {
@@ -142,8 +158,18 @@ impl<'b, 'r, 's, 'a, C: FluentType, F, E: Context<C, F>> Place<'b, 'r, 's, 'a, C
         progress: &mut Progress<'r, 's>,
         id: &Identifier<&str>,
     ) -> Result<(), AllocError>
-        ensures wrote { OnOk result (Writes (string_bytes out.old) (string_bytes out.new) (state progress.old) (state progress.new) (s.variable_written (resolved_in E.environment self.now) (name_of _ (λ s. s.now) id.now) (s.variable (resolved_in E.environment self.now) (name_of _ (λ s. s.now) id.now) (place_view C.meaning self.now locals.entry progress.old)) (place_view C.meaning self.now locals.entry progress.old))) }
-        ensures refused { OnErr result (TellsSome (state progress.old) (state progress.new) (s.variable_written (resolved_in E.environment self.now) (name_of _ (λ s. s.now) id.now) (s.variable (resolved_in E.environment self.now) (name_of _ (λ s. s.now) id.now) (place_view C.meaning self.now locals.entry progress.old)) (place_view C.meaning self.now locals.entry progress.old) (state progress.old).budget)) }
+        ensures wrote { OnOk result (Writes (string_bytes out.old) (string_bytes out.new)
+            (state progress.old) (state progress.new)
+            (s.variable_written (resolved_in E.environment self.now) (name_of _ (λ s. s.now) id.now)
+            (s.variable (resolved_in E.environment self.now) (name_of _ (λ s. s.now) id.now)
+            (place_view C.meaning self.now locals.entry progress.old))
+            (place_view C.meaning self.now locals.entry progress.old))) }
+        ensures refused { OnErr result (TellsSome (state progress.old) (state progress.new)
+            (s.variable_written (resolved_in E.environment self.now) (name_of _ (λ s. s.now) id.now)
+            (s.variable (resolved_in E.environment self.now) (name_of _ (λ s. s.now) id.now)
+            (place_view C.meaning self.now locals.entry progress.old))
+            (place_view C.meaning self.now locals.entry progress.old)
+            (state progress.old).budget)) }
         ensures path { progress.new.path ≡ progress.old.path }
     {
         if self.write_given(out, locals, id.name)? {
@@ -160,8 +186,18 @@ impl<'b, 'r, 's, 'a, C: FluentType, F, E: Context<C, F>> Place<'b, 'r, 's, 'a, C
         progress: &mut Progress<'r, 's>,
         id: &Identifier<&str>,
     ) -> Result<FluentValue<'s, C>, AllocError>
-        ensures found { IfOk result (λ found. Finds (value_view C.meaning found) (state progress.old) (state progress.new) (s.variable_found (resolved_in E.environment self.now) (name_of _ (λ s. s.now) id.now) (s.variable (resolved_in E.environment self.now) (name_of _ (λ s. s.now) id.now) (place_view C.meaning self.now locals.entry progress.old)) (place_view C.meaning self.now locals.entry progress.old))) }
-        ensures refused { OnErr result (TellsSome (state progress.old) (state progress.new) (s.variable_found (resolved_in E.environment self.now) (name_of _ (λ s. s.now) id.now) (s.variable (resolved_in E.environment self.now) (name_of _ (λ s. s.now) id.now) (place_view C.meaning self.now locals.entry progress.old)) (place_view C.meaning self.now locals.entry progress.old) (state progress.old).budget)) }
+        ensures found { IfOk result (λ found. Finds (value_view C.meaning found)
+            (state progress.old) (state progress.new)
+            (s.variable_found (resolved_in E.environment self.now) (name_of _ (λ s. s.now) id.now)
+            (s.variable (resolved_in E.environment self.now) (name_of _ (λ s. s.now) id.now)
+            (place_view C.meaning self.now locals.entry progress.old))
+            (place_view C.meaning self.now locals.entry progress.old))) }
+        ensures refused { OnErr result (TellsSome (state progress.old) (state progress.new)
+            (s.variable_found (resolved_in E.environment self.now) (name_of _ (λ s. s.now) id.now)
+            (s.variable (resolved_in E.environment self.now) (name_of _ (λ s. s.now) id.now)
+            (place_view C.meaning self.now locals.entry progress.old))
+            (place_view C.meaning self.now locals.entry progress.old)
+            (state progress.old).budget)) }
         ensures path { progress.new.path ≡ progress.old.path }
     {
         match self.variable_copy(locals, id.name)? {

@@ -26,7 +26,9 @@ fn first_match<'r, 's, C: FluentType + Drop, V: ValueScope<C>>(
     value: &FluentValue<'_, C>,
     variants: &'r [Variant<&'s str>],
 ) -> Option<&'r Pattern<&'s str>>
-    ensures { option_map (pattern_view _ (λ s. s.now)) (option_copied result) ≡ first_match (V.plurals scope.now) (value_view C.meaning value.now) (variants_of (map (variant_view _ (λ s. s.now)) variants.now)) }
+    ensures { option_map (pattern_view _ (λ s. s.now)) (option_copied result)
+        ≡ first_match (V.plurals scope.now) (value_view C.meaning value.now)
+        (variants_of (map (variant_view _ (λ s. s.now)) variants.now)) }
 {
     for variant in variants {
         let key: FluentValue<'_, C> = key_value(&variant.key);
@@ -39,7 +41,8 @@ fn first_match<'r, 's, C: FluentType + Drop, V: ValueScope<C>>(
 
 /// The pattern of the first default variant.
 fn first_default<'r, 's>(variants: &'r [Variant<&'s str>]) -> Option<&'r Pattern<&'s str>>
-    ensures { option_map (pattern_view _ (λ s. s.now)) (option_copied result) ≡ first_default (variants_of (map (variant_view _ (λ s. s.now)) variants.now)) }
+    ensures { option_map (pattern_view _ (λ s. s.now)) (option_copied result)
+        ≡ first_default (variants_of (map (variant_view _ (λ s. s.now)) variants.now)) }
 {
     for variant in variants {
         if variant.default {
@@ -55,7 +58,9 @@ pub fn chosen<'r, 's, C: FluentType + Drop, F, E: Context<C, F>>(
     value: &FluentValue<'_, C>,
     variants: &'r [Variant<&'s str>],
 ) -> Option<&'r Pattern<&'s str>>
-    ensures { option_map (pattern_view _ (λ s. s.now)) (option_copied result) ≡ chosen (E.environment context.now).plurals (value_view C.meaning value.now) (variants_of (map (variant_view _ (λ s. s.now)) variants.now)) }
+    ensures { option_map (pattern_view _ (λ s. s.now)) (option_copied result)
+        ≡ chosen (E.environment context.now).plurals (value_view C.meaning value.now)
+        (variants_of (map (variant_view _ (λ s. s.now)) variants.now)) }
 {
     let matched = match value {
         FluentValue::String(_) | FluentValue::Number(_) => first_match(context, value, variants),

@@ -29,8 +29,19 @@ pub(crate) fn call_result<'b, 'r, 's, 'a, C: FluentType + Drop, F, E: Context<C,
     id: &'r Identifier<&'s str>,
     arguments: &'r CallArguments<&'s str>,
 ) -> Result<Option<FluentValue<'s, C>>, AllocError>
-    ensures found { IfOk result (λ found. Finds (option_map (value_view C.meaning) found) (state progress.old) (state progress.new) (λ b. mapped (λ called. function_result (resolved_in E.environment place.now) ((resolved_in E.environment place.now).find (name_of _ (λ s. s.now) id.now)) called.positional called.named) (s.arguments_found (resolved_in E.environment place.now) (t.with_arguments (arguments_view _ (λ s. s.now) arguments.now)) (place_view C.meaning place.now locals.entry progress.old) b))) }
-    ensures refused { OnErr result (TellsSome (state progress.old) (state progress.new) (mapped (λ called. function_result (resolved_in E.environment place.now) ((resolved_in E.environment place.now).find (name_of _ (λ s. s.now) id.now)) called.positional called.named) (s.arguments_found (resolved_in E.environment place.now) (t.with_arguments (arguments_view _ (λ s. s.now) arguments.now)) (place_view C.meaning place.now locals.entry progress.old) (state progress.old).budget))) }
+    ensures found { IfOk result (λ found. Finds (option_map (value_view C.meaning) found)
+        (state progress.old) (state progress.new) (λ b. mapped
+        (λ called. function_result (resolved_in E.environment place.now)
+        ((resolved_in E.environment place.now).find (name_of _ (λ s. s.now) id.now))
+        called.positional called.named) (s.arguments_found (resolved_in E.environment place.now)
+        (t.with_arguments (arguments_view _ (λ s. s.now) arguments.now))
+        (place_view C.meaning place.now locals.entry progress.old) b))) }
+    ensures refused { OnErr result (TellsSome (state progress.old) (state progress.new)
+        (mapped (λ called. function_result (resolved_in E.environment place.now)
+        ((resolved_in E.environment place.now).find (name_of _ (λ s. s.now) id.now))
+        called.positional called.named) (s.arguments_found (resolved_in E.environment place.now)
+        (t.with_arguments (arguments_view _ (λ s. s.now) arguments.now))
+        (place_view C.meaning place.now locals.entry progress.old) (state progress.old).budget))) }
     ensures path { OnOk result (progress.new.path.items ≡ progress.old.path.items) }
 {
     let positional = positional_values(place, locals, progress, &arguments.positional)?;
@@ -46,8 +57,15 @@ pub(crate) fn own_arguments<'b, 'r, 's, 'a, C: FluentType + Drop, F, E: Context<
     progress: &mut Progress<'r, 's>,
     arguments: &'r Option<CallArguments<&'s str>>,
 ) -> Result<FluentArgs<'s, C>, AllocError>
-    ensures found { IfOk result (λ found. Finds (args_view C.meaning found) (state progress.old) (state progress.new) (λ b. mapped (λ called. called.named) (s.arguments_found (resolved_in E.environment place.now) (maybe_arguments (option_map (arguments_view _ (λ s. s.now)) arguments.now)) (place_view C.meaning place.now locals.entry progress.old) b))) }
-    ensures refused { OnErr result (TellsSome (state progress.old) (state progress.new) (mapped (λ called. called.named) (s.arguments_found (resolved_in E.environment place.now) (maybe_arguments (option_map (arguments_view _ (λ s. s.now)) arguments.now)) (place_view C.meaning place.now locals.entry progress.old) (state progress.old).budget))) }
+    ensures found { IfOk result (λ found. Finds (args_view C.meaning found) (state progress.old)
+        (state progress.new) (λ b. mapped (λ called. called.named)
+        (s.arguments_found (resolved_in E.environment place.now)
+        (maybe_arguments (option_map (arguments_view _ (λ s. s.now)) arguments.now))
+        (place_view C.meaning place.now locals.entry progress.old) b))) }
+    ensures refused { OnErr result (TellsSome (state progress.old) (state progress.new)
+        (mapped (λ called. called.named) (s.arguments_found (resolved_in E.environment place.now)
+        (maybe_arguments (option_map (arguments_view _ (λ s. s.now)) arguments.now))
+        (place_view C.meaning place.now locals.entry progress.old) (state progress.old).budget))) }
     ensures path { OnOk result (progress.new.path.items ≡ progress.old.path.items) }
 {
     match arguments {
@@ -67,8 +85,15 @@ pub fn positional_values<'b, 'r, 's, 'a, C: FluentType + Drop, F, E: Context<C, 
     progress: &mut Progress<'r, 's>,
     arguments: &'r Vec<InlineExpression<&'s str>>,
 ) -> Result<Vec<FluentValue<'s, C>>, AllocError>
-    ensures found { IfOk result (λ found. Finds (map (value_view C.meaning) found.items) (state progress.old) (state progress.new) (s.positional_found (resolved_in E.environment place.now) (inlines_of (map (inline_view _ (λ s. s.now)) arguments.now.items)) (place_view C.meaning place.now locals.entry progress.old))) }
-    ensures refused { OnErr result (TellsSome (state progress.old) (state progress.new) ((s.positional_found (resolved_in E.environment place.now) (inlines_of (map (inline_view _ (λ s. s.now)) arguments.now.items)) (place_view C.meaning place.now locals.entry progress.old)) (state progress.old).budget)) }
+    ensures found { IfOk result (λ found. Finds (map (value_view C.meaning) found.items)
+        (state progress.old) (state progress.new) (s.positional_found
+        (resolved_in E.environment place.now) (inlines_of
+        (map (inline_view _ (λ s. s.now)) arguments.now.items))
+        (place_view C.meaning place.now locals.entry progress.old))) }
+    ensures refused { OnErr result (TellsSome (state progress.old) (state progress.new)
+        ((s.positional_found (resolved_in E.environment place.now)
+        (inlines_of (map (inline_view _ (λ s. s.now)) arguments.now.items))
+        (place_view C.meaning place.now locals.entry progress.old)) (state progress.old).budget)) }
     ensures path { OnOk result (progress.new.path.items ≡ progress.old.path.items) }
 {
     let mut values = Vec::with_capacity(place.context.alloc(), arguments.len())?;
@@ -86,8 +111,15 @@ pub fn named_values<'b, 'r, 's, 'a, C: FluentType + Drop, F, E: Context<C, F>>(
     progress: &mut Progress<'r, 's>,
     arguments: &'r Vec<NamedArgument<&'s str>>,
 ) -> Result<FluentArgs<'s, C>, AllocError>
-    ensures found { IfOk result (λ found. Finds (args_view C.meaning found) (state progress.old) (state progress.new) (λ b. mapped (all_set []) (s.named_found (resolved_in E.environment place.now) (nameds_of (map (named_view _ (λ s. s.now)) arguments.now.items)) (place_view C.meaning place.now locals.entry progress.old) b))) }
-    ensures refused { OnErr result (TellsSome (state progress.old) (state progress.new) (mapped (all_set []) (s.named_found (resolved_in E.environment place.now) (nameds_of (map (named_view _ (λ s. s.now)) arguments.now.items)) (place_view C.meaning place.now locals.entry progress.old) (state progress.old).budget))) }
+    ensures found { IfOk result (λ found. Finds (args_view C.meaning found) (state progress.old)
+        (state progress.new) (λ b. mapped (all_set [])
+        (s.named_found (resolved_in E.environment place.now)
+        (nameds_of (map (named_view _ (λ s. s.now)) arguments.now.items))
+        (place_view C.meaning place.now locals.entry progress.old) b))) }
+    ensures refused { OnErr result (TellsSome (state progress.old) (state progress.new)
+        (mapped (all_set []) (s.named_found (resolved_in E.environment place.now)
+        (nameds_of (map (named_view _ (λ s. s.now)) arguments.now.items))
+        (place_view C.meaning place.now locals.entry progress.old) (state progress.old).budget))) }
     ensures path { OnOk result (progress.new.path.items ≡ progress.old.path.items) }
 {
     let mut values = FluentArgs::new(place.context.alloc());

@@ -32,8 +32,14 @@ pub fn write_expression<'b, 'r, 's, 'a, C: FluentType + Drop, F, E: Context<C, F
     progress: &mut Progress<'r, 's>,
     expression: &'r Expression<&'s str>,
 ) -> Result<(), AllocError>
-    ensures wrote { OnOk result (Writes (string_bytes out.old) (string_bytes out.new) (state progress.old) (state progress.new) (s.expression_written (resolved_in E.environment place.now) (expression_view _ (λ s. s.now) expression.now) (place_view C.meaning place.now locals.entry progress.old))) }
-    ensures refused { OnErr result (TellsSome (state progress.old) (state progress.new) (s.expression_written (resolved_in E.environment place.now) (expression_view _ (λ s. s.now) expression.now) (place_view C.meaning place.now locals.entry progress.old) (state progress.old).budget)) }
+    ensures wrote { OnOk result (Writes (string_bytes out.old) (string_bytes out.new)
+        (state progress.old) (state progress.new) (s.expression_written
+        (resolved_in E.environment place.now) (expression_view _ (λ s. s.now) expression.now)
+        (place_view C.meaning place.now locals.entry progress.old))) }
+    ensures refused { OnErr result (TellsSome (state progress.old) (state progress.new)
+        (s.expression_written (resolved_in E.environment place.now)
+        (expression_view _ (λ s. s.now) expression.now)
+        (place_view C.meaning place.now locals.entry progress.old) (state progress.old).budget)) }
     ensures path { OnOk result (progress.new.path.items ≡ progress.old.path.items) }
 {
     match expression {
@@ -54,8 +60,16 @@ fn write_select<'b, 'r, 's, 'a, C: FluentType + Drop, F, E: Context<C, F>>(
     selector: &'r InlineExpression<&'s str>,
     variants: &'r Vec<Variant<&'s str>>,
 ) -> Result<(), AllocError>
-    ensures wrote { OnOk result (Writes (string_bytes out.old) (string_bytes out.new) (state progress.old) (state progress.new) (s.expression_written (resolved_in E.environment place.now) (t.select (inline_view _ (λ s. s.now) selector.now) (variants_of (map (variant_view _ (λ s. s.now)) variants.now.items))) (place_view C.meaning place.now locals.entry progress.old))) }
-    ensures refused { OnErr result (TellsSome (state progress.old) (state progress.new) (s.expression_written (resolved_in E.environment place.now) (t.select (inline_view _ (λ s. s.now) selector.now) (variants_of (map (variant_view _ (λ s. s.now)) variants.now.items))) (place_view C.meaning place.now locals.entry progress.old) (state progress.old).budget)) }
+    ensures wrote { OnOk result (Writes (string_bytes out.old) (string_bytes out.new)
+        (state progress.old) (state progress.new) (s.expression_written
+        (resolved_in E.environment place.now) (t.select (inline_view _ (λ s. s.now) selector.now)
+        (variants_of (map (variant_view _ (λ s. s.now)) variants.now.items)))
+        (place_view C.meaning place.now locals.entry progress.old))) }
+    ensures refused { OnErr result (TellsSome (state progress.old) (state progress.new)
+        (s.expression_written (resolved_in E.environment place.now)
+        (t.select (inline_view _ (λ s. s.now) selector.now)
+        (variants_of (map (variant_view _ (λ s. s.now)) variants.now.items)))
+        (place_view C.meaning place.now locals.entry progress.old) (state progress.old).budget)) }
     ensures path { OnOk result (progress.new.path.items ≡ progress.old.path.items) }
 {
     match choose(place, locals, progress, selector, variants)? {
@@ -76,8 +90,19 @@ fn choose<'b, 'r, 's, 'a, C: FluentType + Drop, F, E: Context<C, F>>(
     selector: &'r InlineExpression<&'s str>,
     variants: &'r Vec<Variant<&'s str>>,
 ) -> Result<Option<&'r Pattern<&'s str>>, AllocError>
-    ensures found { IfOk result (λ found. Finds (option_map (pattern_view _ (λ s. s.now)) (option_copied found)) (state progress.old) (state progress.new) (λ b. mapped (λ v. chosen_of (resolved_in E.environment place.now).plurals v (variants_of (map (variant_view _ (λ s. s.now)) variants.now.items))) (s.value_found (resolved_in E.environment place.now) (inline_view _ (λ s. s.now) selector.now) (place_view C.meaning place.now locals.entry progress.old) b))) }
-    ensures refused { OnErr result (TellsSome (state progress.old) (state progress.new) (mapped (λ v. chosen_of (resolved_in E.environment place.now).plurals v (variants_of (map (variant_view _ (λ s. s.now)) variants.now.items))) (s.value_found (resolved_in E.environment place.now) (inline_view _ (λ s. s.now) selector.now) (place_view C.meaning place.now locals.entry progress.old) (state progress.old).budget))) }
+    ensures found { IfOk result (λ found. Finds (option_map (pattern_view _ (λ s. s.now))
+        (option_copied found)) (state progress.old) (state progress.new)
+        (λ b. mapped (λ v. chosen_of (resolved_in E.environment place.now).plurals v
+        (variants_of (map (variant_view _ (λ s. s.now)) variants.now.items)))
+        (s.value_found (resolved_in E.environment place.now)
+        (inline_view _ (λ s. s.now) selector.now) (place_view C.meaning place.now locals.entry
+        progress.old) b))) }
+    ensures refused { OnErr result (TellsSome (state progress.old) (state progress.new)
+        (mapped (λ v. chosen_of (resolved_in E.environment place.now).plurals v
+        (variants_of (map (variant_view _ (λ s. s.now)) variants.now.items)))
+        (s.value_found (resolved_in E.environment place.now)
+        (inline_view _ (λ s. s.now) selector.now) (place_view C.meaning place.now locals.entry
+        progress.old) (state progress.old).budget))) }
     ensures path { OnOk result (progress.new.path.items ≡ progress.old.path.items) }
 {
     let value = value_of(place, locals, progress, selector)?;
@@ -93,8 +118,14 @@ pub fn write_inline<'b, 'r, 's, 'a, C: FluentType + Drop, F, E: Context<C, F>>(
     progress: &mut Progress<'r, 's>,
     inline: &'r InlineExpression<&'s str>,
 ) -> Result<(), AllocError>
-    ensures wrote { OnOk result (Writes (string_bytes out.old) (string_bytes out.new) (state progress.old) (state progress.new) (s.inline_written (resolved_in E.environment place.now) (inline_view _ (λ s. s.now) inline.now) (place_view C.meaning place.now locals.entry progress.old))) }
-    ensures refused { OnErr result (TellsSome (state progress.old) (state progress.new) (s.inline_written (resolved_in E.environment place.now) (inline_view _ (λ s. s.now) inline.now) (place_view C.meaning place.now locals.entry progress.old) (state progress.old).budget)) }
+    ensures wrote { OnOk result (Writes (string_bytes out.old) (string_bytes out.new)
+        (state progress.old) (state progress.new) (s.inline_written
+        (resolved_in E.environment place.now) (inline_view _ (λ s. s.now) inline.now)
+        (place_view C.meaning place.now locals.entry progress.old))) }
+    ensures refused { OnErr result (TellsSome (state progress.old) (state progress.new)
+        (s.inline_written (resolved_in E.environment place.now)
+        (inline_view _ (λ s. s.now) inline.now) (place_view C.meaning place.now locals.entry
+        progress.old) (state progress.old).budget)) }
     ensures path { OnOk result (progress.new.path.items ≡ progress.old.path.items) }
 {
     match inline {
@@ -134,9 +165,17 @@ fn write_call<'b, 'r, 's, 'a, C: FluentType + Drop, F, E: Context<C, F>>(
     id: &'r Identifier<&'s str>,
     arguments: &'r CallArguments<&'s str>,
 ) -> Result<(), AllocError>
-    requires { inline_view _ (λ s. s.now) inline.now ≡ t.function_reference (name_of _ (λ s. s.now) id.now) (arguments_view _ (λ s. s.now) arguments.now) }
-    ensures wrote { OnOk result (Writes (string_bytes out.old) (string_bytes out.new) (state progress.old) (state progress.new) (s.inline_written (resolved_in E.environment place.now) (inline_view _ (λ s. s.now) inline.now) (place_view C.meaning place.now locals.entry progress.old))) }
-    ensures refused { OnErr result (TellsSome (state progress.old) (state progress.new) (s.inline_written (resolved_in E.environment place.now) (inline_view _ (λ s. s.now) inline.now) (place_view C.meaning place.now locals.entry progress.old) (state progress.old).budget)) }
+    requires { inline_view _ (λ s. s.now) inline.now
+        ≡ t.function_reference (name_of _ (λ s. s.now) id.now)
+        (arguments_view _ (λ s. s.now) arguments.now) }
+    ensures wrote { OnOk result (Writes (string_bytes out.old) (string_bytes out.new)
+        (state progress.old) (state progress.new) (s.inline_written
+        (resolved_in E.environment place.now) (inline_view _ (λ s. s.now) inline.now)
+        (place_view C.meaning place.now locals.entry progress.old))) }
+    ensures refused { OnErr result (TellsSome (state progress.old) (state progress.new)
+        (s.inline_written (resolved_in E.environment place.now)
+        (inline_view _ (λ s. s.now) inline.now) (place_view C.meaning place.now locals.entry
+        progress.old) (state progress.old).budget)) }
     ensures path { OnOk result (progress.new.path.items ≡ progress.old.path.items) }
 {
     match call_result(place, locals, progress, id, arguments)? {
@@ -161,9 +200,18 @@ fn write_term<'b, 'r, 's, 'a, C: FluentType + Drop, F, E: Context<C, F>>(
     attribute: &'r Option<Identifier<&'s str>>,
     arguments: &'r Option<CallArguments<&'s str>>,
 ) -> Result<(), AllocError>
-    requires { inline_view _ (λ s. s.now) inline.now ≡ t.term_reference (name_of _ (λ s. s.now) id.now) (option_map (name_of _ (λ s. s.now)) attribute.now) (maybe_arguments (option_map (arguments_view _ (λ s. s.now)) arguments.now)) }
-    ensures wrote { OnOk result (Writes (string_bytes out.old) (string_bytes out.new) (state progress.old) (state progress.new) (s.inline_written (resolved_in E.environment place.now) (inline_view _ (λ s. s.now) inline.now) (place_view C.meaning place.now locals.entry progress.old))) }
-    ensures refused { OnErr result (TellsSome (state progress.old) (state progress.new) (s.inline_written (resolved_in E.environment place.now) (inline_view _ (λ s. s.now) inline.now) (place_view C.meaning place.now locals.entry progress.old) (state progress.old).budget)) }
+    requires { inline_view _ (λ s. s.now) inline.now
+        ≡ t.term_reference (name_of _ (λ s. s.now) id.now)
+        (option_map (name_of _ (λ s. s.now)) attribute.now)
+        (maybe_arguments (option_map (arguments_view _ (λ s. s.now)) arguments.now)) }
+    ensures wrote { OnOk result (Writes (string_bytes out.old) (string_bytes out.new)
+        (state progress.old) (state progress.new) (s.inline_written
+        (resolved_in E.environment place.now) (inline_view _ (λ s. s.now) inline.now)
+        (place_view C.meaning place.now locals.entry progress.old))) }
+    ensures refused { OnErr result (TellsSome (state progress.old) (state progress.new)
+        (s.inline_written (resolved_in E.environment place.now)
+        (inline_view _ (λ s. s.now) inline.now) (place_view C.meaning place.now locals.entry
+        progress.old) (state progress.old).budget)) }
     ensures path { OnOk result (progress.new.path.items ≡ progress.old.path.items) }
 {
     let own = own_arguments(place, locals, progress, arguments)?;

@@ -26,8 +26,14 @@ pub fn write_pattern<'b, 'r, 's, 'a, C: FluentType + Drop, F, E: Context<C, F>>(
     progress: &mut Progress<'r, 's>,
     pattern: &'r Pattern<&'s str>,
 ) -> Result<(), AllocError>
-    ensures wrote { OnOk result (Writes (string_bytes out.old) (string_bytes out.new) (state progress.old) (state progress.new) (s.pattern_written (resolved_in E.environment place.now) (pattern_view _ (λ s. s.now) pattern.now) (place_view C.meaning place.now locals.entry progress.old))) }
-    ensures refused { OnErr result (TellsSome (state progress.old) (state progress.new) (s.pattern_written (resolved_in E.environment place.now) (pattern_view _ (λ s. s.now) pattern.now) (place_view C.meaning place.now locals.entry progress.old) (state progress.old).budget)) }
+    ensures wrote { OnOk result (Writes (string_bytes out.old) (string_bytes out.new)
+        (state progress.old) (state progress.new) (s.pattern_written
+        (resolved_in E.environment place.now) (pattern_view _ (λ s. s.now) pattern.now)
+        (place_view C.meaning place.now locals.entry progress.old))) }
+    ensures refused { OnErr result (TellsSome (state progress.old) (state progress.new)
+        (s.pattern_written (resolved_in E.environment place.now)
+        (pattern_view _ (λ s. s.now) pattern.now) (place_view C.meaning place.now locals.entry
+        progress.old) (state progress.old).budget)) }
     ensures path { OnOk result (progress.new.path.items ≡ progress.old.path.items) }
 {
     for element in &pattern.elements {
@@ -55,8 +61,15 @@ pub fn write_placeable<'b, 'r, 's, 'a, C: FluentType + Drop, F, E: Context<C, F>
     expression: &'r Expression<&'s str>,
 ) -> Result<(), AllocError>
     requires { progress.now.dirty ≡ false }
-    ensures wrote { OnOk result (Writes (string_bytes out.old) (string_bytes out.new) (state progress.old) (state progress.new) (s.placeable_written (resolved_in E.environment place.now) (pattern_view _ (λ s. s.now) whole.now) (expression_view _ (λ s. s.now) expression.now) (place_view C.meaning place.now locals.entry progress.old))) }
-    ensures refused { OnErr result (TellsSome (state progress.old) (state progress.new) (s.placeable_written (resolved_in E.environment place.now) (pattern_view _ (λ s. s.now) whole.now) (expression_view _ (λ s. s.now) expression.now) (place_view C.meaning place.now locals.entry progress.old) (state progress.old).budget)) }
+    ensures wrote { OnOk result (Writes (string_bytes out.old) (string_bytes out.new)
+        (state progress.old) (state progress.new) (s.placeable_written
+        (resolved_in E.environment place.now) (pattern_view _ (λ s. s.now) whole.now)
+        (expression_view _ (λ s. s.now) expression.now)
+        (place_view C.meaning place.now locals.entry progress.old))) }
+    ensures refused { OnErr result (TellsSome (state progress.old) (state progress.new)
+        (s.placeable_written (resolved_in E.environment place.now)
+        (pattern_view _ (λ s. s.now) whole.now) (expression_view _ (λ s. s.now) expression.now)
+        (place_view C.meaning place.now locals.entry progress.old) (state progress.old).budget)) }
     ensures path { OnOk result (progress.new.path.items ≡ progress.old.path.items) }
 {
     if !progress.open_placeable()? {
@@ -79,8 +92,15 @@ pub fn write_opened<'b, 'r, 's, 'a, C: FluentType + Drop, F, E: Context<C, F>>(
     whole: &'r Pattern<&'s str>,
     expression: &'r Expression<&'s str>,
 ) -> Result<(), AllocError>
-    ensures wrote { OnOk result (Writes (string_bytes out.old) (string_bytes out.new) (state progress.old) (state progress.new) (s.unmarked_written (resolved_in E.environment place.now) (pattern_view _ (λ s. s.now) whole.now) (expression_view _ (λ s. s.now) expression.now) (place_view C.meaning place.now locals.entry progress.old))) }
-    ensures refused { OnErr result (TellsSome (state progress.old) (state progress.new) (s.unmarked_written (resolved_in E.environment place.now) (pattern_view _ (λ s. s.now) whole.now) (expression_view _ (λ s. s.now) expression.now) (place_view C.meaning place.now locals.entry progress.old) (state progress.old).budget)) }
+    ensures wrote { OnOk result (Writes (string_bytes out.old) (string_bytes out.new)
+        (state progress.old) (state progress.new) (s.unmarked_written
+        (resolved_in E.environment place.now) (pattern_view _ (λ s. s.now) whole.now)
+        (expression_view _ (λ s. s.now) expression.now)
+        (place_view C.meaning place.now locals.entry progress.old))) }
+    ensures refused { OnErr result (TellsSome (state progress.old) (state progress.new)
+        (s.unmarked_written (resolved_in E.environment place.now)
+        (pattern_view _ (λ s. s.now) whole.now) (expression_view _ (λ s. s.now) expression.now)
+        (place_view C.meaning place.now locals.entry progress.old) (state progress.old).budget)) }
     ensures path { OnOk result (progress.new.path.items ≡ progress.old.path.items) }
 {
     let is_root = progress.enter_root(whole)?;
@@ -99,8 +119,16 @@ pub(crate) fn write_target<'b, 'r, 's, 'a, C: FluentType + Drop, F, E: Context<C
     inline: &'r InlineExpression<&'s str>,
     target: Target<'r, 's>,
 ) -> Result<(), AllocError>
-    ensures wrote { OnOk result (Writes (string_bytes out.old) (string_bytes out.new) (state progress.old) (state progress.new) (s.target_written (resolved_in E.environment place.now) (s.pattern_written (resolved_in E.environment place.now)) (inline_view _ (λ s. s.now) inline.now) (target_view target.entry) (place_view C.meaning place.now locals.entry progress.old))) }
-    ensures refused { OnErr result (TellsSome (state progress.old) (state progress.new) (s.target_written (resolved_in E.environment place.now) (s.pattern_written (resolved_in E.environment place.now)) (inline_view _ (λ s. s.now) inline.now) (target_view target.entry) (place_view C.meaning place.now locals.entry progress.old) (state progress.old).budget)) }
+    ensures wrote { OnOk result (Writes (string_bytes out.old) (string_bytes out.new)
+        (state progress.old) (state progress.new) (s.target_written
+        (resolved_in E.environment place.now) (s.pattern_written
+        (resolved_in E.environment place.now)) (inline_view _ (λ s. s.now) inline.now)
+        (target_view target.entry) (place_view C.meaning place.now locals.entry progress.old))) }
+    ensures refused { OnErr result (TellsSome (state progress.old) (state progress.new)
+        (s.target_written (resolved_in E.environment place.now)
+        (s.pattern_written (resolved_in E.environment place.now))
+        (inline_view _ (λ s. s.now) inline.now) (target_view target.entry)
+        (place_view C.meaning place.now locals.entry progress.old) (state progress.old).budget)) }
     ensures path { OnOk result (progress.new.path.items ≡ progress.old.path.items) }
 {
     match target {
@@ -122,8 +150,15 @@ pub fn write_referred<'b, 'r, 's, 'a, C: FluentType + Drop, F, E: Context<C, F>>
     inline: &'r InlineExpression<&'s str>,
     pattern: &'r Pattern<&'s str>,
 ) -> Result<(), AllocError>
-    ensures wrote { OnOk result (Writes (string_bytes out.old) (string_bytes out.new) (state progress.old) (state progress.new) (s.reference_written (resolved_in E.environment place.now) (inline_view _ (λ s. s.now) inline.now) (pattern_view _ (λ s. s.now) pattern.now) (place_view C.meaning place.now locals.entry progress.old))) }
-    ensures refused { OnErr result (TellsSome (state progress.old) (state progress.new) (s.reference_written (resolved_in E.environment place.now) (inline_view _ (λ s. s.now) inline.now) (pattern_view _ (λ s. s.now) pattern.now) (place_view C.meaning place.now locals.entry progress.old) (state progress.old).budget)) }
+    ensures wrote { OnOk result (Writes (string_bytes out.old) (string_bytes out.new)
+        (state progress.old) (state progress.new) (s.reference_written
+        (resolved_in E.environment place.now) (inline_view _ (λ s. s.now) inline.now)
+        (pattern_view _ (λ s. s.now) pattern.now) (place_view C.meaning place.now locals.entry
+        progress.old))) }
+    ensures refused { OnErr result (TellsSome (state progress.old) (state progress.new)
+        (s.reference_written (resolved_in E.environment place.now)
+        (inline_view _ (λ s. s.now) inline.now) (pattern_view _ (λ s. s.now) pattern.now)
+        (place_view C.meaning place.now locals.entry progress.old) (state progress.old).budget)) }
     ensures path { OnOk result (progress.new.path.items ≡ progress.old.path.items) }
 {
     if progress.is_entered(pattern) {

@@ -27,8 +27,14 @@ pub fn value_of<'b, 'r, 's, 'a, C: FluentType + Drop, F, E: Context<C, F>>(
     progress: &mut Progress<'r, 's>,
     inline: &'r InlineExpression<&'s str>,
 ) -> Result<FluentValue<'s, C>, AllocError>
-    ensures found { IfOk result (λ found. Finds (value_view C.meaning found) (state progress.old) (state progress.new) (s.value_found (resolved_in E.environment place.now) (inline_view _ (λ s. s.now) inline.now) (place_view C.meaning place.now locals.entry progress.old))) }
-    ensures refused { OnErr result (TellsSome (state progress.old) (state progress.new) ((s.value_found (resolved_in E.environment place.now) (inline_view _ (λ s. s.now) inline.now) (place_view C.meaning place.now locals.entry progress.old)) (state progress.old).budget)) }
+    ensures found { IfOk result (λ found. Finds (value_view C.meaning found) (state progress.old)
+        (state progress.new) (s.value_found (resolved_in E.environment place.now)
+        (inline_view _ (λ s. s.now) inline.now) (place_view C.meaning place.now locals.entry
+        progress.old))) }
+    ensures refused { OnErr result (TellsSome (state progress.old) (state progress.new)
+        ((s.value_found (resolved_in E.environment place.now)
+        (inline_view _ (λ s. s.now) inline.now) (place_view C.meaning place.now locals.entry
+        progress.old)) (state progress.old).budget)) }
     ensures path { OnOk result (progress.new.path.items ≡ progress.old.path.items) }
 {
     match inline {
@@ -64,8 +70,14 @@ fn text_value<'b, 'r, 's, 'a, C: FluentType + Drop, F, E: Context<C, F>>(
     progress: &mut Progress<'r, 's>,
     inline: &'r InlineExpression<&'s str>,
 ) -> Result<FluentValue<'s, C>, AllocError>
-    ensures found { IfOk result (λ found. Finds (value_view C.meaning found) (state progress.old) (state progress.new) (λ b. mapped v.text (s.inline_written (resolved_in E.environment place.now) (inline_view _ (λ s. s.now) inline.now) (place_view C.meaning place.now locals.entry progress.old) b))) }
-    ensures refused { OnErr result (TellsSome (state progress.old) (state progress.new) (s.inline_written (resolved_in E.environment place.now) (inline_view _ (λ s. s.now) inline.now) (place_view C.meaning place.now locals.entry progress.old) (state progress.old).budget)) }
+    ensures found { IfOk result (λ found. Finds (value_view C.meaning found) (state progress.old)
+        (state progress.new) (λ b. mapped v.text (s.inline_written
+        (resolved_in E.environment place.now) (inline_view _ (λ s. s.now) inline.now)
+        (place_view C.meaning place.now locals.entry progress.old) b))) }
+    ensures refused { OnErr result (TellsSome (state progress.old) (state progress.new)
+        (s.inline_written (resolved_in E.environment place.now)
+        (inline_view _ (λ s. s.now) inline.now) (place_view C.meaning place.now locals.entry
+        progress.old) (state progress.old).budget)) }
     ensures path { OnOk result (progress.new.path.items ≡ progress.old.path.items) }
 {
     let mut text = String::new(place.context.alloc());

@@ -27,7 +27,8 @@ impl<'r, 's> Entries<'r, 's> {
 impl<'r, 's> Iterator for Entries<'r, 's> {
     type Item = &'r Entry<&'s str>;
 
-    ghost next_gives = { YieldsFirstBy (λ entry. entry_view _ (λ s. s.now) entry.now) entries_left };
+    ghost next_gives = { YieldsFirstBy (λ entry. entry_view _ (λ s. s.now) entry.now)
+        entries_left };
 
     ghost remaining = { item_count entries_left };
 

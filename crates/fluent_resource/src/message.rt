@@ -19,7 +19,8 @@ pub struct FluentMessage<'m, 's> {
 impl<'m, 's> FluentMessage<'m, 's> {
     /// The value, which a message of attributes alone doesn't have.
     pub fn value(&self) -> Option<&'m Pattern<&'s str>>
-        ensures { option_map (pattern_view _ (λ s. s.now)) (option_copied result) ≡ (message_of self.now).value }
+        ensures { option_map (pattern_view _ (λ s. s.now)) (option_copied result)
+            ≡ (message_of self.now).value }
     {
         self.node.value.as_ref()
     }
@@ -33,7 +34,8 @@ impl<'m, 's> FluentMessage<'m, 's> {
 
     /// The first attribute of this name.
     pub fn get_attribute(&self, name: &str) -> Option<FluentAttribute<'m, 's>>
-        ensures { option_map attribute_of result ≡ first_named name.now (message_of self.now).attributes }
+        ensures { option_map attribute_of result ≡ first_named name.now
+            (message_of self.now).attributes }
     {
         for node in &self.node.attributes {
             if node.id.name == name {

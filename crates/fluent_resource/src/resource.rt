@@ -73,7 +73,8 @@ impl<'s> FluentResource<'s> {
 
     /// The entry of this index, from 0 on.
     pub fn get_entry(&self, index: usize) -> Option<&Entry<&'s str>>
-        ensures { option_map (entry_view _ (λ s. s.now)) (option_copied result) ≡ slice_get (entries_view self.now) index }
+        ensures { option_map (entry_view _ (λ s. s.now)) (option_copied result)
+            ≡ slice_get (entries_view self.now) index }
     {
         self.tree.body.get(index)
     }

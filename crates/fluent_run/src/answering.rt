@@ -62,7 +62,8 @@ pub fn run<M: MemoizerKind, R: Source, W: Sink>(
     ensures write { IsErrOf result RunError.Write → AnswersFront
         (devices R.remaining reader.old reader.new W.contents writer.old writer.new)
         (line_by M.category_of M.stringified plurals.now settings sources.now) }
-    ensures failed { IsErrOf result RunError.Write → HasFailed (W.failures writer.old) (W.failures writer.new) }
+    ensures failed { IsErrOf result RunError.Write
+        → HasFailed (W.failures writer.old) (W.failures writer.new) }
 {
     let resources = read_sources(alloc, sources)?;
     let desk = Desk::new(alloc, &resources, settings, plurals)?;

@@ -17,7 +17,8 @@ pub(crate) fn valued_arguments<'line>(
     alloc: Global,
     pairs: &[(&'line str, &'line str)],
 ) -> Result<FluentArgs<'line, NoCustom>, AllocError>
-    ensures { IfOk result (λ args. arguments_view args ≡ all_set [] (map valued (texts_view pairs.now))) }
+    ensures { IfOk result (λ args. arguments_view args
+        ≡ all_set [] (map valued (texts_view pairs.now))) }
 {
     let mut arguments = FluentArgs::new(alloc);
     for &(name, text) in pairs {

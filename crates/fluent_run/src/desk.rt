@@ -45,7 +45,8 @@ impl<'b, 'r, 's, M: MemoizerKind> Desk<'b, 'r, 's, M> {
         settings: Settings,
         plurals: &'b M,
     ) -> Result<Self, AllocError>
-        ensures ids { IfOk result (λ desk. desk_ids desk ≡ ids_added settings.overriding resources.now) }
+        ensures ids { IfOk result (λ desk. desk_ids desk
+            ≡ ids_added settings.overriding resources.now) }
         ensures plurals { IfOk result (λ desk. desk.plurals.now ≡ plurals.now) }
         ensures isolating { IfOk result (λ desk. desk.isolating ≡ settings.isolating) }
     {

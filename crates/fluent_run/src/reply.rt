@@ -64,7 +64,8 @@ pub(crate) fn resolve<'b, 'r, 's, 'a, C: FluentType + Drop, F, E: Context<C, F>>
 
 /// The errors that were told.
 fn told_by(alloc: Global, progress: Progress<'_, '_>) -> Vec<FluentError>
-    ensures { (list : List Reported) → (state progress.entry).errors ≡ Some list → map bundle_view result.items ≡ list }
+    ensures { (list : List Reported) → (state progress.entry).errors ≡ Some list
+        → map bundle_view result.items ≡ list }
 {
     match progress.into_errors() {
         Some(errors) => errors,
@@ -78,7 +79,8 @@ impl Reply {
     /// # Errors
     /// Memory ran out.
     pub(crate) fn push_to(&self, alloc: Global, out: &mut Vec<u8>) -> Result<(), AllocError>
-        ensures ok { OnOk result (out.new.items ≡ out.old.items ++ frame_of (ok (reply_view self.now))) }
+        ensures ok { OnOk result (out.new.items ≡ out.old.items
+            ++ frame_of (ok (reply_view self.now))) }
         ensures front { IsFrontOf out.old.items out.new.items }
     {
         let lines = self.error_lines(alloc)?;

@@ -14,7 +14,8 @@ use std::alloc::AllocError;
 
 /// Writes what stands behind the sign of a comment's line: nothing where the line is empty or white space alone.
 fn write_comment_text(out: &mut String, line: &str) -> Result<(), AllocError>
-    ensures { OnOk result (string_bytes out.new ≡ onto (string_bytes out.old) (comment_text_signs line.now)) }
+    ensures { OnOk result (string_bytes out.new ≡ onto (string_bytes out.old)
+        (comment_text_signs line.now)) }
 {
     if line.trim_end().is_empty() {
         return Ok(());
@@ -24,7 +25,8 @@ fn write_comment_text(out: &mut String, line: &str) -> Result<(), AllocError>
 }
 
 fn write_comment_line(out: &mut String, sign: &str, line: &str) -> Result<(), AllocError>
-    ensures { OnOk result (string_bytes out.new ≡ onto (string_bytes out.old) (comment_signs sign.now (line.now ∷ []))) }
+    ensures { OnOk result (string_bytes out.new ≡ onto (string_bytes out.old)
+        (comment_signs sign.now (line.now ∷ []))) }
 {
     write_piece(out, 0, sign)?;
     write_comment_text(out, line)?;
@@ -37,7 +39,8 @@ fn write_comment<'s, S: Slice<'s>>(
     sign: &str,
     comment: &Comment<S>,
 ) -> Result<(), AllocError>
-    ensures { OnOk result (string_bytes out.new ≡ onto (string_bytes out.old) (comment_signs sign.now (comment_view S S.text comment.now))) }
+    ensures { OnOk result (string_bytes out.new ≡ onto (string_bytes out.old)
+        (comment_signs sign.now (comment_view S S.text comment.now))) }
 {
     for line in &comment.content {
         write_comment_line(out, sign, line.as_str())?;
@@ -50,7 +53,8 @@ fn write_own_comment<'s, S: Slice<'s>>(
     out: &mut String,
     comment: &Option<Comment<S>>,
 ) -> Result<(), AllocError>
-    ensures { OnOk result (string_bytes out.new ≡ onto (string_bytes out.old) (own_comment_signs (option_map (comment_view S S.text) comment.now))) }
+    ensures { OnOk result (string_bytes out.new ≡ onto (string_bytes out.old)
+        (own_comment_signs (option_map (comment_view S S.text) comment.now))) }
 {
     match comment {
         Some(comment) => write_comment(out, "#", comment),
@@ -75,7 +79,8 @@ fn write_free_comment<'s, S: Slice<'s>>(
     sign: &str,
     comment: &Comment<S>,
 ) -> Result<(), AllocError>
-    ensures { OnOk result (string_bytes out.new ≡ onto (string_bytes out.old) (free_comment_signs after sign.now (comment_view S S.text comment.now))) }
+    ensures { OnOk result (string_bytes out.new ≡ onto (string_bytes out.old)
+        (free_comment_signs after sign.now (comment_view S S.text comment.now))) }
 {
     write_gap(out, after)?;
     write_comment(out, sign, comment)?;
@@ -86,7 +91,8 @@ fn write_attribute<'s, S: Slice<'s>>(
     out: &mut String,
     attribute: &Attribute<S>,
 ) -> Result<(), AllocError>
-    ensures { OnOk result (string_bytes out.new ≡ onto (string_bytes out.old) (attributes_signs (attribute_view S S.text attribute.now ∷ []))) }
+    ensures { OnOk result (string_bytes out.new ≡ onto (string_bytes out.old)
+        (attributes_signs (attribute_view S S.text attribute.now ∷ []))) }
 {
     write_new_line(out)?;
     write_piece(out, 1, ".")?;
@@ -99,7 +105,8 @@ fn write_attributes<'s, S: Slice<'s>>(
     out: &mut String,
     attributes: &[Attribute<S>],
 ) -> Result<(), AllocError>
-    ensures { OnOk result (string_bytes out.new ≡ onto (string_bytes out.old) (attributes_signs (map (attribute_view S S.text) attributes.now))) }
+    ensures { OnOk result (string_bytes out.new ≡ onto (string_bytes out.old)
+        (attributes_signs (map (attribute_view S S.text) attributes.now))) }
 {
     for attribute in attributes {
         write_attribute(out, attribute)?;
@@ -111,7 +118,8 @@ fn write_value<'s, S: Slice<'s>>(
     out: &mut String,
     value: &Option<Pattern<S>>,
 ) -> Result<(), AllocError>
-    ensures { OnOk result (string_bytes out.new ≡ onto (string_bytes out.old) (value_signs (option_map (pattern_view S S.text) value.now))) }
+    ensures { OnOk result (string_bytes out.new ≡ onto (string_bytes out.old)
+        (value_signs (option_map (pattern_view S S.text) value.now))) }
 {
     match value {
         Some(value) => write_pattern(out, 1, &Slices::new(), value),
@@ -120,7 +128,8 @@ fn write_value<'s, S: Slice<'s>>(
 }
 
 fn write_message<'s, S: Slice<'s>>(out: &mut String, message: &Message<S>) -> Result<(), AllocError>
-    ensures { OnOk result (string_bytes out.new ≡ onto (string_bytes out.old) (message_signs (message_view S S.text message.now))) }
+    ensures { OnOk result (string_bytes out.new ≡ onto (string_bytes out.old)
+        (message_signs (message_view S S.text message.now))) }
 {
     write_own_comment(out, &message.comment)?;
     write_piece(out, 0, message.id.name.as_str())?;
@@ -131,7 +140,8 @@ fn write_message<'s, S: Slice<'s>>(out: &mut String, message: &Message<S>) -> Re
 }
 
 fn write_term<'s, S: Slice<'s>>(out: &mut String, term: &Term<S>) -> Result<(), AllocError>
-    ensures { OnOk result (string_bytes out.new ≡ onto (string_bytes out.old) (term_signs (term_view S S.text term.now))) }
+    ensures { OnOk result (string_bytes out.new ≡ onto (string_bytes out.old)
+        (term_signs (term_view S S.text term.now))) }
 {
     write_own_comment(out, &term.comment)?;
     write_piece(out, 0, "-")?;
@@ -149,7 +159,8 @@ fn write_entry<'s, S: Slice<'s>>(
     after: bool,
     entry: &Entry<S>,
 ) -> Result<(), AllocError>
-    ensures { OnOk result (string_bytes out.new ≡ onto (string_bytes out.old) (entry_signs options.with_junk after (entry_view S S.text entry.now))) }
+    ensures { OnOk result (string_bytes out.new ≡ onto (string_bytes out.old)
+        (entry_signs options.with_junk after (entry_view S S.text entry.now))) }
 {
     match entry {
         Entry::Message(message) => write_message(out, message),
@@ -163,7 +174,8 @@ fn write_entry<'s, S: Slice<'s>>(
 }
 
 fn is_no_junk<S>(entry: &Entry<S>) -> bool
-    ensures { (text_of : S → List ℕ) → result ≡ written.is_no_junk (entry_view S text_of entry.now) }
+    ensures { (text_of : S → List ℕ) → result ≡ written.is_no_junk
+        (entry_view S text_of entry.now) }
 {
     !matches!(entry, Entry::Junk { content: _ })
 }
@@ -174,7 +186,8 @@ pub(crate) fn write_entries<'s, S: Slice<'s>>(
     options: Options,
     resource: &Resource<S>,
 ) -> Result<(), AllocError>
-    ensures { OnOk result (string_bytes out.new ≡ onto (string_bytes out.old) (entries_signs options.with_junk false (resource_view S S.text resource.now))) }
+    ensures { OnOk result (string_bytes out.new ≡ onto (string_bytes out.old)
+        (entries_signs options.with_junk false (resource_view S S.text resource.now))) }
 {
     let mut after = false;
     for entry in &resource.body {

@@ -24,7 +24,8 @@ pub(crate) fn write_pattern<S: Drop, T: Texts<S>>(
     texts: &T,
     pattern: &Pattern<S>,
 ) -> Result<(), AllocError>
-    ensures { OnOk result (string_bytes out.new ≡ onto (string_bytes out.old) (pattern_signs level (pattern_view S T.text pattern.now))) }
+    ensures { OnOk result (string_bytes out.new ≡ onto (string_bytes out.old)
+        (pattern_signs level (pattern_view S T.text pattern.now))) }
 {
     write_pattern_start(out, level, texts, pattern)?;
     write_elements(out, level, texts, &pattern.elements)
@@ -37,7 +38,8 @@ fn write_pattern_start<S: Drop, T: Texts<S>>(
     texts: &T,
     pattern: &Pattern<S>,
 ) -> Result<(), AllocError>
-    ensures { OnOk result (string_bytes out.new ≡ onto (string_bytes out.old) (pattern_start level (pattern_view S T.text pattern.now) ∷ [])) }
+    ensures { OnOk result (string_bytes out.new ≡ onto (string_bytes out.old)
+        (pattern_start level (pattern_view S T.text pattern.now) ∷ [])) }
 {
     if begins_on_new_line(texts, pattern) {
         write_new_line(out)
@@ -53,7 +55,8 @@ fn write_elements<S: Drop, T: Texts<S>>(
     texts: &T,
     elements: &[PatternElement<S>],
 ) -> Result<(), AllocError>
-    ensures { OnOk result (string_bytes out.new ≡ onto (string_bytes out.old) (elements_signs level (elements_of (map (element_view S T.text) elements.now)))) }
+    ensures { OnOk result (string_bytes out.new ≡ onto (string_bytes out.old)
+        (elements_signs level (elements_of (map (element_view S T.text) elements.now)))) }
 {
     for element in elements {
         match element {
@@ -74,7 +77,8 @@ fn write_placeable<S: Drop, T: Texts<S>>(
     texts: &T,
     expression: &Expression<S>,
 ) -> Result<(), AllocError>
-    ensures { OnOk result (string_bytes out.new ≡ onto (string_bytes out.old) (placeable_signs level (expression_view S T.text expression.now))) }
+    ensures { OnOk result (string_bytes out.new ≡ onto (string_bytes out.old)
+        (placeable_signs level (expression_view S T.text expression.now))) }
 {
     match expression {
         Expression::Select {
@@ -97,7 +101,8 @@ fn write_inline_placeable<S: Drop, T: Texts<S>>(
     texts: &T,
     inline: &InlineExpression<S>,
 ) -> Result<(), AllocError>
-    ensures { OnOk result (string_bytes out.new ≡ onto (string_bytes out.old) (placeable_signs level (tree.inline (inline_view S T.text inline.now)))) }
+    ensures { OnOk result (string_bytes out.new ≡ onto (string_bytes out.old)
+        (placeable_signs level (tree.inline (inline_view S T.text inline.now)))) }
 {
     match inline {
         InlineExpression::Placeable { expression } => {
@@ -115,7 +120,8 @@ fn write_inline_placeable<S: Drop, T: Texts<S>>(
 
 /// What closes two placeables that share their braces: a select has ended its line.
 fn closing_nested<S>(expression: &Expression<S>) -> &'static str
-    ensures { (text_of : S → List ℕ) → result.now ≡ written.closing_nested (expression_view S text_of expression.now) }
+    ensures { (text_of : S → List ℕ) → result.now
+        ≡ written.closing_nested (expression_view S text_of expression.now) }
 {
     match expression {
         Expression::Select {
@@ -134,7 +140,8 @@ pub(crate) fn write_expression<S: Drop, T: Texts<S>>(
     texts: &T,
     expression: &Expression<S>,
 ) -> Result<(), AllocError>
-    ensures { OnOk result (string_bytes out.new ≡ onto (string_bytes out.old) (expression_signs level (expression_view S T.text expression.now))) }
+    ensures { OnOk result (string_bytes out.new ≡ onto (string_bytes out.old)
+        (expression_signs level (expression_view S T.text expression.now))) }
 {
     match expression {
         Expression::Select { selector, variants } => {
@@ -155,7 +162,8 @@ fn write_variants<S: Drop, T: Texts<S>>(
     texts: &T,
     variants: &[Variant<S>],
 ) -> Result<(), AllocError>
-    ensures { OnOk result (string_bytes out.new ≡ onto (string_bytes out.old) (variants_signs level (variants_of (map (variant_view S T.text) variants.now)))) }
+    ensures { OnOk result (string_bytes out.new ≡ onto (string_bytes out.old)
+        (variants_signs level (variants_of (map (variant_view S T.text) variants.now)))) }
 {
     for variant in variants {
         write_variant_head(out, level, texts, &variant.key, variant.default)?;

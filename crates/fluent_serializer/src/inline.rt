@@ -19,7 +19,8 @@ pub(crate) fn write_inline<S: Drop, T: Texts<S>>(
     texts: &T,
     inline: &InlineExpression<S>,
 ) -> Result<(), AllocError>
-    ensures { OnOk result (string_bytes out.new ≡ onto (string_bytes out.old) (inline_signs level (inline_view S T.text inline.now))) }
+    ensures { OnOk result (string_bytes out.new ≡ onto (string_bytes out.old)
+        (inline_signs level (inline_view S T.text inline.now))) }
 {
     match inline {
         InlineExpression::StringLiteral { value } => {
@@ -69,7 +70,8 @@ fn write_arguments<S: Drop, T: Texts<S>>(
     texts: &T,
     arguments: &CallArguments<S>,
 ) -> Result<(), AllocError>
-    ensures { OnOk result (string_bytes out.new ≡ onto (string_bytes out.old) (arguments_signs level (arguments_view S T.text arguments.now))) }
+    ensures { OnOk result (string_bytes out.new ≡ onto (string_bytes out.old)
+        (arguments_signs level (arguments_view S T.text arguments.now))) }
 {
     write_piece(out, level, "(")?;
     write_positional(out, level, texts, &arguments.positional)?;
@@ -85,7 +87,8 @@ fn write_positional<S: Drop, T: Texts<S>>(
     texts: &T,
     arguments: &[InlineExpression<S>],
 ) -> Result<(), AllocError>
-    ensures { OnOk result (string_bytes out.new ≡ onto (string_bytes out.old) (inlines_signs level false (inlines_of (map (inline_view S T.text) arguments.now)))) }
+    ensures { OnOk result (string_bytes out.new ≡ onto (string_bytes out.old)
+        (inlines_signs level false (inlines_of (map (inline_view S T.text) arguments.now)))) }
 {
     let mut after = false;
     for argument in arguments {
@@ -105,7 +108,8 @@ fn write_all_named<S: Drop, T: Texts<S>>(
     mut after: bool,
     arguments: &[NamedArgument<S>],
 ) -> Result<(), AllocError>
-    ensures { OnOk result (string_bytes out.new ≡ onto (string_bytes out.old) (nameds_signs level after (nameds_of (map (named_view S T.text) arguments.now)))) }
+    ensures { OnOk result (string_bytes out.new ≡ onto (string_bytes out.old)
+        (nameds_signs level after (nameds_of (map (named_view S T.text) arguments.now)))) }
 {
     for argument in arguments {
         write_argument_name(out, level, texts, after, &argument.name)?;

@@ -32,7 +32,8 @@ pub fn serialize<'s, S: Slice<'s>>(
     alloc: Global,
     resource: &Resource<S>,
 ) -> Result<String, AllocError>
-    ensures { IfOk result (λ text. string_bytes text ≡ written (resource_view S S.text resource.now)) }
+    ensures { IfOk result (λ text. string_bytes text
+        ≡ written (resource_view S S.text resource.now)) }
 {
     serialize_with_options(alloc, resource, Options::default())
 }
@@ -43,7 +44,8 @@ pub fn serialize_with_options<'s, S: Slice<'s>>(
     resource: &Resource<S>,
     options: Options,
 ) -> Result<String, AllocError>
-    ensures { IfOk result (λ text. string_bytes text ≡ written_with options.with_junk (resource_view S S.text resource.now)) }
+    ensures { IfOk result (λ text. string_bytes text
+        ≡ written_with options.with_junk (resource_view S S.text resource.now)) }
 {
     let mut text = String::new(alloc);
     entries::write_entries(&mut text, options, resource)?;

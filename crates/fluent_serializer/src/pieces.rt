@@ -48,7 +48,8 @@ fn write_indent(out: &mut String, level: usize) -> Result<(), AllocError>
 /// Writes the indent that a piece takes behind what is written.
 #[inline(always)]
 fn write_indent_before(out: &mut String, level: usize, piece: &str) -> Result<(), AllocError>
-    ensures { OnOk result (string_bytes out.new ≡ string_bytes out.old ++ indent_before (ends_line false (string_bytes out.old)) level piece.now) }
+    ensures { OnOk result (string_bytes out.new ≡ string_bytes out.old
+        ++ indent_before (ends_line false (string_bytes out.old)) level piece.now) }
 {
     if is_at_line_start(out.as_str()) && takes_indent(piece) {
         return write_indent(out, level);
@@ -61,7 +62,8 @@ fn write_indent_before(out: &mut String, level: usize, piece: &str) -> Result<()
 /// It is inlined, so that most of it falls away where the sign is known.
 #[inline(always)]
 pub(crate) fn write_piece(out: &mut String, level: usize, piece: &str) -> Result<(), AllocError>
-    ensures { OnOk result (string_bytes out.new ≡ onto (string_bytes out.old) (sign level piece.now ∷ [])) }
+    ensures { OnOk result (string_bytes out.new ≡ onto (string_bytes out.old)
+        (sign level piece.now ∷ [])) }
 {
     write_indent_before(out, level, piece)?;
     out.push_str(piece)
@@ -76,7 +78,8 @@ pub(crate) fn write_new_line(out: &mut String) -> Result<(), AllocError>
 
 /// Writes the mark of a default variant below this level, in the place of the last space of the variant's indent.
 pub(crate) fn write_default_mark(out: &mut String, level: usize) -> Result<(), AllocError>
-    ensures { OnOk result (string_bytes out.new ≡ onto (string_bytes out.old) (default_mark (level + 1) ∷ [])) }
+    ensures { OnOk result (string_bytes out.new ≡ onto (string_bytes out.old)
+        (default_mark (level + 1) ∷ [])) }
 {
     write_indent(out, level)?;
     out.push_str("   *")

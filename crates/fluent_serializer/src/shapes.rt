@@ -13,7 +13,8 @@ use fluent_slice::Texts;
 /// Whether an expression is a select, also in placeables nested directly in each other.
 #[cycle(selects)]
 pub(crate) fn is_select<S>(expression: &Expression<S>) -> bool
-    ensures { (text_of : S → List ℕ) → result ≡ tree.is_select (expression_view S text_of expression.now) }
+    ensures { (text_of : S → List ℕ) → result ≡ tree.is_select
+        (expression_view S text_of expression.now) }
 {
     match expression {
         Expression::Select {
@@ -26,7 +27,8 @@ pub(crate) fn is_select<S>(expression: &Expression<S>) -> bool
 
 #[cycle(selects)]
 fn is_select_inline<S>(inline: &InlineExpression<S>) -> bool
-    ensures { (text_of : S → List ℕ) → result ≡ tree.is_select_inline (inline_view S text_of inline.now) }
+    ensures { (text_of : S → List ℕ) → result ≡ tree.is_select_inline
+        (inline_view S text_of inline.now) }
 {
     match inline {
         InlineExpression::Placeable { expression } => is_select(expression),
@@ -52,7 +54,8 @@ fn is_long<S: Drop, T: Texts<S>>(texts: &T, element: &PatternElement<S>) -> bool
 
 /// Whether some element takes more than one line.
 fn is_some_long<S: Drop, T: Texts<S>>(texts: &T, elements: &[PatternElement<S>]) -> bool
-    ensures { result ≡ list_any (λ e. tree.is_many_lined (elements_of (element_view S T.text e ∷ []))) elements.now }
+    ensures { result ≡ list_any (λ e. tree.is_many_lined
+        (elements_of (element_view S T.text e ∷ []))) elements.now }
 {
     elements.iter().any(|element| is_long(texts, element))
 }
@@ -93,7 +96,8 @@ fn begins_with_dot<S: Drop, T: Texts<S>>(texts: &T, pattern: &Pattern<S>) -> boo
 
 /// Whether a pattern begins on a line of its own, and not behind a space.
 pub(crate) fn begins_on_new_line<S: Drop, T: Texts<S>>(texts: &T, pattern: &Pattern<S>) -> bool
-    ensures { result ≡ (tree.is_many_lined (pattern_view S T.text pattern.now) && not (tree.begins_with_dot (pattern_view S T.text pattern.now))) }
+    ensures { result ≡ (tree.is_many_lined (pattern_view S T.text pattern.now) && not
+        (tree.begins_with_dot (pattern_view S T.text pattern.now))) }
 {
     is_many_lined(texts, pattern) && !begins_with_dot(texts, pattern)
 }

@@ -24,7 +24,8 @@ impl<E: Display> Answer<'_, E> {
     /// Puts the answer's bytes behind `out`: `bad`, `none`, or `ok` with the text's length in bytes and the count of
     /// errors, the text, and a line for each error. After an error `out` holds its old part and a front of them.
     pub fn push_to(&self, alloc: Global, out: &mut Vec<u8>) -> Result<(), AllocError>
-        ensures ok { OnOk result (IfSome (answer_view E.output self.now) (λ answer. out.new.items ≡ out.old.items ++ frame_of answer)) }
+        ensures ok { OnOk result (IfSome (answer_view E.output self.now)
+            (λ answer. out.new.items ≡ out.old.items ++ frame_of answer)) }
         ensures front { IsFrontOf out.old.items out.new.items }
     {
         match self {
@@ -42,7 +43,8 @@ impl<E: Display> Answer<'_, E> {
 
 /// Puts the line before a text behind `out`.
 fn push_head(out: &mut Vec<u8>, text_len: usize, error_count: usize) -> Result<(), AllocError>
-    ensures ok { OnOk result (out.new.items ≡ out.old.items ++ (codes "ok " ++ (decimal text_len ++ (codes " " ++ ended (decimal error_count))))) }
+    ensures ok { OnOk result (out.new.items ≡ out.old.items
+        ++ (codes "ok " ++ (decimal text_len ++ (codes " " ++ ended (decimal error_count))))) }
     ensures front { IsFrontOf out.old.items out.new.items }
 {
     let mut digits = Buffer::new();
@@ -55,7 +57,8 @@ fn push_head(out: &mut Vec<u8>, text_len: usize, error_count: usize) -> Result<(
 
 /// Puts a line for each error behind `out`.
 fn push_errors<E: Display>(alloc: Global, out: &mut Vec<u8>, errors: &[E]) -> Result<(), AllocError>
-    ensures ok { OnOk result (IfSome (error_texts E.output errors.now) (λ texts. out.new.items ≡ out.old.items ++ flat_map ended texts)) }
+    ensures ok { OnOk result (IfSome (error_texts E.output errors.now)
+        (λ texts. out.new.items ≡ out.old.items ++ flat_map ended texts)) }
     ensures front { IsFrontOf out.old.items out.new.items }
 {
     for error in errors {
@@ -66,7 +69,8 @@ fn push_errors<E: Display>(alloc: Global, out: &mut Vec<u8>, errors: &[E]) -> Re
 
 /// Puts an error's line behind `out`.
 fn push_error<E: Display>(alloc: Global, out: &mut Vec<u8>, error: &E) -> Result<(), AllocError>
-    ensures ok { OnOk result (IfSome (E.output error.now) (λ text. out.new.items ≡ out.old.items ++ ended text)) }
+    ensures ok { OnOk result (IfSome (E.output error.now)
+        (λ text. out.new.items ≡ out.old.items ++ ended text)) }
     ensures front { IsFrontOf out.old.items out.new.items }
 {
     let text = error.to_string(alloc)?;

@@ -19,7 +19,8 @@ pub struct Request<'line> {
 
 /// Reads a line, without its line feed. `None` where it is not UTF-8, or an argument has no equals sign.
 pub fn read_request(alloc: Global, line: &[u8]) -> Result<Option<Request<'_>>, AllocError>
-    ensures { IfOk result (λ request. option_map request_view request ≡ request_of (λ s. s) line.now) }
+    ensures { IfOk result (λ request. option_map request_view request
+        ≡ request_of (λ s. s) line.now) }
 {
     let Ok(text) = str::from_utf8(line) else {
         return Ok(None);
@@ -41,7 +42,8 @@ fn read_arguments<'line>(
     alloc: Global,
     mut rest: Option<&'line str>,
 ) -> Result<Option<Vec<(&'line str, &'line str)>>, AllocError>
-    ensures { IfOk result (λ arguments. option_map (λ v. arguments_view v.items) arguments ≡ arguments_of (λ s. s) (parts_behind tab (option_copied rest.entry))) }
+    ensures { IfOk result (λ arguments. option_map (λ v. arguments_view v.items) arguments
+        ≡ arguments_of (λ s. s) (parts_behind tab (option_copied rest.entry))) }
 {
     let mut arguments = Vec::new(alloc);
     while let Some(text) = rest {

@@ -80,7 +80,8 @@ struct Waiting {
 pub fn write_all<W: Sink>(writer: &mut W, bytes: &[u8]) -> Result<(), WriteFailed>
     ensures ok { OnOk result (Appends (W.contents writer.old) (W.contents writer.new) bytes.now) }
     ensures failures { OnOk result (W.failures writer.new ≡ W.failures writer.old) }
-    ensures err { OnErr result (PutsFront (W.contents writer.old) bytes.now (W.contents writer.new) []) }
+    ensures err { OnErr result (PutsFront (W.contents writer.old) bytes.now (W.contents writer.new)
+        []) }
     ensures failed { OnErr result (HasFailed (W.failures writer.old) (W.failures writer.new)) }
 {
     let mut rest = bytes;
@@ -95,10 +96,12 @@ pub fn write_all<W: Sink>(writer: &mut W, bytes: &[u8]) -> Result<(), WriteFaile
 
 /// Writes all that waits. After an error a front of it was written.
 fn flush<W: Sink>(writer: &mut W, output: &mut Vec<u8>) -> Result<(), WriteFailed>
-    ensures ok { OnOk result (Appends (W.contents writer.old) (W.contents writer.new) output.old.items) }
+    ensures ok { OnOk result (Appends (W.contents writer.old) (W.contents writer.new)
+        output.old.items) }
     ensures emptied { OnOk result (output.new.items ≡ []) }
     ensures failures { OnOk result (W.failures writer.new ≡ W.failures writer.old) }
-    ensures err { OnErr result (PutsFront (W.contents writer.old) output.old.items (W.contents writer.new) []) }
+    ensures err { OnErr result (PutsFront (W.contents writer.old) output.old.items
+        (W.contents writer.new) []) }
     ensures failed { OnErr result (HasFailed (W.failures writer.old) (W.failures writer.new)) }
 {
     write_all(writer, output.as_slice())?;
@@ -118,11 +121,15 @@ fn answer_line<E: Engine, W: Sink>(
         (E.reply engine.now (waiting.old.line.items ++ end.now))) }
     ensures line { OnOk result (waiting.new.line.items ≡ []) }
     ensures failures { OnOk result (W.failures writer.new ≡ W.failures writer.old) }
-    ensures memory { IsErrOf result RunError.Memory → Puts (W.contents writer.old) waiting.old.output.items (W.contents writer.new) waiting.new.output.items [] }
-    ensures memory_failures { IsErrOf result RunError.Memory → W.failures writer.new ≡ W.failures writer.old }
+    ensures memory { IsErrOf result RunError.Memory
+        → Puts (W.contents writer.old) waiting.old.output.items (W.contents writer.new)
+        waiting.new.output.items [] }
+    ensures memory_failures { IsErrOf result RunError.Memory
+        → W.failures writer.new ≡ W.failures writer.old }
     ensures write { IsErrOf result RunError.Write → PutsFront (W.contents writer.old) waiting.old.output.items (W.contents writer.new)
         (E.reply engine.now (waiting.old.line.items ++ end.now)) }
-    ensures failed { IsErrOf result RunError.Write → HasFailed (W.failures writer.old) (W.failures writer.new) }
+    ensures failed { IsErrOf result RunError.Write
+        → HasFailed (W.failures writer.old) (W.failures writer.new) }
     ensures never_read { IsErrOf result RunError.Read → ⊥ }
 {
     if waiting.line.is_empty() {
@@ -140,7 +147,8 @@ fn answer_line<E: Engine, W: Sink>(
 
 /// What stands before the first line feed, and what stands behind it.
 fn first_line(bytes: &[u8]) -> Option<(&[u8], &[u8])>
-    ensures { MatchOption result (IsUnfinished bytes.now) (λ parts. IsUnfinished parts.0.now × (bytes.now ≡ parts.0.now ++ line_feed ∷ parts.1.now)) }
+    ensures { MatchOption result (IsUnfinished bytes.now)
+        (λ parts. IsUnfinished parts.0.now × (bytes.now ≡ parts.0.now ++ line_feed ∷ parts.1.now)) }
 {
     match memchr(b'\n', bytes) {
         None => None,
@@ -163,15 +171,18 @@ fn answer_block<E: Engine, W: Sink>(
     requires { IsUnfinished waiting.old.line.items }
     ensures ok { OnOk result (Puts (W.contents writer.old) waiting.old.output.items (W.contents writer.new) waiting.new.output.items
         (answers_to (E.reply engine.now) (whole_lines (waiting.old.line.items ++ block.now)))) }
-    ensures line { OnOk result (waiting.new.line.items ≡ unfinished (waiting.old.line.items ++ block.now)) }
+    ensures line { OnOk result (waiting.new.line.items
+        ≡ unfinished (waiting.old.line.items ++ block.now)) }
     ensures unfinished { OnOk result (IsUnfinished waiting.new.line.items) }
     ensures failures { OnOk result (W.failures writer.new ≡ W.failures writer.old) }
     ensures memory { IsErrOf result RunError.Memory → PutsFirst (W.contents writer.old) waiting.old.output.items (W.contents writer.new) waiting.new.output.items
         (E.reply engine.now) (whole_lines (waiting.old.line.items ++ block.now)) }
-    ensures memory_failures { IsErrOf result RunError.Memory → W.failures writer.new ≡ W.failures writer.old }
+    ensures memory_failures { IsErrOf result RunError.Memory
+        → W.failures writer.new ≡ W.failures writer.old }
     ensures write { IsErrOf result RunError.Write → PutsFront (W.contents writer.old) waiting.old.output.items (W.contents writer.new)
         (answers_to (E.reply engine.now) (whole_lines (waiting.old.line.items ++ block.now))) }
-    ensures failed { IsErrOf result RunError.Write → HasFailed (W.failures writer.old) (W.failures writer.new) }
+    ensures failed { IsErrOf result RunError.Write
+        → HasFailed (W.failures writer.old) (W.failures writer.new) }
     ensures never_read { IsErrOf result RunError.Read → ⊥ }
 {
     let mut rest = block;
@@ -185,7 +196,9 @@ fn answer_block<E: Engine, W: Sink>(
 
 /// Answers the line that the input ends in, if it holds a byte.
 fn answer_end<E: Engine>(alloc: Global, engine: &E, waiting: &mut Waiting) -> Result<(), RunError>
-    ensures ok { OnOk result (waiting.new.output.items ≡ waiting.old.output.items ++ answers_to (E.reply engine.now) (unless_empty waiting.old.line.items)) }
+    ensures ok { OnOk result (waiting.new.output.items
+        ≡ waiting.old.output.items ++ answers_to (E.reply engine.now)
+        (unless_empty waiting.old.line.items)) }
     ensures err { OnErr result (waiting.new.output.items ≡ waiting.old.output.items) }
     ensures memory_only { IfErr result (λ error. error ≡ RunError.Memory) }
 {
@@ -222,8 +235,10 @@ fn answer_all<E: Engine, R: Source, W: Sink>(
     ensures write { IsErrOf result RunError.Write → ServesFront
         (devices R.remaining reader.old reader.new W.contents writer.old writer.new)
         (E.reply engine.now) }
-    ensures failed { IsErrOf result RunError.Write → HasFailed (W.failures writer.old) (W.failures writer.new) }
-    ensures kept { (IsErrOf result RunError.Write → ⊥) → W.failures writer.new ≡ W.failures writer.old }
+    ensures failed { IsErrOf result RunError.Write
+        → HasFailed (W.failures writer.old) (W.failures writer.new) }
+    ensures kept { (IsErrOf result RunError.Write → ⊥)
+        → W.failures writer.new ≡ W.failures writer.old }
 {
     for _ in 0..READS {
         let count = reader.read(block)?;
@@ -266,7 +281,8 @@ pub fn serve<E: Engine, R: Source, W: Sink>(
     ensures write { IsErrOf result RunError.Write → AnswersFront
         (devices R.remaining reader.old reader.new W.contents writer.old writer.new)
         (E.reply engine.now) }
-    ensures failed { IsErrOf result RunError.Write → HasFailed (W.failures writer.old) (W.failures writer.new) }
+    ensures failed { IsErrOf result RunError.Write
+        → HasFailed (W.failures writer.old) (W.failures writer.new) }
 {
     let mut block = vec![in alloc; 0; BLOCK]?;
     let mut waiting = Waiting {

@@ -45,7 +45,8 @@ pub trait Sink {
     fn write(&mut self, bytes: &[u8]) -> Result<usize, WriteFailed>
         ensures bound { IfOk result (λ count. count ≤ length bytes.now) }
         ensures bytes { WriteAppends (contents self.old) (contents self.new) result bytes.now }
-        ensures failed { failures self.new ≡ failures_after_write (failures self.old) bytes.now result };
+        ensures failed { failures self.new ≡ failures_after_write (failures self.old) bytes.now
+            result };
 }
 
 /// A `Source` of a reader of std. It tells the bytes that the reader tells.

@@ -27,7 +27,8 @@ pub trait Slice<'s>: PartialEq + Drop {
         requires ordered { range.start ≤ range.end }
         requires start_boundary { IsCharBoundary (text self.now) range.start }
         requires end_boundary { IsCharBoundary (text self.now) range.end }
-        ensures { IfOk result (λ part. text part ≡ slice_range (text self.now) range.start range.end) };
+        ensures { IfOk result (λ part. text part ≡ slice_range (text self.now) range.start
+            range.end) };
 
     /// Cuts off the white space (Unicode White_Space) at the end of the text.
     fn trim(&mut self)
@@ -55,7 +56,8 @@ impl<'s> Slice<'s> for &'s str {
         requires ordered { range.start ≤ range.end }
         requires start_boundary { IsCharBoundary self.now.now range.start }
         requires end_boundary { IsCharBoundary self.now.now range.end }
-        ensures part { IfOk result (λ part. part.now ≡ slice_range self.now.now range.start range.end) }
+        ensures part { IfOk result (λ part. part.now
+            ≡ slice_range self.now.now range.start range.end) }
         ensures succeeds { IsOk result }
     {
         let text: &'s str = *self;
@@ -114,7 +116,8 @@ pub trait Texts<S> {
         requires ordered { range.start ≤ range.end }
         requires start_boundary { IsCharBoundary (text whole.now) range.start }
         requires end_boundary { IsCharBoundary (text whole.now) range.end }
-        ensures { IfOk result (λ part. text part ≡ slice_range (text whole.now) range.start range.end) };
+        ensures { IfOk result (λ part. text part ≡ slice_range (text whole.now) range.start
+            range.end) };
 
     /// The same as [`Slice::trim`].
     fn trim(&self, cut: &mut S)

@@ -17,7 +17,9 @@ pub fn NUMBER<'a, 'n, C: FluentType + Drop>(
     positional: &[FluentValue<'a, C>],
     named: &FluentArgs<'n, C>,
 ) -> Result<FluentValue<'a, C>, AllocError>
-    ensures { IfOk result (λ value. value_view C.meaning value ≡ number_called (map (value_view C.meaning) positional.now) (args_view C.meaning named.now)) }
+    ensures { IfOk result (λ value. value_view C.meaning value
+        ≡ number_called (map (value_view C.meaning) positional.now)
+        (args_view C.meaning named.now)) }
 {
     let Some(FluentValue::Number(number)) = positional.first() else {
         return Ok(FluentValue::Error);

@@ -20,7 +20,8 @@ pub trait ValueFormatter<C: FluentType, M> {
         value: &FluentValue<'_, C>,
         plurals: &M,
     ) -> Result<Option<String>, AllocError>
-        ensures { IfOk result (λ text. option_map string_bytes text ≡ formats self.now plurals.now (value_view C.meaning value.now)) };
+        ensures { IfOk result (λ text. option_map string_bytes text
+            ≡ formats self.now plurals.now (value_view C.meaning value.now)) };
 }
 
 /// The type that stands in for a program without a formatter. Its one value has no text for any value.

@@ -13,7 +13,8 @@ use std::alloc::{AllocError, Global};
 /// A function that messages may call.
 pub trait FluentFunction<C: FluentType> {
     /// What it gives for positional values and named arguments.
-    ghost gives: { Self → List (Value C.Meaning) → List (List ℕ × Value C.Meaning) → Value C.Meaning };
+    ghost gives: { Self → List (Value C.Meaning) → List (List ℕ × Value C.Meaning)
+        → Value C.Meaning };
 
     /// What it gives for these values, [`Error`](FluentValue::Error) where it has no answer. The only error is that memory
     /// runs out.
@@ -23,7 +24,9 @@ pub trait FluentFunction<C: FluentType> {
         positional: &[FluentValue<'a, C>],
         named: &FluentArgs<'n, C>,
     ) -> Result<FluentValue<'a, C>, AllocError>
-        ensures { IfOk result (λ value. value_view C.meaning value ≡ gives self.now (map (value_view C.meaning) positional.now) (args_view C.meaning named.now)) };
+        ensures { IfOk result (λ value. value_view C.meaning value
+            ≡ gives self.now (map (value_view C.meaning) positional.now)
+            (args_view C.meaning named.now)) };
 }
 
 /// The type that stands in for a program without functions of its own. Its one value gives an error.

@@ -18,7 +18,8 @@ impl<'a, C: FluentType> From<i8> for FluentValue<'a, C> {
 }
 
 impl<'a, C: FluentType> From<&i8> for FluentValue<'a, C> {
-    ghost from_gives = { λ n value. value_view C.meaning value ≡ a_number (number_from_integer n.now) };
+    ghost from_gives = { λ n value. value_view C.meaning value
+        ≡ a_number (number_from_integer n.now) };
 
     fn from(n: &i8) -> Self {
         FluentValue::Number(FluentNumber::from(n))
@@ -34,7 +35,8 @@ impl<'a, C: FluentType> From<i16> for FluentValue<'a, C> {
 }
 
 impl<'a, C: FluentType> From<&i16> for FluentValue<'a, C> {
-    ghost from_gives = { λ n value. value_view C.meaning value ≡ a_number (number_from_integer n.now) };
+    ghost from_gives = { λ n value. value_view C.meaning value
+        ≡ a_number (number_from_integer n.now) };
 
     fn from(n: &i16) -> Self {
         FluentValue::Number(FluentNumber::from(n))
@@ -50,7 +52,8 @@ impl<'a, C: FluentType> From<i32> for FluentValue<'a, C> {
 }
 
 impl<'a, C: FluentType> From<&i32> for FluentValue<'a, C> {
-    ghost from_gives = { λ n value. value_view C.meaning value ≡ a_number (number_from_integer n.now) };
+    ghost from_gives = { λ n value. value_view C.meaning value
+        ≡ a_number (number_from_integer n.now) };
 
     fn from(n: &i32) -> Self {
         FluentValue::Number(FluentNumber::from(n))
@@ -66,7 +69,8 @@ impl<'a, C: FluentType> From<i64> for FluentValue<'a, C> {
 }
 
 impl<'a, C: FluentType> From<&i64> for FluentValue<'a, C> {
-    ghost from_gives = { λ n value. value_view C.meaning value ≡ a_number (number_from_integer n.now) };
+    ghost from_gives = { λ n value. value_view C.meaning value
+        ≡ a_number (number_from_integer n.now) };
 
     fn from(n: &i64) -> Self {
         FluentValue::Number(FluentNumber::from(n))
@@ -82,7 +86,8 @@ impl<'a, C: FluentType> From<isize> for FluentValue<'a, C> {
 }
 
 impl<'a, C: FluentType> From<&isize> for FluentValue<'a, C> {
-    ghost from_gives = { λ n value. value_view C.meaning value ≡ a_number (number_from_integer n.now) };
+    ghost from_gives = { λ n value. value_view C.meaning value
+        ≡ a_number (number_from_integer n.now) };
 
     fn from(n: &isize) -> Self {
         FluentValue::Number(FluentNumber::from(n))
@@ -90,7 +95,8 @@ impl<'a, C: FluentType> From<&isize> for FluentValue<'a, C> {
 }
 
 impl<'a, C: FluentType> From<u8> for FluentValue<'a, C> {
-    ghost from_gives = { λ n value. value_view C.meaning value ≡ a_number (number_from_integer (pos n)) };
+    ghost from_gives = { λ n value. value_view C.meaning value
+        ≡ a_number (number_from_integer (pos n)) };
 
     fn from(n: u8) -> Self {
         FluentValue::Number(FluentNumber::from(n))
@@ -98,7 +104,8 @@ impl<'a, C: FluentType> From<u8> for FluentValue<'a, C> {
 }
 
 impl<'a, C: FluentType> From<&u8> for FluentValue<'a, C> {
-    ghost from_gives = { λ n value. value_view C.meaning value ≡ a_number (number_from_integer (pos n.now)) };
+    ghost from_gives = { λ n value. value_view C.meaning value
+        ≡ a_number (number_from_integer (pos n.now)) };
 
     fn from(n: &u8) -> Self {
         FluentValue::Number(FluentNumber::from(n))
@@ -106,7 +113,8 @@ impl<'a, C: FluentType> From<&u8> for FluentValue<'a, C> {
 }
 
 impl<'a, C: FluentType> From<u16> for FluentValue<'a, C> {
-    ghost from_gives = { λ n value. value_view C.meaning value ≡ a_number (number_from_integer (pos n)) };
+    ghost from_gives = { λ n value. value_view C.meaning value
+        ≡ a_number (number_from_integer (pos n)) };
 
     fn from(n: u16) -> Self {
         FluentValue::Number(FluentNumber::from(n))
@@ -114,7 +122,8 @@ impl<'a, C: FluentType> From<u16> for FluentValue<'a, C> {
 }
 
 impl<'a, C: FluentType> From<&u16> for FluentValue<'a, C> {
-    ghost from_gives = { λ n value. value_view C.meaning value ≡ a_number (number_from_integer (pos n.now)) };
+    ghost from_gives = { λ n value. value_view C.meaning value
+        ≡ a_number (number_from_integer (pos n.now)) };
 
     fn from(n: &u16) -> Self {
         FluentValue::Number(FluentNumber::from(n))
@@ -122,7 +131,8 @@ impl<'a, C: FluentType> From<&u16> for FluentValue<'a, C> {
 }
 
 impl<'a, C: FluentType> From<u32> for FluentValue<'a, C> {
-    ghost from_gives = { λ n value. value_view C.meaning value ≡ a_number (number_from_integer (pos n)) };
+    ghost from_gives = { λ n value. value_view C.meaning value
+        ≡ a_number (number_from_integer (pos n)) };
 
     fn from(n: u32) -> Self {
         FluentValue::Number(FluentNumber::from(n))
@@ -130,7 +140,8 @@ impl<'a, C: FluentType> From<u32> for FluentValue<'a, C> {
 }
 
 impl<'a, C: FluentType> From<&u32> for FluentValue<'a, C> {
-    ghost from_gives = { λ n value. value_view C.meaning value ≡ a_number (number_from_integer (pos n.now)) };
+    ghost from_gives = { λ n value. value_view C.meaning value
+        ≡ a_number (number_from_integer (pos n.now)) };
 
     fn from(n: &u32) -> Self {
         FluentValue::Number(FluentNumber::from(n))
@@ -138,7 +149,8 @@ impl<'a, C: FluentType> From<&u32> for FluentValue<'a, C> {
 }
 
 impl<'a, C: FluentType> From<u64> for FluentValue<'a, C> {
-    ghost from_gives = { λ n value. value_view C.meaning value ≡ a_number (number_from_integer (pos n)) };
+    ghost from_gives = { λ n value. value_view C.meaning value
+        ≡ a_number (number_from_integer (pos n)) };
 
     fn from(n: u64) -> Self {
         FluentValue::Number(FluentNumber::from(n))
@@ -146,7 +158,8 @@ impl<'a, C: FluentType> From<u64> for FluentValue<'a, C> {
 }
 
 impl<'a, C: FluentType> From<&u64> for FluentValue<'a, C> {
-    ghost from_gives = { λ n value. value_view C.meaning value ≡ a_number (number_from_integer (pos n.now)) };
+    ghost from_gives = { λ n value. value_view C.meaning value
+        ≡ a_number (number_from_integer (pos n.now)) };
 
     fn from(n: &u64) -> Self {
         FluentValue::Number(FluentNumber::from(n))
@@ -154,7 +167,8 @@ impl<'a, C: FluentType> From<&u64> for FluentValue<'a, C> {
 }
 
 impl<'a, C: FluentType> From<usize> for FluentValue<'a, C> {
-    ghost from_gives = { λ n value. value_view C.meaning value ≡ a_number (number_from_integer (pos n)) };
+    ghost from_gives = { λ n value. value_view C.meaning value
+        ≡ a_number (number_from_integer (pos n)) };
 
     fn from(n: usize) -> Self {
         FluentValue::Number(FluentNumber::from(n))
@@ -162,7 +176,8 @@ impl<'a, C: FluentType> From<usize> for FluentValue<'a, C> {
 }
 
 impl<'a, C: FluentType> From<&usize> for FluentValue<'a, C> {
-    ghost from_gives = { λ n value. value_view C.meaning value ≡ a_number (number_from_integer (pos n.now)) };
+    ghost from_gives = { λ n value. value_view C.meaning value
+        ≡ a_number (number_from_integer (pos n.now)) };
 
     fn from(n: &usize) -> Self {
         FluentValue::Number(FluentNumber::from(n))

@@ -19,7 +19,8 @@ impl<'a, C: FluentType> FluentValue<'a, C> {
     /// also matches a number: where it is `zero`, `one`, `two`, `few`, `many` or `other`, the category that the scope
     /// gives for the number. No other two values match. It takes no memory.
     pub fn matches<S: ValueScope<C>>(&self, other: &FluentValue<'_, C>, scope: &S) -> bool
-        ensures { result ≡ matches (S.plurals scope.now) (value_view C.meaning self.now) (value_view C.meaning other.now) }
+        ensures { result ≡ matches (S.plurals scope.now) (value_view C.meaning self.now)
+            (value_view C.meaning other.now) }
     {
         match (self, other) {
             (FluentValue::String(key), FluentValue::String(text)) => key.as_str() == text.as_str(),

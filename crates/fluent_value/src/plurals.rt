@@ -28,7 +28,8 @@ pub trait MemoizerKind {
         alloc: Global,
         custom: &C,
     ) -> Result<CowStr<'static>, AllocError>
-        ensures { IfOk result (λ text. cow_str_bytes text ≡ stringified self.now C.Meaning C.text (C.meaning custom.now)) };
+        ensures { IfOk result (λ text. cow_str_bytes text
+            ≡ stringified self.now C.Meaning C.text (C.meaning custom.now)) };
 }
 
 /// The plural rules of English. Values of a program's own type are shown by their own text.

@@ -30,7 +30,8 @@ pub trait ValueScope<C: FluentType> {
     /// The formatter's text of a value, where a formatter is set and answers one. Where none is set it takes no memory.
     /// The only error is that memory runs out.
     fn format(&self, value: &FluentValue<'_, C>) -> Result<Option<String>, AllocError>
-        ensures text { IfOk result (λ text. option_map string_bytes text ≡ formatted self.now (value_view C.meaning value.now)) }
+        ensures text { IfOk result (λ text. option_map string_bytes text
+            ≡ formatted self.now (value_view C.meaning value.now)) }
         ensures unset { has_formatter self.now ≡ false → IsOkAnd result IsNone };
 
     /// The category of a number with these operands by these rules.
@@ -39,7 +40,8 @@ pub trait ValueScope<C: FluentType> {
 
     /// The text of a value of the program's own type. The only error is that memory runs out.
     fn stringify(&self, custom: &C) -> Result<CowStr<'static>, AllocError>
-        ensures { IfOk result (λ text. cow_str_bytes text ≡ shown self.now (C.meaning custom.now)) };
+        ensures { IfOk result (λ text. cow_str_bytes text
+            ≡ shown self.now (C.meaning custom.now)) };
 
     /// The allocator of the texts that are made.
     fn alloc(&self) -> Global;

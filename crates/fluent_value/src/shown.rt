@@ -27,7 +27,9 @@ impl<'a, C: FluentType> FluentValue<'a, C> {
         w: &mut W,
         scope: &S,
     ) -> Result<(), WriteError>
-        ensures written { OnOk result (W.text w.new ≡ W.text w.old ++ shown_text (S.formatted scope.now) (S.shown scope.now) (value_view C.meaning self.now)) }
+        ensures written { OnOk result (W.text w.new
+            ≡ W.text w.old ++ shown_text (S.formatted scope.now) (S.shown scope.now)
+            (value_view C.meaning self.now)) }
         ensures refused { OnErr result (W.text w.new ≡ W.text w.old) }
     {
         if let Some(formatted) = scope.format(self)? {
@@ -46,8 +48,11 @@ impl<'a, C: FluentType> FluentValue<'a, C> {
     /// The text that the value is shown as, as [`write`](FluentValue::write) writes it. Where no formatter is set, a
     /// borrowed text stays borrowed, which takes no memory and succeeds. The only error is that memory runs out.
     pub fn as_string<S: ValueScope<C>>(&self, scope: &S) -> Result<CowStr<'a>, AllocError>
-        ensures text { IfOk result (λ text. cow_str_bytes text ≡ shown_text (S.formatted scope.now) (S.shown scope.now) (value_view C.meaning self.now)) }
-        ensures borrowed { S.has_formatter scope.now ≡ false → IsBorrowedText self.now → IsOkAnd result IsBorrowedStr }
+        ensures text { IfOk result (λ text. cow_str_bytes text
+            ≡ shown_text (S.formatted scope.now) (S.shown scope.now)
+            (value_view C.meaning self.now)) }
+        ensures borrowed { S.has_formatter scope.now ≡ false → IsBorrowedText self.now
+            → IsOkAnd result IsBorrowedStr }
     {
         if let Some(text) = scope.format(self)? {
             return Ok(CowStr::Owned(text));
@@ -68,8 +73,11 @@ impl<'a, C: FluentType + Drop> FluentValue<'a, C> {
     /// The text that the value is shown as, as [`write`](FluentValue::write) writes it. Where no formatter is set, a text is
     /// handed back as it is, which takes no memory and succeeds. The only error is that memory runs out.
     pub fn into_string<S: ValueScope<C>>(self, scope: &S) -> Result<CowStr<'a>, AllocError>
-        ensures text { IfOk result (λ text. cow_str_bytes text ≡ shown_text (S.formatted scope.now) (S.shown scope.now) (value_view C.meaning self.entry)) }
-        ensures handed_back { (text : _) → S.has_formatter scope.now ≡ false → self.entry ≡ of.String text → result ≡ Ok text }
+        ensures text { IfOk result (λ text. cow_str_bytes text
+            ≡ shown_text (S.formatted scope.now) (S.shown scope.now)
+            (value_view C.meaning self.entry)) }
+        ensures handed_back { (text : _) → S.has_formatter scope.now ≡ false
+            → self.entry ≡ of.String text → result ≡ Ok text }
     {
         let formatted = scope.format(&self)?;
         match (formatted, self) {

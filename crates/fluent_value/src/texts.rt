@@ -22,7 +22,8 @@ impl<'a, C: FluentType> From<String> for FluentValue<'a, C> {
 
 /// The text, borrowed.
 impl<'a, C: FluentType> From<&'a String> for FluentValue<'a, C> {
-    ghost from_gives = { λ text value. value_view C.meaning value ≡ a_text (string_bytes text.now) };
+    ghost from_gives = { λ text value. value_view C.meaning value
+        ≡ a_text (string_bytes text.now) };
 
     fn from(text: &'a String) -> Self {
         FluentValue::String(CowStr::Borrowed(text.as_str()))
@@ -58,7 +59,8 @@ impl<'a, C: FluentType> From<FluentNumber> for FluentValue<'a, C> {
 
 /// The value of what is there, or [`FluentValue::None`].
 impl<'a, C: FluentType, T: Into<FluentValue<'a, C>>> From<Option<T>> for FluentValue<'a, C> {
-    ghost from_gives = { λ option value. from_option T.converts (λ v. value_view C.meaning v ≡ no_value) option value };
+    ghost from_gives = { λ option value. from_option T.converts
+        (λ v. value_view C.meaning v ≡ no_value) option value };
 
     fn from(option: Option<T>) -> Self {
         match option {

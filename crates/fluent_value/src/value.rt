@@ -73,7 +73,8 @@ impl<'a, C: FluentType> FluentValue<'a, C> {
 impl<'a, C: FluentType> PartialEq for FluentValue<'a, C> {
     ghost eq = { value_eq C.meaning C.same ⟦<FluentNumber as PartialEq>⟧.eq };
 
-    ghost laws = { value_eq-per C.meaning C.same _ (Prim.search (partial_equiv_from_equiv, rules)) laws-law };
+    ghost laws = { value_eq-per C.meaning C.same _ (Prim.search (partial_equiv_from_equiv, rules))
+        laws-law };
 
     fn eq(&self, other: &Self) -> bool {
         match (self, other) {

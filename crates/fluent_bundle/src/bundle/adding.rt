@@ -21,7 +21,8 @@ impl<'r, 's, M, C, F: Drop, G> FluentBundle<'r, 's, M, C, F, G> {
     ///   entries. All other entries were added.
     /// - [`AddResourceError::Memory`] where memory runs out. The bundle is unchanged then.
     pub fn add_resource(&mut self, resource: &'r FluentResource<'s>) -> Result<(), AddResourceError>
-        ensures added { AddsFirst result (bundle_of self.old) (bundle_of self.new) (entries_view resource.now) }
+        ensures added { AddsFirst result (bundle_of self.old) (bundle_of self.new)
+            (entries_view resource.now) }
         ensures told { TellsNotices result (bundle_of self.old) (entries_view resource.now) }
     {
         self.environment.ids.add_resource(resource)
@@ -35,7 +36,8 @@ impl<'r, 's, M, C, F: Drop, G> FluentBundle<'r, 's, M, C, F, G> {
         &mut self,
         resource: &'r FluentResource<'s>,
     ) -> Result<(), AllocError>
-        ensures added { OnOk result (bundle_of self.new ≡ with_entries true (bundle_of self.old) (entries_view resource.now)) }
+        ensures added { OnOk result (bundle_of self.new
+            ≡ with_entries true (bundle_of self.old) (entries_view resource.now)) }
         ensures refused { OnErr result (bundle_of self.new ≡ bundle_of self.old) }
     {
         self.environment.ids.add_resource_overriding(resource)
@@ -48,7 +50,8 @@ impl<'r, 's, M, C, F: Drop, G> FluentBundle<'r, 's, M, C, F, G> {
     /// - [`AddFunctionError::Overriding`] where the id stands for a message, a term or a function.
     /// - [`AddFunctionError::Memory`] where memory runs out.
     pub fn add_function(&mut self, id: &str, function: F) -> Result<(), AddFunctionError>
-        ensures { AddsFunction result (bundle_of self.old) (bundle_of self.new) (id.now, ids.function function) }
+        ensures { AddsFunction result (bundle_of self.old) (bundle_of self.new)
+            (id.now, ids.function function) }
     {
         self.environment.ids.add_function(id, function)
     }

@@ -37,10 +37,18 @@ where
         args: Option<&FluentArgs<'_, C>>,
         errors: &mut Vec<FluentError>,
     ) -> Result<(), WriteError>
-        ensures wrote { OnOk result (W.text w.new ≡ W.text w.old ++ (asked C.meaning (environment_of C.text F.gives G.formats M.category_of M.stringified transformed self.now) args.entry pattern.now).value) }
-        ensures wrote_first { OnErr result (WritesFirst (W.text w.old) (W.text w.new) (asked C.meaning (environment_of C.text F.gives G.formats M.category_of M.stringified transformed self.now) args.entry pattern.now)) }
-        ensures told { OnOk result (TellsAll errors.old errors.new (asked C.meaning (environment_of C.text F.gives G.formats M.category_of M.stringified transformed self.now) args.entry pattern.now)) }
-        ensures told_first { OnErr result (TellsFirst errors.old errors.new (asked C.meaning (environment_of C.text F.gives G.formats M.category_of M.stringified transformed self.now) args.entry pattern.now)) }
+        ensures wrote { OnOk result (W.text w.new ≡ W.text w.old
+            ++ (asked C.meaning (environment_of C.text F.gives G.formats M.category_of M.stringified
+            transformed self.now) args.entry pattern.now).value) }
+        ensures wrote_first { OnErr result (WritesFirst (W.text w.old) (W.text w.new)
+            (asked C.meaning (environment_of C.text F.gives G.formats M.category_of M.stringified
+            transformed self.now) args.entry pattern.now)) }
+        ensures told { OnOk result (TellsAll errors.old errors.new
+            (asked C.meaning (environment_of C.text F.gives G.formats M.category_of M.stringified
+            transformed self.now) args.entry pattern.now)) }
+        ensures told_first { OnErr result (TellsFirst errors.old errors.new
+            (asked C.meaning (environment_of C.text F.gives G.formats M.category_of M.stringified
+            transformed self.now) args.entry pattern.now)) }
     {
         let lent = self.lent();
         let place = Place {
@@ -65,10 +73,18 @@ where
         args: Option<&FluentArgs<'_, C>>,
         errors: &mut Vec<FluentError>,
     ) -> Result<CowStr<'s>, AllocError>
-        ensures text { IfOk result (λ text. cow_str_bytes text ≡ (handed C.meaning (environment_of C.text F.gives G.formats M.category_of M.stringified transformed self.now) args.entry pattern.now).value) }
-        ensures told { OnOk result (TellsAll errors.old errors.new (handed C.meaning (environment_of C.text F.gives G.formats M.category_of M.stringified transformed self.now) args.entry pattern.now)) }
-        ensures refused { OnErr result (TellsFirst errors.old errors.new (handed C.meaning (environment_of C.text F.gives G.formats M.category_of M.stringified transformed self.now) args.entry pattern.now)) }
-        ensures borrowed { ShowsAsIs (bundle_of self.now) → IsSome (lone_text (pattern_view _ (λ s. s.now) pattern.now)) → IsOkAnd result IsBorrowedStr }
+        ensures text { IfOk result (λ text. cow_str_bytes text
+            ≡ (handed C.meaning (environment_of C.text F.gives G.formats M.category_of M.stringified
+            transformed self.now) args.entry pattern.now).value) }
+        ensures told { OnOk result (TellsAll errors.old errors.new
+            (handed C.meaning (environment_of C.text F.gives G.formats M.category_of M.stringified
+            transformed self.now) args.entry pattern.now)) }
+        ensures refused { OnErr result (TellsFirst errors.old errors.new
+            (handed C.meaning (environment_of C.text F.gives G.formats M.category_of M.stringified
+            transformed self.now) args.entry pattern.now)) }
+        ensures borrowed { ShowsAsIs (bundle_of self.now)
+            → IsSome (lone_text (pattern_view _ (λ s. s.now) pattern.now))
+            → IsOkAnd result IsBorrowedStr }
     {
         let lent = self.lent();
         let place = Place {

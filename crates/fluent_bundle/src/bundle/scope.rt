@@ -18,7 +18,8 @@ where
 {
     ghost has_formatter = { λ bundle. is_some (bundle_of bundle).formatter };
 
-    ghost formatted = { λ bundle. formatted_by G.formats (bundle_of bundle).plurals (bundle_of bundle).formatter };
+    ghost formatted = { λ bundle. formatted_by G.formats (bundle_of bundle).plurals
+        (bundle_of bundle).formatter };
 
     ghost plurals = { λ bundle. M.category_of (bundle_of bundle).plurals };
 

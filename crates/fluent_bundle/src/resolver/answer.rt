@@ -27,10 +27,16 @@ pub(crate) fn answer<'b, 'r, 's, 'a, C: FluentType + Drop, F, E: Context<C, F>>(
     pattern: &'r Pattern<&'s str>,
     errors: &mut Vec<FluentError>,
 ) -> Result<CowStr<'s>, AllocError>
-    ensures text { IfOk result (λ text. cow_str_bytes text ≡ (asked C.meaning (resolved_in E.environment place.now) place.now.arguments pattern.now).value) }
-    ensures told { OnOk result (TellsAll errors.old errors.new (asked C.meaning (resolved_in E.environment place.now) place.now.arguments pattern.now)) }
-    ensures refused { OnErr result (TellsFirst errors.old errors.new (asked C.meaning (resolved_in E.environment place.now) place.now.arguments pattern.now)) }
-    ensures borrowed { E.has_transform place.now.context.now ≡ false → IsSome (lone_text (pattern_view _ (λ s. s.now) pattern.now)) → IsOkAnd result IsBorrowedStr }
+    ensures text { IfOk result (λ text. cow_str_bytes text
+        ≡ (asked C.meaning (resolved_in E.environment place.now) place.now.arguments
+        pattern.now).value) }
+    ensures told { OnOk result (TellsAll errors.old errors.new
+        (asked C.meaning (resolved_in E.environment place.now) place.now.arguments pattern.now)) }
+    ensures refused { OnErr result (TellsFirst errors.old errors.new
+        (asked C.meaning (resolved_in E.environment place.now) place.now.arguments pattern.now)) }
+    ensures borrowed { E.has_transform place.now.context.now ≡ false
+        → IsSome (lone_text (pattern_view _ (λ s. s.now) pattern.now))
+        → IsOkAnd result IsBorrowedStr }
 {
     match lone_text(pattern) {
         Some(text) => place.context.transform(text),
@@ -55,9 +61,13 @@ fn resolved<'b, 'r, 's, 'a, C: FluentType + Drop, F, E: Context<C, F>>(
     pattern: &'r Pattern<&'s str>,
     errors: &mut Vec<FluentError>,
 ) -> Result<String, AllocError>
-    ensures text { IfOk result (λ text. string_bytes text ≡ (asked C.meaning (resolved_in E.environment place.now) place.now.arguments pattern.now).value) }
-    ensures told { OnOk result (TellsAll errors.old errors.new (asked C.meaning (resolved_in E.environment place.now) place.now.arguments pattern.now)) }
-    ensures refused { OnErr result (TellsFirst errors.old errors.new (asked C.meaning (resolved_in E.environment place.now) place.now.arguments pattern.now)) }
+    ensures text { IfOk result (λ text. string_bytes text
+        ≡ (asked C.meaning (resolved_in E.environment place.now) place.now.arguments
+        pattern.now).value) }
+    ensures told { OnOk result (TellsAll errors.old errors.new
+        (asked C.meaning (resolved_in E.environment place.now) place.now.arguments pattern.now)) }
+    ensures refused { OnErr result (TellsFirst errors.old errors.new
+        (asked C.meaning (resolved_in E.environment place.now) place.now.arguments pattern.now)) }
 {
     let alloc = place.context.alloc();
     let list = mem::replace(errors, Vec::new(alloc));
@@ -84,10 +94,15 @@ where
     W: TextWrite,
     C: FluentType + Drop,
     E: Context<C, F>,
-    ensures wrote { OnOk result (W.text w.new ≡ W.text w.old ++ (asked C.meaning (resolved_in E.environment place.now) place.now.arguments pattern.now).value) }
-    ensures wrote_first { OnErr result (WritesFirst (W.text w.old) (W.text w.new) (asked C.meaning (resolved_in E.environment place.now) place.now.arguments pattern.now)) }
-    ensures told { OnOk result (TellsAll errors.old errors.new (asked C.meaning (resolved_in E.environment place.now) place.now.arguments pattern.now)) }
-    ensures told_first { OnErr result (TellsFirst errors.old errors.new (asked C.meaning (resolved_in E.environment place.now) place.now.arguments pattern.now)) }
+    ensures wrote { OnOk result (W.text w.new ≡ W.text w.old
+        ++ (asked C.meaning (resolved_in E.environment place.now) place.now.arguments
+        pattern.now).value) }
+    ensures wrote_first { OnErr result (WritesFirst (W.text w.old) (W.text w.new)
+        (asked C.meaning (resolved_in E.environment place.now) place.now.arguments pattern.now)) }
+    ensures told { OnOk result (TellsAll errors.old errors.new
+        (asked C.meaning (resolved_in E.environment place.now) place.now.arguments pattern.now)) }
+    ensures told_first { OnErr result (TellsFirst errors.old errors.new
+        (asked C.meaning (resolved_in E.environment place.now) place.now.arguments pattern.now)) }
 {
     let alloc = place.context.alloc();
     let list = mem::replace(errors, Vec::new(alloc));
@@ -99,7 +114,8 @@ where
 
 /// Puts the errors that were told back where they were taken from.
 pub(crate) fn put_back(errors: &mut Vec<FluentError>, progress: Progress<'_, '_>)
-    ensures { (list : List Reported) → (state progress.entry).errors ≡ Some list → told errors.new ≡ list }
+    ensures { (list : List Reported) → (state progress.entry).errors ≡ Some list
+        → told errors.new ≡ list }
 {
     if let Some(list) = progress.into_errors() {
         *errors = list;
@@ -112,8 +128,11 @@ pub(crate) fn hand_out<'s, C: FluentType + Drop, V: ValueScope<C>>(
     scope: &V,
     text: CowStr<'s>,
 ) -> Result<CowStr<'s>, AllocError>
-    ensures text { IfOk result (λ out. cow_str_bytes out ≡ shown_text (V.formatted scope.now) (V.shown scope.now) (v.text (cow_str_bytes text.entry))) }
-    ensures borrowed { V.has_formatter scope.now ≡ false → IsBorrowedStr text.entry → IsOkAnd result IsBorrowedStr }
+    ensures text { IfOk result (λ out. cow_str_bytes out
+        ≡ shown_text (V.formatted scope.now) (V.shown scope.now)
+        (v.text (cow_str_bytes text.entry))) }
+    ensures borrowed { V.has_formatter scope.now ≡ false → IsBorrowedStr text.entry
+        → IsOkAnd result IsBorrowedStr }
 {
     let value: FluentValue<'s, C> = FluentValue::String(text);
     value.into_string(scope)

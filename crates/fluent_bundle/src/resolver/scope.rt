@@ -50,7 +50,8 @@ impl<'b, 'r, 's, 'a, M, C, F, G> Scope<'b, 'r, 's, 'a, M, C, F, G> {
         args: Option<&'b FluentArgs<'a, C>>,
         errors: Option<&'b mut Vec<FluentError>>,
     ) -> Self
-        ensures state { state_of result ≡ fresh (option_map (λ list. map bundle_view list.now.items) errors.entry) }
+        ensures state { state_of result ≡ fresh (option_map (λ list. map bundle_view list.now.items)
+            errors.entry) }
         ensures path { path_of result ≡ [] }
         ensures bundle { result.bundle ≡ bundle.entry }
         ensures arguments { result.arguments ≡ args.entry }
@@ -86,7 +87,8 @@ impl<'b, 'r, 's, 'a, M, C, F, G> Scope<'b, 'r, 's, 'a, M, C, F, G> {
     /// # Errors
     /// Memory ran out. Nothing has changed then.
     pub fn add_error(&mut self, error: ResolverError) -> Result<(), AllocError>
-        ensures told { OnOk result (state_of self.new ≡ with_error (resolver_view error) (state_of self.old)) }
+        ensures told { OnOk result (state_of self.new
+            ≡ with_error (resolver_view error) (state_of self.old)) }
         ensures refused { OnErr result (state_of self.new ≡ state_of self.old) }
         ensures path { path_of self.new ≡ path_of self.old }
         ensures kept { Keeps self.old self.new }
@@ -117,9 +119,18 @@ where
         pattern: &'r Pattern<&'s str>,
         expression: &'r Expression<&'s str>,
     ) -> Result<(), WriteError>
-        ensures wrote { OnOk result (Writes (W.text w.old) (W.text w.new) (state_of self.old) (state_of self.new) (s.unmarked_written (environment_of C.text F.gives G.formats M.category_of M.stringified transformed self.old.bundle.now) (pattern_view _ (λ s. s.now) pattern.now) (expression_view _ (λ s. s.now) expression.now) (place_of C.meaning self.old))) }
-        ensures refused { OnErr result (WritesSome (W.text w.old) (W.text w.new) (state_of self.old) (state_of self.new) (s.unmarked_written (environment_of C.text F.gives G.formats M.category_of M.stringified transformed self.old.bundle.now) (pattern_view _ (λ s. s.now) pattern.now) (expression_view _ (λ s. s.now) expression.now) (place_of C.meaning self.old))) }
-        ensures path { OnOk result (path_of self.new ≡ s.rooted_path (pattern_view _ (λ s. s.now) pattern.now) (path_of self.old)) }
+        ensures wrote { OnOk result (Writes (W.text w.old) (W.text w.new) (state_of self.old)
+            (state_of self.new) (s.unmarked_written (environment_of C.text F.gives G.formats
+            M.category_of M.stringified transformed self.old.bundle.now)
+            (pattern_view _ (λ s. s.now) pattern.now)
+            (expression_view _ (λ s. s.now) expression.now) (place_of C.meaning self.old))) }
+        ensures refused { OnErr result (WritesSome (W.text w.old) (W.text w.new) (state_of self.old)
+            (state_of self.new) (s.unmarked_written (environment_of C.text F.gives G.formats
+            M.category_of M.stringified transformed self.old.bundle.now)
+            (pattern_view _ (λ s. s.now) pattern.now)
+            (expression_view _ (λ s. s.now) expression.now) (place_of C.meaning self.old))) }
+        ensures path { OnOk result (path_of self.new
+            ≡ s.rooted_path (pattern_view _ (λ s. s.now) pattern.now) (path_of self.old)) }
         ensures path_left { OnErr result (path_of self.new ≡ path_of self.old) }
         ensures kept { Keeps self.old self.new }
     {
@@ -142,8 +153,16 @@ where
         pattern: &'r Pattern<&'s str>,
         inline: &'r InlineExpression<&'s str>,
     ) -> Result<(), WriteError>
-        ensures wrote { OnOk result (Writes (W.text w.old) (W.text w.new) (state_of self.old) (state_of self.new) (s.reference_written (environment_of C.text F.gives G.formats M.category_of M.stringified transformed self.old.bundle.now) (inline_view _ (λ s. s.now) inline.now) (pattern_view _ (λ s. s.now) pattern.now) (place_of C.meaning self.old))) }
-        ensures refused { OnErr result (WritesSome (W.text w.old) (W.text w.new) (state_of self.old) (state_of self.new) (s.reference_written (environment_of C.text F.gives G.formats M.category_of M.stringified transformed self.old.bundle.now) (inline_view _ (λ s. s.now) inline.now) (pattern_view _ (λ s. s.now) pattern.now) (place_of C.meaning self.old))) }
+        ensures wrote { OnOk result (Writes (W.text w.old) (W.text w.new) (state_of self.old)
+            (state_of self.new) (s.reference_written
+            (environment_of C.text F.gives G.formats M.category_of M.stringified transformed
+            self.old.bundle.now) (inline_view _ (λ s. s.now) inline.now)
+            (pattern_view _ (λ s. s.now) pattern.now) (place_of C.meaning self.old))) }
+        ensures refused { OnErr result (WritesSome (W.text w.old) (W.text w.new) (state_of self.old)
+            (state_of self.new) (s.reference_written
+            (environment_of C.text F.gives G.formats M.category_of M.stringified transformed
+            self.old.bundle.now) (inline_view _ (λ s. s.now) inline.now)
+            (pattern_view _ (λ s. s.now) pattern.now) (place_of C.meaning self.old))) }
         ensures path { path_of self.new ≡ path_of self.old }
         ensures kept { Keeps self.old self.new }
     {
@@ -163,8 +182,14 @@ where
         w: &mut W,
         inline: &InlineExpression<&'s str>,
     ) -> Result<(), WriteError>
-        ensures wrote { OnOk result (Writes (W.text w.old) (W.text w.new) (state_of self.old) (state_of self.new) (s.missed_written (environment_of C.text F.gives G.formats M.category_of M.stringified transformed self.old.bundle.now) (inline_view _ (λ s. s.now) inline.now))) }
-        ensures refused { OnErr result (WritesSome (W.text w.old) (W.text w.new) (state_of self.old) (state_of self.new) (s.missed_written (environment_of C.text F.gives G.formats M.category_of M.stringified transformed self.old.bundle.now) (inline_view _ (λ s. s.now) inline.now))) }
+        ensures wrote { OnOk result (Writes (W.text w.old) (W.text w.new) (state_of self.old)
+            (state_of self.new) (s.missed_written (environment_of C.text F.gives G.formats
+            M.category_of M.stringified transformed self.old.bundle.now)
+            (inline_view _ (λ s. s.now) inline.now))) }
+        ensures refused { OnErr result (WritesSome (W.text w.old) (W.text w.new) (state_of self.old)
+            (state_of self.new) (s.missed_written (environment_of C.text F.gives G.formats
+            M.category_of M.stringified transformed self.old.bundle.now)
+            (inline_view _ (λ s. s.now) inline.now))) }
         ensures path { path_of self.new ≡ path_of self.old }
         ensures kept { Keeps self.old self.new }
     {
@@ -182,8 +207,16 @@ where
         &mut self,
         arguments: Option<&'r CallArguments<&'s str>>,
     ) -> Result<(Vec<FluentValue<'s, C>>, FluentArgs<'s, C>), AllocError>
-        ensures found { IfOk result (λ found. Finds (called_of C.meaning found) (state_of self.old) (state_of self.new) (s.arguments_found (environment_of C.text F.gives G.formats M.category_of M.stringified transformed self.old.bundle.now) (maybe_arguments (option_map (arguments_view _ (λ s. s.now)) (option_copied arguments.entry))) (place_of C.meaning self.old))) }
-        ensures refused { OnErr result (TellsSome (state_of self.old) (state_of self.new) (s.arguments_found (environment_of C.text F.gives G.formats M.category_of M.stringified transformed self.old.bundle.now) (maybe_arguments (option_map (arguments_view _ (λ s. s.now)) (option_copied arguments.entry))) (place_of C.meaning self.old) (state_of self.old).budget)) }
+        ensures found { IfOk result (λ found. Finds (called_of C.meaning found) (state_of self.old)
+            (state_of self.new) (s.arguments_found (environment_of C.text F.gives G.formats
+            M.category_of M.stringified transformed self.old.bundle.now)
+            (maybe_arguments (option_map (arguments_view _ (λ s. s.now))
+            (option_copied arguments.entry))) (place_of C.meaning self.old))) }
+        ensures refused { OnErr result (TellsSome (state_of self.old) (state_of self.new)
+            (s.arguments_found (environment_of C.text F.gives G.formats M.category_of M.stringified
+            transformed self.old.bundle.now) (maybe_arguments
+            (option_map (arguments_view _ (λ s. s.now)) (option_copied arguments.entry)))
+            (place_of C.meaning self.old) (state_of self.old).budget)) }
         ensures path { path_of self.new ≡ path_of self.old }
         ensures kept { Keeps self.old self.new }
     {

@@ -28,8 +28,14 @@ where
     W: TextWrite,
     C: FluentType + Drop,
     E: Context<C, F>,
-    ensures wrote { OnOk result (Writes (W.text w.old) (W.text w.new) (state progress.old) (state progress.new) (s.pattern_written (resolved_in E.environment place.now) (pattern_view _ (λ s. s.now) pattern.now) (place_view C.meaning place.now None progress.old))) }
-    ensures refused { OnErr result (WritesSome (W.text w.old) (W.text w.new) (state progress.old) (state progress.new) (s.pattern_written (resolved_in E.environment place.now) (pattern_view _ (λ s. s.now) pattern.now) (place_view C.meaning place.now None progress.old))) }
+    ensures wrote { OnOk result (Writes (W.text w.old) (W.text w.new) (state progress.old)
+        (state progress.new) (s.pattern_written (resolved_in E.environment place.now)
+        (pattern_view _ (λ s. s.now) pattern.now) (place_view C.meaning place.now None
+        progress.old))) }
+    ensures refused { OnErr result (WritesSome (W.text w.old) (W.text w.new) (state progress.old)
+        (state progress.new) (s.pattern_written (resolved_in E.environment place.now)
+        (pattern_view _ (λ s. s.now) pattern.now) (place_view C.meaning place.now None
+        progress.old))) }
 {
     for element in &pattern.elements {
         if progress.dirty {
@@ -51,7 +57,8 @@ fn write_text<W: TextWrite, C: FluentType, F, E: Context<C, F>>(
     context: &E,
     text: &str,
 ) -> Result<(), WriteError>
-    ensures wrote { OnOk result (W.text w.new ≡ W.text w.old ++ (E.environment context.now).transformed text.now) }
+    ensures wrote { OnOk result (W.text w.new ≡ W.text w.old
+        ++ (E.environment context.now).transformed text.now) }
     ensures refused { OnErr result (W.text w.new ≡ W.text w.old) }
 {
     let text = context.transform(text)?;
@@ -72,8 +79,14 @@ where
     C: FluentType + Drop,
     E: Context<C, F>,
     requires { progress.now.dirty ≡ false }
-    ensures wrote { OnOk result (Writes (W.text w.old) (W.text w.new) (state progress.old) (state progress.new) (s.placeable_written (resolved_in E.environment place.now) (pattern_view _ (λ s. s.now) whole.now) (expression_view _ (λ s. s.now) expression.now) (place_view C.meaning place.now None progress.old))) }
-    ensures refused { OnErr result (WritesSome (W.text w.old) (W.text w.new) (state progress.old) (state progress.new) (s.placeable_written (resolved_in E.environment place.now) (pattern_view _ (λ s. s.now) whole.now) (expression_view _ (λ s. s.now) expression.now) (place_view C.meaning place.now None progress.old))) }
+    ensures wrote { OnOk result (Writes (W.text w.old) (W.text w.new) (state progress.old)
+        (state progress.new) (s.placeable_written (resolved_in E.environment place.now)
+        (pattern_view _ (λ s. s.now) whole.now) (expression_view _ (λ s. s.now) expression.now)
+        (place_view C.meaning place.now None progress.old))) }
+    ensures refused { OnErr result (WritesSome (W.text w.old) (W.text w.new) (state progress.old)
+        (state progress.new) (s.placeable_written (resolved_in E.environment place.now)
+        (pattern_view _ (λ s. s.now) whole.now) (expression_view _ (λ s. s.now) expression.now)
+        (place_view C.meaning place.now None progress.old))) }
     ensures path { OnOk result (progress.new.path.items ≡ progress.old.path.items) }
 {
     let mut piece = String::new(place.context.alloc());

@@ -37,7 +37,8 @@ impl<'args, C: FluentType> FluentArgs<'args, C> {
 
     /// The value of a name.
     pub fn get(&self, name: &str) -> Option<&FluentValue<'args, C>>
-        ensures { option_map (value_view C.meaning) (option_copied result) ≡ argument name.now (args_view C.meaning self.now) }
+        ensures { option_map (value_view C.meaning) (option_copied result)
+            ≡ argument name.now (args_view C.meaning self.now) }
     {
         match self.place(name) {
             Ok(index) => Some(&self.arguments[index].value),
@@ -48,7 +49,9 @@ impl<'args, C: FluentType> FluentArgs<'args, C> {
     /// Where the name stands, or where it would.
     fn place(&self, name: &str) -> Result<usize, usize>
         ensures range { IsSearchInRange result (length self.now.arguments.items) }
-        ensures place { MatchResult result (HoldsAt (λ it. order (name_of it) name.now ≡ Equal) self.now.arguments.items) (IsPartitionPoint (λ it. order (name_of it) name.now ≡ Less) (λ it. order (name_of it) name.now ≡ Greater) self.now.arguments.items) }
+        ensures place { MatchResult result (HoldsAt (λ it. order (name_of it) name.now ≡ Equal)
+            self.now.arguments.items) (IsPartitionPoint (λ it. order (name_of it) name.now ≡ Less)
+            (λ it. order (name_of it) name.now ≡ Greater) self.now.arguments.items) }
     {
         self.arguments
             .binary_search_by(|argument| argument.name.as_str().cmp(name))
@@ -63,9 +66,13 @@ impl<'args, C: FluentType + Drop> FluentArgs<'args, C> {
         name: CowStr<'args>,
         value: FluentValue<'args, C>,
     ) -> Result<(), AllocError>
-        ensures ok { OnOk result (args_view C.meaning self.new ≡ with_argument (cow_str_bytes name.entry) (value_view C.meaning value.entry) (args_view C.meaning self.old)) }
-        ensures refused { OnErr result (args_view C.meaning self.new ≡ args_view C.meaning self.old) }
-        ensures succeeds { IsSome (argument (cow_str_bytes name.entry) (args_view C.meaning self.old)) → IsOk result }
+        ensures ok { OnOk result (args_view C.meaning self.new
+            ≡ with_argument (cow_str_bytes name.entry) (value_view C.meaning value.entry)
+            (args_view C.meaning self.old)) }
+        ensures refused { OnErr result (args_view C.meaning self.new
+            ≡ args_view C.meaning self.old) }
+        ensures succeeds { IsSome (argument (cow_str_bytes name.entry)
+            (args_view C.meaning self.old)) → IsOk result }
     {
         match self.place(name.as_str()) {
             Ok(index) => self.arguments[index].value = value,

@@ -29,7 +29,8 @@ impl<'args, C: FluentType + Drop> IntoIterator for FluentArgs<'args, C> {
 
     type IntoIter = IntoIter<'args, C>;
 
-    ghost into_iter_gives = { λ args it. (owned_view C.meaning it ≡ args_view C.meaning args) × IsAscending (keys_of (owned_view C.meaning it)) };
+    ghost into_iter_gives = { λ args it. (owned_view C.meaning it ≡ args_view C.meaning args)
+        × IsAscending (keys_of (owned_view C.meaning it)) };
 
     fn into_iter(self) -> IntoIter<'args, C> {
         IntoIter {
@@ -41,7 +42,9 @@ impl<'args, C: FluentType + Drop> IntoIterator for FluentArgs<'args, C> {
 impl<'args, C: FluentType + Drop> Iterator for IntoIter<'args, C> {
     type Item = (CowStr<'args>, FluentValue<'args, C>);
 
-    ghost next_gives = { λ s given t. TakesFirst (λ item. (cow_str_bytes item.0, value_view C.meaning item.1)) (owned_view C.meaning s) given (owned_view C.meaning t) };
+    ghost next_gives = { λ s given t. TakesFirst
+        (λ item. (cow_str_bytes item.0, value_view C.meaning item.1)) (owned_view C.meaning s) given
+        (owned_view C.meaning t) };
 
     ghost remaining = { λ s. at_most (into_iter_len s.left) };
 

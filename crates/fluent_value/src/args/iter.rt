@@ -37,7 +37,9 @@ impl<'args, C: FluentType> FluentArgs<'args, C> {
 impl<'a, 'args, C: FluentType> Iterator for Iter<'a, 'args, C> {
     type Item = (&'a str, &'a FluentValue<'args, C>);
 
-    ghost next_gives = { λ s given t. TakesFirst (λ item. (item.0.now, value_view C.meaning item.1.now)) (left_view C.meaning s) given (left_view C.meaning t) };
+    ghost next_gives = { λ s given t. TakesFirst
+        (λ item. (item.0.now, value_view C.meaning item.1.now)) (left_view C.meaning s) given
+        (left_view C.meaning t) };
 
     ghost remaining = { λ s. at_most (length (iter_rest s.left)) };
 

@@ -21,7 +21,8 @@ impl<'args, C: FluentType + Drop> FluentArgs<'args, C> {
     ) -> Result<Self, AllocError>
         requires can { I.can_next pairs }
         requires ends { IsFinite (I.remaining pairs) }
-        ensures { IfOk result (λ args. (items : List _) × Drains I.next_gives pairs items × (args_view C.meaning args ≡ all_set [] (map (pair_view C.meaning) items))) }
+        ensures { IfOk result (λ args. (items : List _) × Drains I.next_gives pairs items
+            × (args_view C.meaning args ≡ all_set [] (map (pair_view C.meaning) items))) }
     {
         let mut args = FluentArgs::new(alloc);
         'pairs: for (name, value) in pairs {

@@ -20,9 +20,11 @@ struct One<'k, 'v> {
 }
 
 impl OptionSource for One<'_, '_> {
-    ghost text_under = { λ source key. if bytes_eq key source.key.now then option_copied source.text else None };
+    ghost text_under = { λ source key. if bytes_eq key source.key.now then option_copied source.text
+        else None };
 
-    ghost number_under = { λ source key. if bytes_eq key source.key.now then option_map number_of (option_copied source.number) else None };
+    ghost number_under = { λ source key. if bytes_eq key source.key.now then option_map number_of
+        (option_copied source.number) else None };
 
     fn text(&self, key: &str) -> Option<&str> {
         if key == self.key { self.text } else { None }
@@ -40,7 +42,11 @@ struct Full {
 }
 
 impl OptionSource for Full {
-    ghost text_under = { λ source key. if bytes_eq key (codes "type") then Some (codes "ordinal") else (if bytes_eq key (codes "style") then Some (codes "percent") else (if bytes_eq key (codes "currency") then Some (codes "EUR") else (if bytes_eq key (codes "currencyDisplay") then Some (codes "name") else (if bytes_eq key (codes "useGrouping") then Some (codes "false") else None)))) };
+    ghost text_under = { λ source key. if bytes_eq key (codes "type") then Some (codes "ordinal")
+        else (if bytes_eq key (codes "style") then Some (codes "percent") else
+        (if bytes_eq key (codes "currency") then Some (codes "EUR") else
+        (if bytes_eq key (codes "currencyDisplay") then Some (codes "name") else
+        (if bytes_eq key (codes "useGrouping") then Some (codes "false") else None)))) };
 
     ghost number_under = { λ source key. Some (number_of source.count) };
 

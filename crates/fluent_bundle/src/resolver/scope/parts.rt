@@ -33,7 +33,8 @@ fn path<'r, 's>(
     alloc: Global,
     root: Option<&'r Pattern<&'s str>>,
 ) -> Result<Vec<&'r Pattern<&'s str>>, AllocError>
-    ensures { IfOk result (λ path. map (λ x. pattern_view _ (λ s. s.now) x.now) path.items ≡ root_of root.entry) }
+    ensures { IfOk result (λ path. map (λ x. pattern_view _ (λ s. s.now) x.now) path.items
+        ≡ root_of root.entry) }
 {
     let mut path = Vec::new(alloc);
     if let Some(pattern) = root {
@@ -44,8 +45,10 @@ fn path<'r, 's>(
 
 /// Takes the errors out of a list.
 fn taken(alloc: Global, list: &mut Option<&mut Vec<FluentError>>) -> Option<Vec<FluentError>>
-    ensures errors { option_map (λ es. map bundle_view es.items) result ≡ option_map (λ es. map bundle_view es.now.items) list.old }
-    ensures same { option_map (λ es. es.ghost_name) list.new ≡ option_map (λ es. es.ghost_name) list.old }
+    ensures errors { option_map (λ es. map bundle_view es.items) result
+        ≡ option_map (λ es. map bundle_view es.now.items) list.old }
+    ensures same { option_map (λ es. es.ghost_name) list.new
+        ≡ option_map (λ es. es.ghost_name) list.old }
 {
     match list {
         Some(list) => Some(mem::replace(*list, Vec::new(alloc))),
@@ -76,7 +79,8 @@ impl<'b, 'r, 's, 'a, M, C, F, G> Scope<'b, 'r, 's, 'a, M, C, F, G> {
 
     /// Puts back what resolving has come to.
     fn put_back(&mut self, progress: Progress<'r, 's>)
-        ensures state { is_some self.old.errors ≡ is_some progress.entry.errors → state_of self.new ≡ state progress.entry }
+        ensures state { is_some self.old.errors ≡ is_some progress.entry.errors
+            → state_of self.new ≡ state progress.entry }
         ensures path { path_of self.new ≡ path_of self.old }
         ensures kept { Keeps self.old self.new }
     {
@@ -93,7 +97,8 @@ impl<'b, 'r, 's, 'a, M, C, F, G> Scope<'b, 'r, 's, 'a, M, C, F, G> {
 
     /// The first pattern that is tracked stays on the path.
     pub(super) fn stay_in(&mut self, pattern: &'r Pattern<&'s str>)
-        ensures path { path_of self.new ≡ s.rooted_path (pattern_view _ (λ s. s.now) pattern.now) (path_of self.old) }
+        ensures path { path_of self.new ≡ s.rooted_path (pattern_view _ (λ s. s.now) pattern.now)
+            (path_of self.old) }
         ensures state { state_of self.new ≡ state_of self.old }
         ensures kept { Keeps self.old self.new }
     {
@@ -109,8 +114,13 @@ impl<'b, 'r, 's, 'a, M, C, F, G> Scope<'b, 'r, 's, 'a, M, C, F, G> {
         inline: &InlineExpression<&'s str>,
         kind: ReferenceKind,
     ) -> Result<(), AllocError>
-        ensures wrote { OnOk result (Writes (string_bytes out.old) (string_bytes out.new) (state_of self.old) (state_of self.new) (faulty (braced (inline_fallback (inline_view _ (λ s. s.now) inline.now))) (unknown (reference_view kind)))) }
-        ensures refused { OnErr result (TellsSome (state_of self.old) (state_of self.new) (faulty (braced (inline_fallback (inline_view _ (λ s. s.now) inline.now))) (unknown (reference_view kind)) (state_of self.old).budget)) }
+        ensures wrote { OnOk result (Writes (string_bytes out.old) (string_bytes out.new)
+            (state_of self.old) (state_of self.new) (faulty
+            (braced (inline_fallback (inline_view _ (λ s. s.now) inline.now)))
+            (unknown (reference_view kind)))) }
+        ensures refused { OnErr result (TellsSome (state_of self.old) (state_of self.new)
+            (faulty (braced (inline_fallback (inline_view _ (λ s. s.now) inline.now)))
+            (unknown (reference_view kind)) (state_of self.old).budget)) }
         ensures path { path_of self.new ≡ path_of self.old }
         ensures kept { Keeps self.old self.new }
     {
@@ -133,8 +143,16 @@ where
         pattern: &'r Pattern<&'s str>,
         expression: &'r Expression<&'s str>,
     ) -> Result<(), AllocError>
-        ensures wrote { OnOk result (Writes (string_bytes out.old) (string_bytes out.new) (state_of self.old) (state_of self.new) (s.unmarked_written (environment_of C.text F.gives G.formats M.category_of M.stringified transformed self.old.bundle.now) (pattern_view _ (λ s. s.now) pattern.now) (expression_view _ (λ s. s.now) expression.now) (place_of C.meaning self.old))) }
-        ensures refused { OnErr result (TellsSome (state_of self.old) (state_of self.new) (s.unmarked_written (environment_of C.text F.gives G.formats M.category_of M.stringified transformed self.old.bundle.now) (pattern_view _ (λ s. s.now) pattern.now) (expression_view _ (λ s. s.now) expression.now) (place_of C.meaning self.old) (state_of self.old).budget)) }
+        ensures wrote { OnOk result (Writes (string_bytes out.old) (string_bytes out.new)
+            (state_of self.old) (state_of self.new) (s.unmarked_written
+            (environment_of C.text F.gives G.formats M.category_of M.stringified transformed
+            self.old.bundle.now) (pattern_view _ (λ s. s.now) pattern.now)
+            (expression_view _ (λ s. s.now) expression.now) (place_of C.meaning self.old))) }
+        ensures refused { OnErr result (TellsSome (state_of self.old) (state_of self.new)
+            (s.unmarked_written (environment_of C.text F.gives G.formats M.category_of M.stringified
+            transformed self.old.bundle.now) (pattern_view _ (λ s. s.now) pattern.now)
+            (expression_view _ (λ s. s.now) expression.now) (place_of C.meaning self.old)
+            (state_of self.old).budget)) }
         ensures path { path_of self.new ≡ path_of self.old }
         ensures kept { Keeps self.old self.new }
     {
@@ -158,8 +176,16 @@ where
         pattern: &'r Pattern<&'s str>,
         inline: &'r InlineExpression<&'s str>,
     ) -> Result<(), AllocError>
-        ensures wrote { OnOk result (Writes (string_bytes out.old) (string_bytes out.new) (state_of self.old) (state_of self.new) (s.reference_written (environment_of C.text F.gives G.formats M.category_of M.stringified transformed self.old.bundle.now) (inline_view _ (λ s. s.now) inline.now) (pattern_view _ (λ s. s.now) pattern.now) (place_of C.meaning self.old))) }
-        ensures refused { OnErr result (TellsSome (state_of self.old) (state_of self.new) (s.reference_written (environment_of C.text F.gives G.formats M.category_of M.stringified transformed self.old.bundle.now) (inline_view _ (λ s. s.now) inline.now) (pattern_view _ (λ s. s.now) pattern.now) (place_of C.meaning self.old) (state_of self.old).budget)) }
+        ensures wrote { OnOk result (Writes (string_bytes out.old) (string_bytes out.new)
+            (state_of self.old) (state_of self.new) (s.reference_written
+            (environment_of C.text F.gives G.formats M.category_of M.stringified transformed
+            self.old.bundle.now) (inline_view _ (λ s. s.now) inline.now)
+            (pattern_view _ (λ s. s.now) pattern.now) (place_of C.meaning self.old))) }
+        ensures refused { OnErr result (TellsSome (state_of self.old) (state_of self.new)
+            (s.reference_written (environment_of C.text F.gives G.formats M.category_of
+            M.stringified transformed self.old.bundle.now) (inline_view _ (λ s. s.now) inline.now)
+            (pattern_view _ (λ s. s.now) pattern.now) (place_of C.meaning self.old)
+            (state_of self.old).budget)) }
         ensures path { path_of self.new ≡ path_of self.old }
         ensures kept { Keeps self.old self.new }
     {
@@ -182,8 +208,14 @@ where
         out: &mut String,
         inline: &InlineExpression<&'s str>,
     ) -> Result<(), AllocError>
-        ensures wrote { OnOk result (Writes (string_bytes out.old) (string_bytes out.new) (state_of self.old) (state_of self.new) (s.missed_written (environment_of C.text F.gives G.formats M.category_of M.stringified transformed self.old.bundle.now) (inline_view _ (λ s. s.now) inline.now))) }
-        ensures refused { OnErr result (TellsSome (state_of self.old) (state_of self.new) (s.missed_written (environment_of C.text F.gives G.formats M.category_of M.stringified transformed self.old.bundle.now) (inline_view _ (λ s. s.now) inline.now) (state_of self.old).budget)) }
+        ensures wrote { OnOk result (Writes (string_bytes out.old) (string_bytes out.new)
+            (state_of self.old) (state_of self.new) (s.missed_written
+            (environment_of C.text F.gives G.formats M.category_of M.stringified transformed
+            self.old.bundle.now) (inline_view _ (λ s. s.now) inline.now))) }
+        ensures refused { OnErr result (TellsSome (state_of self.old) (state_of self.new)
+            (s.missed_written (environment_of C.text F.gives G.formats M.category_of M.stringified
+            transformed self.old.bundle.now) (inline_view _ (λ s. s.now) inline.now)
+            (state_of self.old).budget)) }
         ensures path { path_of self.new ≡ path_of self.old }
         ensures kept { Keeps self.old self.new }
     {
@@ -198,8 +230,16 @@ where
         &mut self,
         arguments: &'r CallArguments<&'s str>,
     ) -> Result<(Vec<FluentValue<'s, C>>, FluentArgs<'s, C>), AllocError>
-        ensures found { IfOk result (λ found. Finds (called_of C.meaning found) (state_of self.old) (state_of self.new) (s.arguments_found (environment_of C.text F.gives G.formats M.category_of M.stringified transformed self.old.bundle.now) (t.with_arguments (arguments_view _ (λ s. s.now) arguments.now)) (place_of C.meaning self.old))) }
-        ensures refused { OnErr result (TellsSome (state_of self.old) (state_of self.new) (s.arguments_found (environment_of C.text F.gives G.formats M.category_of M.stringified transformed self.old.bundle.now) (t.with_arguments (arguments_view _ (λ s. s.now) arguments.now)) (place_of C.meaning self.old) (state_of self.old).budget)) }
+        ensures found { IfOk result (λ found. Finds (called_of C.meaning found) (state_of self.old)
+            (state_of self.new) (s.arguments_found (environment_of C.text F.gives G.formats
+            M.category_of M.stringified transformed self.old.bundle.now)
+            (t.with_arguments (arguments_view _ (λ s. s.now) arguments.now))
+            (place_of C.meaning self.old))) }
+        ensures refused { OnErr result (TellsSome (state_of self.old) (state_of self.new)
+            (s.arguments_found (environment_of C.text F.gives G.formats M.category_of M.stringified
+            transformed self.old.bundle.now) (t.with_arguments
+            (arguments_view _ (λ s. s.now) arguments.now)) (place_of C.meaning self.old)
+            (state_of self.old).budget)) }
         ensures path { path_of self.new ≡ path_of self.old }
         ensures kept { Keeps self.old self.new }
     {
@@ -225,8 +265,15 @@ fn opened<'b, 'r, 's, 'a, C: FluentType + Drop, F, E: Context<C, F>>(
     pattern: &'r Pattern<&'s str>,
     expression: &'r Expression<&'s str>,
 ) -> Result<(), AllocError>
-    ensures wrote { OnOk result (Writes (string_bytes out.old) (string_bytes out.new) (state progress.old) (state progress.new) (s.unmarked_written (resolved_in E.environment place.now) (pattern_view _ (λ s. s.now) pattern.now) (expression_view _ (λ s. s.now) expression.now) (place_view C.meaning place.now None progress.old))) }
-    ensures refused { OnErr result (TellsSome (state progress.old) (state progress.new) (s.unmarked_written (resolved_in E.environment place.now) (pattern_view _ (λ s. s.now) pattern.now) (expression_view _ (λ s. s.now) expression.now) (place_view C.meaning place.now None progress.old) (state progress.old).budget)) }
+    ensures wrote { OnOk result (Writes (string_bytes out.old) (string_bytes out.new)
+        (state progress.old) (state progress.new) (s.unmarked_written
+        (resolved_in E.environment place.now) (pattern_view _ (λ s. s.now) pattern.now)
+        (expression_view _ (λ s. s.now) expression.now)
+        (place_view C.meaning place.now None progress.old))) }
+    ensures refused { OnErr result (TellsSome (state progress.old) (state progress.new)
+        (s.unmarked_written (resolved_in E.environment place.now)
+        (pattern_view _ (λ s. s.now) pattern.now) (expression_view _ (λ s. s.now) expression.now)
+        (place_view C.meaning place.now None progress.old) (state progress.old).budget)) }
 {
     write_opened(out, place, None, progress, pattern, expression)
 }
@@ -239,8 +286,15 @@ fn referred<'b, 'r, 's, 'a, C: FluentType + Drop, F, E: Context<C, F>>(
     inline: &'r InlineExpression<&'s str>,
     pattern: &'r Pattern<&'s str>,
 ) -> Result<(), AllocError>
-    ensures wrote { OnOk result (Writes (string_bytes out.old) (string_bytes out.new) (state progress.old) (state progress.new) (s.reference_written (resolved_in E.environment place.now) (inline_view _ (λ s. s.now) inline.now) (pattern_view _ (λ s. s.now) pattern.now) (place_view C.meaning place.now None progress.old))) }
-    ensures refused { OnErr result (TellsSome (state progress.old) (state progress.new) (s.reference_written (resolved_in E.environment place.now) (inline_view _ (λ s. s.now) inline.now) (pattern_view _ (λ s. s.now) pattern.now) (place_view C.meaning place.now None progress.old) (state progress.old).budget)) }
+    ensures wrote { OnOk result (Writes (string_bytes out.old) (string_bytes out.new)
+        (state progress.old) (state progress.new) (s.reference_written
+        (resolved_in E.environment place.now) (inline_view _ (λ s. s.now) inline.now)
+        (pattern_view _ (λ s. s.now) pattern.now) (place_view C.meaning place.now None
+        progress.old))) }
+    ensures refused { OnErr result (TellsSome (state progress.old) (state progress.new)
+        (s.reference_written (resolved_in E.environment place.now)
+        (inline_view _ (λ s. s.now) inline.now) (pattern_view _ (λ s. s.now) pattern.now)
+        (place_view C.meaning place.now None progress.old) (state progress.old).budget)) }
 {
     write_referred(out, place, None, progress, inline, pattern)
 }
@@ -251,8 +305,14 @@ fn values<'b, 'r, 's, 'a, C: FluentType + Drop, F, E: Context<C, F>>(
     progress: &mut Progress<'r, 's>,
     arguments: &'r CallArguments<&'s str>,
 ) -> Result<(Vec<FluentValue<'s, C>>, FluentArgs<'s, C>), AllocError>
-    ensures found { IfOk result (λ found. Finds (called_of C.meaning found) (state progress.old) (state progress.new) (s.arguments_found (resolved_in E.environment place.now) (t.with_arguments (arguments_view _ (λ s. s.now) arguments.now)) (place_view C.meaning place.now None progress.old))) }
-    ensures refused { OnErr result (TellsSome (state progress.old) (state progress.new) (s.arguments_found (resolved_in E.environment place.now) (t.with_arguments (arguments_view _ (λ s. s.now) arguments.now)) (place_view C.meaning place.now None progress.old) (state progress.old).budget)) }
+    ensures found { IfOk result (λ found. Finds (called_of C.meaning found) (state progress.old)
+        (state progress.new) (s.arguments_found (resolved_in E.environment place.now)
+        (t.with_arguments (arguments_view _ (λ s. s.now) arguments.now))
+        (place_view C.meaning place.now None progress.old))) }
+    ensures refused { OnErr result (TellsSome (state progress.old) (state progress.new)
+        (s.arguments_found (resolved_in E.environment place.now)
+        (t.with_arguments (arguments_view _ (λ s. s.now) arguments.now))
+        (place_view C.meaning place.now None progress.old) (state progress.old).budget)) }
 {
     let positional = positional_values(place, None, progress, &arguments.positional)?;
     let named = named_values(place, None, progress, &arguments.named)?;

@@ -18,7 +18,8 @@ where
 {
     ghost has_formatter = { λ scope. is_some (bundle_of scope.bundle.now).formatter };
 
-    ghost formatted = { λ scope. formatted_by G.formats (bundle_of scope.bundle.now).plurals (bundle_of scope.bundle.now).formatter };
+    ghost formatted = { λ scope. formatted_by G.formats (bundle_of scope.bundle.now).plurals
+        (bundle_of scope.bundle.now).formatter };
 
     ghost plurals = { λ scope. M.category_of (bundle_of scope.bundle.now).plurals };
 
