@@ -3,6 +3,7 @@
 //! which nothing is known but laws, and a source of a thousand messages.
 #![tactic(auto)]
 
+mod answering;
 mod calls;
 mod long;
 mod prefixes;

@@ -1,5 +1,6 @@
-//! Tidies each prefix of a source. What comes out isn't known beforehand, but laws hold of it.
+//! Tidies each prefix of a source, and asks it before and after. What comes out isn't known beforehand, but laws hold of it.
 
+use crate::answering::{answer_alike, answers_as};
 use crate::calls::{Outcome, clean_source, import_export, join_sources, normalize_source};
 use crate::tally::Tally;
 use anyhow::{Context, Result};
@@ -41,9 +42,19 @@ fn are_laws_kept(alloc: Global, source: &str) -> bool {
         return clean_source(alloc, source) == Outcome::CarriageReturn
             && join_sources(alloc, &["", source]) == Outcome::CarriageReturn
             && normalize_source(alloc, source) == Outcome::CarriageReturn
-            && import_export(alloc, source) == Outcome::CarriageReturn;
+            && import_export(alloc, source) == Outcome::CarriageReturn
+            && answer_alike(alloc, source, source);
     }
-    is_cleaned_once(alloc, source) && is_normalized_once(alloc, source)
+    is_cleaned_once(alloc, source)
+        && is_normalized_once(alloc, source)
+        && is_answered_alike(alloc, source)
+}
+
+/// Whether each tidied text answers as the source does.
+fn is_answered_alike(alloc: Global, source: &str) -> bool {
+    answers_as(alloc, source, &clean_source(alloc, source))
+        && answers_as(alloc, source, &normalize_source(alloc, source))
+        && answers_as(alloc, source, &join_sources(alloc, &[source]))
 }
 
 /// Whether the cut text is its own cut text, has the same normal text, and is joined as the source is.

@@ -1,0 +1,47 @@
+//! What sources answer to requests for all that they name.
+
+use crate::calls::Outcome;
+use fluent_desk::{FromRead, FromWrite, RunError, Settings, run};
+use fluent_value::EnglishPlurals;
+use std::alloc::Global;
+
+/// Requests for each id of the sources, and for some attributes.
+const REQUESTS: &[u8] =
+    b"key1\nkey2\nfoo\nfoo.x\nbar\nn\tn=0\nn\tn=1\nn\tn=7\nrank\tn=1\nrank\tn=22\n\
+    m\tv=y\tn=a\na\nb\nc\nc.t\na.t\tz=1\nd\te=2\ne\nf\ng\nh\nbrand\nbrand.gender\nupd\nt\nx\nx\tv=1\n\
+    y\tx=3\nz\tz=4\no\na\tv=5\tz=6\nn\tn=b\ninner\nouter\nNUMBER\n";
+
+const SETTINGS: Settings = Settings {
+    isolating: false,
+    overriding: false,
+};
+
+/// Whether both sources answer the requests, and alike.
+pub fn answer_alike(alloc: Global, source: &str, other: &str) -> bool {
+    let mut answers = Vec::new(alloc);
+    let mut others = Vec::new(alloc);
+    answer(alloc, source, &mut answers).is_ok()
+        && answer(alloc, other, &mut others).is_ok()
+        && answers == others
+        && !answers.is_empty()
+}
+
+/// Whether a text, where there is one, answers the requests as the source does.
+pub fn answers_as(alloc: Global, source: &str, tidied: &Outcome) -> bool {
+    match tidied {
+        Outcome::Text(text) => answer_alike(alloc, source, text.as_str()),
+        _ => true,
+    }
+}
+
+/// Writes the answers of a source to the requests.
+fn answer(alloc: Global, source: &str, answers: &mut Vec<u8>) -> Result<(), RunError> {
+    run(
+        alloc,
+        &[source],
+        SETTINGS,
+        &EnglishPlurals,
+        &mut FromRead::new(REQUESTS),
+        &mut FromWrite::new(answers),
+    )
+}
