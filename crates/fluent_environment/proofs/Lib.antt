@@ -1,2 +1,1 @@
 mod FirstAttribute
-pub mod Called

@@ -2,13 +2,10 @@
 
 //! What patterns are resolved in: the ids of a bundle, its plural source and its settings.
 //!
-//! An [`Environment`] stays the same while a pattern is resolved. Contracts speak of it through its plain form, the
-//! `Environment` of `fluent_meaning`.
+//! An [`Environment`] stays the same while a pattern is resolved. Values are compared and shown by it.
 
-mod calls;
 mod environment;
 pub mod laws;
 mod scope;
-mod texts;
 
 pub use environment::Environment;
