@@ -72,7 +72,7 @@ class Tally:
 
     def expect(self, holds, what, file):
         """Counts a law that holds for a file, and keeps the file where it doesn't."""
-        self.count[what] += holds
+        self.count[what] += bool(holds)
         if not holds:
             self.wrong.append(f"{file}: not so: {what}")
 
