@@ -22,7 +22,7 @@ pub type Called<'b, 'r, 's, 'a> = Scope<
 
 /// What scopes are made of, and where their patterns come from.
 #[derive(Clone, Copy)]
-pub struct Ground<'b, 'r, 's, 'a> {
+pub struct Scene<'b, 'r, 's, 'a> {
     pub bundle: &'b Bundle<'r, 's>,
     pub resource: &'r FluentResource<'s>,
     pub arguments: Option<&'b Args<'a>>,

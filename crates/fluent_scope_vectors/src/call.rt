@@ -1,12 +1,13 @@
 //! Calls of a scope.
 //!
-//! A call names the pattern of a message, a term or an attribute, `of`, and the expression `at` an index of its elements, or of those of
-//! the pattern `by`; of a select it is the selector where no select is asked for. It says which `text` is written, which `positional` and
-//! `named` arguments there are, or which `kind` of thing is referred to.
+//! A call is an object with its name, `call`: `track`, `maybe_track`, `write_ref_error`, `get_arguments` or `add_error`, or `kind` for
+//! `ReferenceKind::of`. `of` names the pattern of a message, of a term or of an attribute. The expression is that of the placeable `at` an
+//! index of its elements, usually 0, or of those of the pattern `by`; where it is a select, its selector is what is referred to and what
+//! has arguments. `text` is what is written, `positional` and `named` are the arguments, and `kind` is the reference.
 
 use crate::bundle::Called;
-use crate::given::is_kind;
 use crate::json::{list_in, number_in, text_in};
+use crate::kinds::is_kind;
 use crate::page::Page;
 use crate::parts::{arguments_in, expression_at, inline_in, pattern_in};
 use crate::told::error_of;

@@ -1,10 +1,10 @@
 //! Scopes that are called step by step.
 //!
-//! A row with `calls` makes them on a new scope, in turn. Each is made so many `times`, usually once, each time with `dirty` set first where
-//! the call has `set_dirty`. It tells `errors`, by their texts, and says how many `placeables` and patterns `entered` there are then, and
-//! whether the scope is `dirty`. A row may have `errors` that are in the list before, and none of a row with `listed` off is kept.
+//! The `calls` of a row are made on a new scope, in turn. Each is made so many `times`, usually once, each time with `dirty` set first where
+//! the call has `set_dirty`. It tells its `errors`, by their texts, and then so many `placeables` are counted, so many patterns `entered`,
+//! and the scope is `dirty` or not. `errors` of the row are in the list before. With `listed` off there is no list.
 
-use crate::bundle::{Called, Ground};
+use crate::bundle::{Called, Scene};
 use crate::call::Call;
 use crate::json::{is_set, list_in, number_in};
 use crate::told::{Wanted, count_in, errors_of};
@@ -12,7 +12,7 @@ use fluent_bundle::resolver::Scope;
 use serde_json::Value as Json;
 use std::alloc::{AllocError, Global};
 
-impl<'b, 'r, 's, 'a> Ground<'b, 'r, 's, 'a> {
+impl<'b, 'r, 's, 'a> Scene<'b, 'r, 's, 'a> {
     /// Whether the calls of a row give what they must, also where one of them, each in turn, is made with a writer that takes nothing. The
     /// only error is that memory runs out.
     pub fn are_right(self, alloc: Global, row: &Json) -> Result<bool, AllocError> {

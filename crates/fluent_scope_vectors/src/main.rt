@@ -5,8 +5,8 @@
 mod bundle;
 mod call;
 mod calls;
-mod given;
 mod json;
+mod kinds;
 mod own;
 mod page;
 mod parts;

@@ -3,7 +3,7 @@
 //! A row is an object with a `source`, and with `calls`, a `value` or `pairs`. `args` are the arguments by name. The settings of its bundle stand by
 //! their names; placeables are isolated where `isolating` isn't `false`.
 
-use crate::bundle::{Bundle, Ground, Settings, read};
+use crate::bundle::{Bundle, Scene, Settings, read};
 use crate::json::{list_in, text_in};
 use crate::own::{Brackets, Capitals};
 use crate::values::{are_set, arguments_of};
@@ -91,14 +91,14 @@ fn is_right_on<'r, 's: 'r>(
     resource: &'r FluentResource<'s>,
 ) -> Result<bool, AllocError> {
     let arguments = arguments_of(alloc, row.get("args"))?;
-    let ground = Ground {
+    let scene = Scene {
         bundle,
         resource,
         arguments: arguments.as_ref(),
     };
     match (row.get("value"), row.get("pairs")) {
-        (Some(value), _) => ground.shows(alloc, row, value),
+        (Some(value), _) => scene.shows(alloc, row, value),
         (None, Some(_)) => are_set(alloc, list_in(row, "pairs"), row.get("named")),
-        (None, None) => ground.are_right(alloc, row),
+        (None, None) => scene.are_right(alloc, row),
     }
 }

@@ -3,7 +3,7 @@
 //! A row with a `value` says which `text` it is shown as, or else whether a `key` matches it, `matches`, or whether another value is
 //! equal to it: `other` and `equals`.
 
-use crate::bundle::{Called, Ground};
+use crate::bundle::{Called, Scene};
 use crate::json::{is_set, text_in};
 use crate::own::Value;
 use crate::page::Page;
@@ -12,7 +12,7 @@ use fluent_bundle::resolver::Scope;
 use serde_json::Value as Json;
 use std::alloc::{AllocError, Global};
 
-impl<'b, 'r, 's: 'r, 'a> Ground<'b, 'r, 's, 'a> {
+impl<'b, 'r, 's: 'r, 'a> Scene<'b, 'r, 's, 'a> {
     /// Whether a row's value gives what it must in a new scope. The only error is that memory runs out.
     pub fn shows(self, alloc: Global, row: &Json, value: &Json) -> Result<bool, AllocError> {
         let scope = Scope::new(self.bundle, self.arguments, None);

@@ -31,9 +31,9 @@ pub fn value_of(json: &Json) -> Value<'_> {
 
 /// Whether a value is this one.
 fn is_value(value: &Value<'_>, json: &Json) -> bool {
-    match value {
-        Value::None => matches!(value_of(json), Value::None),
-        Value::Error => matches!(value_of(json), Value::Error),
+    match json {
+        Json::Null => matches!(value, Value::None),
+        Json::Bool(false) => matches!(value, Value::Error),
         _ => *value == value_of(json),
     }
 }
