@@ -1,9 +1,11 @@
 //! Bundles, and the scopes that are made in them.
 
 use crate::json::is_set;
-use crate::own::{Args, Brackets, Token};
+use crate::own::{Brackets, Token};
 use fluent_bundle::resolver::Scope;
-use fluent_bundle::{EnglishPlurals, FluentBundle, FluentResource, NoFunction, ResourceError};
+use fluent_bundle::{
+    AddResourceError, EnglishPlurals, FluentBundle, FluentResource, NoFunction, ResourceError,
+};
 use serde_json::Value as Json;
 use std::alloc::{AllocError, Global};
 
@@ -19,14 +21,6 @@ pub type Called<'b, 'r, 's, 'a> = Scope<
     NoFunction,
     Brackets,
 >;
-
-/// What scopes are made of, and where their patterns come from.
-#[derive(Clone, Copy)]
-pub struct Scene<'b, 'r, 's, 'a> {
-    pub bundle: &'b Bundle<'r, 's>,
-    pub resource: &'r FluentResource<'s>,
-    pub arguments: Option<&'b Args<'a>>,
-}
 
 /// How a bundle is set.
 #[derive(Clone, Copy)]
@@ -57,4 +51,9 @@ pub fn read(alloc: Global, source: &str) -> Result<FluentResource<'_>, AllocErro
         Err(ResourceError::Broken(resource, _)) => Ok(resource),
         Err(ResourceError::Memory) => Err(AllocError),
     }
+}
+
+/// Whether the entries of a resource were added, if not all of them.
+pub fn is_added(added: Result<(), AddResourceError>) -> bool {
+    !matches!(added, Err(AddResourceError::Memory))
 }

@@ -5,26 +5,27 @@
 //! index of its elements, usually 0, or of those of the pattern `by`; where it is a select, its selector is what is referred to and what
 //! has arguments. `text` is what is written, `positional` and `named` are the arguments, and `kind` is the reference.
 
-use crate::bundle::Called;
 use crate::json::{list_in, number_in, text_in};
 use crate::kinds::is_kind;
-use crate::page::Page;
-use crate::parts::{arguments_in, expression_at, inline_in, pattern_in};
+use crate::own::{Args, Value};
+use crate::parts::{expression_at, inline_in, pattern_in};
 use crate::told::error_of;
 use crate::values::{are_named, are_values};
 use fluent_ast::{Expression, InlineExpression, Pattern};
 use fluent_bundle::FluentResource;
-use fluent_write::WriteError;
+use fluent_bundle::resolver::ResolverError;
 use serde_json::Value as Json;
 use std::alloc::{AllocError, Global};
 
 /// A call, and what it must give.
 #[derive(Clone, Copy)]
 pub struct Call<'r, 's, 'row> {
-    name: &'row str,
-    pattern: &'r Pattern<&'s str>,
-    expression: &'r Expression<&'s str>,
-    inline: &'r InlineExpression<&'s str>,
+    pub name: &'row str,
+    pub pattern: &'r Pattern<&'s str>,
+    pub expression: &'r Expression<&'s str>,
+    pub inline: &'r InlineExpression<&'s str>,
+    /// What is written, if anything.
+    pub text: &'row str,
     json: &'row Json,
 }
 
@@ -40,66 +41,34 @@ impl<'r, 's, 'row> Call<'r, 's, 'row> {
             pattern: pattern_in(resource, id)?,
             expression,
             inline: inline_in(expression),
+            text: text_in(json, "text").unwrap_or(""),
             json,
         })
     }
 
-    /// Makes the call, with a writer that may be full, and answers whether it gives what it must. The only error is that memory was
-    /// refused.
-    pub fn is_answered(
-        self,
-        alloc: Global,
-        scope: &mut Called<'_, 'r, 's, '_>,
-        is_full: bool,
-    ) -> Result<bool, AllocError> {
-        match self.name {
-            "add_error" => self.adds(scope),
-            "get_arguments" => self.finds(scope),
-            "kind" => is_kind(alloc, self.inline, self.json.get("kind")),
-            _ => self.writes(scope, Page::new(alloc, is_full)),
-        }
+    /// Whether the arguments are those that must be found.
+    pub fn are_found(self, positional: &[Value<'_>], named: &Args<'_>) -> bool {
+        are_values(positional, list_in(self.json, "positional"))
+            && are_named(named, self.json.get("named"))
     }
 
-    /// Whether an error is told.
-    fn adds(self, scope: &mut Called<'_, 'r, 's, '_>) -> Result<bool, AllocError> {
-        match list_in(self.json, "errors").first().and_then(error_of) {
-            Some(error) => {
-                scope.add_error(error)?;
-                Ok(true)
-            }
-            None => Ok(false),
-        }
+    /// The error that is to be told.
+    pub fn error(self) -> Option<ResolverError> {
+        error_of(list_in(self.json, "errors").first()?)
     }
 
-    /// Whether the arguments are found.
-    fn finds(self, scope: &mut Called<'_, 'r, 's, '_>) -> Result<bool, AllocError> {
-        let (positional, named) = scope.get_arguments(arguments_in(self.inline))?;
-        Ok(
-            are_values(&positional, list_in(self.json, "positional"))
-                && are_named(&named, self.json.get("named")),
-        )
+    /// Whether the expression refers to what it must. The only error is that memory runs out.
+    pub fn is_kind(self, alloc: Global) -> Result<bool, AllocError> {
+        is_kind(alloc, self.inline, self.json.get("kind"))
     }
 
-    /// Whether the text is written.
-    fn writes(
-        self,
-        scope: &mut Called<'_, 'r, 's, '_>,
-        mut page: Page,
-    ) -> Result<bool, AllocError> {
-        let written = self.write(scope, &mut page);
-        match text_in(self.json, "text") {
-            Some(text) => page.holds(written, text),
-            None => Ok(false),
-        }
+    /// What `dirty` is set to before the call, if it is.
+    pub fn dirty(self) -> Option<bool> {
+        self.json.get("set_dirty")?.as_bool()
     }
 
-    /// Makes a call that writes.
-    fn write(self, scope: &mut Called<'_, 'r, 's, '_>, page: &mut Page) -> Result<(), WriteError> {
-        match self.name {
-            "track" => scope.track(page, self.pattern, self.inline),
-            "maybe_track" => scope.maybe_track(page, self.pattern, self.expression),
-            "write_ref_error" => scope.write_ref_error(page, self.inline),
-            _ => Err(WriteError::Writer),
-        }
+    /// How often the call is made.
+    pub fn times(self) -> u64 {
+        number_in(self.json, "times", 1)
     }
 }

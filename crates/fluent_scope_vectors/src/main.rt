@@ -13,6 +13,7 @@ mod parts;
 mod rows;
 mod shown;
 mod told;
+mod turn;
 mod values;
 
 use anyhow::Result;

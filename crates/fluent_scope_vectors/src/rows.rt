@@ -3,12 +3,11 @@
 //! A row is an object with a `source`, and with `calls`, a `value` or `pairs`. `args` are the arguments by name. The settings of its bundle stand by
 //! their names; placeables are isolated where `isolating` isn't `false`.
 
-use crate::bundle::{Bundle, Scene, Settings, read};
+use crate::bundle::read;
+use crate::calls::are_right;
 use crate::json::{list_in, text_in};
-use crate::own::{Brackets, Capitals};
-use crate::values::{are_set, arguments_of};
+use crate::values::are_set;
 use anyhow::{Context, Result};
-use fluent_bundle::{AddResourceError, EnglishPlurals, FluentResource};
 use serde_json::Value as Json;
 use std::alloc::{AllocError, Global};
 use std::fs;
@@ -58,47 +57,8 @@ fn is_right(alloc: Global, line: &str) -> Result<bool, AllocError> {
 /// The same, of a source.
 fn is_right_of(alloc: Global, row: &Json, source: &str) -> Result<bool, AllocError> {
     let resource = read(alloc, source)?;
-    is_right_in(alloc, row, &resource)
-}
-
-/// The same, of a source that was read.
-fn is_right_in(
-    alloc: Global,
-    row: &Json,
-    resource: &FluentResource<'_>,
-) -> Result<bool, AllocError> {
-    let settings = Settings::of(row);
-    let mut bundle = Bundle::new(alloc, Vec::new(alloc), EnglishPlurals);
-    if settings.transform {
-        bundle.set_transform(Some(Box::new(alloc, Capitals)?));
-    }
-    bundle.set_use_isolating(settings.isolating);
-    bundle.set_formatter(settings.formatter.then_some(Brackets));
-    let has_number = bundle.add_builtins().is_ok();
-    let has_entries = !matches!(bundle.add_resource(resource), Err(AddResourceError::Memory));
-    if has_number && has_entries {
-        is_right_on(alloc, row, &bundle, resource)
-    } else {
-        Err(AllocError)
-    }
-}
-
-/// The same, where the bundle is made.
-fn is_right_on<'r, 's: 'r>(
-    alloc: Global,
-    row: &Json,
-    bundle: &Bundle<'r, 's>,
-    resource: &'r FluentResource<'s>,
-) -> Result<bool, AllocError> {
-    let arguments = arguments_of(alloc, row.get("args"))?;
-    let scene = Scene {
-        bundle,
-        resource,
-        arguments: arguments.as_ref(),
-    };
-    match (row.get("value"), row.get("pairs")) {
-        (Some(value), _) => scene.shows(alloc, row, value),
-        (None, Some(_)) => are_set(alloc, list_in(row, "pairs"), row.get("named")),
-        (None, None) => scene.are_right(alloc, row),
+    match row.get("pairs") {
+        Some(_) => are_set(alloc, list_in(row, "pairs"), row.get("named")),
+        None => are_right(alloc, row, &resource),
     }
 }

@@ -3,30 +3,31 @@
 //! A row with a `value` says which `text` it is shown as, or else whether a `key` matches it, `matches`, or whether another value is
 //! equal to it: `other` and `equals`.
 
-use crate::bundle::{Called, Scene};
+use crate::bundle::Called;
 use crate::json::{is_set, text_in};
 use crate::own::Value;
 use crate::page::Page;
 use crate::values::value_of;
-use fluent_bundle::resolver::Scope;
 use serde_json::Value as Json;
 use std::alloc::{AllocError, Global};
 
-impl<'b, 'r, 's: 'r, 'a> Scene<'b, 'r, 's, 'a> {
-    /// Whether a row's value gives what it must in a new scope. The only error is that memory runs out.
-    pub fn shows(self, alloc: Global, row: &Json, value: &Json) -> Result<bool, AllocError> {
-        let scope = Scope::new(self.bundle, self.arguments, None);
-        if let Some(key) = row.get("key") {
-            let matches = value_of(key).matches(&value_of(value), &scope);
-            return Ok(matches == is_set(row, "matches", false));
-        }
-        if let Some(other) = row.get("other") {
-            return Ok((value_of(value) == value_of(other)) == is_set(row, "equals", false));
-        }
-        match text_in(row, "text") {
-            Some(text) => are_texts(alloc, &scope, value, text),
-            None => Ok(false),
-        }
+/// Whether a row's value gives what it must in a scope. The only error is that memory runs out.
+pub fn shows<'r, 's: 'r>(
+    alloc: Global,
+    scope: &Called<'_, 'r, 's, '_>,
+    row: &Json,
+    value: &Json,
+) -> Result<bool, AllocError> {
+    if let Some(key) = row.get("key") {
+        let matches = value_of(key).matches(&value_of(value), scope);
+        return Ok(matches == is_set(row, "matches", false));
+    }
+    if let Some(other) = row.get("other") {
+        return Ok((value_of(value) == value_of(other)) == is_set(row, "equals", false));
+    }
+    match text_in(row, "text") {
+        Some(text) => are_texts(alloc, scope, value, text),
+        None => Ok(false),
     }
 }
 
