@@ -1,0 +1,26 @@
+//! The members of objects.
+
+use serde_json::Value as Json;
+
+/// The text under a name.
+pub fn text_in<'row>(json: &'row Json, name: &str) -> Option<&'row str> {
+    json.get(name)?.as_str()
+}
+
+/// Whether a setting is on, which a row may leave out.
+pub fn is_set(json: &Json, name: &str, usual: bool) -> bool {
+    json.get(name).and_then(Json::as_bool).unwrap_or(usual)
+}
+
+/// The number under a name, which a row may leave out.
+pub fn number_in(json: &Json, name: &str, usual: u64) -> u64 {
+    json.get(name).and_then(Json::as_u64).unwrap_or(usual)
+}
+
+/// The values of a list under a name, none where there is no list.
+pub fn list_in<'row>(json: &'row Json, name: &str) -> &'row [Json] {
+    match json.get(name) {
+        Some(Json::Array(list)) => list,
+        _ => &[],
+    }
+}

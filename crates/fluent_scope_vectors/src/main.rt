@@ -1,0 +1,34 @@
+//! Calls scopes as the rows of `data` say, and prints of each file how many rows there were and how many of them gave something else
+//! than they must.
+#![tactic(auto)]
+
+mod bundle;
+mod call;
+mod calls;
+mod json;
+mod kinds;
+mod own;
+mod page;
+mod parts;
+mod rows;
+mod shown;
+mod told;
+mod turn;
+mod values;
+
+use anyhow::Result;
+
+fn main(rt: HostRuntime) -> Result<()> {
+    for file in [
+        "tracked.jsonl",
+        "opened.jsonl",
+        "arguments.jsonl",
+        "references.jsonl",
+        "turns.jsonl",
+        "values.jsonl",
+    ] {
+        let tally = rows::try_rows(&rt, file)?;
+        println!(rt; "{file}: {} rows, {} wrong", tally.rows, tally.wrong)?;
+    }
+    Ok(())
+}
