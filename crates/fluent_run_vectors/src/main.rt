@@ -33,8 +33,11 @@ fn is_memory_alone(rt: &HostRuntime) -> io::Result<bool> {
     has_word(rt).or_else(|_| has_word(rt))
 }
 
+/// Whether a word stands behind the program's name.
 fn has_word(rt: &HostRuntime) -> io::Result<bool> {
-    Ok(env::args(rt)?.count() > 1)
+    let mut words = env::args(rt)?;
+    words.next();
+    Ok(words.next().is_some())
 }
 
 fn tell_all(rt: &HostRuntime, tallies: Tallies) -> Result<()> {
