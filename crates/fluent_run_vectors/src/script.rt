@@ -78,11 +78,13 @@ impl Script {
         count == 0 || self.ends.iter().any(|&(_, told)| told == count)
     }
 
-    /// Whether a line of the requests ends at this place, right before it or right behind it.
+    /// Whether a line of the requests ends at this place, right before it or right behind it, where they are few.
     pub fn is_near_end(&self, place: usize) -> bool {
-        self.ends
-            .iter()
-            .any(|&(asked, _)| asked.abs_diff(place) <= 1)
+        self.ends.len() <= FEW_LINES
+            && self
+                .ends
+                .iter()
+                .any(|&(asked, _)| asked.abs_diff(place) <= 1)
     }
 }
 
