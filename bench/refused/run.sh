@@ -11,7 +11,9 @@ here=$(cd "$(dirname "$0")" && pwd)
 crate=$here/../../crates/$1
 program=$crate/out/$1
 shift
-(cd "$crate" && rt run </dev/null >/dev/null)
+# What rt run runs lacks the files of data, so only that it was built counts.
+rm -f "$program"
+(cd "$crate" && rt run </dev/null >/dev/null) || [ -x "$program" ]
 built=$(mktemp -d)
 trap 'rm -rf "$built"' EXIT
 cc -shared -fPIC -O1 -o "$built/refuse.so" "$here/refuse.c" -ldl
