@@ -1,4 +1,4 @@
-/* The reader and the writer of fluent_syntax: what a Fluent source is made of, in numbers, and its tree as text.
+/* Fluent for C: the texts of messages, what a source is made of, in numbers, and its tree as text.
  *
  * Link libfluent_c.a with a program that has malloc, realloc and free. A text is its first byte and its length in
  * bytes; it needs no byte 0 at its end, and it is only read. A text of length 0 still needs a pointer that isn't null.
@@ -58,6 +58,34 @@ uint32_t fluent_write(const uint8_t *text, size_t len, bool with_junk, struct Fl
 
 /* Reads a source and writes its tree, junk included, as JSON: compact, each object's keys in the order of their bytes. */
 uint32_t fluent_write_json(const uint8_t *text, size_t len, struct FluentText *made);
+
+/* A source: its first byte, and its length in bytes. */
+struct FluentSource {
+    const uint8_t *text;
+    size_t len;
+};
+
+/* Answers request lines from the messages and terms of sources, in their order, as the command `ftl run` does.
+ *
+ * A request line is an id, with the name of an attribute behind a dot where that is asked for, and arguments
+ * `name=value` behind tabs. The answer to it is a line `ok B E`, the text of B bytes, and E lines of errors; or a line
+ * `none` or `bad`. docs/protocol.md has the rules.
+ *
+ * The function NUMBER is there, and variants are chosen by the plural rules of English. Placeables stand between the
+ * marks U+2068 and U+2069 where `isolating` is true. Of an id that stands twice the last entry counts where `overriding`
+ * is true, and the first where it is false. A source that has errors is answered from all the same, without its junk.
+ *
+ * The sources are read at each call: put as many request lines into one call as there are.
+ */
+uint32_t fluent_answer(
+    const struct FluentSource *sources,
+    size_t count,
+    bool isolating,
+    bool overriding,
+    const uint8_t *requests,
+    size_t len,
+    struct FluentText *answers
+);
 
 /* Frees a text, if there is one. There is none then. */
 void fluent_free_text(struct FluentText *made);

@@ -1,3 +1,4 @@
 mod Values
 mod Steps
 mod Texts
+mod Sources

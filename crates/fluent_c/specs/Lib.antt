@@ -6,3 +6,4 @@ pub mod Counts
 pub mod Made
 pub mod Texts
 pub mod Forms
+pub mod Answering

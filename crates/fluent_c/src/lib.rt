@@ -1,5 +1,5 @@
-//! The reader and the writer of `fluent_syntax` for programs in Rust and C: what a source is made of, in numbers, and
-//! its tree as text, written back or as JSON.
+//! Fluent for programs in Rust and C: the texts of messages, by [`fluent_answer`]; what a source is made of, in numbers;
+//! and its tree as text, written back or as JSON.
 //!
 //! A text is handed out in memory of the library, which the caller frees by [`fluent_free_text`]. A program that calls
 //! the library links C's `malloc`, `realloc` and `free`, as `bench/syntax/run.sh` does. `fluent_c.h` beside
@@ -10,11 +10,13 @@ ghost use Rattle.std.specs.Prelude.{◌≡◌, ◌≢◌, IsUtf8};
 ghost use Rattle.fluent_syntax.specs.Tiling.{tree, errors, runtime_tree, runtime_errors};
 ghost use Rattle.fluent_c.specs.Counts.{Counted};
 
+mod answering;
 mod counts;
 mod loose;
 mod text;
 mod writing;
 
+pub use answering::{FluentSource, fluent_answer};
 pub use counts::FluentCounts;
 use counts::{Reading, count};
 use std::alloc::Global;

@@ -9,6 +9,7 @@
 //! | Call | Gives |
 //! |---|---|
 //! | [`run`] | the answers to a stream of request lines |
+//! | [`answers`] | the same, for request lines in memory |
 //! | [`check`] | what is damaged in sources, and which of their ids stand twice |
 //! | [`clean`] | the source without the stretches that can't be read |
 //! | [`join`] | several sources as one, each cleaned |
@@ -38,7 +39,7 @@ mod trees;
 pub use cleaning::clean;
 pub use error::{CleanError, ImportError, NormalizeError};
 pub use fluent_check::{Report, check};
-pub use fluent_run::{FromRead, FromWrite, RunError, Settings, Sink, Source, run};
+pub use fluent_run::{FromRead, FromWrite, RunError, Settings, Sink, Source, answers, run};
 pub use joining::join;
 pub use normalizing::normalize;
 pub use trees::{export, import};

@@ -4,12 +4,18 @@ use crate::json::is_set;
 use crate::own::{Brackets, Function, Token};
 use fluent_ast::Pattern;
 use fluent_bundle::{
-    AddFunctionError, AddResourceError, EnglishPlurals, FluentBundle, FluentResource, ResourceError,
+    AddResourceError, EnglishPlurals, FluentBundle, FluentResource, ResourceError,
 };
 use serde_json::Value as Json;
 use std::alloc::{AllocError, Global};
 
 pub type Bundle<'r, 's> = FluentBundle<'r, 's, EnglishPlurals, Token, Function, Brackets>;
+
+const FUNCTIONS: [(&str, Function); 3] = [
+    ("STRLEN", Function::Length),
+    ("FIRST", Function::First),
+    ("NAMED", Function::Named),
+];
 
 /// What a bundle holds beside its resource and `NUMBER`, and how it is set.
 #[derive(Clone, Copy)]
@@ -37,6 +43,11 @@ impl Settings {
             formatter: is_set(json, "formatter", false),
         }
     }
+
+    /// The program's functions, by their names, if a bundle is to have them.
+    pub fn functions(self) -> &'static [(&'static str, Function)] {
+        if self.functions { &FUNCTIONS } else { &[] }
+    }
 }
 
 /// A resource, also where parts of its source are no entries. The only error is that memory runs out.
@@ -46,11 +57,6 @@ pub fn read(alloc: Global, source: &str) -> Result<FluentResource<'_>, AllocErro
         Err(ResourceError::Broken(resource, _)) => Ok(resource),
         Err(ResourceError::Memory) => Err(AllocError),
     }
-}
-
-/// Whether a function was added.
-pub fn is_function_added(added: Result<(), AddFunctionError>) -> bool {
-    added.is_ok()
 }
 
 /// Whether the entries of a resource were added, if not all of them.

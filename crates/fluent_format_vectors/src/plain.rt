@@ -106,16 +106,29 @@ fn is_refused(alloc: Global, bundle: &Bundle<'_, '_>) -> Result<bool, AllocError
 /// Whether errors are put behind those that are in the list.
 fn keeps_errors(alloc: Global, bundle: &Bundle<'_, '_>) -> Result<bool, AllocError> {
     let pattern = value_of(bundle, "intro")?;
+    let mut errors = one_error(alloc)?;
+    if bundle.format_pattern(pattern, None, &mut errors).is_err() {
+        return Err(AllocError);
+    }
+    Ok(is_reference_behind(&errors))
+}
+
+/// A list of one error, which is no `Reference`.
+fn one_error(alloc: Global) -> Result<Vec<FluentError>, AllocError> {
     let mut errors = Vec::new(alloc);
     errors.push(FluentError::ResolverError(ResolverError::Cyclic))?;
-    bundle.format_pattern(pattern, None, &mut errors)?;
-    Ok(matches!(
-        errors.as_slice(),
+    Ok(errors)
+}
+
+/// Whether a list is that one, with a `Reference` behind it.
+fn is_reference_behind(errors: &[FluentError]) -> bool {
+    matches!(
+        errors,
         [
             FluentError::ResolverError(ResolverError::Cyclic),
             FluentError::ResolverError(ResolverError::Reference(_)),
         ]
-    ))
+    )
 }
 
 /// Whether a text of more bytes than there is memory is refused, and tells no error.

@@ -6,16 +6,16 @@
 //! placeables are isolated where `isolating` isn't `false`.
 
 use crate::asking::Asked;
-use crate::bundle::{Bundle, Settings, is_function_added, is_resource_added, pattern_in, read};
+use crate::bundle::{Bundle, Settings, is_resource_added, pattern_in, read};
 use crate::json::text_in;
-use crate::own::{Args, Brackets, Capitals, Function};
+use crate::own::{Args, Brackets, Capitals};
 use crate::tally::Tally;
 use crate::told::Wanted;
 use crate::trees::pattern_of;
 use crate::values::arguments_of;
 use anyhow::{Context, Result};
 use fluent_ast::Pattern;
-use fluent_bundle::{EnglishPlurals, FluentResource};
+use fluent_bundle::{EnglishPlurals, FluentResource, TextTransform};
 use serde_json::Value as Json;
 use std::alloc::{AllocError, Global};
 use std::fs;
@@ -104,23 +104,24 @@ impl<'row> Row<'row> {
         resource: &'r FluentResource<'row>,
     ) -> Result<bool, AllocError> {
         let settings = self.settings;
-        let mut bundle = Bundle::new(alloc, Vec::new(alloc), EnglishPlurals);
+        let mut transform: Option<Box<dyn TextTransform>> = None;
         if settings.transform {
-            bundle.set_transform(Some(Box::new(alloc, Capitals)?));
+            transform = Some(Box::new(alloc, Capitals)?);
         }
+        let mut bundle = Bundle::new(alloc, Vec::new(alloc), EnglishPlurals);
+        bundle.set_transform(transform);
         bundle.set_use_isolating(settings.isolating);
         bundle.set_formatter(settings.formatter.then_some(Brackets));
-        let has_functions = !settings.functions
-            || (is_function_added(bundle.add_function("STRLEN", Function::Length))
-                && is_function_added(bundle.add_function("FIRST", Function::First))
-                && is_function_added(bundle.add_function("NAMED", Function::Named)));
-        let has_number = is_function_added(bundle.add_builtins());
+        let mut has_functions = bundle.add_builtins().is_ok();
+        for &(name, function) in settings.functions() {
+            has_functions &= bundle.add_function(name, function).is_ok();
+        }
         let has_entries = if settings.overriding {
             bundle.add_resource_overriding(resource).is_ok()
         } else {
             is_resource_added(bundle.add_resource(resource))
         };
-        if has_functions && has_number && has_entries {
+        if has_functions && has_entries {
             self.is_right_of(alloc, &bundle, tree)
         } else {
             Err(AllocError)

@@ -9,7 +9,8 @@ use crate::json::{list_in, number_in, text_in};
 use crate::kinds::is_kind;
 use crate::own::{Args, Value};
 use crate::parts::{expression_at, inline_in, pattern_in};
-use crate::told::error_of;
+use crate::told::{Wanted, error_of};
+use crate::turn::Turn;
 use crate::values::{are_named, are_values};
 use fluent_ast::{Expression, InlineExpression, Pattern};
 use fluent_bundle::FluentResource;
@@ -47,7 +48,15 @@ impl<'r, 's, 'row> Call<'r, 's, 'row> {
     }
 
     /// Whether the arguments are those that must be found.
-    pub fn are_found(self, positional: &[Value<'_>], named: &Args<'_>) -> bool {
+    pub fn is_found(
+        self,
+        found: Result<(Vec<Value<'_>>, Args<'_>), AllocError>,
+    ) -> Result<bool, AllocError> {
+        let (positional, named) = found?;
+        Ok(self.are_found(&positional, &named))
+    }
+
+    fn are_found(self, positional: &[Value<'_>], named: &Args<'_>) -> bool {
         are_values(positional, list_in(self.json, "positional"))
             && are_named(named, self.json.get("named"))
     }
@@ -65,6 +74,24 @@ impl<'r, 's, 'row> Call<'r, 's, 'row> {
     /// What `dirty` is set to before the call, if it is.
     pub fn dirty(self) -> Option<bool> {
         self.json.get("set_dirty")?.as_bool()
+    }
+
+    /// The call with the other calls of its row before it, at its place.
+    pub fn turn(
+        self,
+        row: &'row Json,
+        calls: &'row [Json],
+        index: usize,
+        full: usize,
+    ) -> Turn<'row> {
+        Turn {
+            json: self.json,
+            wanted: Wanted {
+                row,
+                calls: calls.get(..=index).unwrap_or(calls),
+            },
+            is_full: index == full,
+        }
     }
 
     /// How often the call is made.

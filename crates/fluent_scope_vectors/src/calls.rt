@@ -10,12 +10,11 @@ use crate::json::{is_set, list_in};
 use crate::own::{Args, Brackets, Capitals};
 use crate::page::Page;
 use crate::parts::arguments_in;
-use crate::shown::shows;
-use crate::told::{Wanted, count_in, errors_of};
-use crate::turn::Turn;
+use crate::shown::begins;
+use crate::told::{count_in, errors_of};
 use crate::values::arguments_of;
 use fluent_bundle::resolver::Scope;
-use fluent_bundle::{EnglishPlurals, FluentError, FluentResource};
+use fluent_bundle::{EnglishPlurals, FluentError, FluentResource, TextTransform};
 use serde_json::Value as Json;
 use std::alloc::{AllocError, Global};
 
@@ -36,10 +35,7 @@ macro_rules! answered {
                 let written = $scope.write_ref_error(&mut $page, $call.inline);
                 $page.holds(written, $call.text)
             }
-            "get_arguments" => match $scope.get_arguments(arguments_in($call.inline)) {
-                Ok((positional, named)) => Ok($call.are_found(&positional, &named)),
-                Err(AllocError) => Err(AllocError),
-            },
+            "get_arguments" => $call.is_found($scope.get_arguments(arguments_in($call.inline))),
             "add_error" => match $call.error() {
                 Some(error) => $scope.add_error(error).map(|()| true),
                 None => Ok(false),
@@ -58,65 +54,81 @@ pub fn are_right(
     resource: &FluentResource<'_>,
 ) -> Result<bool, AllocError> {
     let arguments = arguments_of(alloc, row.get("args"))?;
-    for full in 0..=list_in(row, "calls").len() {
-        if !are_right_with(alloc, row, resource, arguments.as_ref(), full)? {
+    are_right_with(alloc, row, resource, arguments.as_ref())
+}
+
+/// The same, where the arguments are made.
+fn are_right_with(
+    alloc: Global,
+    row: &Json,
+    resource: &FluentResource<'_>,
+    arguments: Option<&Args<'_>>,
+) -> Result<bool, AllocError> {
+    let calls = calls_of(alloc, row, resource)?;
+    if calls.len() != list_in(row, "calls").len() {
+        return Ok(false);
+    }
+    are_right_each(alloc, row, resource, arguments, &calls)
+}
+
+/// The calls of a row, those that are some.
+fn calls_of<'r, 's, 'row>(
+    alloc: Global,
+    row: &'row Json,
+    resource: &'r FluentResource<'s>,
+) -> Result<Vec<Call<'r, 's, 'row>>, AllocError> {
+    let mut calls = Vec::new(alloc);
+    for json in list_in(row, "calls") {
+        if let Some(call) = Call::of(resource, json) {
+            calls.push(call)?;
+        }
+    }
+    Ok(calls)
+}
+
+/// Whether these calls give what they must, with the writer of none and then of each that takes nothing.
+fn are_right_each<'r, 's>(
+    alloc: Global,
+    row: &Json,
+    resource: &'r FluentResource<'s>,
+    arguments: Option<&Args<'_>>,
+    calls: &[Call<'r, 's, '_>],
+) -> Result<bool, AllocError> {
+    for full in 0..=calls.len() {
+        let mut errors = errors_of(alloc, row)?;
+        if !are_answered(alloc, row, resource, arguments, &mut errors, calls, full)? {
             return Ok(false);
         }
     }
     Ok(true)
 }
 
-/// The same, where the writer of the call at an index takes nothing.
-fn are_right_with(
+/// The same, with this list of errors, where the writer of the call at an index takes nothing. What follows a refused call is made as well,
+/// but nothing is known of it.
+fn are_answered<'r, 's>(
     alloc: Global,
     row: &Json,
-    resource: &FluentResource<'_>,
-    arguments: Option<&Args<'_>>,
-    full: usize,
-) -> Result<bool, AllocError> {
-    let mut errors = errors_of(alloc, row)?;
-    are_answered(alloc, row, resource, arguments, &mut errors, full)
-}
-
-/// The same, with this list of errors. What follows a refused call is made as well, but nothing is known of it.
-fn are_answered<'row>(
-    alloc: Global,
-    row: &Json,
-    resource: &FluentResource<'row>,
+    resource: &'r FluentResource<'s>,
     arguments: Option<&Args<'_>>,
     errors: &mut Vec<FluentError>,
+    calls: &[Call<'r, 's, '_>],
     full: usize,
 ) -> Result<bool, AllocError> {
     let settings = Settings::of(row);
-    let calls = list_in(row, "calls");
-    let mut bundle = Bundle::new(alloc, Vec::new(alloc), EnglishPlurals);
+    let mut transform: Option<Box<dyn TextTransform>> = None;
     if settings.transform {
-        bundle.set_transform(Some(Box::new(alloc, Capitals)?));
+        transform = Some(Box::new(alloc, Capitals)?);
     }
+    let mut bundle = Bundle::new(alloc, Vec::new(alloc), EnglishPlurals);
+    bundle.set_transform(transform);
     bundle.set_use_isolating(settings.isolating);
     bundle.set_formatter(settings.formatter.then_some(Brackets));
-    let has_number = bundle.add_builtins().is_ok();
-    let has_entries = is_added(bundle.add_resource(resource));
-    if !has_number || !has_entries {
-        return Err(AllocError);
-    }
+    let is_made = bundle.add_builtins().is_ok() & is_added(bundle.add_resource(resource));
     let list = is_set(row, "listed", true).then_some(errors);
     let mut scope = Scope::new(&bundle, arguments, list);
-    let mut ended = row
-        .get("value")
-        .map(|value| shows(alloc, &scope, row, value));
-    for (index, json) in calls.iter().enumerate() {
-        let Some(call) = Call::of(resource, json) else {
-            return Ok(false);
-        };
-        let turn = Turn {
-            json,
-            wanted: Wanted {
-                row,
-                calls: calls.get(..=index).unwrap_or(calls),
-            },
-            is_full: index == full,
-        };
+    let mut ended = begins(alloc, &scope, row, is_made);
+    for (index, call) in calls.iter().enumerate() {
+        let turn = call.turn(row, list_in(row, "calls"), index, full);
         for _ in 0..call.times() {
             scope.dirty = call.dirty().unwrap_or(scope.dirty);
             let before = count_in(&scope);

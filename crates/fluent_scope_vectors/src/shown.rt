@@ -11,8 +11,22 @@ use crate::values::value_of;
 use serde_json::Value as Json;
 use std::alloc::{AllocError, Global};
 
+/// What a row comes to, if that is known before its calls: where its bundle wasn't made since memory ran out, or where it has a value.
+pub fn begins<'r, 's: 'r>(
+    alloc: Global,
+    scope: &Called<'_, 'r, 's, '_>,
+    row: &Json,
+    is_made: bool,
+) -> Option<Result<bool, AllocError>> {
+    if !is_made {
+        return Some(Err(AllocError));
+    }
+    row.get("value")
+        .map(|value| shows(alloc, scope, row, value))
+}
+
 /// Whether a row's value gives what it must in a scope. The only error is that memory runs out.
-pub fn shows<'r, 's: 'r>(
+fn shows<'r, 's: 'r>(
     alloc: Global,
     scope: &Called<'_, 'r, 's, '_>,
     row: &Json,

@@ -103,6 +103,17 @@ impl<W: io::Write> FromWrite<W> {
             failures: 0,
         }
     }
+
+    /// The writer, with the bytes that it holds.
+    pub fn into_inner(self) -> W
+        ensures { W.contents result ≡ ⟦<FromWrite<W> as Sink>⟧.contents self }
+    {
+        let FromWrite {
+            writer,
+            failures: _,
+        } = self;
+        writer
+    }
 }
 
 impl<W: io::Write> Sink for FromWrite<W> {

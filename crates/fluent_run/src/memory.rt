@@ -1,0 +1,32 @@
+//! Answers request lines that lie in memory.
+
+ghost use Rattle.std.specs.Prelude.{◌≡◌, IfOk};
+ghost use Rattle.fluent_run.specs.RunView.{answers_by};
+
+use crate::answering::run;
+use crate::settings::Settings;
+use fluent_serve::stream::{FromRead, FromWrite};
+use fluent_value::MemoizerKind;
+use std::alloc::{AllocError, Global};
+
+/// The answers to request lines: the bytes that [`run`] would write for them.
+///
+/// # Errors
+/// `AllocError` where memory runs out, and where the requests are longer than 4,294,967,296 blocks of 8,192 bytes.
+pub fn answers<M: MemoizerKind>(
+    alloc: Global,
+    sources: &[&str],
+    settings: Settings,
+    plurals: &M,
+    requests: &[u8],
+) -> Result<Vec<u8>, AllocError>
+    ensures { IfOk result (λ answers. answers.items
+        ≡ answers_by M.category_of M.stringified plurals.now settings sources.now requests.now) }
+{
+    let mut reader = FromRead::new(requests);
+    let mut writer = FromWrite::new(Vec::new(alloc));
+    match run(alloc, sources, settings, plurals, &mut reader, &mut writer) {
+        Ok(()) => Ok(writer.into_inner()),
+        Err(_) => Err(AllocError),
+    }
+}
