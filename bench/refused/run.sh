@@ -4,7 +4,7 @@
 #   run.sh CRATE [WORD..]
 #
 # CRATE is a program of this repository. It is proved and built, and run on the words with the files of its folder data beside it
-# and nothing on its input. It needs rt and a C compiler.
+# and nothing on its input. With EVERY=K in its environment only each Kth line of those files is there. It needs rt and a C compiler.
 set -eu
 [ $# -ge 1 ] || { sed -n '2,7s/^# \{0,1\}//p' "$0" >&2; exit 2; }
 here=$(cd "$(dirname "$0")" && pwd)
@@ -18,7 +18,14 @@ built=$(mktemp -d)
 trap 'rm -rf "$built"' EXIT
 cc -shared -fPIC -O1 -o "$built/refuse.so" "$here/refuse.c" -ldl
 mkdir "$built/data"
-[ ! -d "$crate/data" ] || cp "$crate"/data/* "$built/data"
+for file in "$crate"/data/*; do
+    [ -e "$file" ] || continue
+    if [ "${EVERY:-1}" = 1 ]; then
+        cp "$file" "$built/data"
+    else
+        awk -v every="$EVERY" 'NR % every == 0' "$file" >"$built/data/${file##*/}"
+    fi
+done
 cd "$built/data"
 
 # ended NUMBER WORD..: what the program writes and its status, with the allocation of that number refused.

@@ -26,23 +26,25 @@ void *__wrap_malloc(size_t size) { return refused() ? NULL : __real_malloc(size)
 
 void *__wrap_realloc(void *block, size_t size) { return refused() ? NULL : __real_realloc(block, size); }
 
-struct Source {
-    const uint8_t *bytes;
-    size_t len;
-};
+typedef uint32_t (*Call)(struct FluentSource source, struct FluentText *made);
 
-typedef uint32_t (*Call)(struct Source source, struct FluentText *made);
-
-static uint32_t written(struct Source source, struct FluentText *made) {
-    return fluent_write(source.bytes, source.len, false, made);
+static uint32_t written(struct FluentSource source, struct FluentText *made) {
+    return fluent_write(source.text, source.len, false, made);
 }
 
-static uint32_t written_with_junk(struct Source source, struct FluentText *made) {
-    return fluent_write(source.bytes, source.len, true, made);
+static uint32_t written_with_junk(struct FluentSource source, struct FluentText *made) {
+    return fluent_write(source.text, source.len, true, made);
 }
 
-static uint32_t json(struct Source source, struct FluentText *made) {
-    return fluent_write_json(source.bytes, source.len, made);
+static uint32_t json(struct FluentSource source, struct FluentText *made) {
+    return fluent_write_json(source.text, source.len, made);
+}
+
+/* Requests of examples/hello.ftl. Of another source each is answered too. */
+static uint32_t answered(struct FluentSource source, struct FluentText *made) {
+    static const char requests[] =
+        "hello-world\nwelcome\tname=Jane\nwelcome\ninbox\tname=Jane\tcount=3\nunread\tcount=1\nfarewell\nbad\tbad\n";
+    return fluent_answer(&source, 1, true, false, (const uint8_t *)requests, sizeof requests - 1, made);
 }
 
 static bool equal(const struct FluentText *a, const struct FluentText *b) {
@@ -50,10 +52,10 @@ static bool equal(const struct FluentText *a, const struct FluentText *b) {
 }
 
 /* Refuses each allocation of a call in turn. Gives how many there are, or -1 where an answer is wrong. */
-static long try_call(Call call, struct Source source) {
+static long try_call(Call call, struct FluentSource source) {
     static const uint8_t other[] = "a = b\n";
     struct FluentText before = {0}, wanted = {0}, made = {0};
-    struct Source small = {other, sizeof other - 1};
+    struct FluentSource small = {other, sizeof other - 1};
     bool good = written(small, &before) == FLUENT_READ && call(source, &wanted) == FLUENT_READ;
     long tried = 0;
     for (bool ended = false; good && !ended; tried++) {
@@ -73,13 +75,13 @@ static long try_call(Call call, struct Source source) {
     return good ? tried - 1 : -1;
 }
 
-static struct Source read_file(const char *path) {
-    struct Source source = {NULL, 0};
+static struct FluentSource read_file(const char *path) {
+    struct FluentSource source = {NULL, 0};
     FILE *file = fopen(path, "rb");
     uint8_t *bytes = __real_malloc(1 << 20);
     if (file && bytes)
         source.len = fread(bytes, 1, 1 << 20, file);
-    source.bytes = bytes;
+    source.text = bytes;
     return source;
 }
 
@@ -87,10 +89,11 @@ int main(int words, char **word) {
     const struct {
         const char *name;
         Call call;
-    } calls[] = {{"fluent_write", written}, {"fluent_write with junk", written_with_junk}, {"fluent_write_json", json}};
+    } calls[] = {{"fluent_write", written}, {"fluent_write with junk", written_with_junk}, {"fluent_write_json", json},
+                 {"fluent_answer", answered}};
     int status = 0;
     for (int file = 1; file < words; file++) {
-        struct Source source = read_file(word[file]);
+        struct FluentSource source = read_file(word[file]);
         for (size_t i = 0; i < sizeof calls / sizeof *calls; i++) {
             long tried = try_call(calls[i].call, source);
             printf("%s: %s: %ld allocations refused in turn%s\n", word[file], calls[i].name, tried, tried < 0 ? ", WRONG" : "");

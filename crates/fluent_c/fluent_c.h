@@ -75,7 +75,8 @@ struct FluentSource {
  * marks U+2068 and U+2069 where `isolating` is true. Of an id that stands twice the last entry counts where `overriding`
  * is true, and the first where it is false. A source that has errors is answered from all the same, without its junk.
  *
- * The sources are read at each call: put as many request lines into one call as there are.
+ * The sources are read at each call: put as many request lines into one call as there are. `sources` needs a pointer
+ * that isn't null, also where `count` is 0.
  */
 uint32_t fluent_answer(
     const struct FluentSource *sources,
