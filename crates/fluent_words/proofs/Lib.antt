@@ -2,3 +2,4 @@ pub mod Counted
 pub mod Scanned
 pub mod StringContent
 pub mod Chars
+pub mod Masked

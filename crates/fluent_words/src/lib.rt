@@ -6,6 +6,7 @@ mod comments;
 mod cut;
 mod first_bytes;
 mod identifiers;
+mod lanes;
 mod lines;
 mod numbers;
 mod patterns;

@@ -1,0 +1,17 @@
+use Rattle.std.proofs.Common.{ℕ, leb, cond, bit_and, refl, arith}
+use Rattle.std.proofs.lemmas.Simd.{zip2_splat, zip2_of_maps, splat_is_map}
+use Rattle.fluent_words.specs.Counted.{is_no_name_byte}
+use Rattle.fluent_words.proofs.Masked.{masked}
+use Rattle.fluent_words.proofs.lanes.no_name_bytes.Goals as goal
+
+pub returns : goal.returns
+returns c =
+    let v = c.args.bytes in
+    let long = c.fits-bytes.0 in
+    masked _ is_no_name_byte v _ (omega arith) c.fits-bytes.1 (
+    zip2_of_maps bit_and _ _ v
+    (zip2_of_maps bit_and _ _ v
+    (zip2_of_maps (λ a b. cond (leb a b) 255 0) _ _ v (splat_is_map v 16 26 long) (zip2_of_maps _ _ _ v (zip2_splat {Y = ℕ} _ v 16 32 long) (splat_is_map v 16 97 long)))
+    (zip2_of_maps (λ a b. cond (leb a b) 255 0) _ _ v (splat_is_map v 16 10 long) (zip2_splat {Y = ℕ} _ v 16 48 long)))
+    (zip2_of_maps bit_and _ _ v (zip2_splat {Y = ℕ} _ v 16 45 long) (zip2_splat {Y = ℕ} _ v 16 95 long))
+    ) refl

@@ -1,0 +1,25 @@
+//! Sixteen bytes of a text, told at once.
+#![tactic(auto)]
+
+ghost use Rattle.std.specs.Prelude.{◌≡◌, map};
+ghost use Rattle.std.specs.Simd.Lanes.{mask_l};
+ghost use Rattle.fluent_words.specs.Counted.{is_no_name_byte};
+
+use std::simd::prelude::*;
+
+/// How many bytes are told at once.
+pub(crate) const LANES: usize = 16;
+
+/// Which of the bytes no identifier has: bit `k` is that of byte `k`.
+#[inline(always)]
+pub(crate) fn no_name_bytes(bytes: u8x16) -> u64
+    ensures { result ≡ mask_l (map is_no_name_byte bytes) }
+{
+    // A letter in lower case is at most 25 from `a`, and the bytes below it are far behind.
+    let from_a = (bytes | u8x16::splat(0x20)) - u8x16::splat(b'a');
+    let from_zero = bytes - u8x16::splat(b'0');
+    let no_letter = from_a.simd_ge(u8x16::splat(26));
+    let no_digit = from_zero.simd_ge(u8x16::splat(10));
+    let no_sign = bytes.simd_ne(u8x16::splat(b'-')) & bytes.simd_ne(u8x16::splat(b'_'));
+    (no_letter & no_digit & no_sign).to_bitmask()
+}
