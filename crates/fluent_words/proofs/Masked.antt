@@ -1,15 +1,17 @@
 -- Bytes told sixteen at a time, through the mask of those that pass a test.
-use Rattle.std.proofs.Common.{◌≡◌, ◌≢◌, ℕ, ◌+◌, ◌*◌, ◌%◌, ◌^◌, ◌<◌, ◌≤◌, Bool, true, false, not, cond, eqb, List, [], ◌∷◌, map, length, drop, refl, sym, ap, ap₂, ◌∙◌, arith, w8, Fits}
-use Rattle.std.proofs.lemmas.Bool.{agree_below, agree_below_at, eq-eqb, ne_eqb}
-use Rattle.std.proofs.lemmas.Simd.{mask_l-mod, chunk-drop, length-chunk, leading_from_mask_l, trailing_mask_l}
-use Rattle.std.proofs.lemmas.List.{length-map}
+use Rattle.std.proofs.Common.{◌≡◌, ◌≢◌, ℕ, ◌+◌, ◌-◌, ◌*◌, ◌%◌, ◌^◌, ◌<◌, ◌≤◌, Bool, true, false, not, cond, eqb, List, [], ◌∷◌, map, length, drop, refl, sym, ap, ap₂, ◌∙◌, arith, w8, Fits, inl, inr}
+use Rattle.std.proofs.lemmas.Bool.{agree_below, agree_below_at, cases_eq, cases_lt, eq-eqb, ne_eqb, false≢true}
+use Rattle.std.proofs.lemmas.Simd.{mask_l-mod, chunk-drop, length-chunk, leading_from_mask_l, trailing_mask_l, run_in_chunk_le, run_in_chunk_fails, run_in_chunk_stops, none_from_empty_mask}
+use Rattle.std.proofs.lemmas.List.{length-map, length-drop, get_or-drop}
 use Rattle.std.proofs.lemmas.List.Folds.{prefix_len-append}
 use Rattle.std.proofs.lemmas.List.Sums.{prefix_len-le-length}
+use Rattle.std.specs.Prelude.{Option, None, Some}
 use Rattle.std.specs.List.{prefix_len}
 use lib.Count.{count_trailing_zeros}
 use lib.Lanes.{Each1, chunk, mask_l, top}
 use Rattle.fluent_grammar.specs.Words as w
-use Rattle.fluent_words.specs.Counted.{is_no_name_byte}
+use Rattle.memchr.specs.Find.{Nowhere, Passes, IsFirstByte}
+use Rattle.fluent_words.specs.Counted.{is_no_name_byte, is_stop}
 
 each_byte : (f : ℕ → ℕ) (p : ℕ → Bool) → agree_below (λ x. top 7 (f x)) p 256 ≡ true → (v : List ℕ) → Each1 (Fits w8) v → map (top 7) (map f v) ≡ map p v
 each_byte f p all [] fits = refl
@@ -61,3 +63,59 @@ names_through = run_through is_no_name_byte w.is_name_byte (λ x. not-not (w.is_
 pub names_stop : (d : List ℕ) (i n m : ℕ) → m ≡ mask_l (map is_no_name_byte (chunk i n d)) → i + n ≤ length d → n ≤ 64 → m ≢ 0 → prefix_len w.is_name_byte (drop i d) ≡ count_trailing_zeros 64 m
 names_stop d i n m e room short some =
     run_stops is_no_name_byte w.is_name_byte (λ x. not-not (w.is_name_byte x)) d i n room short (omega arith) ∙ ap (count_trailing_zeros 64) (sym e)
+
+-- no stop in these bytes, and none before them
+pub stops_none : (d : List ℕ) (i n m : ℕ) → m ≡ mask_l (map is_stop (chunk i n d)) → i + n ≤ length d → m ≡ 0 → Nowhere (Passes is_stop d) 0 i → Nowhere (Passes is_stop d) 0 (i + n)
+stops_none d i n m e room none before k low high p =
+    elim (cases_lt k i) [
+      | inl early ↦ before k low early p
+      | inr late ↦ absurd (false≢true (sym (none_from_empty_mask is_stop d i n 0 room (sym e ∙ none) k (omega arith) high) ∙ p))
+    ]
+
+-- the first stop in these bytes, with none before them
+pub stops_at : (d : List ℕ) (i n m : ℕ) → m ≡ mask_l (map is_stop (chunk i n d)) → i + n ≤ length d → n ≤ 64 → m ≢ 0 → Nowhere (Passes is_stop d) 0 i → IsFirstByte is_stop d (Some (i + count_trailing_zeros 64 m))
+stops_at d i n m e room short some before =
+    let c = chunk i n d in
+    let r = count_trailing_zeros 64 m in
+    let long : length c ≡ n = length-chunk i n d room in
+    let counted : r ≡ prefix_len (λ x. not (is_stop x)) c = ap (count_trailing_zeros 64) e ∙ trailing_mask_l is_stop 64 c (omega arith) (omega arith) in
+    let within : r ≤ n = run_in_chunk_le is_stop d i n r 0 room counted in
+    let inside : r < n = elim (cases_eq r n) [
+      | inl whole ↦ absurd (some (e ∙ no_mask is_stop (λ x. not (is_stop x)) (λ x. refl) c (sym counted ∙ whole ∙ sym long)))
+      | inr other ↦ omega arith
+    ] in (
+      record {
+        low = omega arith;
+        high = omega arith;
+        before = λ k low high p. elim (cases_lt k i) [
+          | inl early ↦ before k low early p
+          | inr late ↦ absurd (false≢true (sym (run_in_chunk_fails is_stop d i n r 0 room counted k late high) ∙ p))
+        ];
+      },
+      run_in_chunk_stops is_stop d i n r 0 room counted inside,
+    )
+
+nowhere_behind : (d : List ℕ) (i j : ℕ) → Nowhere (Passes is_stop d) 0 i → Nowhere (Passes is_stop (drop i d)) 0 j → Nowhere (Passes is_stop d) 0 (i + j)
+nowhere_behind d i j before behind k low high p =
+    elim (cases_lt k i) [
+      | inl early ↦ before k low early p
+      | inr late ↦
+          let at : i + (k - i) ≡ k = omega arith in
+          behind (k - i) (omega arith) (omega arith) (rw (get_or-drop i d (k - i) 0, at) p)
+    ]
+
+-- what a search behind i says of the whole
+pub stops_behind_none : (d : List ℕ) (i : ℕ) (r : Option ℕ) → i ≤ length d → r ≡ None → Nowhere (Passes is_stop d) 0 i → IsFirstByte is_stop (drop i d) None → IsFirstByte is_stop d r
+stops_behind_none d i r within e before behind =
+    let all : i + length (drop i d) ≡ length d = omega (arith, length-drop i d) in
+    rw (e, ← all) (nowhere_behind d i (length (drop i d)) before behind)
+
+pub stops_behind_at : (d : List ℕ) (i k : ℕ) → i ≤ length d → Nowhere (Passes is_stop d) 0 i → IsFirstByte is_stop (drop i d) (Some k) → IsFirstByte is_stop d (Some (i + k))
+stops_behind_at d i k within before first = (
+  record {
+    low = omega arith;
+    high = omega (arith, first.0.high, length-drop i d);
+    before = nowhere_behind d i k before first.0.before;
+  },
+  rw (← get_or-drop i d k 0) first.1,
+)

@@ -3,7 +3,7 @@
 
 ghost use Rattle.std.specs.Prelude.{◌≡◌, map};
 ghost use Rattle.std.specs.Simd.Lanes.{mask_l};
-ghost use Rattle.fluent_words.specs.Counted.{is_no_name_byte};
+ghost use Rattle.fluent_words.specs.Counted.{is_no_name_byte, is_stop};
 
 use std::simd::prelude::*;
 
@@ -22,4 +22,13 @@ pub(crate) fn no_name_bytes(bytes: u8x16) -> u64
     let no_digit = from_zero.simd_ge(u8x16::splat(10));
     let no_sign = bytes.simd_ne(u8x16::splat(b'-')) & bytes.simd_ne(u8x16::splat(b'_'));
     (no_letter & no_digit & no_sign).to_bitmask()
+}
+
+/// Which of the bytes are braces or line feeds: bit `k` is that of byte `k`.
+#[inline(always)]
+pub(crate) fn stops(bytes: u8x16) -> u64
+    ensures { result ≡ mask_l (map is_stop bytes) }
+{
+    let is_brace = bytes.simd_eq(u8x16::splat(b'{')) | bytes.simd_eq(u8x16::splat(b'}'));
+    (is_brace | bytes.simd_eq(u8x16::splat(b'\n'))).to_bitmask()
 }

@@ -3,17 +3,23 @@
 
 ghost use Rattle.std.specs.Prelude.{◌≡◌, ◌<◌, length};
 ghost use Rattle.fluent_grammar.specs.Lines.{pattern_ends};
-ghost use Rattle.fluent_words.specs.Counted.{IsText, line_feed_end};
+ghost use Rattle.fluent_words.specs.Counted.{IsText, is_stop, line_feed_end};
+ghost use Rattle.memchr.specs.Find.{IsFirstByte};
 
+use crate::lanes::{LANES, stops};
 use crate::{blank_inline_len, from};
 use memchr::memchr3;
+use std::simd::prelude::*;
+
+/// How many bytes are told sixteen at a time. What is farther is left to `memchr3`, which is slower on short texts.
+const NEAR: usize = 128;
 
 /// The text at the front: up to and with the line feed, or up to an opening brace, a CR LF or the end. An `Err` is the
 /// offset of a closing brace, which no text may have.
 pub fn text_len(text: &[u8]) -> Result<usize, usize>
     ensures { IsText text.now result }
 {
-    let Some(end) = memchr3(b'{', b'}', b'\n', text) else {
+    let Some(end) = stop(text) else {
         return Ok(text.len());
     };
     if text[end] == b'{' {
@@ -23,6 +29,22 @@ pub fn text_len(text: &[u8]) -> Result<usize, usize>
     } else {
         Ok(line_feed_end(text, end))
     }
+}
+
+/// The offset of the first brace or line feed.
+fn stop(text: &[u8]) -> Option<usize>
+    ensures { IsFirstByte is_stop text.now result }
+{
+    let mut end = 0;
+    while text.len() - end >= LANES && end < NEAR {
+        let found = stops(u8x16::from_slice(&text[end..]));
+        if found != 0 {
+            return Some(end + found.trailing_zeros() as usize);
+        }
+        end += LANES;
+    }
+    let behind = memchr3(b'{', b'}', b'\n', &text[end..])?;
+    Some(end + behind)
 }
 
 /// The end of the text whose line feed is here: before a CR LF, else behind the line feed.

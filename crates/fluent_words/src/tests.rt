@@ -24,6 +24,7 @@ fn lengths_of_words(rt: HostRuntime) -> Result<(), Fail> {
     assert_eq!(rt; blank_inline_len(b"  \ta"), 2);
     assert_eq!(rt; identifier_len(b"a-1_B = c"), 5);
     assert_eq!(rt; identifier_len(b"1a"), 0);
+    assert_eq!(rt; identifier_len(b"a-name-of-more-than-16-bytes_1 = c"), 30);
     assert_eq!(rt; number_len(b"-3.14)"), Ok(5));
     assert_eq!(rt; number_len(b"3. "), Err(2));
     assert_eq!(rt; number_len(b"-a"), Err(1));
@@ -55,6 +56,8 @@ fn texts_of_patterns(rt: HostRuntime) -> Result<(), Fail> {
     assert_eq!(rt; text_len(b"a\nb"), Ok(2));
     assert_eq!(rt; text_len(b"a\r\nb"), Ok(1));
     assert_eq!(rt; text_len(b"a}"), Err(1));
+    assert_eq!(rt; text_len(b"a text of 23 bytes, so {"), Ok(23));
+    assert_eq!(rt; text_len(b"a text of 23 bytes, so {$number}\n"), Ok(23));
     assert!(rt; pattern_ends(b"a") && pattern_ends(b" .a") && pattern_ends(b" }"));
     assert!(rt; !pattern_ends(b" a") && !pattern_ends(b"{") && !pattern_ends(b"\n"));
     Ok(())

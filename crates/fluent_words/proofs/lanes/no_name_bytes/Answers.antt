@@ -4,14 +4,15 @@ use Rattle.fluent_words.specs.Counted.{is_no_name_byte}
 use Rattle.fluent_words.proofs.Masked.{masked}
 use Rattle.fluent_words.proofs.lanes.no_name_bytes.Goals as goal
 
+abbrev at_most : ℕ → ℕ → ℕ
+at_most a b = cond (leb a b) 255 0
+
 pub returns : goal.returns
 returns c =
     let v = c.args.bytes in
     let long = c.fits-bytes.0 in
-    masked _ is_no_name_byte v _ (omega arith) c.fits-bytes.1 (
-    zip2_of_maps bit_and _ _ v
-    (zip2_of_maps bit_and _ _ v
-    (zip2_of_maps (λ a b. cond (leb a b) 255 0) _ _ v (splat_is_map v 16 26 long) (zip2_of_maps _ _ _ v (zip2_splat {Y = ℕ} _ v 16 32 long) (splat_is_map v 16 97 long)))
-    (zip2_of_maps (λ a b. cond (leb a b) 255 0) _ _ v (splat_is_map v 16 10 long) (zip2_splat {Y = ℕ} _ v 16 48 long)))
-    (zip2_of_maps bit_and _ _ v (zip2_splat {Y = ℕ} _ v 16 45 long) (zip2_splat {Y = ℕ} _ v 16 95 long))
-    ) refl
+    let from_a = zip2_of_maps _ _ _ v (zip2_splat {Y = ℕ} _ v 16 32 long) (splat_is_map v 16 97 long) in
+    let no_letter = zip2_of_maps at_most _ _ v (splat_is_map v 16 26 long) from_a in
+    let no_digit = zip2_of_maps at_most _ _ v (splat_is_map v 16 10 long) (zip2_splat {Y = ℕ} _ v 16 48 long) in
+    let no_sign = zip2_of_maps bit_and _ _ v (zip2_splat {Y = ℕ} _ v 16 45 long) (zip2_splat {Y = ℕ} _ v 16 95 long) in
+    masked _ is_no_name_byte v _ (omega arith) c.fits-bytes.1 (zip2_of_maps bit_and _ _ v (zip2_of_maps bit_and _ _ v no_letter no_digit) no_sign) refl
