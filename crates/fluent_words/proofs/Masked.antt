@@ -11,7 +11,7 @@ use lib.Count.{count_trailing_zeros}
 use lib.Lanes.{Each1, chunk, mask_l, top}
 use Rattle.fluent_grammar.specs.Words as w
 use Rattle.memchr.specs.Find.{Nowhere, Passes, IsFirstByte}
-use Rattle.fluent_words.specs.Counted.{is_no_name_byte, is_stop}
+use Rattle.fluent_words.specs.Bytes.{is_no_name_byte, is_stop}
 
 each_byte : (f : ℕ → ℕ) (p : ℕ → Bool) → agree_below (λ x. top 7 (f x)) p 256 ≡ true → (v : List ℕ) → Each1 (Fits w8) v → map (top 7) (map f v) ≡ map p v
 each_byte f p all [] fits = refl

@@ -2,8 +2,7 @@
 use Rattle.std.specs.Prelude.{◌≡◌, ℕ, suc, ◌+◌, ◌-◌, ◌<◌, ◌≤◌, Bool, true, false, not, ◌&&◌, ◌||◌, ◌==◌, nat_lt, [], ◌∷◌, length, take, drop, slice_index, Some, None, is_some, Result, Ok, Err, unwrap_or, if◌then◌else◌}
 use Rattle.std.specs.Str.{IsUtf8, IsCharBoundary, continuation_len}
 use Rattle.std.specs.List.{prefix_len}
-use Rattle.fluent_grammar.specs.Words.{Text, begins, is_digit, is_letter, is_name_byte, hyphen, space, open_brace, close_brace, line_feed, carriage_return, quote, backslash, number_sign, begins_with, after_line_end, is_hex_digit, rest_of_line}
-use Rattle.memchr.specs.Find.{is_byte3}
+use Rattle.fluent_grammar.specs.Words.{Text, begins, is_digit, is_letter, hyphen, space, line_feed, carriage_return, quote, backslash, number_sign, begins_with, after_line_end, is_hex_digit, rest_of_line}
 use Rattle.fluent_grammar.specs.Refusal.{Reading, got, refuse}
 use Rattle.fluent_grammar.specs.Refusal as r
 use Rattle.fluent_grammar.specs.Reading.{number_at, text_run, string_content, before, missing_hex, first_char}
@@ -20,14 +19,6 @@ pub record Cuts (text : Text) (count : ℕ) : Type 0 where
 abbrev pub is_blank_at : Text → Bool
 is_blank_at [] = false
 is_blank_at (c ∷ cs) = (c == space || c == line_feed) || (c == carriage_return && begins_with line_feed cs)
-
--- a byte that no identifier has
-abbrev pub is_no_name_byte : ℕ → Bool
-is_no_name_byte c = not (is_name_byte c)
-
--- a brace or a line feed, where a text stops
-abbrev pub is_stop : ℕ → Bool
-is_stop = is_byte3 open_brace close_brace line_feed
 
 abbrev pub is_sign : ℕ → Bool
 is_sign c = c == number_sign

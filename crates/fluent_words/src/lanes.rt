@@ -3,7 +3,7 @@
 
 ghost use Rattle.std.specs.Prelude.{◌≡◌, map};
 ghost use Rattle.std.specs.Simd.Lanes.{mask_l};
-ghost use Rattle.fluent_words.specs.Counted.{is_no_name_byte, is_stop};
+ghost use Rattle.fluent_words.specs.Bytes.{is_no_name_byte, is_stop};
 
 use std::simd::prelude::*;
 

@@ -3,7 +3,8 @@
 
 ghost use Rattle.std.specs.Prelude.{◌≡◌, ◌<◌, length};
 ghost use Rattle.fluent_grammar.specs.Lines.{pattern_ends};
-ghost use Rattle.fluent_words.specs.Counted.{IsText, is_stop, line_feed_end};
+ghost use Rattle.fluent_words.specs.Bytes.{is_stop};
+ghost use Rattle.fluent_words.specs.Counted.{IsText, line_feed_end};
 ghost use Rattle.memchr.specs.Find.{IsFirstByte};
 
 use crate::lanes::{LANES, stops};

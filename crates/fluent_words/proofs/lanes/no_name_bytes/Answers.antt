@@ -1,6 +1,6 @@
 use Rattle.std.proofs.Common.{ℕ, leb, cond, bit_and, refl, arith}
 use Rattle.std.proofs.lemmas.Simd.{zip2_splat, zip2_of_maps, splat_is_map}
-use Rattle.fluent_words.specs.Counted.{is_no_name_byte}
+use Rattle.fluent_words.specs.Bytes.{is_no_name_byte}
 use Rattle.fluent_words.proofs.Masked.{masked}
 use Rattle.fluent_words.proofs.lanes.no_name_bytes.Goals as goal
 

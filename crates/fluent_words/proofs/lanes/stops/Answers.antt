@@ -1,6 +1,6 @@
 use Rattle.std.proofs.Common.{ℕ, bit_or, refl, arith}
 use Rattle.std.proofs.lemmas.Simd.{zip2_splat, zip2_of_maps}
-use Rattle.fluent_words.specs.Counted.{is_stop}
+use Rattle.fluent_words.specs.Bytes.{is_stop}
 use Rattle.fluent_words.proofs.Masked.{masked}
 use Rattle.fluent_words.proofs.lanes.stops.Goals as goal
 

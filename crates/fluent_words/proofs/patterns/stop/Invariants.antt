@@ -1,6 +1,6 @@
 use Rattle.std.proofs.Common.{◌-◌, ◌≤◌, length}
 use Rattle.memchr.specs.Find.{Nowhere, Passes}
-use Rattle.fluent_words.specs.Counted.{is_stop}
+use Rattle.fluent_words.specs.Bytes.{is_stop}
 use Rattle.fluent_words.proofs.patterns.stop.Given as goal
 
 abbrev pub invariant-loop-end : goal.invariant-loop-end
