@@ -7,6 +7,7 @@ pub mod Steps
 pub mod Whole
 pub mod Failing
 pub mod Cycle
+pub mod LastFeeds
 pub mod Values
 pub mod Runs
 pub mod Comments

@@ -68,7 +68,7 @@ common_more view xs i d c h =
     ∙ sym (ap (λ (ys : List _). l.lesser c (l.common_indent (map view ys))) (drop_more xs i d h))
 
 -- the last piece, blank or not
-wbe_blank : (m : List l.Piece) (p : l.Piece) → l.is_blank p ≡ true → l.without_blank_end (m ++ p ∷ []) ≡ l.without_blank_end m
+pub wbe_blank : (m : List l.Piece) (p : l.Piece) → l.is_blank p ≡ true → l.without_blank_end (m ++ p ∷ []) ≡ l.without_blank_end m
 wbe_blank [] p h = rw h refl
 wbe_blank (q ∷ m) p h = let i = wbe_blank m p h in ap (λ (z : List l.Piece). cond (l.is_blank q && length z == 0) [] (q ∷ z)) i
 

@@ -105,6 +105,14 @@ piece_behind line indent u =
 unfoldable pub piece_by : Bool → Text → Reading (Option (Piece × Bool))
 piece_by line s = if line && pattern_ends s then got None s else piece_behind line (indent_at line s) (drop (indent_at line s) s)
 
+-- whether a line feed stands here, behind which the pattern ends
+abbrev pub is_last_feed : Text → Bool
+is_last_feed s = begins_with line_feed s && pattern_ends (drop 1 s)
+
+-- The same, but a last line feed is passed over, since no blank end of a pattern is kept.
+unfoldable pub kept_piece_by : Bool → Text → Reading (Option (Piece × Bool))
+kept_piece_by line s = if line && is_last_feed s then got None (drop 1 s) else piece_by line s
+
 -- all pieces that are left
 abbrev pub pieces_by : Bool → Text → Reading (List Piece)
 pieces_by true s = whole.line s

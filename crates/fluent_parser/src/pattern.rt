@@ -16,7 +16,7 @@ use fluent_words as words;
 
 impl<'p, S: Drop, T: Texts<S>> Parser<'p, S, T> {
     ghost use Rattle.fluent_parser.specs.Reads.{Gives};
-    ghost use Rattle.fluent_parser.specs.Steps.{pattern_by, piece_by, piece_behind, indent_at, text_step, first_place, IsTextStart};
+    ghost use Rattle.fluent_parser.specs.Steps.{pattern_by, kept_piece_by, is_last_feed, piece_behind, indent_at, text_step, first_place, IsTextStart};
     ghost use Rattle.fluent_ast.specs.View.{pattern_view};
     ghost use Rattle.fluent_parser.specs.Pieces.{piece_view, step_view, IsPiece};
 
@@ -57,13 +57,14 @@ impl<'p, S: Drop, T: Texts<S>> Parser<'p, S, T> {
         begins_line
     }
 
-    /// The next piece of a pattern and whether it ends its line, or None where the pattern ends.
+    /// The next piece of a pattern and whether it ends its line, or None where the pattern ends. A blank line behind most patterns
+    /// would be a piece of its own, which is dropped again: its line feed is passed over.
     #[cycle(parser)]
-    #[tactic(auto, using(crate::proofs::Failing::handed, fluent_words::proofs::Counted::cuts), unfolding(crate::specs::Steps::piece_by))]
+    #[tactic(auto, using(crate::proofs::Failing::handed, fluent_words::proofs::Counted::cuts), unfolding(crate::specs::Steps::piece_by, crate::specs::Steps::kept_piece_by))]
     fn get_piece(&mut self, at_line_start: bool) -> Result<Option<(Piece<S>, bool)>, Fault>
         requires { T.text self.old.source.now ≡ self.old.text.now }
         ensures gives { Gives (option_map (step_view S T.text)) self.new.rest.now result
-            (piece_by at_line_start self.old.rest.now) }
+            (kept_piece_by at_line_start self.old.rest.now) }
         ensures right { IfOk result (λ found. IfSome found (λ p. IsPiece S T.text p.0)) }
         ensures less { IfOk result (λ found. IfSome found
             (λ p. length self.new.rest.now < length self.old.rest.now)) }
@@ -71,6 +72,10 @@ impl<'p, S: Drop, T: Texts<S>> Parser<'p, S, T> {
         ensures text { self.new.text.now ≡ self.old.text.now }
         ensures onward { length self.new.rest.now ≤ length self.old.rest.now }
     {
+        if at_line_start && self.is_last_feed() {
+            self.advance(1);
+            return Ok(None);
+        }
         if at_line_start && words::pattern_ends(self.bytes()) {
             return Ok(None);
         }
@@ -80,6 +85,13 @@ impl<'p, S: Drop, T: Texts<S>> Parser<'p, S, T> {
             0
         };
         self.get_piece_behind(at_line_start, indent)
+    }
+
+    /// Whether a line feed stands here, behind which the pattern ends.
+    fn is_last_feed(&self) -> bool
+        ensures { result ≡ is_last_feed self.now.rest.now }
+    {
+        self.is_current_byte(b'\n') && words::pattern_ends(words::from(self.bytes(), 1))
     }
 
     /// The next piece, behind so many spaces. Productions `inline_text`, `block_text`, `inline_placeable` and

@@ -23,7 +23,8 @@ use Rattle.fluent_parser.proofs.Failing.{handed_on, fails_mapped, fails_same}
 use Rattle.fluent_words.proofs.Scanned.{test_of}
 use Rattle.fluent_parser.proofs.Runs.{cut_indent_at, cut_line_feed, line_feed_read, begun_shorter, cut_arrow, one_right}
 use Rattle.std.proofs.lemmas.List.Elements.{All-append}
-use Rattle.fluent_parser.proofs.Cycle.{gives_same, inline_literal, inline_term, inline_variable, inline_named, inline_nested, inline_none, inline_shorter, argument_fails, argument_not_named, argument_unnamed, argument_named, arguments_start, arguments_empty, arguments_fail, argument_fail, positional_read, named_read, arguments_end, mark_fails, variants_fail, variant_fails, variants_read, variants_end, variants_refused, pieces_start, pattern_fails, piece_read, pattern_end, term_read, function_read, pushed, arguments_same, variants_same, pieces_same, on_ok_always}
+use Rattle.fluent_parser.proofs.Cycle.{gives_same, inline_literal, inline_term, inline_variable, inline_named, inline_nested, inline_none, inline_shorter, argument_fails, argument_not_named, argument_unnamed, argument_named, arguments_start, arguments_empty, arguments_fail, argument_fail, positional_read, named_read, arguments_end, mark_fails, variants_fail, variant_fails, variants_read, variants_end, variants_refused, pieces_start, pattern_fails, piece_read, term_read, function_read, pushed, arguments_same, variants_same, pieces_same, on_ok_always}
+use Rattle.fluent_parser.proofs.LastFeeds.{kept_fails, kept_some, kept_end}
 use Rattle.fluent_parser.proofs.helper.Parser.+parser.Goals as goal
 use Rattle.fluent_parser.proofs.helper.Parser.+parser.Goals.{get_call_arguments-in-Positional+in_ok-push-in-Positional, get_call_arguments-in-Named+in_ok-push-in-Named}
 
@@ -186,13 +187,14 @@ get_pattern-loop-pieces-init g t c =
 pub get_pattern-returns-in_err-piece-clause-gives : goal.get_pattern-returns-in_err-piece-clause-gives
 get_pattern-returns-in_err-piece-clause-gives g t c =
     handed_on (option_map (pattern_view g.row.S.Denot g.T.Texts.text)) c.get_piece.new.self.rest.now c.from_residual.result c.in_err-piece.field-0.0 (pattern_by c.args.self.now.rest.now) c.from_residual.ensures.1
-    (pattern_fails c.loop-pieces.self.rest.now c.args.self.now.rest.now c.loop-pieces.at_line_start (map (piece_view g.row.S.Denot g.T.Texts.text) (items_of g.row.S.Denot c.loop-pieces.pieces)) c.in_err-piece.field-0.0 c.get_piece.new.self.rest.now c.loop-pieces.invariant.same c.in_err-piece.ensures.gives)
+    (pattern_fails c.loop-pieces.self.rest.now c.args.self.now.rest.now c.loop-pieces.at_line_start (map (piece_view g.row.S.Denot g.T.Texts.text) (items_of g.row.S.Denot c.loop-pieces.pieces)) c.in_err-piece.field-0.0 c.get_piece.new.self.rest.now c.loop-pieces.invariant.same
+    (kept_fails c.loop-pieces.at_line_start c.loop-pieces.self.rest.now c.in_err-piece.field-0.0 c.get_piece.new.self.rest.now c.in_err-piece.ensures.gives))
 
 pub get_pattern-loop-pieces-preserved : goal.get_pattern-loop-pieces-preserved
 get_pattern-loop-pieces-preserved g t c =
     let rest = c.get_piece.new.self.rest.now in
     let x = piece_view g.row.S.Denot g.T.Texts.text c.in-Some.piece in
-    let taken = c.in_ok-piece.ensures.gives ∙ ap (λ z. got (option_map (step_view g.row.S.Denot g.T.Texts.text) z) rest) c.in-Some.is in
+    let taken = kept_some c.loop-pieces.at_line_start c.loop-pieces.self.rest.now rest (x, c.in-Some.ends_line) (c.in_ok-piece.ensures.gives ∙ ap (λ z. got (option_map (step_view g.row.S.Denot g.T.Texts.text) z) rest) c.in-Some.is) in
     record {
       source = c.get_piece.ensures.source ∙ c.loop-pieces.invariant.source;
       text = c.get_piece.ensures.text ∙ c.loop-pieces.invariant.text;
@@ -205,7 +207,7 @@ get_pattern-loop-pieces-preserved g t c =
 pub get_pattern-returns-clause-gives : goal.get_pattern-returns-clause-gives
 get_pattern-returns-clause-gives g t c =
     let piece = c.in_ok-piece.ensures.gives ∙ ap (λ z. got (option_map (step_view g.row.S.Denot g.T.Texts.text) z) c.get_piece.new.self.rest.now) c.in_default.is in
-    pattern_end c.loop-pieces.self.rest.now c.args.self.now.rest.now c.get_piece.new.self.rest.now c.loop-pieces.at_line_start (map (piece_view g.row.S.Denot g.T.Texts.text) (items_of g.row.S.Denot c.loop-pieces.pieces)) c.loop-pieces.invariant.same piece
+    kept_end c.loop-pieces.self.rest.now c.args.self.now.rest.now c.get_piece.new.self.rest.now c.loop-pieces.at_line_start (map (piece_view g.row.S.Denot g.T.Texts.text) (items_of g.row.S.Denot c.loop-pieces.pieces)) c.loop-pieces.invariant.same piece
     ∙ ap (λ z. got z c.get_piece.new.self.rest.now) (sym c.in_ok-pattern.ensures)
 
 pub get_piece_behind-advance-requires : goal.get_piece_behind-advance-requires
