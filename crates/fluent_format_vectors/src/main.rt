@@ -3,19 +3,13 @@
 #![tactic(auto)]
 
 mod asking;
-mod bundle;
-mod json;
-mod own;
 mod pieces;
 mod plain;
 mod rows;
-mod tally;
 mod told;
-mod trees;
-mod values;
 
 use anyhow::Result;
-use tally::Tally;
+use fluent_rows::tally::Tally;
 
 fn main(rt: HostRuntime) -> Result<()> {
     for file in ["rows.jsonl", "own.jsonl", "trees.jsonl"] {

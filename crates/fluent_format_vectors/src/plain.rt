@@ -1,14 +1,14 @@
 //! A bundle of a program that brings no values, functions and formatter of its own.
 
-use crate::bundle::read;
 use crate::pieces::Pieces;
-use crate::tally::Tally;
 use fluent_ast::Pattern;
 use fluent_bundle::resolver::ResolverError;
 use fluent_bundle::{
     EnglishPlurals, FluentArgs, FluentBundle, FluentError, FluentResource, FluentValue, NoCustom,
     NoFormatter, NoFunction,
 };
+use fluent_rows::bundle::read;
+use fluent_rows::tally::Tally;
 use fluent_write::WriteError;
 use std::alloc::{AllocError, Global};
 use std::borrow::CowStr;

@@ -6,16 +6,16 @@
 //! placeables are isolated where `isolating` isn't `false`.
 
 use crate::asking::Asked;
-use crate::bundle::{Bundle, Settings, is_resource_added, pattern_in, read};
-use crate::json::text_in;
-use crate::own::{Args, Brackets, Capitals};
-use crate::tally::Tally;
 use crate::told::Wanted;
-use crate::trees::pattern_of;
-use crate::values::arguments_of;
 use anyhow::{Context, Result};
 use fluent_ast::Pattern;
 use fluent_bundle::{EnglishPlurals, FluentResource, TextTransform};
+use fluent_rows::bundle::{Bundle, Settings, is_added, pattern_in, read};
+use fluent_rows::json::text_in;
+use fluent_rows::own::{Args, Brackets, Capitals};
+use fluent_rows::tally::Tally;
+use fluent_rows::trees::pattern_of;
+use fluent_rows::values::arguments_of;
 use serde_json::Value as Json;
 use std::alloc::{AllocError, Global};
 use std::fs;
@@ -119,7 +119,7 @@ impl<'row> Row<'row> {
         let has_entries = if settings.overriding {
             bundle.add_resource_overriding(resource).is_ok()
         } else {
-            is_resource_added(bundle.add_resource(resource))
+            is_added(bundle.add_resource(resource))
         };
         if has_functions && has_entries {
             self.is_right_of(alloc, &bundle, tree)

@@ -1,7 +1,8 @@
 //! What a pattern must give, and the errors that are told.
 
-use crate::json::text_in;
 use fluent_bundle::FluentError;
+use fluent_rows::json::text_in;
+use fluent_rows::told::is_told;
 use serde_json::Value as Json;
 use std::alloc::{AllocError, Global};
 
@@ -43,16 +44,5 @@ impl<'row> Wanted<'row> {
             }
         }
         Ok(told.len() <= self.errors.len())
-    }
-}
-
-/// Whether an error is one of resolving, of this text.
-fn is_told(alloc: Global, error: &FluentError, text: &Json) -> Result<bool, AllocError> {
-    match error {
-        FluentError::ResolverError(error) => {
-            let told = error.to_string(alloc)?;
-            Ok(text.as_str() == Some(told.as_str()))
-        }
-        _ => Ok(false),
     }
 }

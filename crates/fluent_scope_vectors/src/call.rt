@@ -5,16 +5,17 @@
 //! index of its elements, usually 0, or of those of the pattern `by`; where it is a select, its selector is what is referred to and what
 //! has arguments. `text` is what is written, `positional` and `named` are the arguments, and `kind` is the reference.
 
-use crate::json::{list_in, number_in, text_in};
-use crate::kinds::is_kind;
-use crate::own::{Args, Value};
 use crate::parts::{expression_at, inline_in, pattern_in};
-use crate::told::{Wanted, error_of};
+use crate::told::Wanted;
 use crate::turn::Turn;
-use crate::values::{are_named, are_values};
 use fluent_ast::{Expression, InlineExpression, Pattern};
 use fluent_bundle::FluentResource;
 use fluent_bundle::resolver::ResolverError;
+use fluent_rows::json::{list_in, number_in, text_in};
+use fluent_rows::kinds::is_kind;
+use fluent_rows::own::{Args, Value};
+use fluent_rows::told::error_of;
+use fluent_rows::values::{are_named, are_values};
 use serde_json::Value as Json;
 use std::alloc::{AllocError, Global};
 

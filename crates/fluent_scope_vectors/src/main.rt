@@ -5,16 +5,12 @@
 mod bundle;
 mod call;
 mod calls;
-mod json;
-mod kinds;
-mod own;
 mod page;
 mod parts;
 mod rows;
 mod shown;
 mod told;
 mod turn;
-mod values;
 
 use anyhow::Result;
 

@@ -3,34 +3,28 @@
 //! A row is an object with a `source`, and with `calls`, a `value` or `pairs`. `args` are the arguments by name. The settings of its bundle stand by
 //! their names; placeables are isolated where `isolating` isn't `false`.
 
-use crate::bundle::read;
 use crate::calls::are_right;
-use crate::json::{list_in, text_in};
-use crate::values::are_set;
 use anyhow::{Context, Result};
+use fluent_rows::bundle::read;
+use fluent_rows::json::{list_in, text_in};
+use fluent_rows::tally::Tally;
+use fluent_rows::values::are_set;
 use serde_json::Value as Json;
 use std::alloc::{AllocError, Global};
 use std::fs;
-
-/// How many rows there were, and how many of them gave something else than they must.
-#[derive(Clone, Copy)]
-pub struct Tally {
-    pub rows: u32,
-    pub wrong: u32,
-}
 
 /// Tries each row of a file, and prints those that are wrong.
 pub fn try_rows(rt: &HostRuntime, file: &str) -> Result<Tally> {
     let text = fs::read_to_string(rt, file)
         .or_else(|_| fs::read_to_string(rt, file))
         .context("the rows")?;
-    let mut tally = Tally { rows: 0, wrong: 0 };
+    let mut tally = Tally::new();
     for line in text.as_str().lines() {
-        tally.rows = tally.rows.saturating_add(1);
-        if !is_right_again(rt.alloc(), line) {
-            tally.wrong = tally.wrong.saturating_add(1);
+        let is_right = is_right_again(rt.alloc(), line);
+        if !is_right {
             println!(rt; "wrong: {line}")?;
         }
+        tally.add(is_right);
     }
     Ok(tally)
 }

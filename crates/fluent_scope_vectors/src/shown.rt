@@ -4,10 +4,10 @@
 //! equal to it: `other` and `equals`.
 
 use crate::bundle::Called;
-use crate::json::{is_set, text_in};
-use crate::own::Value;
 use crate::page::Page;
-use crate::values::value_of;
+use fluent_rows::json::{is_set, text_in};
+use fluent_rows::own::Value;
+use fluent_rows::values::value_of;
 use serde_json::Value as Json;
 use std::alloc::{AllocError, Global};
 

@@ -1,8 +1,8 @@
 //! What stands once a call is made.
 
 use crate::bundle::Called;
-use crate::json::is_set;
 use crate::told::Wanted;
+use fluent_rows::json::is_set;
 use serde_json::Value as Json;
 use std::alloc::{AllocError, Global};
 

@@ -1,4 +1,4 @@
-//! The bundles that are asked.
+//! The bundles that rows are tried in.
 
 use crate::json::is_set;
 use crate::own::{Brackets, Function, Token};
@@ -9,6 +9,7 @@ use fluent_bundle::{
 use serde_json::Value as Json;
 use std::alloc::{AllocError, Global};
 
+/// A bundle of English plurals, and of what the program brings.
 pub type Bundle<'r, 's> = FluentBundle<'r, 's, EnglishPlurals, Token, Function, Brackets>;
 
 const FUNCTIONS: [(&str, Function); 3] = [
@@ -60,7 +61,7 @@ pub fn read(alloc: Global, source: &str) -> Result<FluentResource<'_>, AllocErro
 }
 
 /// Whether the entries of a resource were added, if not all of them.
-pub fn is_resource_added(added: Result<(), AddResourceError>) -> bool {
+pub fn is_added(added: Result<(), AddResourceError>) -> bool {
     !matches!(added, Err(AddResourceError::Memory))
 }
 

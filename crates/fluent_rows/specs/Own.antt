@@ -3,8 +3,8 @@ use Rattle.std.specs.Prelude.{ℕ, List, [], ◌∷◌, ◌++◌, Option, None, 
 use Rattle.fluent_number.specs.Number.{number_from_integer}
 use Rattle.fluent_value.specs.Args.{argument}
 use Rattle.fluent_value.specs.Value.{Value, text, number, custom, none, error}
-use Rattle.fluent_format_vectors.specs.declared.own.Function.{Function}
-use Rattle.fluent_format_vectors.specs.declared.own.Function.TheVariants as of
+use Rattle.fluent_rows.specs.declared.own.Function.{Function}
+use Rattle.fluent_rows.specs.declared.own.Function.TheVariants as of
 
 module _ {S : Type 0} where
   -- how many bytes the first value has, if it is a text

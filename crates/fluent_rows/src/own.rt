@@ -1,12 +1,12 @@
-//! What a program brings: values of its own type, a formatter and a transform.
+//! What a program brings: values of its own type, functions, a formatter and a transform.
 
 ghost use Rattle.std.specs.Prelude.{codes, map, true};
 ghost use Rattle.std.proofs.Common.{rules};
 ghost use Rattle.std.specs.Char.{to_ascii_uppercase};
-ghost use Rattle.fluent_scope_vectors.specs.Own.{bracketed};
+ghost use Rattle.fluent_rows.specs.Own.{bracketed, called};
 
 use fluent_bundle::types::FluentType;
-use fluent_bundle::{FluentArgs, FluentValue, TextTransform, ValueFormatter};
+use fluent_bundle::{FluentArgs, FluentFunction, FluentValue, TextTransform, ValueFormatter};
 use std::alloc::{AllocError, Global};
 use std::borrow::CowStr;
 
@@ -38,9 +38,48 @@ impl FluentType for Token {
     }
 }
 
+/// A value of a program with values of its own.
 pub type Value<'a> = FluentValue<'a, Token>;
 
+/// The arguments of such a program.
 pub type Args<'a> = FluentArgs<'a, Token>;
+
+/// A function.
+#[derive(Clone, Copy)]
+pub enum Function {
+    /// How many bytes the first value has, if it is a text.
+    Length,
+    /// The first value, or none.
+    First,
+    /// The argument `v`.
+    Named,
+}
+
+impl FluentFunction<Token> for Function {
+    ghost gives = { called };
+
+    fn call<'a, 'n>(
+        &self,
+        alloc: Global,
+        positional: &[FluentValue<'a, Token>],
+        named: &FluentArgs<'n, Token>,
+    ) -> Result<FluentValue<'a, Token>, AllocError> {
+        match self {
+            Function::Length => match positional.first() {
+                Some(FluentValue::String(text)) => Ok(FluentValue::from(text.as_str().len())),
+                _ => Ok(FluentValue::Error),
+            },
+            Function::First => match positional.first() {
+                Some(value) => value.try_clone(alloc),
+                None => Ok(FluentValue::None),
+            },
+            Function::Named => match named.get("v") {
+                Some(value) => value.into_owned(alloc),
+                None => Ok(FluentValue::Error),
+            },
+        }
+    }
+}
 
 /// A formatter that puts texts in brackets, and has no text for any other value.
 #[derive(Clone, Copy)]
