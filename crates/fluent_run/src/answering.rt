@@ -14,6 +14,9 @@ use fluent_serve::stream::{Sink, Source};
 use fluent_value::MemoizerKind;
 use std::alloc::Global;
 
+/// The calls of `read` within which the input has to end.
+const READS: u64 = 4_294_967_296;
+
 /// Answers each line of the input from the messages and terms of `sources`, in their order, and writes nothing else: see
 /// `docs/protocol.md`. The function `NUMBER` is there before them, and what is no entry is passed over. Variants are chosen by
 /// `plurals`.
@@ -67,5 +70,5 @@ pub fn run<M: MemoizerKind, R: Source, W: Sink>(
 {
     let resources = read_sources(alloc, sources)?;
     let desk = Desk::new(alloc, &resources, settings, plurals)?;
-    serve(alloc, &desk, reader, writer)
+    serve(alloc, &desk, reader, writer, READS)
 }

@@ -1,5 +1,6 @@
 //! Answers the request lines of `data/rows.jsonl` by `fluent_run::run`, over devices in memory that give and take little at a time
-//! or fail, and prints of each kind how many runs there were and how many of them ended in another way than they must.
+//! or fail, and prints of each kind how many runs there were and how many of them ended in another way than they must. Readers that
+//! don't end are tried with few calls of `read`.
 //!
 //! With the word `memory` it tries the rows of `data/memory.jsonl` alone, also where an allocation is refused.
 #![tactic(auto)]
@@ -7,6 +8,7 @@
 mod case;
 mod cuts;
 mod devices;
+mod endless;
 mod json;
 mod memory;
 mod pieces;
@@ -16,6 +18,7 @@ mod tally;
 mod writes;
 
 use anyhow::Result;
+use endless::try_endless;
 use rows::Tallies;
 use std::{env, io};
 use tally::Tally;
@@ -25,7 +28,8 @@ fn main(rt: HostRuntime) -> Result<()> {
     if is_memory_alone(&rt)? {
         return Ok(());
     }
-    tell_all(&rt, rows::try_rows(&rt)?)
+    tell_all(&rt, rows::try_rows(&rt)?)?;
+    tell(&rt, "readers without an end", try_endless(rt.alloc()))
 }
 
 /// Whether a word is given. Where memory is refused, the words are asked for once more.

@@ -20,15 +20,12 @@ const BLOCK: usize = 8_192;
 /// Answers are written once this many bytes wait, and before each call of `read`.
 const PIECE: usize = 65_536;
 
-/// The calls of `read` that may come without an end of the input.
-const READS: u64 = 4_294_967_296;
-
 /// Why a run stopped before the end of its input.
 #[derive(Clone, Copy, Debug, PartialEq, Eq)]
 pub enum RunError {
     /// A growth was refused.
     Memory = 1,
-    /// The reader failed, or did not end within 4,294,967,296 calls of `read`.
+    /// The reader failed, or did not end within the calls of `read` that a run may make.
     Read = 2,
     /// The writer failed, or took none of a piece that was not empty.
     Write = 3,
@@ -208,8 +205,8 @@ fn answer_end<E: Engine>(alloc: Global, engine: &E, waiting: &mut Waiting) -> Re
     Ok(())
 }
 
-/// Reads to the end of the input, by blocks of this length, and answers each line as soon as it is whole. The last
-/// answers may wait still.
+/// Reads to the end of the input, by blocks of this length and in at most `reads` calls of `read`, and answers each line
+/// as soon as it is whole. The last answers may wait still.
 fn answer_all<E: Engine, R: Source, W: Sink>(
     alloc: Global,
     engine: &E,
@@ -217,6 +214,7 @@ fn answer_all<E: Engine, R: Source, W: Sink>(
     writer: &mut W,
     waiting: &mut Waiting,
     block: &mut [u8],
+    reads: u64,
 ) -> Result<(), RunError>
     requires room { 0 < length block.old }
     requires no_line { waiting.old.line.items ≡ [] }
@@ -231,7 +229,8 @@ fn answer_all<E: Engine, R: Source, W: Sink>(
         waiting.new.output.items (E.reply engine.now) }
     ensures read { IsErrOf result RunError.Read → ServesWhole
         (devices R.remaining reader.old reader.new W.contents writer.old writer.new)
-        waiting.new.output.items (E.reply engine.now) (HasFailed (R.failures reader.old) (R.failures reader.new)) READS }
+        waiting.new.output.items (E.reply engine.now)
+        (HasFailed (R.failures reader.old) (R.failures reader.new)) reads }
     ensures write { IsErrOf result RunError.Write → ServesFront
         (devices R.remaining reader.old reader.new W.contents writer.old writer.new)
         (E.reply engine.now) }
@@ -240,7 +239,7 @@ fn answer_all<E: Engine, R: Source, W: Sink>(
     ensures kept { (IsErrOf result RunError.Write → ⊥)
         → W.failures writer.new ≡ W.failures writer.old }
 {
-    for _ in 0..READS {
+    for _ in 0..reads {
         let count = reader.read(block)?;
         if count == 0 {
             return answer_end(alloc, engine, waiting);
@@ -259,12 +258,19 @@ fn is_write_failure(outcome: &Result<(), RunError>) -> bool
 }
 
 /// Answers each line of the input, in order, and writes nothing else. An answer is computed whole before its first byte
-/// is written. What was answered before an error is written, unless the writer fails.
+/// is written. What was answered before an error is written, unless the writer fails. At most `reads` calls of `read` are
+/// made.
+///
+/// # Errors
+/// - [`RunError::Memory`] where memory runs out.
+/// - [`RunError::Read`] where the reader fails, or doesn't end within `reads` calls.
+/// - [`RunError::Write`] where the writer fails, or takes none of a piece that isn't empty.
 pub fn serve<E: Engine, R: Source, W: Sink>(
     alloc: Global,
     engine: &E,
     reader: &mut R,
     writer: &mut W,
+    reads: u64,
 ) -> Result<(), RunError>
     ensures ok { OnOk result (AnswersAll
         (devices R.remaining reader.old reader.new W.contents writer.old writer.new)
@@ -277,7 +283,7 @@ pub fn serve<E: Engine, R: Source, W: Sink>(
         (E.reply engine.now) }
     ensures read { IsErrOf result RunError.Read → AnswersWhole
         (devices R.remaining reader.old reader.new W.contents writer.old writer.new)
-        (E.reply engine.now) (HasFailed (R.failures reader.old) (R.failures reader.new)) READS }
+        (E.reply engine.now) (HasFailed (R.failures reader.old) (R.failures reader.new)) reads }
     ensures write { IsErrOf result RunError.Write → AnswersFront
         (devices R.remaining reader.old reader.new W.contents writer.old writer.new)
         (E.reply engine.now) }
@@ -296,6 +302,7 @@ pub fn serve<E: Engine, R: Source, W: Sink>(
         writer,
         &mut waiting,
         block.as_mut_slice(),
+        reads,
     );
     if is_write_failure(&outcome) {
         return outcome;
