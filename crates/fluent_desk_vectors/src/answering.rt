@@ -3,7 +3,7 @@
 use crate::calls::Outcome;
 use fluent_desk::{FromRead, FromWrite, RunError, Settings, run};
 use fluent_value::EnglishPlurals;
-use std::alloc::Global;
+use std::alloc::{AllocError, Global};
 
 /// Requests for each id of the sources, and for some attributes.
 const REQUESTS: &[u8] =
@@ -16,21 +16,42 @@ const SETTINGS: Settings = Settings {
     overriding: false,
 };
 
+/// Room for the answers, in bytes, so that writing them takes no memory.
+const ROOM: usize = 16_384;
+
 /// Whether both sources answer the requests, and alike.
-pub fn answer_alike(alloc: Global, source: &str, other: &str) -> bool {
-    let mut answers = Vec::new(alloc);
-    let mut others = Vec::new(alloc);
-    answer(alloc, source, &mut answers).is_ok()
-        && answer(alloc, other, &mut others).is_ok()
-        && answers == others
-        && !answers.is_empty()
+pub fn answer_alike(alloc: Global, source: &str, other: &str) -> Result<bool, AllocError> {
+    match answers_of(alloc, source)? {
+        Some(answers) => is_answered(alloc, other, &answers),
+        None => Ok(false),
+    }
 }
 
 /// Whether a text, where there is one, answers the requests as the source does.
-pub fn answers_as(alloc: Global, source: &str, tidied: &Outcome) -> bool {
-    match tidied {
+pub fn answers_as(
+    alloc: Global,
+    source: &str,
+    tidied: Result<Outcome, AllocError>,
+) -> Result<bool, AllocError> {
+    match tidied? {
         Outcome::Text(text) => answer_alike(alloc, source, text.as_str()),
-        _ => true,
+        _ => Ok(true),
+    }
+}
+
+/// Whether a source answers so, and with something.
+fn is_answered(alloc: Global, source: &str, answers: &Vec<u8>) -> Result<bool, AllocError> {
+    let found = answers_of(alloc, source)?;
+    Ok(!answers.is_empty() && found.as_ref() == Some(answers))
+}
+
+/// The answers of a source to the requests. There are none where it is told that a device failed.
+fn answers_of(alloc: Global, source: &str) -> Result<Option<Vec<u8>>, AllocError> {
+    let mut answers = Vec::with_capacity(alloc, ROOM)?;
+    match answer(alloc, source, &mut answers) {
+        Ok(()) => Ok(Some(answers)),
+        Err(RunError::Memory) => Err(AllocError),
+        Err(RunError::Read | RunError::Write) => Ok(None),
     }
 }
 

@@ -1,16 +1,15 @@
-//! What each call gives, in one form.
+//! What each call gives, in one form. The only error is that memory runs out.
 
 use fluent_desk::{
     CleanError, ImportError, NormalizeError, clean, export, import, join, normalize,
 };
 use serde_json::Value;
-use std::alloc::Global;
+use std::alloc::{AllocError, Global};
 
-/// What a call gives: a text, or why not.
+/// What a call gives: a text, or why there is none.
 #[derive(PartialEq, Eq, Debug, Drop)]
 pub enum Outcome {
     Text(String),
-    Memory,
     CarriageReturn,
     NotNormal,
     Shape,
@@ -29,7 +28,6 @@ impl Outcome {
     pub fn refusal(&self) -> &'static str {
         match self {
             Outcome::Text(_) => "",
-            Outcome::Memory => "out of memory",
             Outcome::CarriageReturn => "carriage return",
             Outcome::NotNormal => "not normal",
             Outcome::Shape => "not a tree",
@@ -37,61 +35,64 @@ impl Outcome {
     }
 }
 
-fn cleaned(answer: Result<String, CleanError>) -> Outcome {
+/// Whether a call gave this outcome.
+pub fn gives(answer: Result<Outcome, AllocError>, wanted: &Outcome) -> Result<bool, AllocError> {
+    Ok(answer? == *wanted)
+}
+
+/// Whether a call gave this text.
+pub fn gives_text(answer: Result<Outcome, AllocError>, text: &str) -> Result<bool, AllocError> {
+    Ok(answer?.is_text(text))
+}
+
+fn cleaned(answer: Result<String, CleanError>) -> Result<Outcome, AllocError> {
     match answer {
-        Ok(text) => Outcome::Text(text),
-        Err(CleanError::Memory) => Outcome::Memory,
-        Err(CleanError::CarriageReturn) => Outcome::CarriageReturn,
+        Ok(text) => Ok(Outcome::Text(text)),
+        Err(CleanError::Memory) => Err(AllocError),
+        Err(CleanError::CarriageReturn) => Ok(Outcome::CarriageReturn),
     }
 }
 
-pub fn clean_source(alloc: Global, source: &str) -> Outcome {
+pub fn clean_source(alloc: Global, source: &str) -> Result<Outcome, AllocError> {
     cleaned(clean(alloc, source))
 }
 
-pub fn join_sources(alloc: Global, sources: &[&str]) -> Outcome {
+pub fn join_sources(alloc: Global, sources: &[&str]) -> Result<Outcome, AllocError> {
     cleaned(join(alloc, sources))
 }
 
-pub fn normalize_source(alloc: Global, source: &str) -> Outcome {
+pub fn normalize_source(alloc: Global, source: &str) -> Result<Outcome, AllocError> {
     match normalize(alloc, source) {
-        Ok(text) => Outcome::Text(text),
-        Err(NormalizeError::Memory) => Outcome::Memory,
-        Err(NormalizeError::CarriageReturn) => Outcome::CarriageReturn,
-        Err(NormalizeError::NotNormal) => Outcome::NotNormal,
+        Ok(text) => Ok(Outcome::Text(text)),
+        Err(NormalizeError::Memory) => Err(AllocError),
+        Err(NormalizeError::CarriageReturn) => Ok(Outcome::CarriageReturn),
+        Err(NormalizeError::NotNormal) => Ok(Outcome::NotNormal),
     }
 }
 
 /// The compact JSON text of what is exported.
-pub fn export_source(alloc: Global, source: &str) -> Outcome {
+pub fn export_source(alloc: Global, source: &str) -> Result<Outcome, AllocError> {
     match export(alloc, source) {
-        Ok(value) => shown(alloc, &value),
-        Err(CleanError::Memory) => Outcome::Memory,
-        Err(CleanError::CarriageReturn) => Outcome::CarriageReturn,
+        Ok(value) => Ok(Outcome::Text(value.to_string(alloc)?)),
+        Err(CleanError::Memory) => Err(AllocError),
+        Err(CleanError::CarriageReturn) => Ok(Outcome::CarriageReturn),
     }
 }
 
-fn shown(alloc: Global, value: &Value) -> Outcome {
-    match value.to_string(alloc) {
-        Ok(text) => Outcome::Text(text),
-        Err(_) => Outcome::Memory,
-    }
-}
-
-pub fn import_value(alloc: Global, value: &Value) -> Outcome {
+pub fn import_value(alloc: Global, value: &Value) -> Result<Outcome, AllocError> {
     match import(alloc, value) {
-        Ok(text) => Outcome::Text(text),
-        Err(ImportError::Memory) => Outcome::Memory,
-        Err(ImportError::NotNormal) => Outcome::NotNormal,
-        Err(ImportError::Shape) => Outcome::Shape,
+        Ok(text) => Ok(Outcome::Text(text)),
+        Err(ImportError::Memory) => Err(AllocError),
+        Err(ImportError::NotNormal) => Ok(Outcome::NotNormal),
+        Err(ImportError::Shape) => Ok(Outcome::Shape),
     }
 }
 
 /// What is imported of what is exported.
-pub fn import_export(alloc: Global, source: &str) -> Outcome {
+pub fn import_export(alloc: Global, source: &str) -> Result<Outcome, AllocError> {
     match export(alloc, source) {
         Ok(value) => import_value(alloc, &value),
-        Err(CleanError::Memory) => Outcome::Memory,
-        Err(CleanError::CarriageReturn) => Outcome::CarriageReturn,
+        Err(CleanError::Memory) => Err(AllocError),
+        Err(CleanError::CarriageReturn) => Ok(Outcome::CarriageReturn),
     }
 }

@@ -1,6 +1,9 @@
 //! Cleans, joins, normalizes, exports, imports and checks what the rows of `data/rows.jsonl` say, and compares with the texts,
 //! JSON texts and refusals that stand there. Then it tidies each prefix of the sources of `data/prefixes.jsonl`, of
 //! which nothing is known but laws, and a source of a thousand messages.
+//!
+//! Where memory is refused, a row is tried once more, and any other answer must be right. So the same counts are printed with any one
+//! allocation refused: see `docs/CHECKS.md`.
 #![tactic(auto)]
 
 mod answering;
@@ -10,6 +13,7 @@ mod prefixes;
 mod reports;
 mod rows;
 mod tally;
+mod trial;
 
 use anyhow::Result;
 use tally::Tally;

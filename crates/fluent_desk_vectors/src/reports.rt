@@ -3,15 +3,23 @@
 use crate::calls::Outcome;
 use fluent_check::{Report, check};
 use fluent_parser::ParserError;
-use std::alloc::Global;
+use std::alloc::{AllocError, Global};
 use std::fmt;
 
 /// A line for each error, with the number of its source from 1 on, and then one for each notice.
-pub fn check_sources(alloc: Global, sources: &[&str]) -> Outcome {
-    let mut text = String::new(alloc);
+pub fn check_sources(alloc: Global, sources: &[&str]) -> Result<Outcome, AllocError> {
     match check(alloc, sources) {
-        Ok(report) if tell(&mut text, &report).is_ok() => Outcome::Text(text),
-        _ => Outcome::Memory,
+        Ok(report) => told(alloc, &report),
+        Err(_) => Err(AllocError),
+    }
+}
+
+/// The report as text. Writing it fails only where memory runs out.
+fn told(alloc: Global, report: &Report) -> Result<Outcome, AllocError> {
+    let mut text = String::new(alloc);
+    match tell(&mut text, report) {
+        Ok(()) => Ok(Outcome::Text(text)),
+        Err(_) => Err(AllocError),
     }
 }
 

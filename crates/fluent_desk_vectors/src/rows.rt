@@ -6,17 +6,32 @@ use crate::calls::{
 };
 use crate::reports::check_sources;
 use crate::tally::Tally;
-use anyhow::{Context, Result, bail};
+use crate::trial::{Trial, is_right_again};
+use anyhow::{Context, Result};
 use serde_json::Value;
-use std::alloc::Global;
+use std::alloc::{AllocError, Global};
 use std::fs;
+
+/// A line of `rows.jsonl`.
+#[derive(Clone, Copy, Debug)]
+struct Line<'a>(&'a str);
+
+impl Trial for Line<'_> {
+    /// Whether a call gives what the row of the line says.
+    fn is_right(self, alloc: Global) -> Result<bool, AllocError> {
+        match Value::from_str(alloc, self.0) {
+            Ok(row) => is_row(alloc, &row),
+            Err(_) => Err(AllocError),
+        }
+    }
+}
 
 /// Tries each line of `rows.jsonl`, and prints those that are wrong.
 pub fn try_rows(rt: &HostRuntime) -> Result<Tally> {
     let text = fs::read_to_string(rt, "rows.jsonl").context("the rows")?;
     let mut tally = Tally::new();
     for line in text.as_str().lines() {
-        let is_right = is_right(rt.alloc(), line)?;
+        let is_right = is_right_again(rt.alloc(), Line(line));
         if !is_right {
             println!(rt; "wrong: {line}")?;
         }
@@ -26,68 +41,64 @@ pub fn try_rows(rt: &HostRuntime) -> Result<Tally> {
 }
 
 /// Whether a call gives what its row says.
-fn is_right(alloc: Global, line: &str) -> Result<bool> {
-    let row = Value::from_str(alloc, line).context("a row")?;
-    let call = row.get("call").and_then(Value::as_str).context("a call")?;
-    match call {
-        "join" => joins(alloc, &row),
-        "import" => imports(alloc, &row),
-        "check" => checks(alloc, &row),
-        _ => tidies(alloc, &row, call),
+fn is_row(alloc: Global, row: &Value) -> Result<bool, AllocError> {
+    let call = row.get("call").and_then(Value::as_str);
+    match (call, row.get("value")) {
+        (Some("import"), Some(value)) => is_wanted(row, import_value(alloc, value)),
+        (Some(call), None) => is_row_of_sources(alloc, row, call),
+        _ => Ok(false),
     }
 }
 
-fn joins(alloc: Global, row: &Value) -> Result<bool> {
-    let sources = sources_of(alloc, row)?;
-    is_wanted(row, &join_sources(alloc, sources.as_slice()))
-}
-
-fn checks(alloc: Global, row: &Value) -> Result<bool> {
-    let sources = sources_of(alloc, row)?;
-    is_wanted(row, &check_sources(alloc, sources.as_slice()))
-}
-
-fn imports(alloc: Global, row: &Value) -> Result<bool> {
-    let value = row.get("value").context("a value")?;
-    is_wanted(row, &import_value(alloc, value))
+/// Whether a call on the sources of a row gives what the row says.
+fn is_row_of_sources(alloc: Global, row: &Value, call: &str) -> Result<bool, AllocError> {
+    let Some(sources) = sources_of(alloc, row)? else {
+        return Ok(false);
+    };
+    match (call, sources.as_slice()) {
+        ("join", sources) => is_wanted(row, join_sources(alloc, sources)),
+        ("check", sources) => is_wanted(row, check_sources(alloc, sources)),
+        (_, [source]) => tidies(alloc, row, call, source),
+        _ => Ok(false),
+    }
 }
 
 /// Tries a call on one source. What is normalized must also come through the JSON tree.
-fn tidies(alloc: Global, row: &Value, call: &str) -> Result<bool> {
-    let sources = sources_of(alloc, row)?;
-    let source = *sources.first().context("a source")?;
+fn tidies(alloc: Global, row: &Value, call: &str, source: &str) -> Result<bool, AllocError> {
     match call {
-        "clean" => is_wanted(row, &clean_source(alloc, source)),
-        "export" => is_wanted(row, &export_source(alloc, source)),
+        "clean" => is_wanted(row, clean_source(alloc, source)),
+        "export" => is_wanted(row, export_source(alloc, source)),
         "normalize" => Ok(
-            is_wanted(row, &normalize_source(alloc, source))?
-                && is_wanted(row, &import_export(alloc, source))?,
+            is_wanted(row, normalize_source(alloc, source))?
+                && is_wanted(row, import_export(alloc, source))?,
         ),
-        _ => bail!("an unknown call"),
+        _ => Ok(false),
     }
 }
 
-/// Whether an outcome is the row's text, or its refusal.
-fn is_wanted(row: &Value, outcome: &Outcome) -> Result<bool> {
-    if let Some(text) = row.get("text").and_then(Value::as_str) {
-        return Ok(outcome.is_text(text));
-    }
-    let refusal = row
-        .get("error")
-        .and_then(Value::as_str)
-        .context("a text or a refusal")?;
-    Ok(outcome.refusal() == refusal)
+/// Whether a call gave the row's text, or its refusal.
+fn is_wanted(row: &Value, answer: Result<Outcome, AllocError>) -> Result<bool, AllocError> {
+    let outcome = answer?;
+    let text = row.get("text").and_then(Value::as_str);
+    let refusal = row.get("error").and_then(Value::as_str);
+    Ok(match (text, refusal) {
+        (Some(text), None) => outcome.is_text(text),
+        (None, Some(refusal)) => outcome.refusal() == refusal,
+        _ => false,
+    })
 }
 
-/// The sources of a row.
-fn sources_of<'row>(alloc: Global, row: &'row Value) -> Result<Vec<&'row str>> {
-    let values = row
-        .get("sources")
-        .and_then(Value::as_array)
-        .context("sources")?;
-    let mut sources = Vec::new(alloc);
+/// The sources of a row, if it has any.
+fn sources_of<'row>(alloc: Global, row: &'row Value) -> Result<Option<Vec<&'row str>>, AllocError> {
+    let Some(values) = row.get("sources").and_then(Value::as_array) else {
+        return Ok(None);
+    };
+    let mut sources = Vec::with_capacity(alloc, values.len())?;
     for value in values {
-        sources.push(value.as_str().context("a source")?)?;
+        match value.as_str() {
+            Some(source) => sources.push(source)?,
+            None => return Ok(None),
+        }
     }
-    Ok(sources)
+    Ok(Some(sources))
 }
