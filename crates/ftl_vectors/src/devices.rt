@@ -1,11 +1,7 @@
 //! Devices that fail, and devices that take or give little at a time.
 ghost use Rattle.std.specs.Prelude.{◌≤◌, IfOk};
 
-use crate::tally::Tally;
-use anyhow::Result;
-use fluent_run::{FromRead, FromWrite, RunError, Settings, run};
-use fluent_value::EnglishPlurals;
-use std::alloc::Global;
+use fluent_run::Settings;
 use std::io;
 use std::io::{ErrorKind, Read, Write};
 
@@ -35,9 +31,6 @@ pub struct Manner {
     pub heals: bool,
 }
 
-/// More than a run over these takes, byte by byte.
-const CALLS: usize = 140;
-
 pub const ALWAYS: Manner = Manner {
     calls: usize::MAX,
     piece: usize::MAX,
@@ -60,7 +53,7 @@ impl Manner {
     }
 }
 
-#[derive(Drop)]
+#[derive(Clone, Copy)]
 pub struct Reader<'a>(pub &'a [u8], pub Manner);
 
 impl Read for Reader<'_> {
@@ -82,134 +75,6 @@ impl Write for Writer<'_> {
     fn flush(&mut self) -> io::Result<()> {
         Ok(())
     }
-}
-
-/// How a run ended, and the bytes that it wrote.
-#[derive(Drop)]
-struct Run {
-    ended: Result<(), RunError>,
-    given: Vec<u8>,
-}
-
-impl Run {
-    /// Answers the requests over devices of these manners.
-    fn over(alloc: Global, reading: Manner, writing: Manner) -> Run {
-        let mut given = Vec::new(alloc);
-        let mut reader = FromRead::new(Reader(REQUESTS, reading));
-        let mut writer = FromWrite::new(Writer(&mut given, writing));
-        let ended = run(
-            alloc,
-            &[SOURCE],
-            ISOLATING,
-            &EnglishPlurals,
-            &mut reader,
-            &mut writer,
-        );
-        Run { ended, given }
-    }
-}
-
-impl Run {
-    /// Whether all answers are written, or this error ended the run.
-    fn is_whole_or(&self, answers: &str, error: RunError) -> bool {
-        match self.ended {
-            Ok(()) => self.given.as_slice() == answers.as_bytes(),
-            Err(found) => found == error,
-        }
-    }
-
-    /// Whether both ended alike and wrote the same.
-    fn is_like(&self, other: &Run) -> bool {
-        self.ended == other.ended && self.given == other.given
-    }
-}
-
-/// Runs over devices that move little at a time, and one over devices of few calls.
-pub fn try_pieces(alloc: Global) -> Result<Tally> {
-    let answers = ANSWERS.concat(alloc)?;
-    let mut tally = Tally::new();
-    for piece in 1..70 {
-        let little = Manner { piece, ..ALWAYS };
-        for (reading, writing) in [(little, ALWAYS), (ALWAYS, little), (little, little)] {
-            let run = Run::over(alloc, reading, writing);
-            tally.add(run.ended.is_ok() && run.given.as_slice() == answers.as_bytes());
-        }
-    }
-    tally.add(takes_few_calls(alloc)?);
-    Ok(tally)
-}
-
-/// Whether 80 KB of requests take no more than 20 calls of either device.
-fn takes_few_calls(alloc: Global) -> Result<bool> {
-    let requests = "a\n".repeat(alloc, 40_960)?;
-    let answers = "ok 1 0\nb\n".repeat(alloc, 40_960)?;
-    let few = Manner {
-        calls: 20,
-        ..ALWAYS
-    };
-    let mut given = Vec::new(alloc);
-    let mut reader = FromRead::new(Reader(requests.as_bytes(), few));
-    let mut writer = FromWrite::new(Writer(&mut given, few));
-    let ended = run(
-        alloc,
-        &["a = b\n"],
-        ISOLATING,
-        &EnglishPlurals,
-        &mut reader,
-        &mut writer,
-    );
-    Ok(ended.is_ok() && given.as_slice() == answers.as_bytes())
-}
-
-/// Runs whose reader fails at each of its calls: the answers that are written are whole, and it changes nothing that the
-/// reader would work again.
-pub fn try_failed_reads(alloc: Global) -> Result<Tally> {
-    let answers = ANSWERS.concat(alloc)?;
-    let mut tally = Tally::new();
-    for piece in [1, 5, 20, usize::MAX] {
-        for calls in 0..=CALLS {
-            let [lasting, once] = manners(calls, piece);
-            let run = Run::over(alloc, lasting, ALWAYS);
-            tally.add(
-                run.is_whole_or(&answers, RunError::Read)
-                    && are_whole(&run.given)
-                    && (calls > 0 || run.ended.is_err())
-                    && (calls < CALLS || run.ended.is_ok()),
-            );
-            tally.add(run.is_like(&Run::over(alloc, once, ALWAYS)));
-        }
-    }
-    Ok(tally)
-}
-
-/// Runs whose writer fails at each of its calls: a front of the answers is written, and it changes nothing that the
-/// writer would work again.
-pub fn try_failed_writes(alloc: Global) -> Result<Tally> {
-    let answers = ANSWERS.concat(alloc)?;
-    let mut tally = Tally::new();
-    for piece in [0, 1, 5, 20, usize::MAX] {
-        for calls in 0..=CALLS {
-            let [lasting, once] = manners(calls, piece);
-            let run = Run::over(alloc, ALWAYS, lasting);
-            tally.add(
-                run.is_whole_or(&answers, RunError::Write)
-                    && answers.as_bytes().starts_with(&run.given)
-                    && ((calls > 0 && piece > 0) || run.ended.is_err())
-                    && (calls < CALLS || piece == 0 || run.ended.is_ok()),
-            );
-            tally.add(run.is_like(&Run::over(alloc, ALWAYS, once)));
-        }
-    }
-    Ok(tally)
-}
-
-/// Working for so many calls, and failing at all others or at the next one alone.
-fn manners(calls: usize, piece: usize) -> [Manner; 2] {
-    [false, true].map(|heals| Manner {
-        calls,
-        piece,
-        heals,
-    })
 }
 
 /// Whether these are the answers to the first requests, each of them whole.

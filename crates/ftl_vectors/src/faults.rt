@@ -1,8 +1,25 @@
 //! The line and the status of each fault.
 use crate::tally::Tally;
+use crate::trial::{Trial, is_right_again};
 use ftl_command::commands::tell;
 use ftl_command::fault::Fault;
-use std::alloc::Global;
+use std::alloc::{AllocError, Global};
+
+/// A fault, and what it is told as.
+#[derive(Clone, Copy)]
+struct Told<'a> {
+    fault: Fault<'a>,
+    status: u8,
+    line: &'a str,
+}
+
+impl Trial for Told<'_> {
+    fn is_right(self, alloc: Global) -> Result<bool, AllocError> {
+        let mut told = Vec::with_capacity(alloc, self.line.len())?;
+        let ended = tell(&mut told, self.fault);
+        Ok(ended == self.status && told.as_slice() == self.line.as_bytes())
+    }
+}
 
 /// Tells each fault.
 pub fn try_faults(alloc: Global) -> Tally {
@@ -25,9 +42,12 @@ pub fn try_faults(alloc: Global) -> Tally {
     ];
     let mut tally = Tally::new();
     for (fault, status, line) in rows {
-        let mut told = Vec::new(alloc);
-        let ended = tell(&mut told, fault);
-        tally.add(ended == status && told.as_slice() == line.as_bytes());
+        let told = Told {
+            fault,
+            status,
+            line,
+        };
+        tally.add(is_right_again(alloc, told));
     }
     tally
 }

@@ -1,4 +1,4 @@
-//! Want of memory: `rt try --fail-alloc N` refuses an allocation, as `docs/CHECKS.md` says.
+//! A run in memory that is there already, of which any allocation may be refused.
 use crate::devices::{ANSWERS, ISOLATING, REQUESTS, SOURCE, are_whole};
 use crate::tally::Tally;
 use fluent_run::{FromRead, FromWrite, RunError, run};

@@ -2,12 +2,17 @@
 use crate::devices::{ALWAYS, ANSWERS, Manner, REQUESTS, Reader, Writer};
 use crate::rows::{text_in, texts_in};
 use crate::tally::Tally;
+use crate::trial::{Trial, is_right_again};
 use anyhow::{Context, Result};
 use ftl_command::program;
 use serde_json::Value;
+use std::alloc::{AllocError, Global};
 use std::{fs, io};
 
-/// How a run of the program ended: its status, its output and what it told of a fault.
+/// What is told where memory runs out.
+const OUT_OF_MEMORY: &str = "ftl: out of memory\n";
+
+/// How a run of the program must end: its status, its output and what it tells of a fault.
 #[derive(Clone, Copy)]
 struct End<'row> {
     status: u64,
@@ -15,44 +20,105 @@ struct End<'row> {
     fault: &'row str,
 }
 
+impl<'row> End<'row> {
+    /// How a row says that its run must end.
+    fn of(row: &'row Value) -> Option<End<'row>> {
+        Some(End {
+            status: row.get("status").and_then(Value::as_u64)?,
+            answers: text_in(row, "answers")?,
+            fault: text_in(row, "fault")?,
+        })
+    }
+
+    /// Whether a run ended so. The only error is that it told that memory ran out, with nothing but whole lines of its
+    /// answers written.
+    fn is_met(self, status: u8, given: &[u8], told: &[u8]) -> Result<bool, AllocError> {
+        let (answers, fault) = (self.answers.as_bytes(), self.fault.as_bytes());
+        if u64::from(status) == self.status && given == answers && told == fault {
+            return Ok(true);
+        }
+        let is_refused = status == 4 && told == OUT_OF_MEMORY.as_bytes();
+        if is_refused
+            && answers.starts_with(given)
+            && (given.is_empty() || given.ends_with(b"\n"))
+        {
+            return Err(AllocError);
+        }
+        Ok(false)
+    }
+}
+
+/// Words, and how the program must end that runs on them over these devices.
+#[derive(Clone, Copy)]
+struct Words<'a, I> {
+    rt: &'a HostRuntime,
+    words: &'a [&'a str],
+    input: I,
+    writing: Manner,
+    wanted: End<'a>,
+}
+
+impl<I: io::Read + Copy> Trial for Words<'_, I> {
+    fn is_right(self, alloc: Global) -> Result<bool, AllocError> {
+        let wanted = self.wanted;
+        let room = wanted.fault.len().max(OUT_OF_MEMORY.len());
+        let mut given = Vec::with_capacity(alloc, wanted.answers.len())?;
+        let mut told = Vec::with_capacity(alloc, room)?;
+        let output = Writer(&mut given, self.writing);
+        let status = program(self.rt, alloc, self.words, self.input, output, &mut told);
+        wanted.is_met(status, &given, &told)
+    }
+}
+
+/// A line of `runs.jsonl`.
+#[derive(Clone, Copy)]
+struct Line<'a> {
+    rt: &'a HostRuntime,
+    text: &'a str,
+}
+
+impl Trial for Line<'_> {
+    fn is_right(self, alloc: Global) -> Result<bool, AllocError> {
+        match Value::from_str(alloc, self.text) {
+            Ok(row) => self.is_row(alloc, &row),
+            Err(_) => Err(AllocError),
+        }
+    }
+}
+
+impl Line<'_> {
+    /// Whether the words of a row end as it says.
+    fn is_row(self, alloc: Global, row: &Value) -> Result<bool, AllocError> {
+        match texts_in(alloc, row, "words")? {
+            Some(words) => self.ends(alloc, row, &words),
+            None => Ok(false),
+        }
+    }
+
+    /// The same, of these words.
+    fn ends(self, alloc: Global, row: &Value, words: &[&str]) -> Result<bool, AllocError> {
+        let (Some(requests), Some(wanted)) = (text_in(row, "requests"), End::of(row)) else {
+            return Ok(false);
+        };
+        let run = Words {
+            rt: self.rt,
+            words,
+            input: requests.as_bytes(),
+            writing: ALWAYS,
+            wanted,
+        };
+        run.is_right(alloc)
+    }
+}
+
 /// Tries each line of `runs.jsonl`.
 pub fn try_runs(rt: &HostRuntime) -> Result<Tally> {
     let text = fs::read_to_string(rt, "runs.jsonl").context("the runs")?;
     let mut tally = Tally::new();
-    for line in text.as_str().lines() {
-        let row = Value::from_str(rt.alloc(), line).context("a run")?;
-        tally.add(is_row(rt, &row)?);
+    for text in text.as_str().lines() {
+        tally.add(is_right_again(rt.alloc(), Line { rt, text }));
     }
     Ok(tally)
-}
-
-/// Whether the words of a row end as it says.
-fn is_row(rt: &HostRuntime, row: &Value) -> Result<bool> {
-    let words = texts_in(rt.alloc(), row, "words")?;
-    let requests = text_in(row, "requests")?.as_bytes();
-    let wanted = End {
-        status: row.get("status").and_then(Value::as_u64).context("status")?,
-        answers: text_in(row, "answers")?,
-        fault: text_in(row, "fault")?,
-    };
-    Ok(ends(rt, words.as_slice(), requests, ALWAYS, wanted))
-}
-
-/// Whether the words end so, where the output is written in this manner.
-fn ends<I: io::Read + Drop>(
-    rt: &HostRuntime,
-    words: &[&str],
-    input: I,
-    writing: Manner,
-    wanted: End<'_>,
-) -> bool {
-    let mut given = Vec::new(rt.alloc());
-    let mut told = Vec::new(rt.alloc());
-    let output = Writer(&mut given, writing);
-    let status = program(rt, rt.alloc(), words, input, output, &mut told);
-    u64::from(status) == wanted.status
-        && given.as_slice() == wanted.answers.as_bytes()
-        && told.as_slice() == wanted.fault.as_bytes()
 }
 
 /// Tries which device is told to have failed.
@@ -92,8 +158,14 @@ pub fn try_devices(rt: &HostRuntime) -> Tally {
             answers,
             fault,
         };
-        let reader = Reader(REQUESTS, reading);
-        tally.add(ends(rt, &[command, file], reader, writing, wanted));
+        let run = Words {
+            rt,
+            words: &[command, file],
+            input: Reader(REQUESTS, reading),
+            writing,
+            wanted,
+        };
+        tally.add(is_right_again(rt.alloc(), run));
     }
     tally
 }
