@@ -12,9 +12,21 @@ pub fn arguments_of(alloc: Global, json: Option<&Json>) -> Result<Option<Args<'_
     };
     let mut arguments = Args::new(alloc);
     for (name, json) in members.iter() {
-        arguments.set(CowStr::Borrowed(name.as_str()), value_of(json))?;
+        set(&mut arguments, name.as_str(), json)?;
     }
     Ok(Some(arguments))
+}
+
+/// Sets a value. Where memory is refused, it is set once more in the same arguments, which must be as they were.
+fn set<'row>(
+    arguments: &mut Args<'row>,
+    name: &'row str,
+    json: &'row Json,
+) -> Result<(), AllocError> {
+    match arguments.set(CowStr::Borrowed(name), value_of(json)) {
+        Ok(()) => Ok(()),
+        Err(AllocError) => arguments.set(CowStr::Borrowed(name), value_of(json)),
+    }
 }
 
 /// A value: a text, which is read as a number where it is one, a text in a list, which is not, `true` for the program's own value, `false`
