@@ -121,6 +121,24 @@ pub fn try_runs(rt: &HostRuntime) -> Result<Tally> {
     Ok(tally)
 }
 
+/// Whether the words end so, over these devices.
+fn end_so(
+    rt: &HostRuntime,
+    words: &[&str],
+    input: Reader<'_>,
+    writing: Manner,
+    wanted: End<'_>,
+) -> bool {
+    let run = Words {
+        rt,
+        words,
+        input,
+        writing,
+        wanted,
+    };
+    is_right_again(rt.alloc(), run)
+}
+
 /// Tries which device is told to have failed.
 pub fn try_devices(rt: &HostRuntime) -> Tally {
     let once = Manner {
@@ -158,14 +176,8 @@ pub fn try_devices(rt: &HostRuntime) -> Tally {
             answers,
             fault,
         };
-        let run = Words {
-            rt,
-            words: &[command, file],
-            input: Reader(REQUESTS, reading),
-            writing,
-            wanted,
-        };
-        tally.add(is_right_again(rt.alloc(), run));
+        let input = Reader(REQUESTS, reading);
+        tally.add(end_so(rt, &[command, file], input, writing, wanted));
     }
     tally
 }
