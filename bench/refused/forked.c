@@ -2,12 +2,9 @@
  * call is refused. The copy goes on to its end, or for FORKED_AHEAD more calls, and what it wrote is read; then the program goes on, which
  * is refused nothing. The lane FORKED_LANE of FORKED_LANES, from 0, has each call whose number leaves it. The file FORKED_TOLD has the
  * count of refused calls, of copies that wrote of a wrong row or were killed, and of those that ended with a fault. */
-#define _GNU_SOURCE
-#include <dlfcn.h>
+#include "before.h"
 #include <fcntl.h>
-#include <stdbool.h>
 #include <stdio.h>
-#include <stdlib.h>
 #include <string.h>
 #include <sys/mman.h>
 #include <sys/wait.h>
@@ -96,18 +93,4 @@ static bool refused(void) {
     if (copy > 0)
         wait_for(copy, places);
     return false;
-}
-
-void *malloc(size_t size) {
-    static void *(*next)(size_t);
-    if (next == NULL)
-        next = (void *(*)(size_t))dlsym(RTLD_NEXT, "malloc");
-    return refused() ? NULL : next(size);
-}
-
-void *realloc(void *block, size_t size) {
-    static void *(*next)(void *, size_t);
-    if (next == NULL)
-        next = (void *(*)(void *, size_t))dlsym(RTLD_NEXT, "realloc");
-    return refused() ? NULL : next(block, size);
 }
