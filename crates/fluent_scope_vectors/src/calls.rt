@@ -4,11 +4,6 @@
 //! the call has `set_dirty`. It tells its `errors`, by their texts, and then so many `placeables` are counted, so many patterns `entered`,
 //! and the scope is `dirty` or not. `errors` of the row are in the list before. With `listed` off there is no list.
 
-use crate::call::Call;
-use crate::page::Page;
-use crate::parts::arguments_in;
-use crate::shown::begins;
-use crate::told::count_in;
 use fluent_bundle::resolver::Scope;
 use fluent_bundle::{EnglishPlurals, FluentError, FluentResource, TextTransform};
 use fluent_rows::bundle::{Bundle, Settings, is_added};
@@ -16,6 +11,11 @@ use fluent_rows::json::{is_set, list_in};
 use fluent_rows::own::{Args, Brackets, Capitals};
 use fluent_rows::told::errors_of;
 use fluent_rows::values::arguments_of;
+use fluent_scope_rows::call::Call;
+use fluent_scope_rows::page::Page;
+use fluent_scope_rows::parts::arguments_in;
+use fluent_scope_rows::shown::begins;
+use fluent_scope_rows::told::count_in;
 use serde_json::Value as Json;
 use std::alloc::{AllocError, Global};
 

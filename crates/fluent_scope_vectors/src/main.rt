@@ -2,15 +2,8 @@
 //! than they must.
 #![tactic(auto)]
 
-mod bundle;
-mod call;
 mod calls;
-mod page;
-mod parts;
 mod rows;
-mod shown;
-mod told;
-mod turn;
 
 use anyhow::Result;
 
