@@ -20,6 +20,9 @@ use std::alloc::AllocError;
 use std::borrow::CowStr;
 use std::mem;
 
+/// How many bytes a text has room for at first. Most texts take no more, and are never moved.
+const ROOM: usize = 64;
+
 /// What a pattern gives: a text without placeables as it lies, if nothing changes it, and any other anew. The only error is that
 /// memory runs out; the first of the pattern's errors are told then.
 pub(crate) fn answer<'b, 'r, 's, 'a, C: FluentType + Drop, F, E: Context<C, F>>(
@@ -70,9 +73,9 @@ fn resolved<'b, 'r, 's, 'a, C: FluentType + Drop, F, E: Context<C, F>>(
         (asked C.meaning (resolved_in E.environment place.now) place.now.arguments pattern.now)) }
 {
     let alloc = place.context.alloc();
+    let mut text = String::with_capacity(alloc, ROOM)?;
     let list = mem::replace(errors, Vec::new(alloc));
     let mut progress = Progress::new(alloc, Some(list));
-    let mut text = String::new(alloc);
     let written = write_pattern(&mut text, place, None, &mut progress, pattern);
     put_back(errors, progress);
     written?;
