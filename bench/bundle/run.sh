@@ -1,21 +1,57 @@
 #!/bin/sh
-# Adds 125,000 to 2,000,000 messages to a bundle, and to one of the Rust crate fluent-bundle. Prints the least processor time an id
-# of five rounds, and how it grows from each number to the next: where adding is linear it grows no more than a hash map's does,
-# which misses the processor's caches more often as it grows.
+# Times bundles, beside those of the Rust crate fluent-bundle: formatting a message of text alone, one with two variables, and one with
+# a select and a term; adding the messages of a source and asking for each of them; and adding 125,000 to 2,000,000 messages. Prints the
+# least processor time of five rounds, and the ratios: above 1 ours is faster. Where adding is linear, its time an id grows no more than
+# a hash map's does, which misses the processor's caches more often as it grows.
 #
-#   run.sh VENDOR
+#   run.sh VENDOR [SOURCE]
 #
-# VENDOR is a folder of vendored crates with fluent-bundle and what it stands on. It needs rt and cargo, and no network.
+# VENDOR is a folder of vendored crates with fluent-bundle, unic-langid and what these stand on, and SOURCE a Fluent source without
+# damage. It needs rt and cargo, and no network.
 set -eu
-[ $# -eq 1 ] || { sed -n '2,8s/^# \{0,1\}//p' "$0" >&2; exit 2; }
+[ $# -ge 1 ] || { sed -n '2,11s/^# \{0,1\}//p' "$0" >&2; exit 2; }
 here=$(cd "$(dirname "$0")" && pwd)
 vendor=$(cd "$1" && pwd)
 built=$(mktemp -d)
 trap 'rm -rf "$built"' EXIT
+[ $# -eq 1 ] || cp "$2" "$built/source.ftl"
 cp -R "$here/Cargo.toml" "$here/src" "$built"
 cp "$here/../syntax/src/clock.rs" "$built/src"
 (cd "$built" && cargo build --quiet --release --offline --target-dir target \
     --config 'source.crates-io.replace-with="vendor"' --config "source.vendor.directory='$vendor'")
+
+# both MODE FILE..: what ours and the Rust crate's took, and the bytes of their texts, a line a file.
+both() {
+    (cd "$here/../../crates/fluent_bundle_bench" && rt run -- "$@" >"$built/ours" 2>"$built/log") ||
+        { cat "$built/log" >&2; exit 1; }
+    "$built/target/release/bundles" "$@" >"$built/rust"
+    paste -d ' ' "$built/ours" "$built/rust"
+}
+
+# A name a line on its input, the lines of `both` behind it, and by how much the times are to be divided for nanoseconds.
+ratios() {
+    paste -d ':' - "$1" | awk -F : -v times="$2" '{
+        split($2, took, " ")
+        printf "%s: %.0f ns, fluent-bundle %.0f, ratio %.2f", $1, took[1] / times, took[3] / times, took[3] / took[1]
+        print (took[2] == took[4] ? "" : "; the texts differ") }'
+}
+
+echo 'm = Hello, this is a message of text alone.' >"$built/text.ftl"
+# shellcheck disable=SC2016
+echo 'm = Hello, { $name }, you have { $count } new messages.' >"$built/variables.ftl"
+cat >"$built/select.ftl" <<'SOURCE'
+-brand = Kozhvadi
+m = { $count ->
+    [one] One page is open in { -brand }.
+   *[other] { $count } pages are open in { -brand }.
+}
+SOURCE
+both formatting "$built/text.ftl" "$built/variables.ftl" "$built/select.ftl" >"$built/times"
+printf '%s\n' 'text alone' 'two variables' 'a select and a term' | ratios "$built/times" 10000
+if [ -e "$built/source.ftl" ]; then
+    both asking "$built/source.ftl" >"$built/times"
+    echo 'adding the source and asking for each' | ratios "$built/times" 1
+fi
 
 counts='125000 250000 500000 1000000 2000000'
 set --
@@ -23,10 +59,8 @@ for count in $counts; do
     awk -v n="$count" 'BEGIN { for (i = 0; i < n; i++) print "message-" i " = Text" }' >"$built/$count.ftl"
     set -- "$@" "$built/$count.ftl"
 done
-(cd "$here/../../crates/fluent_bundle_bench" && rt run -- "$@" >"$built/ours" 2>"$built/log") ||
-    { cat "$built/log" >&2; exit 1; }
-"$built/target/release/adding" "$@" >"$built/rust"
-echo "$counts" | tr ' ' '\n' | paste -d ' ' - "$built/ours" "$built/rust" | awk '
+both adding "$@" >"$built/times"
+echo "$counts" | tr ' ' '\n' | paste -d ' ' - "$built/times" | awk '
     { ours = $2 / $1; rust = $3 / $1; printf "%d ids: %.0f ns an id, fluent-bundle %.0f, ratio %.2f", $1, ours, rust, rust / ours }
     before { printf "; grown by %.2f, fluent-bundle by %.2f", ours / before, rust / rust_before }
     { print ""; before = ours; rust_before = rust }'

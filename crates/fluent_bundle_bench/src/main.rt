@@ -1,53 +1,64 @@
-//! Adds the messages of each file that it is given to a new bundle, and prints the least nanoseconds of processor time that adding
-//! took in some rounds. `bench/bundle/run.sh` runs it.
+//! Times bundles on files of messages, and prints a line a file: the least nanoseconds of processor time that it took in some rounds.
+//! `bench/bundle/run.sh` runs it.
+//!
+//!     fluent_bundle_bench adding FILE..         adds the messages of the file to a new bundle
+//!     fluent_bundle_bench asking FILE..         does so, and asks for each of them, by its id
+//!     fluent_bundle_bench formatting FILE..     formats the value of the message `m` 10,000 times
+//!
+//! Where it asks or formats, the bytes of all texts stand behind the time.
 #![tactic(auto)]
 
-use anyhow::{Result, bail};
+mod adding;
+mod asking;
+mod formatting;
+
+use anyhow::{Context, Result, bail};
 use fluent_bundle::{
-    EnglishPlurals, FluentBundle, FluentResource, NoCustom, NoFormatter, NoFunction,
+    EnglishPlurals, FluentArgs, FluentBundle, FluentResource, FluentValue, NoCustom, NoFormatter,
+    NoFunction,
 };
 use std::alloc::Global;
-use std::time::{CpuClock, Duration};
+use std::borrow::CowStr;
 use std::{env, fs};
 
-/// How often a resource is added. The least time counts.
+/// How often each is done. The least time counts.
 const ROUNDS: usize = 5;
 
 type Bundle<'r, 's> = FluentBundle<'r, 's, EnglishPlurals, NoCustom, NoFunction, NoFormatter>;
 
+type Args = FluentArgs<'static, NoCustom>;
+
 fn main(rt: HostRuntime) -> Result<()> {
-    for file in env::args(&rt)?.skip(1) {
-        time_file(&rt, &file)?;
+    let mut words = env::args(&rt)?.skip(1);
+    let mode = words.next().context("adding, asking or formatting")?;
+    for file in words {
+        time_file(&rt, &mode, &file)?;
     }
     Ok(())
 }
 
-/// Reads a file, and prints how long adding its messages took.
-fn time_file(rt: &HostRuntime, file: &str) -> Result<()> {
+/// Reads a file, and prints how long it took.
+fn time_file(rt: &HostRuntime, mode: &str, file: &str) -> Result<()> {
     let source = fs::read_to_string(rt, file)?;
     match FluentResource::try_new(rt.alloc(), &source) {
-        Ok(resource) => time_adding(rt, &resource),
+        Ok(resource) => time_resource(rt, mode, &resource),
         Err(_) => bail!("not read whole"),
     }
 }
 
-/// Prints the least time that adding a resource takes.
-fn time_adding(rt: &HostRuntime, resource: &FluentResource<'_>) -> Result<()> {
-    let mut least = Duration::MAX;
-    for _ in 0..ROUNDS {
-        let start = rt.thread_cpu_time()?;
-        let is_added = is_added(rt.alloc(), resource);
-        least = least.min(rt.thread_cpu_time()?.saturating_sub(start));
-        if !is_added {
-            bail!("not added");
-        }
+fn time_resource(rt: &HostRuntime, mode: &str, resource: &FluentResource<'_>) -> Result<()> {
+    match mode {
+        "adding" => adding::time(rt, resource),
+        "asking" => asking::time(rt, resource, &arguments(rt.alloc())?),
+        "formatting" => formatting::time(rt, resource, &arguments(rt.alloc())?),
+        _ => bail!("adding, asking or formatting"),
     }
-    println!(rt; "{}", least.as_nanos())?;
-    Ok(())
 }
 
-/// Whether all entries of a resource could be added to a new bundle.
-fn is_added(alloc: Global, resource: &FluentResource<'_>) -> bool {
-    let mut bundle = Bundle::new(alloc, Vec::new(alloc), EnglishPlurals);
-    bundle.add_resource(resource).is_ok()
+/// What messages are asked with.
+fn arguments(alloc: Global) -> Result<Args> {
+    let mut arguments = FluentArgs::new(alloc);
+    arguments.set(CowStr::Borrowed("name"), FluentValue::from("Jane"))?;
+    arguments.set(CowStr::Borrowed("count"), FluentValue::from(5_u32))?;
+    Ok(arguments)
 }
