@@ -66,8 +66,7 @@ impl Model for Decimal {
 
     ghost inverse = { λ z. record {
       negative = is_below_zero z;
-      whole = unsigned_abs z /
-          units_per_one;
+      whole = unsigned_abs z / units_per_one;
       fraction = unsigned_abs z % units_per_one;
     } };
 
