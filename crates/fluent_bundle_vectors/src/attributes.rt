@@ -2,8 +2,8 @@
 
 use crate::bundle::{Bundle, read};
 use crate::found::first_text;
-use crate::tally::Tally;
 use fluent_bundle::{EnglishPlurals, FluentMessage, FluentResource};
+use fluent_trials::Tally;
 use std::alloc::Global;
 
 /// Tries a message of two attributes of one name.

@@ -13,10 +13,9 @@ mod reading;
 mod rows;
 mod settings;
 mod steps;
-mod tally;
 
 use anyhow::Result;
-use tally::Tally;
+use fluent_trials::Tally;
 
 fn main(rt: HostRuntime) -> Result<()> {
     let alloc = rt.alloc();
@@ -29,6 +28,6 @@ fn main(rt: HostRuntime) -> Result<()> {
 }
 
 fn tell(rt: &HostRuntime, name: &str, tally: Tally) -> Result<()> {
-    println!(rt; "{name}: {} steps, {} wrong", tally.steps, tally.wrong)?;
+    println!(rt; "{name}: {} steps, {} wrong", tally.tried, tally.wrong)?;
     Ok(())
 }

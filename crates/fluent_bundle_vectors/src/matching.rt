@@ -1,8 +1,8 @@
 //! Keys held against values, by the plural source of a bundle.
 
 use crate::bundle::Bundle;
-use crate::tally::Tally;
 use fluent_bundle::{EnglishPlurals, FluentValue};
+use fluent_trials::Tally;
 use std::alloc::Global;
 
 /// A key and a value, as they are read, and whether they match.

@@ -1,9 +1,9 @@
 //! What a source is read as.
 
 use crate::bundle::read;
-use crate::tally::Tally;
 use fluent_ast::Entry;
 use fluent_bundle::{FluentResource, ResourceError};
+use fluent_trials::Tally;
 use std::alloc::Global;
 
 const KEYS: &str = "\nkey1 = Value 1\n\ng@Rb@ge = #2y ds\n\nkey2 = Value 2\n\n";

@@ -2,10 +2,10 @@
 
 ghost use Rattle.std.specs.Prelude.{Some, codes};
 
-use crate::tally::Tally;
 use fluent_bundle::{
     EnglishPlurals, FluentBundle, FluentValue, NoCustom, NoFunction, ValueFormatter,
 };
+use fluent_trials::Tally;
 use std::alloc::{AllocError, Global};
 
 /// A formatter that shows each value as a question mark.

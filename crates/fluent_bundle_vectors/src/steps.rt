@@ -3,10 +3,10 @@
 use crate::bundle::{Bundle, read};
 use crate::found::{Found, is_found};
 use crate::rows::{Call, ROWS, Step};
-use crate::tally::Tally;
 use fluent_bundle::{
     AddFunctionError, AddResourceError, EnglishPlurals, EntryKind, FluentError, FluentResource,
 };
+use fluent_trials::Tally;
 use std::alloc::{AllocError, Global};
 
 /// What ids stand for.

@@ -3,8 +3,7 @@
 use crate::calls::{
     Outcome, clean_source, gives_text, import_export, join_sources, normalize_source,
 };
-use crate::tally::Tally;
-use crate::trial::{Trial, is_right_again};
+use fluent_trials::{Tally, Trial, is_right_again};
 use std::alloc::{AllocError, Global};
 
 /// What a source goes through.

@@ -12,11 +12,9 @@ mod long;
 mod prefixes;
 mod reports;
 mod rows;
-mod tally;
-mod trial;
 
 use anyhow::Result;
-use tally::Tally;
+use fluent_trials::Tally;
 
 fn main(rt: HostRuntime) -> Result<()> {
     let alloc = rt.alloc();

@@ -4,9 +4,8 @@ use crate::answering::{answer_alike, answers_as};
 use crate::calls::{
     Outcome, clean_source, gives, gives_text, import_export, join_sources, normalize_source,
 };
-use crate::tally::Tally;
-use crate::trial::{Trial, is_right_again};
 use anyhow::{Context, Result};
+use fluent_trials::{Tally, Trial, is_right_again};
 use serde_json::Value;
 use std::alloc::{AllocError, Global};
 use std::fs;

@@ -5,9 +5,8 @@ use crate::calls::{
     normalize_source,
 };
 use crate::reports::check_sources;
-use crate::tally::Tally;
-use crate::trial::{Trial, is_right_again};
 use anyhow::{Context, Result};
+use fluent_trials::{Tally, Trial, is_right_again};
 use serde_json::Value;
 use std::alloc::{AllocError, Global};
 use std::fs;

@@ -9,7 +9,7 @@ mod rows;
 mod told;
 
 use anyhow::Result;
-use fluent_rows::tally::Tally;
+use fluent_trials::Tally;
 
 fn main(rt: HostRuntime) -> Result<()> {
     for file in ["rows.jsonl", "own.jsonl", "trees.jsonl"] {
@@ -20,6 +20,6 @@ fn main(rt: HostRuntime) -> Result<()> {
 }
 
 fn tell(rt: &HostRuntime, name: &str, tally: Tally) -> Result<()> {
-    println!(rt; "{name}: {} rows, {} wrong", tally.rows, tally.wrong)?;
+    println!(rt; "{name}: {} rows, {} wrong", tally.tried, tally.wrong)?;
     Ok(())
 }

@@ -8,7 +8,7 @@ use fluent_bundle::{
     NoFormatter, NoFunction,
 };
 use fluent_rows::bundle::read;
-use fluent_rows::tally::Tally;
+use fluent_trials::Tally;
 use fluent_write::WriteError;
 use std::alloc::{AllocError, Global};
 use std::borrow::CowStr;
@@ -23,7 +23,7 @@ pub fn try_plain(alloc: Global) -> Tally {
     let first = try_calls(alloc).or_else(|_| try_calls(alloc));
     match first {
         Ok(tally) => tally,
-        Err(AllocError) => Tally { rows: 1, wrong: 1 },
+        Err(AllocError) => Tally { tried: 1, wrong: 1 },
     }
 }
 

@@ -13,12 +13,16 @@ use fluent_bundle::{EnglishPlurals, FluentResource, TextTransform};
 use fluent_rows::bundle::{Bundle, Settings, is_added, pattern_in, read};
 use fluent_rows::json::text_in;
 use fluent_rows::own::{Args, Brackets, Capitals};
-use fluent_rows::tally::Tally;
 use fluent_rows::trees::pattern_of;
 use fluent_rows::values::arguments_of;
+use fluent_trials::{Tally, Trial, is_right_again};
 use serde_json::Value as Json;
 use std::alloc::{AllocError, Global};
 use std::fs;
+
+/// A line of a file.
+#[derive(Clone, Copy)]
+struct Line<'row>(&'row str);
 
 /// A pattern that is asked for, and what it must give, if it is there.
 #[derive(Clone, Copy)]
@@ -35,7 +39,7 @@ pub fn try_rows(rt: &HostRuntime, file: &str) -> Result<Tally> {
     let text = fs::read_to_string(rt, file).context("the rows")?;
     let mut tally = Tally::new();
     for line in text.as_str().lines() {
-        let is_right = is_right_again(rt.alloc(), line);
+        let is_right = is_right_again(rt.alloc(), Line(line));
         if !is_right {
             println!(rt; "wrong: {line}")?;
         }
@@ -44,22 +48,16 @@ pub fn try_rows(rt: &HostRuntime, file: &str) -> Result<Tally> {
     Ok(tally)
 }
 
-/// Whether what a line says is so. Where memory is refused, it is tried once more.
-fn is_right_again(alloc: Global, line: &str) -> bool {
-    match is_right(alloc, line) {
-        Ok(is_right) => is_right,
-        Err(AllocError) => is_right(alloc, line).unwrap_or(false),
-    }
-}
-
-/// Whether what a line says is so. The only error is that memory runs out.
-fn is_right(alloc: Global, line: &str) -> Result<bool, AllocError> {
-    let Ok(json) = Json::from_str(alloc, line) else {
-        return Err(AllocError);
-    };
-    match Row::of(&json) {
-        Some(row) => row.is_right(alloc),
-        None => Ok(false),
+impl Trial for Line<'_> {
+    /// Whether what the line says is so.
+    fn is_right(self, alloc: Global) -> Result<bool, AllocError> {
+        let Ok(json) = Json::from_str(alloc, self.0) else {
+            return Err(AllocError);
+        };
+        match Row::of(&json) {
+            Some(row) => row.is_right(alloc),
+            None => Ok(false),
+        }
     }
 }
 

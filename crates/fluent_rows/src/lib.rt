@@ -8,7 +8,6 @@ pub mod bundle;
 pub mod json;
 pub mod kinds;
 pub mod own;
-pub mod tally;
 pub mod told;
 pub mod trees;
 pub mod values;

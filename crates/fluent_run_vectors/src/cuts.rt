@@ -2,8 +2,8 @@
 
 use crate::case::Case;
 use crate::devices::{BLOCK, Reading, Writing};
-use crate::tally::Tally;
 use fluent_run::RunError;
+use fluent_trials::Tally;
 use std::alloc::Global;
 
 /// How many bytes a call gives where it gives few.

@@ -1,10 +1,10 @@
 //! Readers that don't end within the calls of `read` that a run is given.
 ghost use Rattle.std.specs.Prelude.{None};
 
-use crate::tally::Tally;
 use fluent_run::RunError;
 use fluent_serve::serve::{Engine, serve};
 use fluent_serve::stream::{FromWrite, ReadFailed, Source};
+use fluent_trials::Tally;
 use std::alloc::{AllocError, Global};
 
 /// The calls of `read` that each run is given.

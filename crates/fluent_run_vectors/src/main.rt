@@ -14,14 +14,13 @@ mod memory;
 mod pieces;
 mod rows;
 mod script;
-mod tally;
 mod writes;
 
 use anyhow::Result;
 use endless::try_endless;
+use fluent_trials::Tally;
 use rows::Tallies;
 use std::{env, io};
-use tally::Tally;
 
 fn main(rt: HostRuntime) -> Result<()> {
     tell(&rt, "memory", rows::try_memory(&rt)?)?;
@@ -53,6 +52,6 @@ fn tell_all(rt: &HostRuntime, tallies: Tallies) -> Result<()> {
 }
 
 fn tell(rt: &HostRuntime, name: &str, tally: Tally) -> Result<()> {
-    println!(rt; "{name}: {} runs, {} wrong", tally.runs, tally.wrong)?;
+    println!(rt; "{name}: {} runs, {} wrong", tally.tried, tally.wrong)?;
     Ok(())
 }

@@ -2,7 +2,7 @@
 
 use crate::case::Case;
 use crate::devices::{Reading, Writing};
-use crate::tally::Tally;
+use fluent_trials::Tally;
 use std::alloc::Global;
 
 /// Requests of up to so many bytes come in pieces of each length that is tried.

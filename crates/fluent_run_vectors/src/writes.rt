@@ -2,8 +2,8 @@
 
 use crate::case::{Case, Run};
 use crate::devices::{Reading, Writing};
-use crate::tally::Tally;
 use fluent_run::RunError;
+use fluent_trials::Tally;
 use std::alloc::Global;
 
 /// Answers of up to so many bytes are cut behind each of them.

@@ -17,7 +17,7 @@ fn main(rt: HostRuntime) -> Result<()> {
         "values.jsonl",
     ] {
         let tally = rows::try_rows(&rt, file)?;
-        println!(rt; "{file}: {} rows, {} wrong", tally.rows, tally.wrong)?;
+        println!(rt; "{file}: {} rows, {} wrong", tally.tried, tally.wrong)?;
     }
     Ok(())
 }

@@ -7,11 +7,15 @@ use crate::calls::are_right;
 use anyhow::{Context, Result};
 use fluent_rows::bundle::read;
 use fluent_rows::json::{list_in, text_in};
-use fluent_rows::tally::Tally;
 use fluent_rows::values::are_set;
+use fluent_trials::{Tally, Trial, is_right_again};
 use serde_json::Value as Json;
 use std::alloc::{AllocError, Global};
 use std::fs;
+
+/// A line of a file.
+#[derive(Clone, Copy)]
+struct Line<'row>(&'row str);
 
 /// Tries each row of a file, and prints those that are wrong.
 pub fn try_rows(rt: &HostRuntime, file: &str) -> Result<Tally> {
@@ -20,7 +24,7 @@ pub fn try_rows(rt: &HostRuntime, file: &str) -> Result<Tally> {
         .context("the rows")?;
     let mut tally = Tally::new();
     for line in text.as_str().lines() {
-        let is_right = is_right_again(rt.alloc(), line);
+        let is_right = is_right_again(rt.alloc(), Line(line));
         if !is_right {
             println!(rt; "wrong: {line}")?;
         }
@@ -29,22 +33,16 @@ pub fn try_rows(rt: &HostRuntime, file: &str) -> Result<Tally> {
     Ok(tally)
 }
 
-/// Whether what a line says is so. Where memory is refused, it is tried once more.
-fn is_right_again(alloc: Global, line: &str) -> bool {
-    match is_right(alloc, line) {
-        Ok(is_right) => is_right,
-        Err(AllocError) => is_right(alloc, line).unwrap_or(false),
-    }
-}
-
-/// Whether what a line says is so. The only error is that memory runs out.
-fn is_right(alloc: Global, line: &str) -> Result<bool, AllocError> {
-    let Ok(row) = Json::from_str(alloc, line) else {
-        return Err(AllocError);
-    };
-    match text_in(&row, "source") {
-        Some(source) => is_right_of(alloc, &row, source),
-        None => Ok(false),
+impl Trial for Line<'_> {
+    /// Whether what the line says is so.
+    fn is_right(self, alloc: Global) -> Result<bool, AllocError> {
+        let Ok(row) = Json::from_str(alloc, self.0) else {
+            return Err(AllocError);
+        };
+        match text_in(&row, "source") {
+            Some(source) => is_right_of(alloc, &row, source),
+            None => Ok(false),
+        }
     }
 }
 

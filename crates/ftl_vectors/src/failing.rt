@@ -2,9 +2,8 @@
 use crate::devices::{
     ALWAYS, ANSWERS, ISOLATING, Manner, REQUESTS, Reader, SOURCE, Writer, are_whole,
 };
-use crate::tally::Tally;
-use crate::trial::{Trial, is_right_again};
 use fluent_run::{FromRead, FromWrite, RunError, run};
+use fluent_trials::{Tally, Trial, is_right_again};
 use fluent_value::EnglishPlurals;
 use std::alloc::{AllocError, Global};
 

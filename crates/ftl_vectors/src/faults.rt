@@ -1,6 +1,5 @@
 //! The line and the status of each fault.
-use crate::tally::Tally;
-use crate::trial::{Trial, is_right_again};
+use fluent_trials::{Tally, Trial, is_right_again};
 use ftl_command::commands::tell;
 use ftl_command::fault::Fault;
 use std::alloc::{AllocError, Global};

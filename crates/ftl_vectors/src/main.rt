@@ -11,11 +11,9 @@ mod faults;
 mod memory;
 mod rows;
 mod runs;
-mod tally;
-mod trial;
 
 use anyhow::Result;
-use tally::Tally;
+use fluent_trials::Tally;
 
 fn main(rt: HostRuntime) -> Result<()> {
     let alloc = rt.alloc();
@@ -31,6 +29,6 @@ fn main(rt: HostRuntime) -> Result<()> {
 }
 
 fn tell(rt: &HostRuntime, name: &str, tally: Tally) -> Result<()> {
-    println!(rt; "{name}: {} runs, {} wrong", tally.runs, tally.wrong)?;
+    println!(rt; "{name}: {} runs, {} wrong", tally.tried, tally.wrong)?;
     Ok(())
 }

@@ -1,7 +1,7 @@
 //! A run in memory that is there already, of which any allocation may be refused.
 use crate::devices::{ANSWERS, ISOLATING, REQUESTS, SOURCE, are_whole};
-use crate::tally::Tally;
 use fluent_run::{FromRead, FromWrite, RunError, run};
+use fluent_trials::Tally;
 use fluent_value::EnglishPlurals;
 use std::alloc::Global;
 

@@ -1,9 +1,8 @@
 //! Sources, requests and answers, by the rules of `docs/protocol.md`.
 use crate::devices::ISOLATING;
-use crate::tally::Tally;
-use crate::trial::{Trial, is_right_again};
 use anyhow::{Context, Result};
 use fluent_run::{FromRead, FromWrite, RunError, Settings, run};
+use fluent_trials::{Tally, Trial, is_right_again};
 use fluent_value::EnglishPlurals;
 use serde_json::Value;
 use std::alloc::{AllocError, Global};

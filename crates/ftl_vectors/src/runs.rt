@@ -1,9 +1,8 @@
 //! Runs of the program by its words, over the files of `data`.
 use crate::devices::{ALWAYS, ANSWERS, Manner, REQUESTS, Reader, Writer};
 use crate::rows::{text_in, texts_in};
-use crate::tally::Tally;
-use crate::trial::{Trial, is_right_again};
 use anyhow::{Context, Result};
+use fluent_trials::{Tally, Trial, is_right_again};
 use ftl_command::program;
 use serde_json::Value;
 use std::alloc::{AllocError, Global};
