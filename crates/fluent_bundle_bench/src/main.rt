@@ -12,7 +12,7 @@ mod adding;
 mod asking;
 mod formatting;
 
-use anyhow::{Context, Result, bail};
+use anyhow::{Result, bail};
 use fluent_bundle::{
     EnglishPlurals, FluentArgs, FluentBundle, FluentResource, FluentValue, NoCustom, NoFormatter,
     NoFunction,
@@ -30,9 +30,10 @@ type Args = FluentArgs<'static, NoCustom>;
 
 fn main(rt: HostRuntime) -> Result<()> {
     let mut words = env::args(&rt)?.skip(1);
-    let mode = words.next().context("adding, asking or formatting")?;
-    for file in words {
-        time_file(&rt, &mode, &file)?;
+    if let Some(mode) = words.next() {
+        for file in words {
+            time_file(&rt, &mode, &file)?;
+        }
     }
     Ok(())
 }
