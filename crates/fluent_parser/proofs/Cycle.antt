@@ -17,7 +17,7 @@ use Rattle.fluent_parser.specs.declared.fault.Fault.{Fault}
 use Rattle.fluent_words.specs.Counted.{begins_literal}
 use Rattle.fluent_parser.specs.Reads.{whole, Fails, Gives, string_or_number_at, argument_value_at}
 use Rattle.fluent_ast.specs.View.{Variant, Named, variants_of, inlines_of, nameds_of}
-use Rattle.fluent_parser.specs.Steps.{placeable_by, pattern_by, variant_by, variants_behind, Argument, positional, named, positional_by, named_or_positional_by, argument_by, names_with, with_argument, inlines_behind, nameds_behind, arguments_behind, names_of, pieces_by, pieces_after, piece_by, first_place, default_mark_at}
+use Rattle.fluent_parser.specs.Steps.{placeable_by, pattern_by, pattern_behind, variant_by, variants_behind, Argument, positional, named, positional_by, named_or_positional_by, argument_by, names_with, with_argument, inlines_behind, nameds_behind, arguments_behind, names_of, pieces_by, pieces_after, piece_by, first_place, default_mark_at}
 use Rattle.fluent_parser.proofs.Failing.{fails_bind, fails_mapped, fails_same}
 use Rattle.fluent_parser.proofs.Whole.{whole-inline, whole-arguments, whole-variants}
 use Rattle.fluent_parser.proofs.Steps.{placeable_is, variant_read, variant_is, argument_first, positional_more, named_more, pieces_is, first_is}
@@ -272,6 +272,10 @@ pub variants_start : {X : Type 0} (f : X → Variant) (vs : List X) (u : Text) �
 variants_start f vs u h = rw h (mapped_id (variants_behind []) (whole.variants false u) (λ a. refl))
 
 -- patterns
+pub pattern_is_behind : (s u : Text) → u ≡ skip_spaces s → pattern_behind u ≡ pattern_by s
+unfolding g.pattern_at pattern_behind
+pattern_is_behind s u h = rw h refl
+
 pub pieces_start : {X : Type 0} (f : X → Piece) (ps : List X) (line : Bool) (s rest : Text) (o : Option Text) → ps ≡ [] → (line, rest) ≡ first_place s o →
     mapped (λ more. map f ps ++ more) (pieces_by line rest) ≡ g.first_pieces_at whole s o
 pieces_start f ps line s rest o h e =
@@ -279,12 +283,12 @@ pieces_start f ps line s rest o h e =
     ∙ ap (λ (p : Bool × Text). pieces_by p.0 p.1) e ∙ sym (first_is s o)
 
 pub pattern_fails : (s u : Text) (line : Bool) (ps : List Piece) (e : Fault) (rest : Text) →
-    mapped (λ more. ps ++ more) (pieces_by line s) ≡ g.first_pieces_at whole (skip_spaces u) (after_line_end (skip_spaces u)) → Fails e rest (piece_by line s) → Fails e rest (pattern_by u)
-unfolding g.pattern_at
+    mapped (λ more. ps ++ more) (pieces_by line s) ≡ g.first_pieces_at whole u (after_line_end u) → Fails e rest (piece_by line s) → Fails e rest (pattern_behind u)
+unfolding pattern_behind
 pattern_fails s u line ps e rest same f =
     let a = fails_same e rest _ _ (sym (pieces_is line s)) (fails_bind e rest (piece_by line s) _ f) in
     let b = fails_same e rest _ _ same (fails_mapped e rest (λ more. ps ++ more) (pieces_by line s) a) in
-    fails_mapped e rest value_of _ (fails_mapped e rest elements_of (g.first_pieces_at whole (skip_spaces u) (after_line_end (skip_spaces u))) b)
+    fails_mapped e rest value_of _ (fails_mapped e rest elements_of (g.first_pieces_at whole u (after_line_end u)) b)
 
 read_piece : (line : Bool) (s rest : Text) (p : Option (Piece × Bool)) → piece_by line s ≡ got p rest → pieces_by line s ≡ pieces_after p rest
 read_piece line s rest p h = pieces_is line s ∙ ap (λ (x : Reading (Option (Piece × Bool))). x >>= (λ p. pieces_after p.0 p.1)) h
@@ -295,9 +299,9 @@ piece_read ps line next s rest p whole_is same h =
     sym (mapped_mapped (λ more. ps ++ more) (λ more. p ∷ more) (λ more. (ps ++ p ∷ []) ++ more) (pieces_by next rest) (λ more. sym (append_assoc ps (p ∷ []) more)))
     ∙ ap (mapped (λ more. ps ++ more)) (sym (read_piece line s rest (Some (p, next)) h)) ∙ same
 
-pub pattern_end : (s u rest : Text) (line : Bool) (ps : List Piece) → mapped (λ more. ps ++ more) (pieces_by line s) ≡ g.first_pieces_at whole (skip_spaces u) (after_line_end (skip_spaces u)) →
-    piece_by line s ≡ got None rest → pattern_by u ≡ got (value_of (elements_of ps)) rest
-unfolding g.pattern_at
+pub pattern_end : (s u rest : Text) (line : Bool) (ps : List Piece) → mapped (λ more. ps ++ more) (pieces_by line s) ≡ g.first_pieces_at whole u (after_line_end u) →
+    piece_by line s ≡ got None rest → pattern_behind u ≡ got (value_of (elements_of ps)) rest
+unfolding pattern_behind
 pattern_end s u rest line ps same h =
     ap (λ x. mapped value_of (mapped elements_of x)) (sym same ∙ ap (mapped (λ more. ps ++ more)) (read_piece line s rest None h))
     ∙ ap (λ z. got (value_of (elements_of z)) rest) (append-nil ps)

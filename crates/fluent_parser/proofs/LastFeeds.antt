@@ -1,7 +1,7 @@
 -- The line feed of a blank line behind a pattern adds nothing to it.
 use Rattle.std.proofs.Common.{◌≡◌, ℕ, Bool, true, false, cond, ◌&&◌, List, [], ◌∷◌, ◌++◌, length, drop, refl, sym, ap, ◌∙◌, arith, Option, Some, None}
 use Rattle.std.specs.Prelude.{◌==◌}
-use Rattle.fluent_grammar.specs.Words.{Text, line_feed, skip_spaces, after_line_end}
+use Rattle.fluent_grammar.specs.Words.{Text, line_feed, after_line_end}
 use Rattle.fluent_grammar.specs.Refusal.{Reading, got, mapped, ◌>>=◌}
 use Rattle.fluent_grammar.specs.Lines as l
 use Rattle.fluent_grammar.specs.Lines.{Piece, at_line_start, pattern_ends, elements_of, value_of}
@@ -10,7 +10,7 @@ use Rattle.fluent_words.proofs.Scanned.{test_of, test_ne}
 use Rattle.fluent_parser.specs.declared.fault.Fault.{Fault}
 use Rattle.fluent_parser.specs.declared.fault.Fault.TheVariants as fault
 use Rattle.fluent_parser.specs.Reads.{whole, Fails}
-use Rattle.fluent_parser.specs.Steps.{pattern_by, pieces_by, pieces_after, piece_by, kept_piece_by, is_last_feed}
+use Rattle.fluent_parser.specs.Steps.{pattern_behind, pieces_by, pieces_after, piece_by, kept_piece_by, is_last_feed}
 use Rattle.fluent_parser.proofs.PatternPieces.{wbe_blank}
 use Rattle.fluent_parser.proofs.Steps.{pieces_is}
 use Rattle.fluent_parser.proofs.Cycle.{pattern_end}
@@ -34,7 +34,7 @@ feed_piece : (cs : Text) → piece_by true (line_feed ∷ cs) ≡ got (Some (fee
 unfolding piece_by g.text_run feed
 feed_piece cs = let n : (length (line_feed ∷ cs) == 0) ≡ false = test_ne (length (line_feed ∷ cs)) 0 (λ e. absurd (omega (arith, e))) in rw n refl
 
-end_piece : (s : Text) → pattern_ends s ≡ true → piece_by true s ≡ got None s
+pub end_piece : (s : Text) → pattern_ends s ≡ true → piece_by true s ≡ got None s
 unfolding piece_by
 end_piece s h = rw h refl
 
@@ -76,9 +76,9 @@ kept_some line s rest p h = some_by (line && is_last_feed s) (drop 1 s) rest p (
 
 -- the end of a pattern
 end_by : (b line : Bool) (s u rest : Text) (ps : List Piece) → (line && is_last_feed s) ≡ b →
-    mapped (λ more. ps ++ more) (pieces_by line s) ≡ g.first_pieces_at whole (skip_spaces u) (after_line_end (skip_spaces u)) →
-    cond b (got None (drop 1 s)) (piece_by line s) ≡ got None rest → pattern_by u ≡ got (value_of (elements_of ps)) rest
-unfolding g.pattern_at feed
+    mapped (λ more. ps ++ more) (pieces_by line s) ≡ g.first_pieces_at whole u (after_line_end u) →
+    cond b (got None (drop 1 s)) (piece_by line s) ≡ got None rest → pattern_behind u ≡ got (value_of (elements_of ps)) rest
+unfolding pattern_behind feed
 end_by false line s u rest ps e same h = pattern_end s u rest line ps same h
 end_by true line s u rest ps e same h =
     let k = both line (is_last_feed s) e in
@@ -88,7 +88,7 @@ end_by true line s u rest ps e same h =
     ∙ ap (λ z. got (value_of z) (drop 1 s)) (blank_behind ps feed refl refl)
     ∙ ap (got (value_of (elements_of ps))) r
 
-pub kept_end : (s u rest : Text) (line : Bool) (ps : List Piece) → mapped (λ more. ps ++ more) (pieces_by line s) ≡ g.first_pieces_at whole (skip_spaces u) (after_line_end (skip_spaces u)) →
-    kept_piece_by line s ≡ got None rest → pattern_by u ≡ got (value_of (elements_of ps)) rest
+pub kept_end : (s u rest : Text) (line : Bool) (ps : List Piece) → mapped (λ more. ps ++ more) (pieces_by line s) ≡ g.first_pieces_at whole u (after_line_end u) →
+    kept_piece_by line s ≡ got None rest → pattern_behind u ≡ got (value_of (elements_of ps)) rest
 unfolding kept_piece_by
 kept_end s u rest line ps same h = end_by (line && is_last_feed s) line s u rest ps refl same h

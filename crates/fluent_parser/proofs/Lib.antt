@@ -8,6 +8,7 @@ pub mod Whole
 pub mod Failing
 pub mod Cycle
 pub mod LastFeeds
+pub mod OneLine
 pub mod Values
 pub mod Runs
 pub mod Comments

@@ -1,12 +1,13 @@
 -- The grammar's readers of what nests or repeats, cut into the steps that the parser takes.
-use Rattle.std.specs.Prelude.{◌≡◌, ℕ, Bool, true, false, ◌&&◌, ◌==◌, List, [], ◌∷◌, length, drop, Option, Some, None, map, reverse, if◌then◌else◌}
-use Rattle.fluent_grammar.specs.Words.{Text, asterisk, begins_with, begins_crlf, open_brace, close_brace, colon, line_feed, spaces, skip_blank, skip_blank_block}
+use Rattle.std.specs.Prelude.{◌≡◌, ℕ, Bool, true, false, ◌&&◌, ◌==◌, List, [], ◌∷◌, length, drop, Option, Some, None, map, reverse, take, ◌||◌, Ok, if◌then◌else◌}
+use Rattle.fluent_grammar.specs.Words.{Text, asterisk, begins_with, begins, begins_crlf, after_line_end, open_brace, close_brace, colon, line_feed, spaces, skip_blank, skip_blank_block}
 use Rattle.fluent_grammar.specs.Refusal.{Kind, Reading, got, refused, refuse, mapped, ◌>>=◌}
 use Rattle.fluent_grammar.specs.Refusal as r
 use Rattle.fluent_grammar.specs.Tree as t
-use Rattle.fluent_grammar.specs.Lines.{Piece, at_line_start, in_line, placed, value_of, ends_line, pattern_ends}
-use Rattle.fluent_grammar.specs.Reading.{select_or_inline_at, pattern_at, name_of_argument, text_run}
+use Rattle.fluent_grammar.specs.Lines.{Piece, at_line_start, in_line, placed, elements_of, value_of, ends_line, pattern_ends}
+use Rattle.fluent_grammar.specs.Reading.{select_or_inline_at, pattern_at, first_pieces_at, name_of_argument, text_run}
 use Rattle.fluent_parser.specs.Reads.{whole, byte_at, key_in_brackets_at, argument_value_at}
+use Rattle.fluent_words.specs.Counted.{IsText, starts_text}
 use Rattle.fluent_ast.specs.View.{Variant, Named}
 
 -- an inline expression or a select
@@ -20,6 +21,10 @@ placeable_by s = expression_by (skip_blank (drop 1 s)) >>= (λ x. byte_at close_
 -- what may be a pattern
 abbrev pub pattern_by : Text → Reading (Option t.Elements)
 pattern_by s = mapped value_of (pattern_at whole s)
+
+-- the same, behind the blank inline before it
+unfoldable pub pattern_behind : Text → Reading (Option t.Elements)
+pattern_behind s = mapped value_of (mapped elements_of (first_pieces_at whole s (after_line_end s)))
 
 -- a pattern has to be there
 abbrev pub present : Option t.Elements → Text → Reading t.Elements
@@ -108,6 +113,13 @@ piece_by line s = if line && pattern_ends s then got None s else piece_behind li
 -- whether a line feed stands here, behind which the pattern ends
 abbrev pub is_last_feed : Text → Bool
 is_last_feed s = begins_with line_feed s && pattern_ends (drop 1 s)
+
+-- A text that is all of a pattern: so many bytes of one line with its line feed, behind which the pattern ends.
+abbrev pub IsOneLine : Text → Option ℕ → Type 0
+IsOneLine s None = Unit {0}
+IsOneLine s (Some count) =
+    (begins starts_text s ≡ true) × IsText s (Ok count) × (ends_line (take count s) ≡ true)
+    × ((pattern_ends (drop count s) || is_last_feed (drop count s)) ≡ true)
 
 -- The same, but a last line feed is passed over, since no blank end of a pattern is kept.
 unfoldable pub kept_piece_by : Bool → Text → Reading (Option (Piece × Bool))

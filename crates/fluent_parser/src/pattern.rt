@@ -4,19 +4,41 @@
 ghost use Rattle.std.specs.Prelude.{◌≡◌, ◌≤◌, ◌<◌, ◌||◌, IfOk, IfSome, Some, true, false, length, drop, map, option_map};
 ghost use Rattle.fluent_grammar.specs.Words as w;
 ghost use Rattle.fluent_grammar.specs.Lines.{in_line, pattern_ends};
+ghost use Rattle.fluent_parser.specs.Steps.{is_last_feed, IsOneLine};
 
 use crate::ErrorKind;
 use crate::elements::pattern_of;
 use crate::fault::Fault;
 use crate::helper::Parser;
 use crate::pieces::{Piece, Pieces};
-use fluent_ast::Pattern;
+use fluent_ast::{Pattern, PatternElement};
 use fluent_slice::Texts;
 use fluent_words as words;
 
+/// The length of a text that is all of a pattern: of one line, with its line feed.
+fn one_line_len(text: &[u8]) -> Option<usize>
+    ensures { IsOneLine text.now result }
+{
+    if !words::begins_text(text) {
+        return None;
+    }
+    let count = words::text_len(text).ok()?;
+    let behind = words::from(text, count);
+    let is_whole = words::ends_line(words::front(text, count))
+        && (words::pattern_ends(behind) || is_last_feed(behind));
+    is_whole.then_some(count)
+}
+
+/// Whether a line feed stands here, behind which the pattern ends.
+fn is_last_feed(text: &[u8]) -> bool
+    ensures { result ≡ is_last_feed text.now }
+{
+    words::begins_with(text, b'\n') && words::pattern_ends(words::from(text, 1))
+}
+
 impl<'p, S: Drop, T: Texts<S>> Parser<'p, S, T> {
     ghost use Rattle.fluent_parser.specs.Reads.{Gives};
-    ghost use Rattle.fluent_parser.specs.Steps.{pattern_by, kept_piece_by, is_last_feed, piece_behind, indent_at, text_step, first_place, IsTextStart};
+    ghost use Rattle.fluent_parser.specs.Steps.{pattern_by, pattern_behind, kept_piece_by, piece_behind, indent_at, text_step, first_place, IsTextStart};
     ghost use Rattle.fluent_ast.specs.View.{pattern_view};
     ghost use Rattle.fluent_parser.specs.Pieces.{piece_view, step_view, IsPiece};
 
@@ -30,8 +52,43 @@ impl<'p, S: Drop, T: Texts<S>> Parser<'p, S, T> {
         ensures text { self.new.text.now ≡ self.old.text.now }
         ensures onward { length self.new.rest.now ≤ length self.old.rest.now }
     {
+        self.skip_blank_inline();
+        if let Some(count) = one_line_len(self.bytes()) {
+            return self.get_one_line(count);
+        }
+        self.get_lines()
+    }
+
+    /// A pattern of one line, whose text has so many bytes with its line feed. Most patterns are such.
+    fn get_one_line(&mut self, count: usize) -> Result<Option<Pattern<S>>, Fault>
+        requires tied { T.text self.old.source.now ≡ self.old.text.now }
+        requires line { IsOneLine self.old.rest.now (Some count) }
+        ensures gives { Gives (option_map (pattern_view S T.text)) self.new.rest.now result
+            (pattern_behind self.old.rest.now) }
+        ensures source { self.new.source.now ≡ self.old.source.now }
+        ensures text { self.new.text.now ≡ self.old.text.now }
+        ensures onward { length self.new.rest.now ≤ length self.old.rest.now }
+    {
+        let mut value = self.take(count)?;
+        self.take_byte_if(b'\n');
+        self.texts.trim(&mut value);
+        let mut elements = Vec::with_capacity(self.alloc, 1)?;
+        elements.push(PatternElement::TextElement { value })?;
+        Ok(Some(Pattern { elements }))
+    }
+
+    /// Any pattern, behind the blank before it.
+    #[cycle(parser)]
+    fn get_lines(&mut self) -> Result<Option<Pattern<S>>, Fault>
+        requires { T.text self.old.source.now ≡ self.old.text.now }
+        ensures gives { Gives (option_map (pattern_view S T.text)) self.new.rest.now result
+            (pattern_behind self.old.rest.now) }
+        ensures source { self.new.source.now ≡ self.old.source.now }
+        ensures text { self.new.text.now ≡ self.old.text.now }
+        ensures onward { length self.new.rest.now ≤ length self.old.rest.now }
+    {
         let mut pieces = Pieces::None;
-        let mut at_line_start = self.skip_to_pattern();
+        let mut at_line_start = self.skip_to_line();
         while let Some((piece, ends_line)) = self.get_piece(at_line_start)? {
             pieces.push(self.alloc, piece)?;
             at_line_start = ends_line;
@@ -40,16 +97,14 @@ impl<'p, S: Drop, T: Texts<S>> Parser<'p, S, T> {
         Ok(pattern)
     }
 
-    /// Passes over the blank before a pattern, and says whether its first piece begins a line.
-    fn skip_to_pattern(&mut self) -> bool
+    /// Passes over a line end and the blank lines behind it, and says whether one stood here.
+    fn skip_to_line(&mut self) -> bool
         ensures place { (result, self.new.rest.now)
-            ≡ first_place (w.skip_spaces self.old.rest.now)
-            (w.after_line_end (w.skip_spaces self.old.rest.now)) }
+            ≡ first_place self.old.rest.now (w.after_line_end self.old.rest.now) }
         ensures source { self.new.source.now ≡ self.old.source.now }
         ensures text { self.new.text.now ≡ self.old.text.now }
         ensures onward { length self.new.rest.now ≤ length self.old.rest.now }
     {
-        self.skip_blank_inline();
         let begins_line = self.skip_eol();
         if begins_line {
             self.skip_blank_block();
@@ -72,7 +127,7 @@ impl<'p, S: Drop, T: Texts<S>> Parser<'p, S, T> {
         ensures text { self.new.text.now ≡ self.old.text.now }
         ensures onward { length self.new.rest.now ≤ length self.old.rest.now }
     {
-        if at_line_start && self.is_last_feed() {
+        if at_line_start && is_last_feed(self.bytes()) {
             self.advance(1);
             return Ok(None);
         }
@@ -85,13 +140,6 @@ impl<'p, S: Drop, T: Texts<S>> Parser<'p, S, T> {
             0
         };
         self.get_piece_behind(at_line_start, indent)
-    }
-
-    /// Whether a line feed stands here, behind which the pattern ends.
-    fn is_last_feed(&self) -> bool
-        ensures { result ≡ is_last_feed self.now.rest.now }
-    {
-        self.is_current_byte(b'\n') && words::pattern_ends(words::from(self.bytes(), 1))
     }
 
     /// The next piece, behind so many spaces. Productions `inline_text`, `block_text`, `inline_placeable` and

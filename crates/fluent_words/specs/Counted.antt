@@ -2,7 +2,7 @@
 use Rattle.std.specs.Prelude.{◌≡◌, ℕ, suc, ◌+◌, ◌-◌, ◌<◌, ◌≤◌, Bool, true, false, not, ◌&&◌, ◌||◌, ◌==◌, nat_lt, [], ◌∷◌, length, take, drop, slice_index, Some, None, is_some, Result, Ok, Err, unwrap_or, if◌then◌else◌}
 use Rattle.std.specs.Str.{IsUtf8, IsCharBoundary, continuation_len}
 use Rattle.std.specs.List.{prefix_len}
-use Rattle.fluent_grammar.specs.Words.{Text, begins, is_digit, is_letter, hyphen, space, line_feed, carriage_return, quote, backslash, number_sign, begins_with, after_line_end, is_hex_digit, rest_of_line}
+use Rattle.fluent_grammar.specs.Words.{Text, begins, is_digit, is_letter, hyphen, space, line_feed, carriage_return, quote, backslash, number_sign, open_brace, begins_with, after_line_end, is_hex_digit, rest_of_line}
 use Rattle.fluent_grammar.specs.Refusal.{Reading, got, refuse}
 use Rattle.fluent_grammar.specs.Refusal as r
 use Rattle.fluent_grammar.specs.Reading.{number_at, text_run, string_content, before, missing_hex, first_char}
@@ -87,3 +87,7 @@ begins_literal s = (begins_with quote s || begins is_digit s) || (begins_with hy
 -- a quote, a digit or a minus
 abbrev pub begins_value : Text → Bool
 begins_value s = begins_with quote s || (begins is_digit s || begins_with hyphen s)
+
+-- a byte that begins a text of a pattern, at a line start or not: no space, no line feed, no carriage return, no opening brace
+abbrev pub starts_text : ℕ → Bool
+starts_text c = not (c == space || (c == line_feed || (c == carriage_return || c == open_brace)))

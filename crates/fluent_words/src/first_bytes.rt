@@ -3,7 +3,7 @@
 
 ghost use Rattle.std.specs.Prelude.{◌≡◌, ◌||◌};
 ghost use Rattle.fluent_grammar.specs.Words as w;
-ghost use Rattle.fluent_words.specs.Counted.{char_len, begins_literal, begins_value};
+ghost use Rattle.fluent_words.specs.Counted.{char_len, begins_literal, begins_value, starts_text};
 
 /// Whether a text begins with a byte.
 pub fn begins_with(text: &[u8], byte: u8) -> bool
@@ -60,6 +60,13 @@ pub fn begins_literal(text: &[u8]) -> bool
         [b'-', ..] => true,
         _ => false,
     }
+}
+
+/// Whether a text begins with a byte that begins a text of a pattern, on any line: no space, line end or opening brace.
+pub fn begins_text(text: &[u8]) -> bool
+    ensures { result ≡ w.begins starts_text text.now }
+{
+    matches!(text, [first, ..] if !matches!(*first, b' ' | b'\n' | b'\r' | b'{'))
 }
 
 /// How many bytes the character at the front has.

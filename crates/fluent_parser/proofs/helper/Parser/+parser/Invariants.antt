@@ -13,40 +13,43 @@ use Rattle.fluent_parser.specs.Pieces.{piece_view, items_of, IsPiece}
 use Rattle.fluent_parser.proofs.helper.Parser.+parser.Given as goal
 
 abbrev pub decreases-get_argument : goal.decreases-get_argument
-decreases-get_argument g l = 5 * length l.self.now.rest.now + 3
+decreases-get_argument g l = 6 * length l.self.now.rest.now + 3
 
 abbrev pub decreases-get_call_arguments : goal.decreases-get_call_arguments
-decreases-get_call_arguments g l = 5 * length l.self.now.rest.now + 0
+decreases-get_call_arguments g l = 6 * length l.self.now.rest.now + 0
 
 abbrev pub decreases-get_expression : goal.decreases-get_expression
-decreases-get_expression g l = 5 * length l.self.now.rest.now + 4
+decreases-get_expression g l = 6 * length l.self.now.rest.now + 5
 
 abbrev pub decreases-get_inline_expression : goal.decreases-get_inline_expression
-decreases-get_inline_expression g l = 5 * length l.self.now.rest.now + 2
+decreases-get_inline_expression g l = 6 * length l.self.now.rest.now + 2
 
 abbrev pub decreases-get_named_reference : goal.decreases-get_named_reference
-decreases-get_named_reference g l = 5 * length l.self.now.rest.now + 1
+decreases-get_named_reference g l = 6 * length l.self.now.rest.now + 1
+
+abbrev pub decreases-get_lines : goal.decreases-get_lines
+decreases-get_lines g l = 6 * length l.self.now.rest.now + 3
 
 abbrev pub decreases-get_pattern : goal.decreases-get_pattern
-decreases-get_pattern g l = 5 * length l.self.now.rest.now + 3
+decreases-get_pattern g l = 6 * length l.self.now.rest.now + 4
 
 abbrev pub decreases-get_piece : goal.decreases-get_piece
-decreases-get_piece g l = 5 * length l.self.now.rest.now + 2
+decreases-get_piece g l = 6 * length l.self.now.rest.now + 2
 
 abbrev pub decreases-get_piece_behind : goal.decreases-get_piece_behind
-decreases-get_piece_behind g l = 5 * length l.self.now.rest.now + 1
+decreases-get_piece_behind g l = 6 * length l.self.now.rest.now + 1
 
 abbrev pub decreases-get_placeable : goal.decreases-get_placeable
-decreases-get_placeable g l = 5 * length l.self.now.rest.now + 0
+decreases-get_placeable g l = 6 * length l.self.now.rest.now + 0
 
 abbrev pub decreases-get_term_reference : goal.decreases-get_term_reference
-decreases-get_term_reference g l = 5 * length l.self.now.rest.now + 1
+decreases-get_term_reference g l = 6 * length l.self.now.rest.now + 1
 
 abbrev pub decreases-get_variant : goal.decreases-get_variant
-decreases-get_variant g l = 5 * length l.self.now.rest.now + 0
+decreases-get_variant g l = 6 * length l.self.now.rest.now + 0
 
 abbrev pub decreases-get_variants : goal.decreases-get_variants
-decreases-get_variants g l = 5 * length l.self.now.rest.now + 3
+decreases-get_variants g l = 6 * length l.self.now.rest.now + 3
 
 abbrev pub invariant-get_call_arguments-loop-self : goal.invariant-get_call_arguments-loop-self
 invariant-get_call_arguments-loop-self g l =
@@ -63,9 +66,9 @@ invariant-get_call_arguments-loop-self g l =
 abbrev pub decreases-get_call_arguments-loop-self : goal.decreases-get_call_arguments-loop-self
 decreases-get_call_arguments-loop-self g l = length l.self.rest.now
 
-abbrev pub invariant-get_pattern-loop-pieces : goal.invariant-get_pattern-loop-pieces
-invariant-get_pattern-loop-pieces g l =
-    let s = w.skip_spaces l.fn.self.rest.now in
+abbrev pub invariant-get_lines-loop-pieces : goal.invariant-get_lines-loop-pieces
+invariant-get_lines-loop-pieces g l =
+    let s = l.fn.self.rest.now in
     record {
       source : l.self.source.now ≡ l.fn.self.source.now;
       text : l.self.text.now ≡ l.fn.self.text.now;
@@ -74,8 +77,8 @@ invariant-get_pattern-loop-pieces g l =
       same : mapped (λ ps. map (piece_view g.row.S.Denot g.T.Texts.text) (items_of g.row.S.Denot l.pieces) ++ ps) (pieces_by l.at_line_start l.self.rest.now) ≡ first_pieces_at whole s (w.after_line_end s);
     }
 
-abbrev pub decreases-get_pattern-loop-pieces : goal.decreases-get_pattern-loop-pieces
-decreases-get_pattern-loop-pieces g l = length l.self.rest.now
+abbrev pub decreases-get_lines-loop-pieces : goal.decreases-get_lines-loop-pieces
+decreases-get_lines-loop-pieces g l = length l.self.rest.now
 
 abbrev pub invariant-get_variants-loop-variants : goal.invariant-get_variants-loop-variants
 invariant-get_variants-loop-variants g l = record {
