@@ -3,3 +3,4 @@ pub mod Scanned
 pub mod StringContent
 pub mod Chars
 pub mod Masked
+pub mod Rows

@@ -16,14 +16,11 @@ pub use blanks::{blank_block_len, blank_inline_len, blank_len};
 pub use comments::{comment_level, is_comment_line};
 pub use cut::{from, front};
 pub use first_bytes::{
-    begins_arrow, begins_crlf, begins_literal, begins_number, begins_value, begins_with,
-    begins_with_letter, char_len,
+    begins_arrow, begins_crlf, begins_literal, begins_number, begins_text, begins_value,
+    begins_with, begins_with_letter, char_len,
 };
 pub use identifiers::identifier_len;
 pub use lines::{ends_line, line_end_len, line_len};
 pub use numbers::number_len;
 pub use patterns::{pattern_ends, text_len};
 pub use strings::{StringEnd, string_end};
-
-#[cfg(test)]
-mod tests;
