@@ -1,6 +1,1 @@
-mod Rows
-mod Lists
-mod NoTree
-mod Injective
-mod OneTree
-pub mod NoFloats
+pub use Rattle.fluent_json_values.proofs.NoFloats

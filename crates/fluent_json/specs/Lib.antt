@@ -1,5 +1,5 @@
-pub mod Json
-pub mod Parts
-pub mod Members
-pub mod Message
-pub mod Object
+-- The definitions of the JSON value of a tree, and of what an error shows, from the crates below.
+pub use Rattle.fluent_json_objects.specs.Objects
+pub use Rattle.fluent_json_values.specs.Json
+pub use Rattle.fluent_json_values.specs.Parts
+pub use Rattle.fluent_json_read.specs.Message

@@ -4,15 +4,10 @@
 //!
 //! [`to_value`] gives the value of a tree, object by object as `docs/json.md` has it. [`from_value`] gives the tree that
 //! has a value, and refuses a value that no tree has. Each value belongs to at most one tree ([`laws`]).
+//!
+//! The two directions are the crates `fluent_json_write` and `fluent_json_read`, over one definition of the value,
+//! `fluent_json_values`.
 
-mod error;
-pub mod laws;
-mod members;
-mod object;
-mod parts;
-mod read;
-mod write;
-
-pub use error::FromValueError;
-pub use read::from_value;
-pub use write::to_value;
+pub use fluent_json_read::{FromValueError, from_value};
+pub use fluent_json_values::laws;
+pub use fluent_json_write::to_value;

@@ -1,5 +1,0 @@
-use Rattle.fluent_json.proofs.Injective.{json_injective}
-use Rattle.fluent_json.proofs.laws.value_decides_tree.Goals as goal
-
-pub returns : goal.returns
-returns c = json_injective

@@ -1,0 +1,2 @@
+mod NoTree
+mod OneTree

@@ -1,0 +1,8 @@
+//! From a JSON value to the Fluent tree that has it: [`from_value`].
+#![tactic(auto)]
+
+mod error;
+mod read;
+
+pub use error::FromValueError;
+pub use read::from_value;

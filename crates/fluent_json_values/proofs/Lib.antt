@@ -1,0 +1,4 @@
+mod Rows
+pub mod Lists
+pub mod Injective
+pub mod NoFloats
