@@ -9,6 +9,8 @@ pub mod Failing
 pub mod Cycle
 pub mod LastFeeds
 pub mod OneLine
+pub mod FittingPieces
+pub mod GatheredPieces
 pub mod Values
 pub mod Runs
 pub mod Comments

@@ -1,5 +1,5 @@
 -- A pattern of one line, read at once.
-use Rattle.std.proofs.Common.{◌≡◌, ℕ, zero, suc, Bool, true, false, not, cond, ◌&&◌, ◌||◌, [], ◌∷◌, length, take, drop, refl, ap, ◌∙◌, arith, Some, None}
+use Rattle.std.proofs.Common.{◌≡◌, ℕ, zero, suc, Bool, true, false, not, cond, ◌&&◌, ◌||◌, [], ◌∷◌, length, take, drop, refl, sym, ap, ◌∙◌, arith, Some, None}
 use Rattle.std.specs.Prelude.{◌==◌}
 use Rattle.std.specs.Str.{trim_end}
 use Rattle.fluent_grammar.specs.Words.{Text, begins_with, after_line_end, space, line_feed, carriage_return, open_brace}
@@ -8,10 +8,12 @@ use Rattle.fluent_grammar.specs.Tree as t
 use Rattle.fluent_grammar.specs.Lines.{Piece, in_line, ends_line, pattern_ends, is_blank_text}
 use Rattle.fluent_grammar.specs.Reading as g
 use Rattle.fluent_words.specs.Counted.{starts_text}
+use Rattle.fluent_ast.specs.View.{text}
+use Rattle.fluent_elements.specs.Elements.{value_by}
 use Rattle.fluent_words.proofs.Scanned.{test_of, test_ne}
 use Rattle.fluent_parser.specs.Reads.{whole}
 use Rattle.fluent_parser.specs.Steps.{pattern_behind, piece_by, kept_piece_by, is_last_feed, first_place, IsOneLine}
-use Rattle.fluent_parser.proofs.PatternPieces.{alone}
+use Rattle.fluent_elements.proofs.Gathering.{gathered_value}
 use Rattle.fluent_parser.proofs.Cycle.{pieces_start, piece_read}
 use Rattle.fluent_parser.proofs.LastFeeds.{end_piece, kept_end}
 
@@ -70,6 +72,9 @@ not_blank : (c : ℕ) (cs : Text) (count : ℕ) → Begins c → ends_line (take
 not_blank c cs zero b e = absurd cc
 not_blank c cs (suc n) b e = rw b.space (rw b.feed refl)
 
+value_of_one : (x : Text) → is_blank_text x ≡ false → value_by false None (text x ∷ []) ≡ Some (t.text (trim_end x) t.no_elements)
+value_of_one x h = rw h refl
+
 pub one_line : (s : Text) (count : ℕ) → IsOneLine s (Some count) →
     pattern_behind s ≡ got (Some (t.text (trim_end (take count s)) t.no_elements)) (cond (begins_with line_feed (drop count s)) (drop 1 (drop count s)) (drop count s))
 one_line [] count h = absurd cc
@@ -82,4 +87,4 @@ one_line (c ∷ cs) count h =
     let same = piece_read [] false true s rest (in_line x) (g.first_pieces_at whole s (after_line_end s)) start (text_first c cs x rest b h.1.0 h.2) in
     let behind = cond (begins_with line_feed rest) (drop 1 rest) rest in
     kept_end rest s behind true (in_line x ∷ []) same (end_here rest h.3)
-    ∙ ap (λ z. got z behind) (alone (in_line x) None (not_blank c cs count b h.2) refl)
+    ∙ ap (λ z. got z behind) (sym (gathered_value false (in_line x ∷ []) (tt, tt)) ∙ value_of_one x (not_blank c cs count b h.2))

@@ -8,7 +8,6 @@ mod arguments;
 mod blank;
 mod collected;
 mod comment;
-mod elements;
 mod entry;
 pub mod errors;
 mod expected;

@@ -7,11 +7,11 @@ ghost use Rattle.fluent_grammar.specs.Lines.{in_line, pattern_ends};
 ghost use Rattle.fluent_parser.specs.Steps.{is_last_feed, IsOneLine};
 
 use crate::ErrorKind;
-use crate::elements::pattern_of;
 use crate::fault::Fault;
 use crate::helper::Parser;
-use crate::pieces::{Piece, Pieces};
+use crate::pieces::{Piece, put};
 use fluent_ast::{Pattern, PatternElement};
+use fluent_elements::Gathered;
 use fluent_slice::Texts;
 use fluent_words as words;
 
@@ -87,13 +87,13 @@ impl<'p, S: Drop, T: Texts<S>> Parser<'p, S, T> {
         ensures text { self.new.text.now ≡ self.old.text.now }
         ensures onward { length self.new.rest.now ≤ length self.old.rest.now }
     {
-        let mut pieces = Pieces::None;
         let mut at_line_start = self.skip_to_line();
+        let mut gathered = Gathered::new(self.alloc, at_line_start);
         while let Some((piece, ends_line)) = self.get_piece(at_line_start)? {
-            pieces.push(self.alloc, piece)?;
+            put(self.texts, &mut gathered, piece)?;
             at_line_start = ends_line;
         }
-        let pattern = pattern_of(self.alloc, self.texts, pieces)?;
+        let pattern = gathered.finish(self.alloc, self.texts)?;
         Ok(pattern)
     }
 

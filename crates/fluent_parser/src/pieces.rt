@@ -1,13 +1,16 @@
-//! The pieces of a pattern, their common indent, and which are blank.
+//! The pieces of a pattern.
+#![tactic(auto)]
 
-ghost use Rattle.std.specs.Prelude.{◌≡◌, ◌≤◌, ◌++◌, ◌∷◌, [], IfOk, All, length, take, map};
+ghost use Rattle.std.specs.Prelude.{◌≡◌, ◌++◌, ◌∷◌, [], if◌then◌else◌, None, IfOk, map};
 ghost use Rattle.fluent_grammar.specs.Lines as l;
-ghost use Rattle.fluent_parser.specs.Pieces.{piece_view, items_of, IsPiece};
+ghost use Rattle.fluent_ast.specs.View.{element_view};
+ghost use Rattle.fluent_elements.specs.Pieces.{undented};
+ghost use Rattle.fluent_parser.specs.Pieces.{piece_view, IsPiece};
 
-use fluent_ast::Expression;
+use fluent_ast::{Expression, PatternElement};
+use fluent_elements::{Gathered, is_blank_text};
 use fluent_slice::Texts;
-use std::alloc::{AllocError, Global};
-use std::mem;
+use std::alloc::AllocError;
 
 /// A piece of a pattern, before the common indent is known.
 #[derive(Drop)]
@@ -24,107 +27,43 @@ pub enum Piece<S> {
     },
 }
 
-/// The pieces of a pattern. Most patterns have one, which needs no vector.
-#[derive(Drop)]
-pub enum Pieces<S> {
-    None,
-    One(Piece<S>),
-    Many(Vec<Piece<S>>),
-}
-
-impl<S: Drop> Pieces<S> {
-    /// Puts a piece behind the others.
-    pub fn push(&mut self, alloc: Global, piece: Piece<S>) -> Result<(), AllocError>
-        ensures { IfOk result (λ u. items_of S self.new ≡ items_of S self.old ++ piece ∷ []) }
-    {
-        *self = match mem::replace(self, Pieces::None) {
-            Pieces::None => Pieces::One(piece),
-            Pieces::One(first) => {
-                let mut pieces = Vec::with_capacity(alloc, 4)?;
-                pieces.push(first)?;
-                pieces.push(piece)?;
-                Pieces::Many(pieces)
-            }
-            Pieces::Many(mut pieces) => {
-                pieces.push(piece)?;
-                Pieces::Many(pieces)
-            }
-        };
-        Ok(())
-    }
-}
-
-/// The least indent of the lines that aren't blank.
-pub fn common_indent<S: Drop, T: Texts<S>>(texts: &T, pieces: &[Piece<S>]) -> Option<usize>
-    requires { All (IsPiece S T.text) pieces.now }
-    ensures { result ≡ l.common_indent (map (piece_view S T.text) pieces.now) }
-{
-    let mut common = None;
-    for piece in pieces {
-        common = lesser(common, indent_of(texts, piece));
-    }
-    common
-}
-
-/// The smaller of two indents, where they are there.
-fn lesser(a: Option<usize>, b: Option<usize>) -> Option<usize>
-    ensures { result ≡ l.lesser a b }
-{
-    match (a, b) {
-        (None, b) => b,
-        (Some(a), None) => Some(a),
-        (Some(a), Some(b)) => Some(a.min(b)),
-    }
-}
-
-/// What a piece says of the common indent.
-pub fn indent_of<S: Drop, T: Texts<S>>(texts: &T, piece: &Piece<S>) -> Option<usize>
-    requires { IsPiece S T.text piece.now }
-    ensures { result ≡ l.indent_of (piece_view S T.text piece.now) }
+/// Puts a piece behind the elements that were gathered, with what it says of the common indent.
+pub fn put<S: Drop, T: Texts<S>>(
+    texts: &T,
+    gathered: &mut Gathered<S>,
+    piece: Piece<S>,
+) -> Result<(), AllocError>
+    requires { IsPiece S T.text piece }
+    ensures elements { IfOk result (λ u. map (element_view S T.text) gathered.new.elements.items
+        ≡ map (element_view S T.text) gathered.old.elements.items
+        ++ undented (piece_view S T.text piece) ∷ []) }
+    ensures begins_line { gathered.new.begins_line ≡ gathered.old.begins_line }
+    ensures common_indent { gathered.new.common_indent
+        ≡ l.lesser gathered.old.common_indent (l.indent_of (piece_view S T.text piece)) }
 {
     match piece {
         Piece::Text { text, indent } => {
-            let indent = *indent;
-            if is_blank_text(texts.as_str(text)) {
-                None
-            } else {
-                indent
-            }
+            let said = said_by(texts, &text, indent);
+            gathered.push(PatternElement::TextElement { value: text }, said)?;
         }
-        Piece::Placeable { column_zero, .. } => column_zero.then_some(0),
+        Piece::Placeable {
+            expression,
+            column_zero,
+        } => {
+            let element = PatternElement::Placeable { expression };
+            gathered.push(element, column_zero.then_some(0))?;
+        }
     }
+    Ok(())
 }
 
-/// How many pieces there are up to the last one that isn't blank.
-pub fn kept_len<S: Drop, T: Texts<S>>(texts: &T, pieces: &[Piece<S>]) -> usize
-    requires { All (IsPiece S T.text) pieces.now }
-    ensures within { result ≤ length pieces.now }
-    ensures kept { take result (map (piece_view S T.text) pieces.now)
-        ≡ l.without_blank_end (map (piece_view S T.text) pieces.now) }
+/// What a text says of the common indent: its own, unless it is blank.
+fn said_by<S: Drop, T: Texts<S>>(texts: &T, text: &S, indent: Option<usize>) -> Option<usize>
+    ensures { result ≡ (if l.is_blank_text (T.text text.now) then None else indent) }
 {
-    let mut kept = pieces.len();
-    while kept > 0 && is_blank(texts, &pieces[kept - 1]) {
-        kept -= 1;
+    if is_blank_text(texts.as_str(text).as_bytes()) {
+        None
+    } else {
+        indent
     }
-    kept
-}
-
-/// Whether a piece holds only spaces, its line feed aside.
-pub fn is_blank<S: Drop, T: Texts<S>>(texts: &T, piece: &Piece<S>) -> bool
-    requires { IsPiece S T.text piece.now }
-    ensures { result ≡ l.is_blank (piece_view S T.text piece.now) }
-{
-    match piece {
-        Piece::Text { text, .. } => is_blank_text(texts.as_str(text)),
-        Piece::Placeable { .. } => false,
-    }
-}
-
-/// Whether a text holds only spaces and line feeds.
-fn is_blank_text(text: &str) -> bool
-    ensures { result ≡ l.is_blank_text text.now }
-{
-    text.as_bytes()
-        .iter()
-        .all(|byte| matches!(*byte, b' ' | b'\n'))
 }

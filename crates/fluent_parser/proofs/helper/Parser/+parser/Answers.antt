@@ -17,14 +17,14 @@ use Rattle.fluent_parser.specs.declared.named_arguments.NamedArguments.{NamedArg
 use Rattle.fluent_parser.specs.Arguments.{argument_view, IsNamed}
 use Rattle.fluent_parser.specs.Indexed.{IsIndexed}
 use Rattle.fluent_parser.proofs.Named.{name_begins}
-use Rattle.fluent_parser.specs.Pieces.{piece_view, step_view, items_of, IsPiece}
+use Rattle.fluent_parser.specs.Pieces.{piece_view, step_view}
 use Rattle.fluent_ast.proofs.Views.{inline_view-FunctionReference, inline_view-TermReference, inline_view-Placeable, arguments_view-roll, named_view-roll}
 use Rattle.fluent_parser.proofs.Failing.{handed_on, fails_mapped, fails_same}
 use Rattle.fluent_words.proofs.Scanned.{test_of}
-use Rattle.fluent_parser.proofs.Runs.{cut_indent_at, cut_line_feed, line_feed_read, begun_shorter, cut_arrow, one_right}
-use Rattle.std.proofs.lemmas.List.Elements.{All-append}
-use Rattle.fluent_parser.proofs.Cycle.{gives_same, pattern_is_behind, inline_literal, inline_term, inline_variable, inline_named, inline_nested, inline_none, inline_shorter, argument_fails, argument_not_named, argument_unnamed, argument_named, arguments_start, arguments_empty, arguments_fail, argument_fail, positional_read, named_read, arguments_end, mark_fails, variants_fail, variant_fails, variants_read, variants_end, variants_refused, pieces_start, pattern_fails, piece_read, term_read, function_read, pushed, arguments_same, variants_same, pieces_same, on_ok_always}
-use Rattle.fluent_parser.proofs.LastFeeds.{kept_fails, kept_some, kept_end}
+use Rattle.fluent_parser.proofs.Runs.{cut_indent_at, cut_line_feed, line_feed_read, begun_shorter, cut_arrow}
+use Rattle.fluent_parser.proofs.Cycle.{gives_same, pattern_is_behind, inline_literal, inline_term, inline_variable, inline_named, inline_nested, inline_none, inline_shorter, argument_fails, argument_not_named, argument_unnamed, argument_named, arguments_start, arguments_empty, arguments_fail, argument_fail, positional_read, named_read, arguments_end, mark_fails, variants_fail, variant_fails, variants_read, variants_end, variants_refused, pattern_fails, term_read, function_read, pushed, arguments_same, variants_same, on_ok_always}
+use Rattle.fluent_parser.proofs.LastFeeds.{kept_fails}
+use Rattle.fluent_parser.proofs.GatheredPieces.{gathers_none, gathers_more, gathers_all}
 use Rattle.fluent_parser.proofs.helper.Parser.+parser.Goals as goal
 use Rattle.fluent_parser.proofs.helper.Parser.+parser.Goals.{get_call_arguments-in-Positional+in_ok-push-in-Positional, get_call_arguments-in-Named+in_ok-push-in-Named}
 
@@ -182,40 +182,39 @@ pub get_pattern-returns-clause-gives : goal.get_pattern-returns-clause-gives
 get_pattern-returns-clause-gives g t c =
     subst (Gives (option_map (pattern_view g.row.S.Denot g.T.Texts.text)) c.get_lines.new.self.rest.now c.get_lines.result) (pattern_is_behind c.args.self.now.rest.now c.skip_blank_inline.new.self.rest.now c.skip_blank_inline.ensures.rest) c.get_lines.ensures.gives
 
-pub get_lines-loop-pieces-init : goal.get_lines-loop-pieces-init
-get_lines-loop-pieces-init g t c =
+pub get_lines-loop-gathered-init : goal.get_lines-loop-gathered-init
+get_lines-loop-gathered-init g t c =
     record {
       source = c.skip_to_line-at_line_start.ensures.source;
       text = c.skip_to_line-at_line_start.ensures.text;
       onward = c.skip_to_line-at_line_start.ensures.onward;
-      right = λ k d h. absurd (omega (arith, h));
-      same = pieces_start (piece_view g.row.S.Denot g.T.Texts.text) [] c.skip_to_line-at_line_start.result c.args.self.now.rest.now c.skip_to_line-at_line_start.new.self.rest.now (w.after_line_end c.args.self.now.rest.now) refl c.skip_to_line-at_line_start.ensures.place;
+      gathers = gathers_none g.row.S.Denot g.T.Texts.text c.new-gathered.result c.skip_to_line-at_line_start.result c.skip_to_line-at_line_start.new.self.rest.now c.args.self.now.rest.now c.new-gathered.ensures.elements c.new-gathered.ensures.begins_line c.new-gathered.ensures.common_indent c.skip_to_line-at_line_start.ensures.place;
     }
 
 pub get_lines-returns-in_err-piece-clause-gives : goal.get_lines-returns-in_err-piece-clause-gives
 get_lines-returns-in_err-piece-clause-gives g t c =
+    let gathers = c.loop-gathered.invariant.gathers in
     handed_on (option_map (pattern_view g.row.S.Denot g.T.Texts.text)) c.get_piece.new.self.rest.now c.from_residual.result c.in_err-piece.field-0.0 (pattern_behind c.args.self.now.rest.now) c.from_residual.ensures.1
-    (pattern_fails c.loop-pieces.self.rest.now c.args.self.now.rest.now c.loop-pieces.at_line_start (map (piece_view g.row.S.Denot g.T.Texts.text) (items_of g.row.S.Denot c.loop-pieces.pieces)) c.in_err-piece.field-0.0 c.get_piece.new.self.rest.now c.loop-pieces.invariant.same
-    (kept_fails c.loop-pieces.at_line_start c.loop-pieces.self.rest.now c.in_err-piece.field-0.0 c.get_piece.new.self.rest.now c.in_err-piece.ensures.gives))
+    (pattern_fails c.loop-gathered.self.rest.now c.args.self.now.rest.now c.loop-gathered.at_line_start gathers.pieces c.in_err-piece.field-0.0 c.get_piece.new.self.rest.now gathers.same
+    (kept_fails c.loop-gathered.at_line_start c.loop-gathered.self.rest.now c.in_err-piece.field-0.0 c.get_piece.new.self.rest.now c.in_err-piece.ensures.gives))
 
-pub get_lines-loop-pieces-preserved : goal.get_lines-loop-pieces-preserved
-get_lines-loop-pieces-preserved g t c =
+pub get_lines-loop-gathered-preserved : goal.get_lines-loop-gathered-preserved
+get_lines-loop-gathered-preserved g t c =
     let rest = c.get_piece.new.self.rest.now in
-    let x = piece_view g.row.S.Denot g.T.Texts.text c.in-Some.piece in
-    let taken = kept_some c.loop-pieces.at_line_start c.loop-pieces.self.rest.now rest (x, c.in-Some.ends_line) (c.in_ok-piece.ensures.gives ∙ ap (λ z. got (option_map (step_view g.row.S.Denot g.T.Texts.text) z) rest) c.in-Some.is) in
+    let piece = piece_view g.row.S.Denot g.T.Texts.text c.in-Some.piece in
     record {
-      source = c.get_piece.ensures.source ∙ c.loop-pieces.invariant.source;
-      text = c.get_piece.ensures.text ∙ c.loop-pieces.invariant.text;
-      onward = omega (arith, c.get_piece.ensures.onward, c.loop-pieces.invariant.onward);
-      right = rw c.in_ok-push.ensures (All-append (IsPiece g.row.S.Denot g.T.Texts.text) (items_of g.row.S.Denot c.loop-pieces.pieces) (c.in-Some.piece ∷ []) c.loop-pieces.invariant.right (one_right g.row.S.Denot g.T.Texts.text c.in_ok-piece.field-0 c.in-Some.piece c.in-Some.ends_line c.in-Some.is c.in_ok-piece.ensures.right));
-      same = pieces_same ((map (piece_view g.row.S.Denot g.T.Texts.text) (items_of g.row.S.Denot c.loop-pieces.pieces)) ++ x ∷ []) (map (piece_view g.row.S.Denot g.T.Texts.text) (items_of g.row.S.Denot c.push.new.self)) c.in-Some.ends_line rest (read.first_pieces_at whole c.args.self.now.rest.now (w.after_line_end c.args.self.now.rest.now)) (pushed (piece_view g.row.S.Denot g.T.Texts.text) (items_of g.row.S.Denot c.loop-pieces.pieces) (items_of g.row.S.Denot c.push.new.self) c.in-Some.piece c.in_ok-push.ensures)
-          (piece_read (map (piece_view g.row.S.Denot g.T.Texts.text) (items_of g.row.S.Denot c.loop-pieces.pieces)) c.loop-pieces.at_line_start c.in-Some.ends_line c.loop-pieces.self.rest.now rest x (read.first_pieces_at whole c.args.self.now.rest.now (w.after_line_end c.args.self.now.rest.now)) c.loop-pieces.invariant.same taken);
+      source = c.get_piece.ensures.source ∙ c.loop-gathered.invariant.source;
+      text = c.get_piece.ensures.text ∙ c.loop-gathered.invariant.text;
+      onward = omega (arith, c.get_piece.ensures.onward, c.loop-gathered.invariant.onward);
+      gathers = gathers_more g.row.S.Denot g.T.Texts.text c.loop-gathered.gathered c.put.new.gathered c.loop-gathered.at_line_start c.in-Some.ends_line c.loop-gathered.self.rest.now rest c.args.self.now.rest.now piece
+          c.loop-gathered.invariant.gathers (c.in_ok-piece.ensures.gives ∙ ap (λ z. got (option_map (step_view g.row.S.Denot g.T.Texts.text) z) rest) c.in-Some.is)
+          c.in_ok-put.ensures.elements c.put.ensures.begins_line c.put.ensures.common_indent;
     }
 
 pub get_lines-returns-clause-gives : goal.get_lines-returns-clause-gives
 get_lines-returns-clause-gives g t c =
     let piece = c.in_ok-piece.ensures.gives ∙ ap (λ z. got (option_map (step_view g.row.S.Denot g.T.Texts.text) z) c.get_piece.new.self.rest.now) c.in_default.is in
-    kept_end c.loop-pieces.self.rest.now c.args.self.now.rest.now c.get_piece.new.self.rest.now c.loop-pieces.at_line_start (map (piece_view g.row.S.Denot g.T.Texts.text) (items_of g.row.S.Denot c.loop-pieces.pieces)) c.loop-pieces.invariant.same piece
+    gathers_all g.row.S.Denot g.T.Texts.text c.loop-gathered.gathered c.loop-gathered.at_line_start c.loop-gathered.self.rest.now c.get_piece.new.self.rest.now c.args.self.now.rest.now c.loop-gathered.invariant.gathers piece
     ∙ ap (λ z. got z c.get_piece.new.self.rest.now) (sym c.in_ok-pattern.ensures)
 
 pub get_piece_behind-advance-requires : goal.get_piece_behind-advance-requires

@@ -1,15 +1,13 @@
 -- What the parser's readers go down by: what is left of the text, and the order in which they call each other on it.
-use Rattle.std.proofs.Common.{◌≡◌, ◌+◌, ◌*◌, ◌<◌, ◌≤◌, ◌++◌, [], length, drop, map}
+use Rattle.std.proofs.Common.{◌≡◌, ◌+◌, ◌*◌, ◌<◌, ◌≤◌, [], length, drop, map}
 use Rattle.std.specs.Prelude.{false}
-use Rattle.std.specs.List.{All}
 use Rattle.fluent_grammar.specs.Words as w
 use Rattle.fluent_grammar.specs.Refusal.{mapped}
-use Rattle.fluent_grammar.specs.Reading.{first_pieces_at}
 use Rattle.fluent_parser.specs.Reads.{whole}
-use Rattle.fluent_parser.specs.Steps.{arguments_behind, names_of, variants_behind, pieces_by}
+use Rattle.fluent_parser.specs.Steps.{arguments_behind, names_of, variants_behind}
 use Rattle.fluent_parser.specs.Indexed.{IsIndexed}
 use Rattle.fluent_ast.specs.View.{inline_view, named_view, variant_view}
-use Rattle.fluent_parser.specs.Pieces.{piece_view, items_of, IsPiece}
+use Rattle.fluent_parser.proofs.GatheredPieces.{Gathers}
 use Rattle.fluent_parser.proofs.helper.Parser.+parser.Given as goal
 
 abbrev pub decreases-get_argument : goal.decreases-get_argument
@@ -66,19 +64,16 @@ invariant-get_call_arguments-loop-self g l =
 abbrev pub decreases-get_call_arguments-loop-self : goal.decreases-get_call_arguments-loop-self
 decreases-get_call_arguments-loop-self g l = length l.self.rest.now
 
-abbrev pub invariant-get_lines-loop-pieces : goal.invariant-get_lines-loop-pieces
-invariant-get_lines-loop-pieces g l =
-    let s = l.fn.self.rest.now in
-    record {
-      source : l.self.source.now ≡ l.fn.self.source.now;
-      text : l.self.text.now ≡ l.fn.self.text.now;
-      onward : length l.self.rest.now ≤ length l.fn.self.rest.now;
-      right : All (IsPiece g.row.S.Denot g.T.Texts.text) (items_of g.row.S.Denot l.pieces);
-      same : mapped (λ ps. map (piece_view g.row.S.Denot g.T.Texts.text) (items_of g.row.S.Denot l.pieces) ++ ps) (pieces_by l.at_line_start l.self.rest.now) ≡ first_pieces_at whole s (w.after_line_end s);
-    }
+abbrev pub invariant-get_lines-loop-gathered : goal.invariant-get_lines-loop-gathered
+invariant-get_lines-loop-gathered g l = record {
+  source : l.self.source.now ≡ l.fn.self.source.now;
+  text : l.self.text.now ≡ l.fn.self.text.now;
+  onward : length l.self.rest.now ≤ length l.fn.self.rest.now;
+  gathers : Gathers g.row.S.Denot g.T.Texts.text l.gathered l.at_line_start l.self.rest.now l.fn.self.rest.now;
+}
 
-abbrev pub decreases-get_lines-loop-pieces : goal.decreases-get_lines-loop-pieces
-decreases-get_lines-loop-pieces g l = length l.self.rest.now
+abbrev pub decreases-get_lines-loop-gathered : goal.decreases-get_lines-loop-gathered
+decreases-get_lines-loop-gathered g l = length l.self.rest.now
 
 abbrev pub invariant-get_variants-loop-variants : goal.invariant-get_variants-loop-variants
 invariant-get_variants-loop-variants g l = record {

@@ -1,0 +1,68 @@
+//! Elements without the common indent.
+#![tactic(auto, using(fluent_words::proofs::Counted::cuts))]
+
+ghost use Rattle.std.specs.Prelude.{◌≡◌, IfOk, map};
+ghost use Rattle.fluent_ast.specs.View.{element_view};
+ghost use Rattle.fluent_elements.specs.Elements.{cut_len, line_behind, dedented_by, dedented_from};
+
+use fluent_ast::PatternElement;
+use fluent_slice::Texts;
+use fluent_words as words;
+use std::alloc::{AllocError, Global};
+
+/// Takes the common indent off all texts that begin lines. `begins_line` says whether the first element does.
+pub fn dedent_all<S: Drop, T: Texts<S>>(
+    alloc: Global,
+    texts: &T,
+    elements: &mut [PatternElement<S>],
+    begins_line: bool,
+    common_indent: Option<usize>,
+) -> Result<(), AllocError>
+    ensures { IfOk result (λ u. map (element_view S T.text) elements.new
+        ≡ dedented_from begins_line common_indent (map (element_view S T.text) elements.old)) }
+{
+    let mut line = begins_line;
+    for element in elements.iter_mut() {
+        line = dedent(alloc, texts, element, line, common_indent)?;
+    }
+    Ok(())
+}
+
+/// Takes its part of the common indent off a text that begins a line, and says whether a line begins behind the element.
+fn dedent<S: Drop, T: Texts<S>>(
+    alloc: Global,
+    texts: &T,
+    element: &mut PatternElement<S>,
+    begins_line: bool,
+    common_indent: Option<usize>,
+) -> Result<bool, AllocError>
+    ensures line { IfOk result (λ line. line ≡ line_behind (element_view S T.text element.old)) }
+    ensures element { IfOk result (λ line. element_view S T.text element.new
+        ≡ dedented_by begins_line common_indent (element_view S T.text element.old)) }
+{
+    let PatternElement::TextElement { value } = element else {
+        return Ok(false);
+    };
+    let text = texts.as_str(value);
+    let ends_line = words::ends_line(text.as_bytes());
+    if begins_line {
+        let indent = words::blank_inline_len(text.as_bytes());
+        let end = text.len();
+        let cut = cut_len(common_indent, indent);
+        if cut > 0 {
+            let kept = texts.slice(value, alloc, cut..end)?;
+            *value = kept;
+        }
+    }
+    Ok(ends_line)
+}
+
+/// How much of an indent is cut off.
+fn cut_len(common_indent: Option<usize>, indent: usize) -> usize
+    ensures { result ≡ cut_len common_indent indent }
+{
+    match common_indent {
+        None => indent,
+        Some(common) => indent.min(common),
+    }
+}

@@ -1,0 +1,98 @@
+//! The elements that were read so far.
+#![tactic(auto)]
+
+ghost use Rattle.std.specs.Prelude.{◌≡◌, ◌++◌, ◌∷◌, [], None, IfOk, map, option_map};
+ghost use Rattle.fluent_grammar.specs.Lines.{lesser};
+ghost use Rattle.fluent_ast.specs.View.{pattern_view, element_view};
+ghost use Rattle.fluent_elements.specs.Elements.{value_by};
+
+use crate::dedent::dedent_all;
+use crate::kept::{kept_len, trim_last};
+use fluent_ast::{Pattern, PatternElement};
+use fluent_slice::Texts;
+use std::alloc::{AllocError, Global};
+
+/// The elements of a pattern that were read so far. A text that begins a line still has its indent.
+#[derive(Drop)]
+pub struct Gathered<S> {
+    pub elements: Vec<PatternElement<S>>,
+    /// Whether the first element begins a line.
+    pub begins_line: bool,
+    /// The least indent of the lines so far that aren't blank, in bytes.
+    pub common_indent: Option<usize>,
+}
+
+impl<S: Drop> Gathered<S> {
+    /// None yet. `begins_line` says whether the first one will begin a line.
+    pub fn new(alloc: Global, begins_line: bool) -> Self
+        ensures elements { result.elements.items ≡ [] }
+        ensures begins_line { result.begins_line ≡ begins_line }
+        ensures common_indent { result.common_indent ≡ None }
+    {
+        Gathered {
+            elements: Vec::new(alloc),
+            begins_line,
+            common_indent: None,
+        }
+    }
+
+    /// Puts an element behind the others. `indent` is what it says of the common indent.
+    ///
+    /// # Errors
+    ///
+    /// Where memory runs out the element is dropped.
+    pub fn push(
+        &mut self,
+        element: PatternElement<S>,
+        indent: Option<usize>,
+    ) -> Result<(), AllocError>
+        ensures elements { IfOk result (λ u. self.new.elements.items
+            ≡ self.old.elements.items ++ element ∷ []) }
+        ensures begins_line { self.new.begins_line ≡ self.old.begins_line }
+        ensures common_indent { self.new.common_indent ≡ lesser self.old.common_indent indent }
+    {
+        self.common_indent = lesser(self.common_indent, indent);
+        // Many patterns have just one element.
+        if self.elements.is_empty() {
+            self.elements.reserve_exact(1)?;
+        }
+        self.elements.push(element)?;
+        Ok(())
+    }
+
+    /// The pattern that the elements give, or none where nothing but blank was read.
+    pub fn finish<T: Texts<S>>(
+        self,
+        alloc: Global,
+        texts: &T,
+    ) -> Result<Option<Pattern<S>>, AllocError>
+        ensures { IfOk result (λ p. option_map (pattern_view S T.text) p
+            ≡ value_by self.begins_line self.common_indent
+            (map (element_view S T.text) self.elements.items)) }
+    {
+        let Gathered {
+            mut elements,
+            begins_line,
+            common_indent,
+        } = self;
+        let kept = kept_len(texts, elements.as_slice());
+        if kept == 0 {
+            return Ok(None);
+        }
+        elements.truncate(kept);
+        dedent_all(alloc, texts, &mut elements, begins_line, common_indent)?;
+        trim_last(texts, &mut elements);
+        Ok(Some(Pattern { elements }))
+    }
+}
+
+/// The smaller of two indents, where they are there.
+fn lesser(a: Option<usize>, b: Option<usize>) -> Option<usize>
+    ensures { result ≡ lesser a b }
+{
+    match (a, b) {
+        (None, b) => b,
+        (Some(a), None) => Some(a),
+        (Some(a), Some(b)) => Some(a.min(b)),
+    }
+}

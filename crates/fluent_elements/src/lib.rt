@@ -1,0 +1,12 @@
+//! The elements of a pattern while it is read.
+//!
+//! [`Gathered`] takes them one by one, each text at the start of a line with its indent, and gives the pattern once the
+//! common indent is known. What a pattern gives is defined in `fluent_grammar` (`Lines`); `docs/grammar.md` has it in words.
+#![tactic(auto)]
+
+mod dedent;
+mod gathered;
+mod kept;
+
+pub use gathered::Gathered;
+pub use kept::is_blank_text;
