@@ -1,55 +1,14 @@
 //! The bundles that rows are tried in.
 
-use crate::json::is_set;
-use crate::own::{Brackets, Function, Token};
 use fluent_ast::Pattern;
 use fluent_bundle::{
     AddResourceError, EnglishPlurals, FluentBundle, FluentResource, ResourceError,
 };
-use serde_json::Value as Json;
+use fluent_rows::own::{Brackets, Function, Token};
 use std::alloc::{AllocError, Global};
 
 /// A bundle of English plurals, and of what the program brings.
 pub type Bundle<'r, 's> = FluentBundle<'r, 's, EnglishPlurals, Token, Function, Brackets>;
-
-const FUNCTIONS: [(&str, Function); 3] = [
-    ("STRLEN", Function::Length),
-    ("FIRST", Function::First),
-    ("NAMED", Function::Named),
-];
-
-/// What a bundle holds beside its resource and `NUMBER`, and how it is set.
-#[derive(Clone, Copy)]
-pub struct Settings {
-    /// Whether placeables stand between marks.
-    pub isolating: bool,
-    /// Whether the last entry of an id stays, and not the first.
-    pub overriding: bool,
-    /// Whether it has the program's functions.
-    pub functions: bool,
-    /// Whether texts become capitals.
-    pub transform: bool,
-    /// Whether values are put in brackets.
-    pub formatter: bool,
-}
-
-impl Settings {
-    /// The settings of a row.
-    pub fn of(json: &Json) -> Settings {
-        Settings {
-            isolating: is_set(json, "isolating", true),
-            overriding: is_set(json, "overriding", false),
-            functions: is_set(json, "functions", false),
-            transform: is_set(json, "transform", false),
-            formatter: is_set(json, "formatter", false),
-        }
-    }
-
-    /// The program's functions, by their names, if a bundle is to have them.
-    pub fn functions(self) -> &'static [(&'static str, Function)] {
-        if self.functions { &FUNCTIONS } else { &[] }
-    }
-}
 
 /// A resource, also where parts of its source are no entries. The only error is that memory runs out.
 pub fn read(alloc: Global, source: &str) -> Result<FluentResource<'_>, AllocError> {

@@ -1,8 +1,8 @@
 //! What a pattern must give, and the errors that are told.
 
+use crate::told::is_told;
 use fluent_bundle::FluentError;
 use fluent_rows::json::text_in;
-use fluent_rows::told::is_told;
 use serde_json::Value as Json;
 use std::alloc::{AllocError, Global};
 

@@ -1,8 +1,8 @@
 //! The errors that are told.
 
-use crate::json::list_in;
 use fluent_bundle::FluentError;
 use fluent_bundle::resolver::ResolverError;
+use fluent_rows::json::list_in;
 use serde_json::Value as Json;
 use std::alloc::{AllocError, Global};
 
@@ -21,19 +21,16 @@ pub fn is_told(alloc: Global, error: &FluentError, text: &Json) -> Result<bool, 
 pub fn errors_of(alloc: Global, row: &Json) -> Result<Vec<FluentError>, AllocError> {
     let mut errors = Vec::new(alloc);
     for text in list_in(row, "errors") {
-        if let Some(error) = error_of(text) {
-            errors.push(FluentError::ResolverError(error))?;
-        }
+        errors.push(FluentError::ResolverError(error_of(text)))?;
     }
     Ok(errors)
 }
 
-/// The error of a text, of those that hold nothing.
-pub fn error_of(text: &Json) -> Option<ResolverError> {
-    match text.as_str()? {
-        "No default" => Some(ResolverError::MissingDefault),
-        "Cyclical dependency detected" => Some(ResolverError::Cyclic),
-        "Too many placeables" => Some(ResolverError::TooManyPlaceables),
-        _ => None,
+/// The error of a text, of those that hold nothing: one that is told otherwise where it is none of them.
+pub fn error_of(text: &Json) -> ResolverError {
+    match text.as_str() {
+        Some("No default") => ResolverError::MissingDefault,
+        Some("Too many placeables") => ResolverError::TooManyPlaceables,
+        _ => ResolverError::Cyclic,
     }
 }

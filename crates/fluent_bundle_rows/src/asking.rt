@@ -1,9 +1,9 @@
 //! Asking a bundle for what a pattern gives, by each of its calls.
 
-use crate::told::Wanted;
+use crate::bundle::Bundle;
+use crate::wanted::Wanted;
 use fluent_ast::Pattern;
 use fluent_bundle::FluentError;
-use fluent_rows::bundle::Bundle;
 use fluent_rows::own::Args;
 use std::alloc::{AllocError, Global};
 

@@ -3,7 +3,7 @@
 ghost use Rattle.std.specs.Prelude.{string_bytes};
 
 use crate::asking::Asked;
-use crate::told::Wanted;
+use crate::wanted::Wanted;
 use fluent_bundle::FluentError;
 use fluent_write::{TextWrite, WriteError};
 use std::alloc::{AllocError, Global};
