@@ -1,5 +1,5 @@
 -- What a pattern gives a request, and which of its errors are told.
-use Rattle.std.specs.Prelude.{◌≡◌, Bool, false, List, ◌++◌, map, Option, None, Some, is_some}
+use Rattle.std.specs.Prelude.{◌≡◌, List, ◌++◌, map, Option, None, Some}
 use Rattle.std.specs.Global.{Vec}
 use denote.Ref.{Bor}
 use Rattle.fluent_ast.specs.View.{pattern_view}
@@ -16,7 +16,6 @@ use Rattle.fluent_meaning.specs.Steps.{Done}
 use Rattle.fluent_meaning.specs.Substitution.{answer_handed, answer_written}
 use Rattle.fluent_progress.specs.Views.{args_or_none, given_args}
 use Rattle.fluent_value.specs.declared.args.FluentArgs.{FluentArgs}
-use Rattle.fluent_bundle.specs.Contents.{Contents}
 
 -- the errors of a list
 abbrev pub told : Vec FluentError → List Reported
@@ -45,10 +44,6 @@ lone_text (t.text s t.no_elements) = Some s
 lone_text (t.text s (t.text r es)) = None
 lone_text (t.text s (t.placeable e es)) = None
 lone_text (t.placeable e es) = None
-
--- nothing is set that texts go through
-abbrev pub ShowsAsIs : {M F G T : Type 0} → Contents M F G T → Type 0
-ShowsAsIs bundle = (is_some bundle.transform ≡ false) × (is_some bundle.formatter ≡ false)
 
 module _ {C S F : Type 0} (meaning : C → S) (env : Environment S F) (args : Option (Bor (FluentArgs C))) (pattern : Pattern (Bor Text)) where
   -- what a pattern writes for these arguments, or for none

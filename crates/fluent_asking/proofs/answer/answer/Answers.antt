@@ -5,9 +5,9 @@ use Rattle.fluent_errors.specs.Errors.{unresolved}
 use Rattle.fluent_meaning.specs.Substitution.{outset}
 use Rattle.fluent_progress.proofs.Telling.{on-ok}
 use Rattle.fluent_progress.specs.Views.{args_or_none, given_args, resolved_in}
-use Rattle.fluent_bundle.specs.Asked.{TellsAll, asked, lone_text, told}
-use Rattle.fluent_bundle.proofs.Asking.{if-ok-same, lone-errors, lone-value, tells-none}
-use Rattle.fluent_bundle.proofs.resolver.answer.answer.Goals as goal
+use Rattle.fluent_asking.specs.Asked.{TellsAll, asked, lone_text, told}
+use Rattle.fluent_asking.proofs.Asking.{if-ok-same, lone-errors, lone-value, tells-none}
+use Rattle.fluent_asking.proofs.answer.answer.Goals as goal
 
 pub returns-in-Some-clause-text : goal.returns-in-Some-clause-text
 returns-in-Some-clause-text g c =

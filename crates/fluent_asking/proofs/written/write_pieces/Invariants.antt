@@ -3,7 +3,7 @@ use Rattle.fluent_ast.specs.View.{element_view, elements_of, pattern_view}
 use Rattle.fluent_meaning.specs.Substitution as s
 use Rattle.fluent_meaning.specs.Told.{Writes}
 use Rattle.fluent_progress.specs.Views.{place_view, resolved_in, state}
-use Rattle.fluent_bundle.proofs.resolver.written.write_pieces.Given as goal
+use Rattle.fluent_asking.proofs.written.write_pieces.Given as goal
 
 -- The elements before this one were written.
 abbrev pub invariant-loop-element : goal.invariant-loop-element

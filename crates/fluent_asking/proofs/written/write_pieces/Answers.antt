@@ -18,9 +18,9 @@ use Rattle.fluent_meaning.specs.Told.{State, Writes, budget_of}
 use Rattle.fluent_progress.proofs.Telling.{on-err, within}
 use Rattle.fluent_progress.specs.Views.{place_view, resolved_in, state}
 use Rattle.fluent_progress.specs.declared.progress.Progress.{Progress}
-use Rattle.fluent_bundle.proofs.Pieces.{placeable-refused, text-refused}
-use Rattle.fluent_bundle.proofs.resolver.written.write_pieces.Goals as goal
-use Rattle.fluent_bundle.proofs.resolver.written.write_pieces.Goals.{in-Placeable+in_ok-write_piece-in-Placeable, in-TextElement+in_ok-write_text-in-TextElement}
+use Rattle.fluent_asking.proofs.Pieces.{placeable-refused, text-refused}
+use Rattle.fluent_asking.proofs.written.write_pieces.Goals as goal
+use Rattle.fluent_asking.proofs.written.write_pieces.Goals.{in-Placeable+in_ok-write_piece-in-Placeable, in-TextElement+in_ok-write_text-in-TextElement}
 
 pub loop-element-init : goal.loop-element-init
 loop-element-init g c =

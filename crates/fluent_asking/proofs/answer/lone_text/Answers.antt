@@ -2,10 +2,10 @@ use Rattle.std.proofs.Common.{◌≡◌, List, length, rules, ℕ, Bor, map, sym
 use Rattle.std.proofs.lemmas.List.{nil_from_length}
 use Rattle.fluent_ast.specs.View.{element_view, elements_of, pattern_view}
 use Rattle.fluent_ast.proofs.Views.{element_view-Placeable, element_view-TextElement, pattern_view-out}
-use Rattle.fluent_bundle.specs.Asked.{lone_text}
-use Rattle.fluent_bundle.proofs.Asking.{lone-placeable, lone-several, lone-text, not-nil}
-use Rattle.fluent_bundle.proofs.resolver.answer.lone_text.Goals as goal
-use Rattle.fluent_bundle.proofs.resolver.answer.lone_text.Goals.{in_default-via-in-TextElement+else-is_empty, in_default-via-in_default}
+use Rattle.fluent_asking.specs.Asked.{lone_text}
+use Rattle.fluent_asking.proofs.Asking.{lone-placeable, lone-several, lone-text, not-nil}
+use Rattle.fluent_asking.proofs.answer.lone_text.Goals as goal
+use Rattle.fluent_asking.proofs.answer.lone_text.Goals.{in_default-via-in-TextElement+else-is_empty, in_default-via-in_default}
 
 pub returns-in-TextElement : goal.returns-in-TextElement
 returns-in-TextElement c =

@@ -1,7 +1,7 @@
 use Rattle.std.proofs.Common.{◌≡◌, rules}
 use Rattle.fluent_progress.proofs.Telling.{on-err}
-use Rattle.fluent_bundle.proofs.Pieces.{piece-refused}
-use Rattle.fluent_bundle.proofs.resolver.written.write_piece.Goals as goal
+use Rattle.fluent_asking.proofs.Pieces.{piece-refused}
+use Rattle.fluent_asking.proofs.written.write_piece.Goals as goal
 
 pub returns-in_err-write_str-clause-refused : goal.returns-in_err-write_str-clause-refused
 returns-in_err-write_str-clause-refused g c =

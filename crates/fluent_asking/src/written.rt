@@ -18,7 +18,7 @@ use fluent_write::{TextWrite, WriteError};
 /// # Errors
 /// [`Writer`](WriteError::Writer) if the writer refuses a piece, [`Memory`](WriteError::Memory) if memory runs out. The writer took
 /// the pieces before.
-pub(crate) fn write_pieces<'b, 'r, 's, 'a, W, C, F, E>(
+pub fn write_pieces<'b, 'r, 's, 'a, W, C, F, E>(
     w: &mut W,
     place: &Place<'b, 'r, 's, 'a, C, F, E>,
     progress: &mut Progress<'r, 's>,

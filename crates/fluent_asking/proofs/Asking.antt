@@ -19,7 +19,7 @@ use Rattle.fluent_meaning.specs.Substitution.{Place, outset, answer_written}
 use Rattle.fluent_meaning.specs.Told.{State, Writes, after}
 use Rattle.fluent_progress.specs.Telling.{fresh}
 use Rattle.fluent_value.specs.Value.{Value}
-use Rattle.fluent_bundle.specs.Asked.{TellsAll, lone_text, told}
+use Rattle.fluent_asking.specs.Asked.{TellsAll, lone_text, told}
 
 some-same : {A : Type 0} {x y : A} → Some x ≡ Some y → x ≡ y
 some-same {x = x} e = ap (or_that x) e

@@ -2,14 +2,14 @@
 
 ghost use Rattle.std.specs.Prelude.{◌≡◌, ◌++◌, false, IfOk, IsOkAnd, IsSome, List, OnErr, OnOk, Some, option_copied, string_bytes};
 ghost use Rattle.std.specs.Cow.{IsBorrowedStr, cow_str_bytes};
+ghost use Rattle.fluent_asking.specs.Asked.{TellsAll, TellsFirst, WritesFirst, asked, lone_text, told};
 ghost use Rattle.fluent_ast.specs.View.{pattern_view};
-ghost use Rattle.fluent_bundle.specs.Asked.{TellsAll, TellsFirst, WritesFirst, asked, lone_text, told};
 ghost use Rattle.fluent_errors.specs.Errors.{Reported};
 ghost use Rattle.fluent_progress.specs.Views.{resolved_in, state};
 ghost use Rattle.fluent_value.specs.Shown.{shown_text};
 ghost use Rattle.fluent_value.specs.Value as v;
 
-use super::written::write_pieces;
+use crate::written::write_pieces;
 use fluent_ast::{Pattern, PatternElement};
 use fluent_errors::FluentError;
 use fluent_progress::{Context, Place, Progress};
@@ -25,7 +25,7 @@ const ROOM: usize = 64;
 
 /// What a pattern gives: a text without placeables as it lies, if nothing changes it, and any other anew. The only error is that
 /// memory runs out; the first of the pattern's errors are told then.
-pub(crate) fn answer<'b, 'r, 's, 'a, C: FluentType + Drop, F, E: Context<C, F>>(
+pub fn answer<'b, 'r, 's, 'a, C: FluentType + Drop, F, E: Context<C, F>>(
     place: &Place<'b, 'r, 's, 'a, C, F, E>,
     pattern: &'r Pattern<&'s str>,
     errors: &mut Vec<FluentError>,
@@ -87,7 +87,7 @@ fn resolved<'b, 'r, 's, 'a, C: FluentType + Drop, F, E: Context<C, F>>(
 /// # Errors
 /// [`Writer`](WriteError::Writer) if the writer refuses a piece, [`Memory`](WriteError::Memory) if memory runs out. The writer took
 /// the pieces before, and the first of the pattern's errors are told.
-pub(crate) fn write_answer<'b, 'r, 's, 'a, W, C, F, E>(
+pub fn write_answer<'b, 'r, 's, 'a, W, C, F, E>(
     w: &mut W,
     place: &Place<'b, 'r, 's, 'a, C, F, E>,
     pattern: &'r Pattern<&'s str>,
@@ -116,7 +116,7 @@ where
 }
 
 /// Puts the errors that were told back where they were taken from.
-pub(crate) fn put_back(errors: &mut Vec<FluentError>, progress: Progress<'_, '_>)
+fn put_back(errors: &mut Vec<FluentError>, progress: Progress<'_, '_>)
     ensures { (list : List Reported) → (state progress.entry).errors ≡ Some list
         → told errors.new ≡ list }
 {
@@ -127,7 +127,7 @@ pub(crate) fn put_back(errors: &mut Vec<FluentError>, progress: Progress<'_, '_>
 
 /// Hands a text out as a value is shown: where no formatter is set, as it lies, which takes no memory. The only error is that memory
 /// runs out.
-pub(crate) fn hand_out<'s, C: FluentType + Drop, V: ValueScope<C>>(
+pub fn hand_out<'s, C: FluentType + Drop, V: ValueScope<C>>(
     scope: &V,
     text: CowStr<'s>,
 ) -> Result<CowStr<'s>, AllocError>

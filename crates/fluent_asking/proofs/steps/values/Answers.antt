@@ -15,7 +15,7 @@ use Rattle.fluent_resolver.proofs.Calls.{args-first, args-found, args-second}
 use Rattle.fluent_resolver.proofs.Parts.{tells-as}
 use Rattle.fluent_value.specs.Args.{all_set}
 use Rattle.fluent_value.specs.ArgsView.{args_view}
-use Rattle.fluent_bundle.proofs.resolver.scope.parts.values.Goals as goal
+use Rattle.fluent_asking.proofs.steps.values.Goals as goal
 
 pub returns-clause-found : goal.returns-clause-found
 returns-clause-found g c =
