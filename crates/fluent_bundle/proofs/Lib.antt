@@ -1,4 +1,2 @@
-pub mod Asking
 pub mod LentBundle
-pub mod Pieces
 pub mod Scopes

@@ -1,5 +1,5 @@
 -- What a bundle holds.
-use Rattle.std.specs.Prelude.{Bool, true, List, [], Option, None}
+use Rattle.std.specs.Prelude.{◌≡◌, Bool, false, true, List, [], Option, None, is_some}
 use Rattle.fluent_grammar.specs.Words.{Text}
 use Rattle.fluent_meaning.specs.Ids.{Ids}
 
@@ -17,3 +17,7 @@ pub record Contents (M F G T : Type 0) : Type 0 where
 -- a new bundle: no ids, isolation, no transform and no formatter
 abbrev pub empty : {M F G T : Type 0} → List Text → M → Contents M F G T
 empty locales plurals = record { ids = []; locales = locales; plurals = plurals; isolating = true; transform = None; formatter = None }
+
+-- nothing is set that texts go through
+abbrev pub ShowsAsIs : {M F G T : Type 0} → Contents M F G T → Type 0
+ShowsAsIs bundle = (is_some bundle.transform ≡ false) × (is_some bundle.formatter ≡ false)

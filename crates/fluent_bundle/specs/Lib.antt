@@ -1,5 +1,4 @@
 pub mod Contents
 pub mod BundleView
 pub mod Adding
-pub mod Asked
 pub mod ScopeView

@@ -10,10 +10,6 @@ use Rattle.fluent_grammar.specs.Words.{Text}
 use Rattle.fluent_meaning.specs.Substitution as s
 use Rattle.fluent_meaning.specs.Told.{State, budget_of, capped, in_byte}
 use Rattle.fluent_progress.specs.Views.{args_or_none, given_args}
-use Rattle.fluent_value.specs.ArgsView.{args_view}
-use Rattle.fluent_value.specs.View.{value_view}
-use Rattle.fluent_value.specs.declared.args.FluentArgs.{FluentArgs}
-use Rattle.fluent_value.specs.declared.value.FluentValue.{FluentValue}
 use Rattle.fluent_bundle.specs.declared.resolver.scope.Scope.{Scope}
 
 -- the pattern whose placeables a caller writes, once one of them was tracked
@@ -48,11 +44,3 @@ module _ {M C F G X : Type 0} {V : X → Type 0} where
     pub bundle : new.bundle ≡ old.bundle
     pub arguments : new.arguments ≡ old.arguments
     pub list : option_map (λ list. list.ghost_name) new.errors ≡ option_map (λ list. list.ghost_name) old.errors
-
--- positional arguments, and those with a name
-abbrev pub called_of : {C S : Type 0} → (C → S) → Vec (FluentValue C) × FluentArgs C → s.Called S
-called_of meaning found = record { positional = map (value_view meaning) found.0.items; named = args_view meaning found.1 }
-
--- without arguments
-abbrev pub no_arguments : {S : Type 0} → s.Called S
-no_arguments = record { positional = []; named = [] }

@@ -20,10 +20,15 @@ pub fn try_attributes(alloc: Global) -> Tally {
 fn is_added(alloc: Global, resource: &FluentResource<'static>) -> bool {
     let mut bundle = Bundle::new(alloc, Vec::new(alloc), EnglishPlurals);
     let is_added = bundle.add_resource(resource).is_ok() || bundle.add_resource(resource).is_ok();
-    is_added
-        && bundle
-            .get_message("m")
-            .is_some_and(|message| has_both(&message))
+    is_added && is_found(&bundle)
+}
+
+/// Whether the message is found in the bundle.
+fn is_found(bundle: &Bundle<'_, '_>) -> bool {
+    match bundle.get_message("m") {
+        Some(message) => has_both(&message),
+        None => false,
+    }
 }
 
 /// Whether a message has no value, both attributes, and the first of them by its name.
@@ -36,6 +41,8 @@ fn has_both(message: &FluentMessage<'_, '_>) -> bool {
 
 /// Whether the attribute of the name is the first.
 fn is_first(message: &FluentMessage<'_, '_>) -> bool {
-    message.get_attribute("t").is_some_and(|attribute| attribute.id() == "t"
-        && first_text(Some(attribute.value())) == "1")
+    match message.get_attribute("t") {
+        Some(attribute) => attribute.id() == "t" && first_text(Some(attribute.value())) == "1",
+        None => false,
+    }
 }

@@ -12,10 +12,38 @@ const KEYS: &str = "\nkey1 = Value 1\n\ng@Rb@ge = #2y ds\n\nkey2 = Value 2\n\n";
 pub fn try_reading(alloc: Global) -> Tally {
     let mut tally = Tally::new();
     tally.add(has_one_error(alloc) || has_one_error(alloc));
-    tally.add(read(alloc, KEYS).is_some_and(|keys| has_junk(&keys)));
-    tally.add(read(alloc, "").is_some_and(|empty| empty.get_entry(0).is_none()));
-    tally.add(read(alloc, "a = b\n-c = d\n").is_some_and(|both| has_both(&both)));
+    tally.add(is_read(alloc, KEYS, Shape::Junk));
+    tally.add(is_read(alloc, "", Shape::Empty));
+    tally.add(is_read(alloc, "a = b\n-c = d\n", Shape::Both));
     tally
+}
+
+/// What is to be read of a source.
+#[derive(Clone, Copy)]
+enum Shape {
+    /// Junk between two messages.
+    Junk,
+    /// Nothing.
+    Empty,
+    /// A message and a term.
+    Both,
+}
+
+/// Whether a source is read as this.
+fn is_read(alloc: Global, source: &'static str, shape: Shape) -> bool {
+    match read(alloc, source) {
+        Some(resource) => has(&resource, shape),
+        None => false,
+    }
+}
+
+/// Whether a resource is this.
+fn has(resource: &FluentResource<'_>, shape: Shape) -> bool {
+    match shape {
+        Shape::Junk => has_junk(resource),
+        Shape::Empty => resource.get_entry(0).is_none(),
+        Shape::Both => has_both(resource),
+    }
 }
 
 /// Whether a source with one junk is broken, with one error.

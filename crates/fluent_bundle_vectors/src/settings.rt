@@ -42,8 +42,11 @@ pub fn try_settings(alloc: Global) -> Tally {
 /// Whether the text `x` is shown as this text.
 fn is_shown<'r, 's: 'r>(bundle: &Bundle<'r, 's>, text: &str) -> bool {
     let value = FluentValue::<NoCustom>::from("x");
-    match value.as_string(bundle).or_else(|_| value.as_string(bundle)) {
+    match value.as_string(bundle) {
         Ok(shown) => shown.as_str() == text,
-        Err(_) => false,
+        Err(AllocError) => match value.as_string(bundle) {
+            Ok(shown) => shown.as_str() == text,
+            Err(AllocError) => false,
+        },
     }
 }

@@ -2,11 +2,8 @@
 //! else than they must.
 #![tactic(auto)]
 
-mod asking;
-mod pieces;
 mod plain;
 mod rows;
-mod told;
 
 use anyhow::Result;
 use fluent_trials::Tally;

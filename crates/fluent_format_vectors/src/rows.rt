@@ -5,14 +5,15 @@
 //! differs, and `errors` has the texts of the errors. The settings stand by their names;
 //! placeables are isolated where `isolating` isn't `false`.
 
-use crate::asking::Asked;
-use crate::told::Wanted;
 use anyhow::{Context, Result};
 use fluent_ast::Pattern;
 use fluent_bundle::{EnglishPlurals, FluentResource, TextTransform};
-use fluent_rows::bundle::{Bundle, Settings, is_added, pattern_in, read};
+use fluent_bundle_rows::asking::Asked;
+use fluent_bundle_rows::bundle::{Bundle, is_added, pattern_in, read};
+use fluent_bundle_rows::wanted::Wanted;
 use fluent_rows::json::text_in;
 use fluent_rows::own::{Args, Brackets, Capitals};
+use fluent_rows::settings::Settings;
 use fluent_rows::trees::pattern_of;
 use fluent_rows::values::arguments_of;
 use fluent_trials::{Tally, Trial, is_right_again};

@@ -9,12 +9,18 @@ pub fn text_in<'row>(json: &'row Json, name: &str) -> Option<&'row str> {
 
 /// Whether a setting is on, which a row may leave out.
 pub fn is_set(json: &Json, name: &str, usual: bool) -> bool {
-    json.get(name).and_then(Json::as_bool).unwrap_or(usual)
+    match json.get(name) {
+        Some(Json::Bool(is_on)) => *is_on,
+        _ => usual,
+    }
 }
 
 /// The number under a name, which a row may leave out.
 pub fn number_in(json: &Json, name: &str, usual: u64) -> u64 {
-    json.get(name).and_then(Json::as_u64).unwrap_or(usual)
+    match json.get(name) {
+        Some(number) => number.as_u64().unwrap_or(usual),
+        None => usual,
+    }
 }
 
 /// The values of a list under a name, none where there is no list.

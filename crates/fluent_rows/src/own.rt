@@ -5,8 +5,9 @@ ghost use Rattle.std.proofs.Common.{rules};
 ghost use Rattle.std.specs.Char.{to_ascii_uppercase};
 ghost use Rattle.fluent_rows.specs.Own.{bracketed, called};
 
-use fluent_bundle::types::FluentType;
-use fluent_bundle::{FluentArgs, FluentFunction, FluentValue, TextTransform, ValueFormatter};
+use fluent_value::{
+    FluentArgs, FluentFunction, FluentType, FluentValue, TextTransform, ValueFormatter,
+};
 use std::alloc::{AllocError, Global};
 use std::borrow::CowStr;
 

@@ -14,24 +14,39 @@ use std::alloc::{AllocError, Global};
 
 type Inline<'row> = InlineExpression<&'row str>;
 
+/// What the values of a list are.
+trait Part<'row>: Drop + Sized {
+    /// The part that a value is. The only error is that memory runs out.
+    fn of(alloc: Global, json: &'row Json) -> Result<Self, AllocError>;
+}
+
+/// The parts of a list. The only error is that memory runs out.
+fn all_of<'row, P: Part<'row>>(alloc: Global, json: &'row [Json]) -> Result<Vec<P>, AllocError> {
+    let mut parts = Vec::new(alloc);
+    for json in json {
+        parts.push(P::of(alloc, json)?)?;
+    }
+    Ok(parts)
+}
+
 /// The pattern that a list is. The only error is that memory runs out.
 pub fn pattern_of<'row>(
     alloc: Global,
     json: &'row [Json],
 ) -> Result<Pattern<&'row str>, AllocError> {
-    let mut elements = Vec::new(alloc);
-    for element in json {
-        elements.push(element_of(alloc, element)?)?;
-    }
-    Ok(Pattern { elements })
+    Ok(Pattern {
+        elements: all_of(alloc, json)?,
+    })
 }
 
-fn element_of(alloc: Global, json: &Json) -> Result<PatternElement<&str>, AllocError> {
-    match json.as_str() {
-        Some(value) => Ok(PatternElement::TextElement { value }),
-        None => Ok(PatternElement::Placeable {
-            expression: expression_of(alloc, json)?,
-        }),
+impl<'row> Part<'row> for PatternElement<&'row str> {
+    fn of(alloc: Global, json: &'row Json) -> Result<Self, AllocError> {
+        match json.as_str() {
+            Some(value) => Ok(PatternElement::TextElement { value }),
+            None => Ok(PatternElement::Placeable {
+                expression: expression_of(alloc, json)?,
+            }),
+        }
     }
 }
 
@@ -57,23 +72,18 @@ fn select_of<'row>(
 ) -> Result<Expression<&'row str>, AllocError> {
     Ok(Expression::Select {
         selector,
-        variants: variants_of(alloc, list_in(json, "variants"))?,
+        variants: all_of(alloc, list_in(json, "variants"))?,
     })
 }
 
-fn variants_of<'row>(
-    alloc: Global,
-    json: &'row [Json],
-) -> Result<Vec<Variant<&'row str>>, AllocError> {
-    let mut variants = Vec::new(alloc);
-    for variant in json {
-        variants.push(Variant {
-            key: key_of(variant),
-            value: pattern_of_texts(alloc, list_in(variant, "texts"))?,
-            default: is_set(variant, "default", false),
-        })?;
+impl<'row> Part<'row> for Variant<&'row str> {
+    fn of(alloc: Global, json: &'row Json) -> Result<Self, AllocError> {
+        Ok(Variant {
+            key: key_of(json),
+            value: pattern_of_texts(alloc, list_in(json, "texts"))?,
+            default: is_set(json, "default", false),
+        })
     }
-    Ok(variants)
 }
 
 fn key_of(json: &Json) -> VariantKey<&str> {
@@ -90,7 +100,8 @@ fn pattern_of_texts<'row>(
     json: &'row [Json],
 ) -> Result<Pattern<&'row str>, AllocError> {
     let mut elements = Vec::new(alloc);
-    for value in json.iter().filter_map(Json::as_str) {
+    for text in json {
+        let value = text.as_str().unwrap_or("");
         elements.push(PatternElement::TextElement { value })?;
     }
     Ok(Pattern { elements })
@@ -115,33 +126,26 @@ fn inline_of(alloc: Global, json: &Json) -> Result<Inline<'_>, AllocError> {
 
 fn arguments_of(alloc: Global, json: &Json) -> Result<CallArguments<&str>, AllocError> {
     Ok(CallArguments {
-        positional: positional_of(alloc, list_in(json, "positional"))?,
-        named: named_of(alloc, list_in(json, "named"))?,
+        positional: all_of(alloc, list_in(json, "positional"))?,
+        named: all_of(alloc, list_in(json, "named"))?,
     })
 }
 
-fn positional_of<'row>(alloc: Global, json: &'row [Json]) -> Result<Vec<Inline<'row>>, AllocError> {
-    let mut positional = Vec::new(alloc);
-    for argument in json {
-        positional.push(argument_of(alloc, argument)?)?;
+impl<'row> Part<'row> for InlineExpression<&'row str> {
+    fn of(alloc: Global, json: &'row Json) -> Result<Self, AllocError> {
+        argument_of(alloc, json)
     }
-    Ok(positional)
 }
 
-fn named_of<'row>(
-    alloc: Global,
-    json: &'row [Json],
-) -> Result<Vec<NamedArgument<&'row str>>, AllocError> {
-    let mut named = Vec::new(alloc);
-    for argument in json {
-        named.push(NamedArgument {
+impl<'row> Part<'row> for NamedArgument<&'row str> {
+    fn of(alloc: Global, json: &'row Json) -> Result<Self, AllocError> {
+        Ok(NamedArgument {
             name: Identifier {
-                name: text_in(argument, "name").unwrap_or(""),
+                name: text_in(json, "name").unwrap_or(""),
             },
-            value: argument_of(alloc, argument)?,
-        })?;
+            value: argument_of(alloc, json)?,
+        })
     }
-    Ok(named)
 }
 
 /// An expression without arguments, or a nested placeable.

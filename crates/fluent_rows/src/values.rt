@@ -52,11 +52,12 @@ fn is_value(value: &Value<'_>, json: &Json) -> bool {
 
 /// Whether the values are these, in their order.
 pub fn are_values(values: &[Value<'_>], json: &[Json]) -> bool {
+    for (value, json) in values.iter().zip(json) {
+        if !is_value(value, json) {
+            return false;
+        }
+    }
     values.len() == json.len()
-        && values
-            .iter()
-            .zip(json)
-            .all(|(value, json)| is_value(value, json))
 }
 
 /// Whether the arguments are the members of this object, in the order of the names' bytes.
@@ -77,8 +78,9 @@ pub fn are_named(named: &Args<'_>, json: Option<&Json>) -> bool {
 /// Whether pairs of a name and a value are these arguments, made of them at once or set one after the other. The only error is that memory
 /// runs out.
 pub fn are_set(alloc: Global, pairs: &[Json], named: Option<&Json>) -> Result<bool, AllocError> {
+    let is_right_in_turn = are_set_in_turn(alloc, pairs, named)?;
     let made = Args::from_pairs(alloc, pairs.iter().filter_map(pair_of))?;
-    Ok(are_named(&made, named) && are_set_in_turn(alloc, pairs, named)?)
+    Ok(is_right_in_turn && are_named(&made, named))
 }
 
 /// The same, set one after the other.
@@ -88,8 +90,10 @@ fn are_set_in_turn(
     named: Option<&Json>,
 ) -> Result<bool, AllocError> {
     let mut arguments = Args::with_capacity(alloc, 2)?;
-    for (name, value) in pairs.iter().filter_map(pair_of) {
-        arguments.set(name, value)?;
+    for pair in pairs {
+        if let Some((name, value)) = pair_of(pair) {
+            arguments.set(name, value)?;
+        }
     }
     Ok(are_named(&arguments, named))
 }

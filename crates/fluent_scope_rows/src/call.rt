@@ -11,41 +11,86 @@ use crate::turn::Turn;
 use fluent_ast::{Expression, InlineExpression, Pattern};
 use fluent_bundle::FluentResource;
 use fluent_bundle::resolver::ResolverError;
+use fluent_bundle_rows::kinds::is_kind;
+use fluent_bundle_rows::told::error_of;
 use fluent_rows::json::{list_in, number_in, text_in};
-use fluent_rows::kinds::is_kind;
 use fluent_rows::own::{Args, Value};
-use fluent_rows::told::error_of;
 use fluent_rows::values::{are_named, are_values};
 use serde_json::Value as Json;
 use std::alloc::{AllocError, Global};
 
+/// Which call it is.
+#[derive(Clone, Copy)]
+pub enum Name {
+    Writes(Writing),
+    GetArguments,
+    AddError,
+    Kind,
+}
+
+/// A call that writes.
+#[derive(Clone, Copy)]
+pub enum Writing {
+    Track,
+    MaybeTrack,
+    WriteRefError,
+}
+
+impl Name {
+    /// The call of a name.
+    fn of(name: &str) -> Option<Name> {
+        match name {
+            "track" => Some(Name::Writes(Writing::Track)),
+            "maybe_track" => Some(Name::Writes(Writing::MaybeTrack)),
+            "write_ref_error" => Some(Name::Writes(Writing::WriteRefError)),
+            "get_arguments" => Some(Name::GetArguments),
+            "add_error" => Some(Name::AddError),
+            "kind" => Some(Name::Kind),
+            _ => None,
+        }
+    }
+}
+
 /// A call, and what it must give.
 #[derive(Clone, Copy)]
 pub struct Call<'r, 's, 'row> {
-    pub name: &'row str,
+    pub name: Name,
     pub pattern: &'r Pattern<&'s str>,
     pub expression: &'r Expression<&'s str>,
     pub inline: &'r InlineExpression<&'s str>,
     /// What is written, if anything.
     pub text: &'row str,
     json: &'row Json,
+    /// Its place among the calls of its row.
+    index: usize,
+    /// Whether it is made no more after this time.
+    is_last: bool,
 }
 
 impl<'r, 's, 'row> Call<'r, 's, 'row> {
-    /// The call that an object is.
-    pub fn of(resource: &'r FluentResource<'s>, json: &'row Json) -> Option<Self> {
+    /// The call that an object is, at its place among the calls of its row.
+    pub fn of(resource: &'r FluentResource<'s>, json: &'row Json, index: usize) -> Option<Self> {
         let id = text_in(json, "of")?;
         let by = text_in(json, "by").unwrap_or(id);
         let home = pattern_in(resource, by)?;
         let expression = expression_at(home, number_in(json, "at", 0))?;
         Some(Call {
-            name: text_in(json, "call")?,
+            name: Name::of(text_in(json, "call")?)?,
             pattern: pattern_in(resource, id)?,
             expression,
             inline: inline_in(expression),
             text: text_in(json, "text").unwrap_or(""),
             json,
+            index,
+            is_last: false,
         })
+    }
+
+    /// The call, made for so many times.
+    pub fn made(self, times: u64) -> Self {
+        let mut call = self;
+        call.is_last = times == self.times();
+        call
     }
 
     /// Whether the arguments are those that must be found.
@@ -62,9 +107,12 @@ impl<'r, 's, 'row> Call<'r, 's, 'row> {
             && are_named(named, self.json.get("named"))
     }
 
-    /// The error that is to be told.
-    pub fn error(self) -> Option<ResolverError> {
-        error_of(list_in(self.json, "errors").first()?)
+    /// The error that is to be told, the first of the call's.
+    pub fn error(self) -> ResolverError {
+        match list_in(self.json, "errors").first() {
+            Some(text) => error_of(text),
+            None => ResolverError::Cyclic,
+        }
     }
 
     /// Whether the expression refers to what it must. The only error is that memory runs out.
@@ -77,21 +125,17 @@ impl<'r, 's, 'row> Call<'r, 's, 'row> {
         self.json.get("set_dirty")?.as_bool()
     }
 
-    /// The call with the other calls of its row before it, at its place.
-    pub fn turn(
-        self,
-        row: &'row Json,
-        calls: &'row [Json],
-        index: usize,
-        full: usize,
-    ) -> Turn<'row> {
+    /// The call with the other calls of its row before it. The writer of the call at the place `full` takes nothing.
+    pub fn turn(self, row: &'row Json, full: usize) -> Turn<'row> {
+        let calls = list_in(row, "calls");
         Turn {
             json: self.json,
             wanted: Wanted {
                 row,
-                calls: calls.get(..=index).unwrap_or(calls),
+                calls: calls.get(..=self.index).unwrap_or(calls),
             },
-            is_full: index == full,
+            is_full: self.index == full,
+            is_last: self.is_last,
         }
     }
 

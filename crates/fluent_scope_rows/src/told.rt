@@ -2,8 +2,8 @@
 
 use crate::bundle::Called;
 use fluent_bundle::FluentError;
+use fluent_bundle_rows::told::is_told;
 use fluent_rows::json::{list_in, number_in};
-use fluent_rows::told::is_told;
 use serde_json::Value as Json;
 use std::alloc::{AllocError, Global};
 use std::slice;

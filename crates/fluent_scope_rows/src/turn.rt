@@ -14,12 +14,29 @@ pub struct Turn<'row> {
     pub wanted: Wanted<'row>,
     /// Whether the writer takes nothing.
     pub is_full: bool,
+    /// Whether the call is made no more after this time.
+    pub is_last: bool,
 }
 
 impl Turn<'_> {
+    /// What the row comes to, if that is known now: where the call gives something else than it must or was refused, or where the scope counts
+    /// or tells something else once it was made for the last time.
+    pub fn stands(
+        self,
+        alloc: Global,
+        scope: &Called<'_, '_, '_, '_>,
+        before: usize,
+        answered: Result<bool, AllocError>,
+    ) -> Option<Result<bool, AllocError>> {
+        match self.ends(alloc, scope, before, answered) {
+            None if self.is_last => self.differs(alloc, scope),
+            ended => ended,
+        }
+    }
+
     /// What the row comes to, if that is known now: where the call gives something else than it must, or where it was refused. Then the first
     /// of its errors must be told.
-    pub fn ends(
+    fn ends(
         self,
         alloc: Global,
         scope: &Called<'_, '_, '_, '_>,
@@ -38,7 +55,7 @@ impl Turn<'_> {
     }
 
     /// What the row comes to, if that is known now: where the scope counts or tells something else than it must.
-    pub fn differs(
+    fn differs(
         self,
         alloc: Global,
         scope: &Called<'_, '_, '_, '_>,

@@ -6,12 +6,13 @@
 
 use fluent_bundle::resolver::Scope;
 use fluent_bundle::{EnglishPlurals, FluentError, FluentResource, TextTransform};
-use fluent_rows::bundle::{Bundle, Settings, is_added};
+use fluent_bundle_rows::bundle::{Bundle, is_added};
+use fluent_bundle_rows::told::errors_of;
 use fluent_rows::json::{is_set, list_in};
 use fluent_rows::own::{Args, Brackets, Capitals};
-use fluent_rows::told::errors_of;
+use fluent_rows::settings::Settings;
 use fluent_rows::values::arguments_of;
-use fluent_scope_rows::call::Call;
+use fluent_scope_rows::call::{Call, Name, Writing};
 use fluent_scope_rows::page::Page;
 use fluent_scope_rows::parts::arguments_in;
 use fluent_scope_rows::shown::begins;
@@ -24,25 +25,22 @@ use std::alloc::{AllocError, Global};
 macro_rules! answered {
     ($alloc:ident, $scope:ident, $call:ident, $page:ident) => {
         match $call.name {
-            "track" => {
-                let written = $scope.track(&mut $page, $call.pattern, $call.inline);
+            Name::Writes(writing) => {
+                let written = match writing {
+                    Writing::Track => $scope.track(&mut $page, $call.pattern, $call.inline),
+                    Writing::MaybeTrack => {
+                        $scope.maybe_track(&mut $page, $call.pattern, $call.expression)
+                    }
+                    Writing::WriteRefError => $scope.write_ref_error(&mut $page, $call.inline),
+                };
                 $page.holds(written, $call.text)
             }
-            "maybe_track" => {
-                let written = $scope.maybe_track(&mut $page, $call.pattern, $call.expression);
-                $page.holds(written, $call.text)
-            }
-            "write_ref_error" => {
-                let written = $scope.write_ref_error(&mut $page, $call.inline);
-                $page.holds(written, $call.text)
-            }
-            "get_arguments" => $call.is_found($scope.get_arguments(arguments_in($call.inline))),
-            "add_error" => match $call.error() {
-                Some(error) => $scope.add_error(error).map(|()| true),
-                None => Ok(false),
+            Name::GetArguments => $call.is_found($scope.get_arguments(arguments_in($call.inline))),
+            Name::AddError => match $scope.add_error($call.error()) {
+                Ok(()) => Ok(true),
+                Err(AllocError) => Err(AllocError),
             },
-            "kind" => $call.is_kind($alloc),
-            _ => Ok(false),
+            Name::Kind => $call.is_kind($alloc),
         }
     };
 }
@@ -66,22 +64,26 @@ fn are_right_with(
     arguments: Option<&Args<'_>>,
 ) -> Result<bool, AllocError> {
     let calls = calls_of(alloc, row, resource)?;
-    if calls.len() != list_in(row, "calls").len() {
+    if calls.is_empty() != list_in(row, "calls").is_empty() {
         return Ok(false);
     }
     are_right_each(alloc, row, resource, arguments, &calls)
 }
 
-/// The calls of a row, those that are some.
+/// The calls of a row, each as often as it is made, or none where one of them is no call.
 fn calls_of<'r, 's, 'row>(
     alloc: Global,
     row: &'row Json,
     resource: &'r FluentResource<'s>,
 ) -> Result<Vec<Call<'r, 's, 'row>>, AllocError> {
     let mut calls = Vec::new(alloc);
-    for json in list_in(row, "calls") {
-        if let Some(call) = Call::of(resource, json) {
-            calls.push(call)?;
+    for (index, json) in list_in(row, "calls").iter().enumerate() {
+        let Some(call) = Call::of(resource, json, index) else {
+            calls.clear();
+            return Ok(calls);
+        };
+        for times in 0..call.times() {
+            calls.push(call.made(times.saturating_add(1)))?;
         }
     }
     Ok(calls)
@@ -95,7 +97,7 @@ fn are_right_each<'r, 's>(
     arguments: Option<&Args<'_>>,
     calls: &[Call<'r, 's, '_>],
 ) -> Result<bool, AllocError> {
-    for full in 0..=calls.len() {
+    for full in 0..=list_in(row, "calls").len() {
         let mut errors = errors_of(alloc, row)?;
         if !are_answered(alloc, row, resource, arguments, &mut errors, calls, full)? {
             return Ok(false);
@@ -128,19 +130,14 @@ fn are_answered<'r, 's>(
     let list = is_set(row, "listed", true).then_some(errors);
     let mut scope = Scope::new(&bundle, arguments, list);
     let mut ended = begins(alloc, &scope, row, is_made);
-    for (index, call) in calls.iter().enumerate() {
-        let turn = call.turn(row, list_in(row, "calls"), index, full);
-        for _ in 0..call.times() {
-            scope.dirty = call.dirty().unwrap_or(scope.dirty);
-            let before = count_in(&scope);
-            let mut page = Page::new(alloc, turn.is_full);
-            let answered = answered!(alloc, scope, call, page);
-            if ended.is_none() {
-                ended = turn.ends(alloc, &scope, before, answered);
-            }
-        }
+    for call in calls {
+        let turn = call.turn(row, full);
+        scope.dirty = call.dirty().unwrap_or(scope.dirty);
+        let before = count_in(&scope);
+        let mut page = Page::new(alloc, turn.is_full);
+        let answered = answered!(alloc, scope, call, page);
         if ended.is_none() {
-            ended = turn.differs(alloc, &scope);
+            ended = turn.stands(alloc, &scope, before, answered);
         }
     }
     ended.unwrap_or(Ok(!calls.is_empty()))

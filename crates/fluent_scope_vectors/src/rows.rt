@@ -5,7 +5,7 @@
 
 use crate::calls::are_right;
 use anyhow::{Context, Result};
-use fluent_rows::bundle::read;
+use fluent_bundle_rows::bundle::read;
 use fluent_rows::json::{list_in, text_in};
 use fluent_rows::values::are_set;
 use fluent_trials::{Tally, Trial, is_right_again};

@@ -2,12 +2,13 @@
 
 ghost use Rattle.std.specs.Prelude.{◌≡◌, ◌++◌, IfOk, IsOkAnd, IsSome, OnErr, OnOk};
 ghost use Rattle.std.specs.Cow.{IsBorrowedStr, cow_str_bytes};
+ghost use Rattle.fluent_asking.specs.Asked.{TellsAll, TellsFirst, WritesFirst, asked, handed, lone_text};
 ghost use Rattle.fluent_ast.specs.View.{pattern_view};
-ghost use Rattle.fluent_bundle.specs.Asked.{ShowsAsIs, TellsAll, TellsFirst, WritesFirst, asked, handed, lone_text};
 ghost use Rattle.fluent_bundle.specs.BundleView.{IsLent, bundle_of, environment_of};
+ghost use Rattle.fluent_bundle.specs.Contents.{ShowsAsIs};
 
 use super::FluentBundle;
-use crate::resolver::answer::{answer, hand_out, write_answer};
+use fluent_asking::answer::{answer, hand_out, write_answer};
 use fluent_ast::Pattern;
 use fluent_errors::FluentError;
 use fluent_progress::{Lent, Place};

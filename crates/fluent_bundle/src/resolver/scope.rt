@@ -1,9 +1,10 @@
 //! Patterns that a program resolves by itself, placeable by placeable.
 
 ghost use Rattle.std.specs.Prelude.{◌≡◌, [], IfOk, None, OnErr, OnOk, map, option_copied, option_map};
+ghost use Rattle.fluent_asking.specs.Called.{called_of};
 ghost use Rattle.fluent_ast.specs.View.{arguments_view, expression_view, inline_view, maybe_arguments, pattern_view};
 ghost use Rattle.fluent_bundle.specs.BundleView.{environment_of};
-ghost use Rattle.fluent_bundle.specs.ScopeView.{Keeps, called_of, path_of, place_of, state_of};
+ghost use Rattle.fluent_bundle.specs.ScopeView.{Keeps, path_of, place_of, state_of};
 ghost use Rattle.fluent_errors.specs.View.{bundle_view, resolver_view};
 ghost use Rattle.fluent_meaning.specs.Refused.{TellsSome, WritesSome};
 ghost use Rattle.fluent_meaning.specs.Substitution as s;
@@ -13,8 +14,8 @@ ghost use Rattle.fluent_progress.specs.Telling.{fresh, with_error};
 mod parts;
 mod showing;
 
-use self::parts::none_given;
 use crate::bundle::FluentBundle;
+use fluent_asking::steps::none_given;
 use fluent_ast::{CallArguments, Expression, InlineExpression, Pattern};
 use fluent_errors::{FluentError, ResolverError};
 use fluent_value::{

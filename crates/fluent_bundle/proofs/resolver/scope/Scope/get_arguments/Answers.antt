@@ -8,7 +8,8 @@ use Rattle.fluent_meaning.specs.Substitution as s
 use Rattle.fluent_resolver.proofs.Parts.{tells-as}
 use Rattle.fluent_bundle.proofs.Scopes.{scope-within}
 use Rattle.fluent_bundle.specs.BundleView.{environment_of}
-use Rattle.fluent_bundle.specs.ScopeView.{no_arguments, place_of, state_of}
+use Rattle.fluent_asking.specs.Called.{no_arguments}
+use Rattle.fluent_bundle.specs.ScopeView.{place_of, state_of}
 use Rattle.fluent_bundle.proofs.resolver.scope.Scope.get_arguments.Goals as goal
 
 pub returns-in-Some-clause-found : goal.returns-in-Some-clause-found

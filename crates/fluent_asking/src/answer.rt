@@ -1,0 +1,142 @@
+//! What a pattern gives a request.
+
+ghost use Rattle.std.specs.Prelude.{◌≡◌, ◌++◌, false, IfOk, IsOkAnd, IsSome, List, OnErr, OnOk, Some, option_copied, string_bytes};
+ghost use Rattle.std.specs.Cow.{IsBorrowedStr, cow_str_bytes};
+ghost use Rattle.fluent_asking.specs.Asked.{TellsAll, TellsFirst, WritesFirst, asked, lone_text, told};
+ghost use Rattle.fluent_ast.specs.View.{pattern_view};
+ghost use Rattle.fluent_errors.specs.Errors.{Reported};
+ghost use Rattle.fluent_progress.specs.Views.{resolved_in, state};
+ghost use Rattle.fluent_value.specs.Shown.{shown_text};
+ghost use Rattle.fluent_value.specs.Value as v;
+
+use crate::written::write_pieces;
+use fluent_ast::{Pattern, PatternElement};
+use fluent_errors::FluentError;
+use fluent_progress::{Context, Place, Progress};
+use fluent_resolver::pattern::write_pattern;
+use fluent_value::{FluentType, FluentValue, ValueScope};
+use fluent_write::{TextWrite, WriteError};
+use std::alloc::AllocError;
+use std::borrow::CowStr;
+use std::mem;
+
+/// How many bytes a text has room for at first. Most texts take no more, and are never moved.
+const ROOM: usize = 64;
+
+/// What a pattern gives: a text without placeables as it lies, if nothing changes it, and any other anew. The only error is that
+/// memory runs out; the first of the pattern's errors are told then.
+pub fn answer<'b, 'r, 's, 'a, C: FluentType + Drop, F, E: Context<C, F>>(
+    place: &Place<'b, 'r, 's, 'a, C, F, E>,
+    pattern: &'r Pattern<&'s str>,
+    errors: &mut Vec<FluentError>,
+) -> Result<CowStr<'s>, AllocError>
+    ensures text { IfOk result (λ text. cow_str_bytes text
+        ≡ (asked C.meaning (resolved_in E.environment place.now) place.now.arguments
+        pattern.now).value) }
+    ensures told { OnOk result (TellsAll errors.old errors.new
+        (asked C.meaning (resolved_in E.environment place.now) place.now.arguments pattern.now)) }
+    ensures refused { OnErr result (TellsFirst errors.old errors.new
+        (asked C.meaning (resolved_in E.environment place.now) place.now.arguments pattern.now)) }
+    ensures borrowed { E.has_transform place.now.context.now ≡ false
+        → IsSome (lone_text (pattern_view _ (λ s. s.now) pattern.now))
+        → IsOkAnd result IsBorrowedStr }
+{
+    match lone_text(pattern) {
+        Some(text) => place.context.transform(text),
+        None => Ok(CowStr::Owned(resolved(place, pattern, errors)?)),
+    }
+}
+
+/// The text of a pattern that is one text.
+fn lone_text<'s>(pattern: &Pattern<&'s str>) -> Option<&'s str>
+    ensures { option_copied result ≡ lone_text (pattern_view _ (λ s. s.now) pattern.now) }
+{
+    let (first, rest) = pattern.elements.split_first()?;
+    match first {
+        PatternElement::TextElement { value } if rest.is_empty() => Some(*value),
+        _ => None,
+    }
+}
+
+/// What a pattern writes. The only error is that memory runs out; the first of the pattern's errors are told then.
+fn resolved<'b, 'r, 's, 'a, C: FluentType + Drop, F, E: Context<C, F>>(
+    place: &Place<'b, 'r, 's, 'a, C, F, E>,
+    pattern: &'r Pattern<&'s str>,
+    errors: &mut Vec<FluentError>,
+) -> Result<String, AllocError>
+    ensures text { IfOk result (λ text. string_bytes text
+        ≡ (asked C.meaning (resolved_in E.environment place.now) place.now.arguments
+        pattern.now).value) }
+    ensures told { OnOk result (TellsAll errors.old errors.new
+        (asked C.meaning (resolved_in E.environment place.now) place.now.arguments pattern.now)) }
+    ensures refused { OnErr result (TellsFirst errors.old errors.new
+        (asked C.meaning (resolved_in E.environment place.now) place.now.arguments pattern.now)) }
+{
+    let alloc = place.context.alloc();
+    let mut text = String::with_capacity(alloc, ROOM)?;
+    let list = mem::replace(errors, Vec::new(alloc));
+    let mut progress = Progress::new(alloc, Some(list));
+    let written = write_pattern(&mut text, place, None, &mut progress, pattern);
+    put_back(errors, progress);
+    written?;
+    Ok(text)
+}
+
+/// Writes what a pattern gives, piece by piece.
+///
+/// # Errors
+/// [`Writer`](WriteError::Writer) if the writer refuses a piece, [`Memory`](WriteError::Memory) if memory runs out. The writer took
+/// the pieces before, and the first of the pattern's errors are told.
+pub fn write_answer<'b, 'r, 's, 'a, W, C, F, E>(
+    w: &mut W,
+    place: &Place<'b, 'r, 's, 'a, C, F, E>,
+    pattern: &'r Pattern<&'s str>,
+    errors: &mut Vec<FluentError>,
+) -> Result<(), WriteError>
+where
+    W: TextWrite,
+    C: FluentType + Drop,
+    E: Context<C, F>,
+    ensures wrote { OnOk result (W.text w.new ≡ W.text w.old
+        ++ (asked C.meaning (resolved_in E.environment place.now) place.now.arguments
+        pattern.now).value) }
+    ensures wrote_first { OnErr result (WritesFirst (W.text w.old) (W.text w.new)
+        (asked C.meaning (resolved_in E.environment place.now) place.now.arguments pattern.now)) }
+    ensures told { OnOk result (TellsAll errors.old errors.new
+        (asked C.meaning (resolved_in E.environment place.now) place.now.arguments pattern.now)) }
+    ensures told_first { OnErr result (TellsFirst errors.old errors.new
+        (asked C.meaning (resolved_in E.environment place.now) place.now.arguments pattern.now)) }
+{
+    let alloc = place.context.alloc();
+    let list = mem::replace(errors, Vec::new(alloc));
+    let mut progress = Progress::new(alloc, Some(list));
+    let written = write_pieces(w, place, &mut progress, pattern);
+    put_back(errors, progress);
+    written
+}
+
+/// Puts the errors that were told back where they were taken from.
+fn put_back(errors: &mut Vec<FluentError>, progress: Progress<'_, '_>)
+    ensures { (list : List Reported) → (state progress.entry).errors ≡ Some list
+        → told errors.new ≡ list }
+{
+    if let Some(list) = progress.into_errors() {
+        *errors = list;
+    }
+}
+
+/// Hands a text out as a value is shown: where no formatter is set, as it lies, which takes no memory. The only error is that memory
+/// runs out.
+pub fn hand_out<'s, C: FluentType + Drop, V: ValueScope<C>>(
+    scope: &V,
+    text: CowStr<'s>,
+) -> Result<CowStr<'s>, AllocError>
+    ensures text { IfOk result (λ out. cow_str_bytes out
+        ≡ shown_text (V.formatted scope.now) (V.shown scope.now)
+        (v.text (cow_str_bytes text.entry))) }
+    ensures borrowed { V.has_formatter scope.now ≡ false → IsBorrowedStr text.entry
+        → IsOkAnd result IsBorrowedStr }
+{
+    let value: FluentValue<'s, C> = FluentValue::String(text);
+    value.into_string(scope)
+}

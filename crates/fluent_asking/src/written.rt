@@ -1,0 +1,96 @@
+//! Patterns that are written to a program's own writer, piece by piece.
+
+ghost use Rattle.std.specs.Prelude.{◌≡◌, ◌++◌, None, OnErr, OnOk, false};
+ghost use Rattle.fluent_ast.specs.View.{expression_view, pattern_view};
+ghost use Rattle.fluent_meaning.specs.Refused.{WritesSome};
+ghost use Rattle.fluent_meaning.specs.Substitution as s;
+ghost use Rattle.fluent_meaning.specs.Told.{Writes};
+ghost use Rattle.fluent_progress.specs.Views.{place_view, resolved_in, state};
+
+use fluent_ast::{Expression, Pattern, PatternElement};
+use fluent_progress::{Context, Place, Progress};
+use fluent_resolver::pattern::write_placeable;
+use fluent_value::FluentType;
+use fluent_write::{TextWrite, WriteError};
+
+/// Writes a pattern: each text and each placeable of it is a piece.
+///
+/// # Errors
+/// [`Writer`](WriteError::Writer) if the writer refuses a piece, [`Memory`](WriteError::Memory) if memory runs out. The writer took
+/// the pieces before.
+pub fn write_pieces<'b, 'r, 's, 'a, W, C, F, E>(
+    w: &mut W,
+    place: &Place<'b, 'r, 's, 'a, C, F, E>,
+    progress: &mut Progress<'r, 's>,
+    pattern: &'r Pattern<&'s str>,
+) -> Result<(), WriteError>
+where
+    W: TextWrite,
+    C: FluentType + Drop,
+    E: Context<C, F>,
+    ensures wrote { OnOk result (Writes (W.text w.old) (W.text w.new) (state progress.old)
+        (state progress.new) (s.pattern_written (resolved_in E.environment place.now)
+        (pattern_view _ (λ s. s.now) pattern.now) (place_view C.meaning place.now None
+        progress.old))) }
+    ensures refused { OnErr result (WritesSome (W.text w.old) (W.text w.new) (state progress.old)
+        (state progress.new) (s.pattern_written (resolved_in E.environment place.now)
+        (pattern_view _ (λ s. s.now) pattern.now) (place_view C.meaning place.now None
+        progress.old))) }
+{
+    for element in &pattern.elements {
+        if progress.dirty {
+            return Ok(());
+        }
+        match element {
+            PatternElement::TextElement { value } => write_text(w, place.context, *value)?,
+            PatternElement::Placeable { expression } => {
+                write_piece(w, place, progress, pattern, expression)?
+            }
+        }
+    }
+    Ok(())
+}
+
+/// Writes a text of a pattern, or nothing of it.
+fn write_text<W: TextWrite, C: FluentType, F, E: Context<C, F>>(
+    w: &mut W,
+    context: &E,
+    text: &str,
+) -> Result<(), WriteError>
+    ensures wrote { OnOk result (W.text w.new ≡ W.text w.old
+        ++ (E.environment context.now).transformed text.now) }
+    ensures refused { OnErr result (W.text w.new ≡ W.text w.old) }
+{
+    let text = context.transform(text)?;
+    w.write_str(text.as_str())?;
+    Ok(())
+}
+
+/// Writes a placeable of a pattern, or nothing of it.
+fn write_piece<'b, 'r, 's, 'a, W, C, F, E>(
+    w: &mut W,
+    place: &Place<'b, 'r, 's, 'a, C, F, E>,
+    progress: &mut Progress<'r, 's>,
+    whole: &'r Pattern<&'s str>,
+    expression: &'r Expression<&'s str>,
+) -> Result<(), WriteError>
+where
+    W: TextWrite,
+    C: FluentType + Drop,
+    E: Context<C, F>,
+    requires { progress.now.dirty ≡ false }
+    ensures wrote { OnOk result (Writes (W.text w.old) (W.text w.new) (state progress.old)
+        (state progress.new) (s.placeable_written (resolved_in E.environment place.now)
+        (pattern_view _ (λ s. s.now) whole.now) (expression_view _ (λ s. s.now) expression.now)
+        (place_view C.meaning place.now None progress.old))) }
+    ensures refused { OnErr result (WritesSome (W.text w.old) (W.text w.new) (state progress.old)
+        (state progress.new) (s.placeable_written (resolved_in E.environment place.now)
+        (pattern_view _ (λ s. s.now) whole.now) (expression_view _ (λ s. s.now) expression.now)
+        (place_view C.meaning place.now None progress.old))) }
+    ensures path { OnOk result (progress.new.path.items ≡ progress.old.path.items) }
+{
+    let mut piece = String::new(place.context.alloc());
+    write_placeable(&mut piece, place, None, progress, whole, expression)?;
+    w.write_str(piece.as_str())?;
+    Ok(())
+}

@@ -1,8 +1,0 @@
-use Rattle.std.proofs.Common.{◌≡◌, rules}
-use Rattle.fluent_progress.proofs.Telling.{on-err}
-use Rattle.fluent_bundle.proofs.Pieces.{piece-refused}
-use Rattle.fluent_bundle.proofs.resolver.written.write_piece.Goals as goal
-
-pub returns-in_err-write_str-clause-refused : goal.returns-in_err-write_str-clause-refused
-returns-in_err-write_str-clause-refused g c =
-    on-err _ (piece-refused _ c.in_ok-write_placeable.ensures.wrote c.in_err-write_str.ensures.refused)
