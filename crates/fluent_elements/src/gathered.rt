@@ -8,6 +8,7 @@ ghost use Rattle.fluent_elements.specs.Elements.{value_by};
 
 use crate::dedent::dedent_all;
 use crate::kept::{kept_len, trim_last};
+use crate::room::{push_tight, shrink_short};
 use fluent_ast::{Pattern, PatternElement};
 use fluent_slice::Texts;
 use std::alloc::{AllocError, Global};
@@ -52,12 +53,7 @@ impl<S: Drop> Gathered<S> {
         ensures common_indent { self.new.common_indent ≡ lesser self.old.common_indent indent }
     {
         self.common_indent = lesser(self.common_indent, indent);
-        // Many patterns have just one element.
-        if self.elements.is_empty() {
-            self.elements.reserve_exact(1)?;
-        }
-        self.elements.push(element)?;
-        Ok(())
+        push_tight(&mut self.elements, element)
     }
 
     /// The pattern that the elements give, or none where nothing but blank was read.
@@ -82,6 +78,7 @@ impl<S: Drop> Gathered<S> {
         elements.truncate(kept);
         dedent_all(alloc, texts, &mut elements, begins_line, common_indent)?;
         trim_last(texts, &mut elements);
+        shrink_short(&mut elements);
         Ok(Some(Pattern { elements }))
     }
 }

@@ -7,6 +7,8 @@
 mod dedent;
 mod gathered;
 mod kept;
+mod room;
 
 pub use gathered::Gathered;
 pub use kept::is_blank_text;
+pub use room::push_tight;

@@ -1,5 +1,5 @@
 -- The pieces of a pattern, gathered one behind the other.
-use Rattle.std.proofs.Common.{◌≡◌, ℕ, Bool, List, [], ◌∷◌, ◌++◌, map, refl, sym, ap, subst, ◌∙◌, Some, None}
+use Rattle.std.proofs.Common.{◌≡◌, ℕ, Bool, List, [], ◌∷◌, ◌++◌, map, refl, sym, ap, subst, ◌∙◌, None}
 use Rattle.std.proofs.lemmas.List.{map-append}
 use Rattle.fluent_grammar.specs.Words.{Text, after_line_end}
 use Rattle.fluent_grammar.specs.Refusal.{got, mapped}
@@ -11,6 +11,7 @@ use Rattle.fluent_elements.specs.declared.gathered.Gathered.{Gathered}
 use Rattle.fluent_elements.specs.Elements.{value_by}
 use Rattle.fluent_elements.specs.Pieces.{undented, IsLined, Fits, line_behind_all}
 use Rattle.fluent_elements.proofs.Gathering.{common_more, lined_more, behind_more, gathered_value}
+use Rattle.fluent_parser.specs.Pieces.{PutsRead}
 use Rattle.fluent_parser.specs.Reads.{whole}
 use Rattle.fluent_parser.specs.Steps.{pattern_behind, pieces_by, kept_piece_by, first_place}
 use Rattle.fluent_parser.proofs.Cycle.{pieces_start, piece_read}
@@ -38,17 +39,16 @@ module _ (S : Type 0) (text_of : S → List ℕ) where
     same = pieces_start (λ (q : Piece). q) [] line u rest (after_line_end u) refl p;
   }
 
-  pub gathers_more : (old new : Gathered S) (line next : Bool) (s rest u : Text) (p : Piece) → Gathers old line s u → kept_piece_by line s ≡ got (Some (p, next)) rest →
-      map (element_view S text_of) new.elements.items ≡ map (element_view S text_of) old.elements.items ++ undented p ∷ [] → new.begins_line ≡ old.begins_line →
-      new.common_indent ≡ l.lesser old.common_indent (l.indent_of p) → Gathers new next rest u
-  gathers_more old new line next s rest u p h k e b c =
-      let taken = kept_some line s rest (p, next) k in
+  pub gathers_more : (old new : Gathered S) (line next : Bool) (s rest u : Text) → Gathers old line s u → PutsRead S text_of old new rest next (kept_piece_by line s) → Gathers new next rest u
+  gathers_more old new line next s rest u h r =
+      let p = r.piece in
+      let taken = kept_some line s rest (p, next) r.read_is in
       let stands = piece_stands line s rest p next taken in
       record {
         pieces = h.pieces ++ p ∷ [];
-        elements = e ∙ ap (λ z. z ++ undented p ∷ []) h.elements ∙ sym (map-append undented h.pieces (p ∷ []));
-        common = c ∙ ap (λ z. l.lesser z (l.indent_of p)) h.common ∙ sym (common_more h.pieces p);
-        lined = subst (λ (z : Bool). IsLined z (h.pieces ++ p ∷ [])) (sym b) (lined_more old.begins_line h.pieces p h.lined (subst (λ (z : Bool). Fits z p) h.line_is stands.1));
+        elements = r.puts.elements ∙ ap (λ z. z ++ undented p ∷ []) h.elements ∙ sym (map-append undented h.pieces (p ∷ []));
+        common = r.puts.common_indent ∙ ap (λ z. l.lesser z (l.indent_of p)) h.common ∙ sym (common_more h.pieces p);
+        lined = subst (λ (z : Bool). IsLined z (h.pieces ++ p ∷ [])) (sym r.puts.begins_line) (lined_more old.begins_line h.pieces p h.lined (subst (λ (z : Bool). Fits z p) h.line_is stands.1));
         line_is = stands.0 ∙ sym (behind_more new.begins_line h.pieces p);
         same = piece_read h.pieces line next s rest p (g.first_pieces_at whole u (after_line_end u)) h.same taken;
       }

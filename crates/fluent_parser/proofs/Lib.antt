@@ -1,7 +1,6 @@
 pub mod Names
 pub mod Named
 pub mod Indexed
-pub mod PieceViews
 pub mod PatternPieces
 pub mod Steps
 pub mod Whole
@@ -13,6 +12,7 @@ pub mod FittingPieces
 pub mod GatheredPieces
 pub mod Values
 pub mod Runs
+pub mod PutPieces
 pub mod Comments
 pub mod Entries
 pub mod EntryStarts

@@ -1,24 +1,19 @@
 -- The pieces of a pattern that the parser takes.
-use Rattle.std.proofs.Common.{◌≡◌, ℕ, zero, suc, ◌+◌, ◌<◌, ◌≤◌, Bool, true, false, cond, ◌&&◌, [], ◌∷◌, ◌++◌, length, take, drop, replicate, refl, sym, ap, ◌∙◌, arith, subst, Option, Some, None}
+use Rattle.std.proofs.Common.{◌≡◌, ℕ, suc, ◌+◌, ◌<◌, ◌≤◌, Bool, true, false, cond, ◌&&◌, [], ◌∷◌, ◌++◌, length, take, drop, replicate, refl, sym, ap, ◌∙◌, arith, subst, Some}
 use Rattle.std.specs.Prelude.{◌==◌}
-use Rattle.std.specs.Bool.{then_some}
-use Rattle.std.specs.Prelude.{IfSome}
-use Rattle.std.specs.List.{All}
-use Rattle.std.proofs.lemmas.List.Elements.{All-cons, All-nil}
-use Rattle.fluent_parser.specs.declared.pieces.Piece.{Piece as PieceOf}
-use Rattle.std.proofs.lemmas.List.{drop-drop, length-drop, length-append, length-replicate}
+use Rattle.std.proofs.lemmas.List.{drop-drop, length-drop}
 use Rattle.std.proofs.Math.Seq.{take-add}
 use Rattle.fluent_grammar.specs.Words as w
 use Rattle.fluent_grammar.specs.Words.{Text, space, line_feed, spaces, begins_with, begins_crlf}
 use Rattle.fluent_grammar.specs.Refusal.{Reading, got, ◌>>=◌}
-use Rattle.fluent_grammar.specs.Lines.{Piece, in_line, at_line_start, ends_line}
+use Rattle.fluent_grammar.specs.Lines.{Piece, in_line, ends_line}
 use Rattle.fluent_grammar.specs.Reading.{text_run}
 use Rattle.fluent_grammar.specs.Ends.{EndsIn}
 use Rattle.fluent_grammar.proofs.Within.{end-same, end-le}
 use Rattle.fluent_grammar.proofs.Taken.{Leaves, text_run-leaves}
-use Rattle.fluent_parser.specs.declared.pieces.Piece.TheVariants as piece
 use Rattle.fluent_words.specs.Counted.{Cuts}
-use Rattle.fluent_parser.specs.Pieces.{piece_view, IsPiece}
+use Rattle.fluent_ast.specs.View.{text}
+use Rattle.fluent_elements.specs.Pieces.{undented}
 use Rattle.fluent_parser.specs.Steps.{text_piece, text_step, piece_behind, indent_at, IsTextStart}
 use Rattle.fluent_words.proofs.Counted.{cut_none, cut_spaces, cut_begun}
 use Rattle.fluent_words.proofs.Scanned.{cut_more, test_of}
@@ -44,37 +39,12 @@ spaces_front (c ∷ cs) = front_case (c == space) c cs refl (spaces_front cs)
 indented : (s x : Text) (n k : ℕ) → n ≡ spaces s → x ≡ take (n + k) s → x ≡ replicate n space ++ take k (drop n s)
 indented s x n k e f = f ∙ take-add n k s ∙ ap (λ (z : Text). z ++ take k (drop n s)) (ap (λ (i : ℕ). take i s) e ∙ spaces_front s ∙ ap (λ (i : ℕ). replicate i space) (sym e))
 
-drop_spaces : (n : ℕ) (y : Text) → drop n (replicate n space ++ y) ≡ y
-drop_spaces zero y = refl
-drop_spaces (suc n) y = drop_spaces n y
-
-behind_indent : (s x : Text) (n k : ℕ) → n ≡ spaces s → x ≡ take (n + k) s → drop n x ≡ take k (drop n s)
-behind_indent s x n k e f = ap (λ (z : Text). drop n z) (indented s x n k e f) ∙ drop_spaces n (take k (drop n s))
-
-module _ (S : Type 0) (text_of : S → Text) where
-  -- a text piece, seen
-  pub piece_seen : (s : Text) (x : S) (line : Bool) (n k : ℕ) (o : Option ℕ) → n ≡ indent_at line s → text_of x ≡ take (n + k) s → o ≡ then_some line n →
-      piece_view S text_of (piece.Text x o) ≡ text_piece line n (take k (drop n s))
-  piece_seen s x true n k o e f h = rw h (ap (at_line_start n) (behind_indent s (text_of x) n k e f))
-  piece_seen s x false n k o e f h =
-      let z : n + k ≡ k = omega (arith, e) in
-      rw h (ap in_line (f ∙ ap (λ (i : ℕ). take i s) z ∙ ap (λ (i : ℕ). take k (drop i s)) (sym e)))
-
-  pub piece_right : (s : Text) (x : S) (line : Bool) (n k : ℕ) (o : Option ℕ) → n ≡ indent_at line s → text_of x ≡ take (n + k) s → o ≡ then_some line n → IsPiece S text_of (piece.Text x o)
-  piece_right s x true n k o e f h =
-      let i = indented s (text_of x) n k e f in
-      let b = behind_indent s (text_of x) n k e f in
-      let l : length (text_of x) ≡ length (replicate n space ++ take k (drop n s)) = ap length i in
-      rw h (i ∙ ap (λ (z : Text). replicate n space ++ z) (sym b), omega (arith, l, length-append (replicate n space) (take k (drop n s)), length-replicate n space))
-  piece_right s x false n k o e f h = rw h tt
-
--- a piece that was taken
-module _ (S : Type 0) (text_of : S → Text) where
-  pub one_right : (o : Option (PieceOf S × Bool)) (p : PieceOf S) (b : Bool) → o ≡ Some (p, b) → IfSome o (λ q. IsPiece S text_of q.0) → All (IsPiece S text_of) (p ∷ [])
-  one_right None p b e h = absurd cc
-  one_right (Some q) p b e h =
-      let r : IsPiece S text_of p = subst (λ (o : Option (PieceOf S × Bool)). IfSome o (λ q. IsPiece S text_of q.0)) e h in
-      All-cons (IsPiece S text_of) p [] r (All-nil (IsPiece S text_of))
+-- the leading spaces of a text piece and the text, as they were taken
+pub undented_text : (s x : Text) (line : Bool) (n k : ℕ) → n ≡ indent_at line s → x ≡ take (n + k) s → text x ≡ undented (text_piece line n (take k (drop n s)))
+undented_text s x true n k e f = ap text (indented s x n k e f)
+undented_text s x false n k e f =
+    let z : n + k ≡ k = omega (arith, e) in
+    ap text (f ∙ ap (λ (i : ℕ). take i s) z ∙ ap (λ (i : ℕ). take k (drop i s)) (sym e))
 
 pub text_read : (s u rest : Text) (line : Bool) (n k : ℕ) (p : Piece) (b : Bool) → u ≡ drop n s → text_run u ≡ got (take k u) (drop k u) → p ≡ text_piece line n (take k (drop n s)) → b ≡ ends_line (take k u) → rest ≡ drop (n + k) s →
     text_step line n (drop n s) ≡ got (Some (p, b)) rest

@@ -1,23 +1,29 @@
--- The pieces of a pattern that the parser reads, as pieces of the grammar.
-use Rattle.std.specs.Prelude.{◌≡◌, ℕ, ◌≤◌, Bool, List, ◌++◌, length, drop, replicate, Some, None}
-use Rattle.fluent_grammar.specs.Words.{space}
-use Rattle.fluent_grammar.specs.Lines as l
-use Rattle.fluent_grammar.specs.Lines.{dedented}
-use Rattle.fluent_parser.specs.declared.pieces.Piece.{Piece}
-use Rattle.fluent_parser.specs.declared.pieces.Piece.TheVariants as piece
-use Rattle.fluent_ast.specs.View.{expression_view}
+-- What reading a piece of a pattern does to the elements that were gathered before it.
+use Rattle.std.specs.Prelude.{◌≡◌, Bool, ◌++◌, ◌∷◌, [], map, Option, Some, None, Result, Ok, Err}
+use Rattle.fluent_grammar.specs.Words.{Text}
+use Rattle.fluent_grammar.specs.Refusal.{Reading, got}
+use Rattle.fluent_grammar.specs.Lines.{Piece, indent_of, lesser}
+use Rattle.fluent_ast.specs.View.{element_view}
+use Rattle.fluent_elements.specs.declared.gathered.Gathered.{Gathered}
+use Rattle.fluent_elements.specs.Pieces.{undented}
+use Rattle.fluent_parser.specs.Reads.{Fails}
+use Rattle.fluent_parser.specs.declared.fault.Fault.{Fault}
 
-module _ (S : Type 0) (text_of : S → List ℕ) where
-  -- a text at a line start has its leading spaces at its front
-  abbrev pub piece_view : Piece S → l.Piece
-  piece_view (piece.Text s None) = l.in_line (text_of s)
-  piece_view (piece.Text s (Some n)) = l.at_line_start n (drop n (text_of s))
-  piece_view (piece.Placeable e z) = l.placed z (expression_view S text_of e)
+module _ (S : Type 0) (text_of : S → Text) where
+  -- a piece was put behind what was gathered, with its leading spaces
+  pub record Puts (old new : Gathered S) (piece : Piece) : Type 0 where
+    pub elements : map (element_view S text_of) new.elements.items ≡ map (element_view S text_of) old.elements.items ++ undented piece ∷ []
+    pub begins_line : new.begins_line ≡ old.begins_line
+    pub common_indent : new.common_indent ≡ lesser old.common_indent (indent_of piece)
 
-  abbrev pub IsPiece : Piece S → Type 0
-  IsPiece (piece.Text s None) = Unit {0}
-  IsPiece (piece.Text s (Some n)) = (text_of s ≡ replicate n space ++ drop n (text_of s)) × (n ≤ length (text_of s))
-  IsPiece (piece.Placeable e z) = Unit {0}
+  -- reading gave a piece, which was put there, and whether it ends its line
+  pub record PutsRead (old new : Gathered S) (rest : Text) (ends_line : Bool) (read : Reading (Option (Piece × Bool))) : Type 0 where
+    pub piece : Piece
+    pub read_is : read ≡ got (Some (piece, ends_line)) rest
+    pub puts : Puts old new piece
 
-  abbrev pub step_view : Piece S × Bool → l.Piece × Bool
-  step_view p = (piece_view p.0, p.1)
+  -- What a reader of a piece returned, and what it left, are what reading gives, unless memory ran out.
+  abbrev pub GivesPiece : Gathered S → Gathered S → Text → Result (Option Bool) Fault → Reading (Option (Piece × Bool)) → Type 0
+  GivesPiece old new rest (Ok None) read = (read ≡ got None rest) × (new ≡ old)
+  GivesPiece old new rest (Ok (Some ends_line)) read = PutsRead old new rest ends_line read
+  GivesPiece old new rest (Err e) read = Fails e rest read

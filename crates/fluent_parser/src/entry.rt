@@ -9,6 +9,7 @@ use crate::ErrorKind;
 use crate::fault::Fault;
 use crate::helper::Parser;
 use fluent_ast::{Attribute, Entry, Identifier, Message, Pattern, Term};
+use fluent_elements::push_tight;
 use fluent_slice::Texts;
 use fluent_words as words;
 
@@ -139,7 +140,7 @@ impl<'p, S: Drop, T: Texts<S>> Parser<'p, S, T> {
     {
         let mut attributes = Vec::new(self.alloc);
         while let Some(attribute) = self.next_attribute()? {
-            attributes.push(attribute)?;
+            push_tight(&mut attributes, attribute)?;
         }
         Ok(attributes)
     }

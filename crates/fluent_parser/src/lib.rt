@@ -18,7 +18,6 @@ pub mod laws;
 mod named_arguments;
 mod part;
 mod pattern;
-mod pieces;
 mod recovery;
 mod resource;
 mod select;

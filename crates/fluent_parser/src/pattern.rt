@@ -3,15 +3,14 @@
 
 ghost use Rattle.std.specs.Prelude.{◌≡◌, ◌≤◌, ◌<◌, ◌||◌, IfOk, IfSome, Some, true, false, length, drop, map, option_map};
 ghost use Rattle.fluent_grammar.specs.Words as w;
-ghost use Rattle.fluent_grammar.specs.Lines.{in_line, pattern_ends};
-ghost use Rattle.fluent_parser.specs.Steps.{is_last_feed, IsOneLine};
+ghost use Rattle.fluent_grammar.specs.Lines.{pattern_ends, indent_of};
+ghost use Rattle.fluent_parser.specs.Steps.{is_last_feed, text_piece, IsOneLine};
 
 use crate::ErrorKind;
 use crate::fault::Fault;
 use crate::helper::Parser;
-use crate::pieces::{Piece, put};
 use fluent_ast::{Pattern, PatternElement};
-use fluent_elements::Gathered;
+use fluent_elements::{Gathered, is_blank_text};
 use fluent_slice::Texts;
 use fluent_words as words;
 
@@ -36,11 +35,22 @@ fn is_last_feed(text: &[u8]) -> bool
     words::begins_with(text, b'\n') && words::pattern_ends(words::from(text, 1))
 }
 
+/// What a text says of the common indent, behind so many spaces at a line start or within a line: nothing where it is blank.
+fn said_by(at_line_start: bool, indent: usize, text: &[u8]) -> Option<usize>
+    ensures { result ≡ indent_of (text_piece at_line_start indent text.now) }
+{
+    if at_line_start && !is_blank_text(text) {
+        Some(indent)
+    } else {
+        None
+    }
+}
+
 impl<'p, S: Drop, T: Texts<S>> Parser<'p, S, T> {
     ghost use Rattle.fluent_parser.specs.Reads.{Gives};
     ghost use Rattle.fluent_parser.specs.Steps.{pattern_by, pattern_behind, kept_piece_by, piece_behind, indent_at, text_step, first_place, IsTextStart};
     ghost use Rattle.fluent_ast.specs.View.{pattern_view};
-    ghost use Rattle.fluent_parser.specs.Pieces.{piece_view, step_view, IsPiece};
+    ghost use Rattle.fluent_parser.specs.Pieces.{GivesPiece};
 
     /// A pattern, or none where nothing but blank stands. Production `Pattern`.
     #[cycle(parser)]
@@ -89,8 +99,7 @@ impl<'p, S: Drop, T: Texts<S>> Parser<'p, S, T> {
     {
         let mut at_line_start = self.skip_to_line();
         let mut gathered = Gathered::new(self.alloc, at_line_start);
-        while let Some((piece, ends_line)) = self.get_piece(at_line_start)? {
-            put(self.texts, &mut gathered, piece)?;
+        while let Some(ends_line) = self.get_piece(at_line_start, &mut gathered)? {
             at_line_start = ends_line;
         }
         let pattern = gathered.finish(self.alloc, self.texts)?;
@@ -112,17 +121,20 @@ impl<'p, S: Drop, T: Texts<S>> Parser<'p, S, T> {
         begins_line
     }
 
-    /// The next piece of a pattern and whether it ends its line, or None where the pattern ends. A blank line behind most patterns
-    /// would be a piece of its own, which is dropped again: its line feed is passed over.
+    /// Reads the next piece of a pattern, puts it behind those that were gathered, and says whether it ends its line. None where the
+    /// pattern ends. A blank line behind most patterns would be a piece of its own, which is dropped again: its line feed is passed over.
     #[cycle(parser)]
     #[tactic(auto, using(crate::proofs::Failing::handed, fluent_words::proofs::Counted::cuts), unfolding(crate::specs::Steps::piece_by, crate::specs::Steps::kept_piece_by))]
-    fn get_piece(&mut self, at_line_start: bool) -> Result<Option<(Piece<S>, bool)>, Fault>
+    fn get_piece(
+        &mut self,
+        at_line_start: bool,
+        gathered: &mut Gathered<S>,
+    ) -> Result<Option<bool>, Fault>
         requires { T.text self.old.source.now ≡ self.old.text.now }
-        ensures gives { Gives (option_map (step_view S T.text)) self.new.rest.now result
+        ensures gives { GivesPiece S T.text gathered.old gathered.new self.new.rest.now result
             (kept_piece_by at_line_start self.old.rest.now) }
-        ensures right { IfOk result (λ found. IfSome found (λ p. IsPiece S T.text p.0)) }
         ensures less { IfOk result (λ found. IfSome found
-            (λ p. length self.new.rest.now < length self.old.rest.now)) }
+            (λ ends. length self.new.rest.now < length self.old.rest.now)) }
         ensures source { self.new.source.now ≡ self.old.source.now }
         ensures text { self.new.text.now ≡ self.old.text.now }
         ensures onward { length self.new.rest.now ≤ length self.old.rest.now }
@@ -139,24 +151,24 @@ impl<'p, S: Drop, T: Texts<S>> Parser<'p, S, T> {
         } else {
             0
         };
-        self.get_piece_behind(at_line_start, indent)
+        self.get_piece_behind(at_line_start, indent, gathered)
     }
 
-    /// The next piece, behind so many spaces. Productions `inline_text`, `block_text`, `inline_placeable` and
+    /// The same for a piece behind so many spaces. Productions `inline_text`, `block_text`, `inline_placeable` and
     /// `block_placeable`.
     #[cycle(parser)]
     fn get_piece_behind(
         &mut self,
         at_line_start: bool,
         indent: usize,
-    ) -> Result<Option<(Piece<S>, bool)>, Fault>
+        gathered: &mut Gathered<S>,
+    ) -> Result<Option<bool>, Fault>
         requires tied { T.text self.old.source.now ≡ self.old.text.now }
         requires indent { indent ≡ indent_at at_line_start self.old.rest.now }
-        ensures gives { Gives (option_map (step_view S T.text)) self.new.rest.now result
+        ensures gives { GivesPiece S T.text gathered.old gathered.new self.new.rest.now result
             (piece_behind at_line_start indent (drop indent self.old.rest.now)) }
-        ensures right { IfOk result (λ found. IfSome found (λ p. IsPiece S T.text p.0)) }
         ensures less { IfOk result (λ found. IfSome found
-            (λ p. length self.new.rest.now < length self.old.rest.now)) }
+            (λ ends. length self.new.rest.now < length self.old.rest.now)) }
         ensures source { self.new.source.now ≡ self.old.source.now }
         ensures text { self.new.text.now ≡ self.old.text.now }
         ensures onward { length self.new.rest.now ≤ length self.old.rest.now }
@@ -169,36 +181,33 @@ impl<'p, S: Drop, T: Texts<S>> Parser<'p, S, T> {
             self.advance(indent);
             let expression = self.get_placeable()?;
             let column_zero = at_line_start && indent == 0;
-            Ok(Some((
-                Piece::Placeable {
-                    expression,
-                    column_zero,
-                },
-                false,
-            )))
+            let element = PatternElement::Placeable { expression };
+            gathered.push(element, column_zero.then_some(0))?;
+            Ok(Some(false))
         } else if words::begins_crlf(behind) {
             self.advance(indent + 1);
-            let text = self.take(1)?;
-            Ok(Some((Piece::Text { text, indent: None }, true)))
+            let value = self.take(1)?;
+            gathered.push(PatternElement::TextElement { value }, None)?;
+            Ok(Some(true))
         } else {
-            self.get_text_piece(at_line_start, indent)
+            self.get_text_piece(at_line_start, indent, gathered)
         }
     }
 
-    /// A text behind so many spaces.
+    /// The same for a text behind so many spaces.
     fn get_text_piece(
         &mut self,
         at_line_start: bool,
         indent: usize,
-    ) -> Result<Option<(Piece<S>, bool)>, Fault>
+        gathered: &mut Gathered<S>,
+    ) -> Result<Option<bool>, Fault>
         requires tied { T.text self.old.source.now ≡ self.old.text.now }
         requires indent { indent ≡ indent_at at_line_start self.old.rest.now }
         requires some { IsTextStart (drop indent self.old.rest.now) }
-        ensures gives { Gives (option_map (step_view S T.text)) self.new.rest.now result
+        ensures gives { GivesPiece S T.text gathered.old gathered.new self.new.rest.now result
             (text_step at_line_start indent (drop indent self.old.rest.now)) }
         ensures less { IfOk result (λ found. IfSome found
-            (λ p. length self.new.rest.now < length self.old.rest.now)) }
-        ensures right { IfOk result (λ found. IfSome found (λ p. IsPiece S T.text p.0)) }
+            (λ ends. length self.new.rest.now < length self.old.rest.now)) }
         ensures source { self.new.source.now ≡ self.old.source.now }
         ensures text { self.new.text.now ≡ self.old.text.now }
         ensures onward { length self.new.rest.now ≤ length self.old.rest.now }
@@ -206,10 +215,11 @@ impl<'p, S: Drop, T: Texts<S>> Parser<'p, S, T> {
         let behind = words::from(self.bytes(), indent);
         match words::text_len(behind) {
             Ok(count) => {
-                let ends_line = words::ends_line(words::front(behind, count));
-                let text = self.take(indent + count)?;
-                let indent = at_line_start.then_some(indent);
-                Ok(Some((Piece::Text { text, indent }, ends_line)))
+                let text = words::front(behind, count);
+                let said = said_by(at_line_start, indent, text);
+                let value = self.take(indent + count)?;
+                gathered.push(PatternElement::TextElement { value }, said)?;
+                Ok(Some(words::ends_line(text)))
             }
             Err(count) => {
                 self.advance(indent + count);

@@ -23,7 +23,7 @@ returns g c =
     let same = with_items_is c.truncate.new.self c.dedent_all.new.elements n in
     let trimmed = c.trim_last.ensures ∙ ap (λ z. last_trimmed (map view z)) (c.deref_mut-2.ensures.value ∙ same) ∙ ap last_trimmed dedented in
     let there : 0 < length (kept_of (map view all)) = omega (arith, ap length front, length-take count (map view all), length-map all view, c.kept_len-kept.ensures.within, ap length c.as_slice.ensures.value, c.if-kept-eq0.false) in
-    ap Some (pattern_view-roll g.row.S.Denot g.T.Texts.text (record { elements = with_items first c.trim_last.new.elements }))
-    ∙ ap (λ z. Some (elements_of (map view z))) (with_items_is first c.trim_last.new.elements m)
+    ap Some (pattern_view-roll g.row.S.Denot g.T.Texts.text (record { elements = c.shrink_short.new.list }))
+    ∙ ap (λ z. Some (elements_of (map view z))) (c.shrink_short.ensures ∙ with_items_is first c.trim_last.new.elements m)
     ∙ ap (λ z. Some (elements_of z)) trimmed
     ∙ value_there line common (kept_of (map view all)) there

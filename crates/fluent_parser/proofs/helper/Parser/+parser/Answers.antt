@@ -1,5 +1,5 @@
 use Rattle.std.proofs.Common.{◌≡◌, ◌∙◌, ◌||◌, ℕ, List, [], length, take, drop, map, sym, ap, refl, subst, arith, Some, ◌++◌, ◌∷◌, Vec, Global}
-use Rattle.std.specs.Prelude.{false, option_map, ◌==◌}
+use Rattle.std.specs.Prelude.{false, option_map, ◌==◌, ◌&&◌}
 use Rattle.std.specs.List.{list_all}
 use Rattle.fluent_grammar.specs.Words as w
 use Rattle.fluent_grammar.specs.Words.{begins_with, skip_blank, skip_separator}
@@ -11,22 +11,23 @@ use Rattle.fluent_ast.specs.declared.InlineExpression.{InlineExpression}
 use Rattle.fluent_ast.specs.declared.Variant.{Variant}
 use Rattle.fluent_words.specs.Counted.{begins_literal}
 use Rattle.fluent_parser.specs.Reads.{Gives, whole, string_or_number_at, argument_value_at}
-use Rattle.fluent_parser.specs.Steps.{names_of, variants_behind, Argument, named, arguments_behind, positional_by, argument_by, placeable_by, pattern_behind}
-use Rattle.fluent_ast.specs.View.{Named, inlines_of, nameds_of, name_of, inline_view, expression_view, named_view, variant_view, variants_of, arguments_view, pattern_view}
+use Rattle.fluent_parser.specs.Steps.{names_of, variants_behind, Argument, named, arguments_behind, positional_by, argument_by, placeable_by, pattern_behind, kept_piece_by, piece_behind}
+use Rattle.fluent_ast.specs.View.{Named, inlines_of, nameds_of, name_of, inline_view, expression_view, named_view, variant_view, variants_of, arguments_view, pattern_view, element_view}
+use Rattle.fluent_elements.specs.Elements.{value_by}
 use Rattle.fluent_parser.specs.declared.named_arguments.NamedArguments.{NamedArguments}
 use Rattle.fluent_parser.specs.Arguments.{argument_view, IsNamed}
 use Rattle.fluent_parser.specs.Indexed.{IsIndexed}
 use Rattle.fluent_parser.proofs.Named.{name_begins}
-use Rattle.fluent_parser.specs.Pieces.{piece_view, step_view}
 use Rattle.fluent_ast.proofs.Views.{inline_view-FunctionReference, inline_view-TermReference, inline_view-Placeable, arguments_view-roll, named_view-roll}
 use Rattle.fluent_parser.proofs.Failing.{handed_on, fails_mapped, fails_same}
 use Rattle.fluent_words.proofs.Scanned.{test_of}
 use Rattle.fluent_parser.proofs.Runs.{cut_indent_at, cut_line_feed, line_feed_read, begun_shorter, cut_arrow}
 use Rattle.fluent_parser.proofs.Cycle.{gives_same, pattern_is_behind, inline_literal, inline_term, inline_variable, inline_named, inline_nested, inline_none, inline_shorter, argument_fails, argument_not_named, argument_unnamed, argument_named, arguments_start, arguments_empty, arguments_fail, argument_fail, positional_read, named_read, arguments_end, mark_fails, variants_fail, variant_fails, variants_read, variants_end, variants_refused, pattern_fails, term_read, function_read, pushed, arguments_same, variants_same, on_ok_always}
 use Rattle.fluent_parser.proofs.LastFeeds.{kept_fails}
+use Rattle.fluent_parser.proofs.PutPieces.{piece_put, no_piece, placeable_put, feed_put}
 use Rattle.fluent_parser.proofs.GatheredPieces.{gathers_none, gathers_more, gathers_all}
 use Rattle.fluent_parser.proofs.helper.Parser.+parser.Goals as goal
-use Rattle.fluent_parser.proofs.helper.Parser.+parser.Goals.{get_call_arguments-in-Positional+in_ok-push-in-Positional, get_call_arguments-in-Named+in_ok-push-in-Named}
+use Rattle.fluent_parser.proofs.helper.Parser.+parser.Goals.{get_piece_behind-then-at_line_start, get_piece_behind-else-at_line_start, get_call_arguments-in-Positional+in_ok-push-in-Positional, get_call_arguments-in-Named+in_ok-push-in-Named}
 
 pub get_inline_expression-returns-then-begins_literal-clause-gives : goal.get_inline_expression-returns-then-begins_literal-clause-gives
 get_inline_expression-returns-then-begins_literal-clause-gives g t c =
@@ -191,31 +192,38 @@ get_lines-loop-gathered-init g t c =
       gathers = gathers_none g.row.S.Denot g.T.Texts.text c.new-gathered.result c.skip_to_line-at_line_start.result c.skip_to_line-at_line_start.new.self.rest.now c.args.self.now.rest.now c.new-gathered.ensures.elements c.new-gathered.ensures.begins_line c.new-gathered.ensures.common_indent c.skip_to_line-at_line_start.ensures.place;
     }
 
-pub get_lines-returns-in_err-piece-clause-gives : goal.get_lines-returns-in_err-piece-clause-gives
-get_lines-returns-in_err-piece-clause-gives g t c =
+pub get_lines-returns-in_err-ends_line-clause-gives : goal.get_lines-returns-in_err-ends_line-clause-gives
+get_lines-returns-in_err-ends_line-clause-gives g t c =
     let gathers = c.loop-gathered.invariant.gathers in
-    handed_on (option_map (pattern_view g.row.S.Denot g.T.Texts.text)) c.get_piece.new.self.rest.now c.from_residual.result c.in_err-piece.field-0.0 (pattern_behind c.args.self.now.rest.now) c.from_residual.ensures.1
-    (pattern_fails c.loop-gathered.self.rest.now c.args.self.now.rest.now c.loop-gathered.at_line_start gathers.pieces c.in_err-piece.field-0.0 c.get_piece.new.self.rest.now gathers.same
-    (kept_fails c.loop-gathered.at_line_start c.loop-gathered.self.rest.now c.in_err-piece.field-0.0 c.get_piece.new.self.rest.now c.in_err-piece.ensures.gives))
+    handed_on (option_map (pattern_view g.row.S.Denot g.T.Texts.text)) c.get_piece.new.self.rest.now c.from_residual.result c.in_err-ends_line.field-0.0 (pattern_behind c.args.self.now.rest.now) c.from_residual.ensures.1
+    (pattern_fails c.loop-gathered.self.rest.now c.args.self.now.rest.now c.loop-gathered.at_line_start gathers.pieces c.in_err-ends_line.field-0.0 c.get_piece.new.self.rest.now gathers.same
+    (kept_fails c.loop-gathered.at_line_start c.loop-gathered.self.rest.now c.in_err-ends_line.field-0.0 c.get_piece.new.self.rest.now c.in_err-ends_line.ensures.gives))
 
 pub get_lines-loop-gathered-preserved : goal.get_lines-loop-gathered-preserved
 get_lines-loop-gathered-preserved g t c =
+    let line = c.loop-gathered.at_line_start in
+    let s = c.loop-gathered.self.rest.now in
     let rest = c.get_piece.new.self.rest.now in
-    let piece = piece_view g.row.S.Denot g.T.Texts.text c.in-Some.piece in
+    let gathered = c.loop-gathered.gathered in
     record {
       source = c.get_piece.ensures.source ∙ c.loop-gathered.invariant.source;
       text = c.get_piece.ensures.text ∙ c.loop-gathered.invariant.text;
       onward = omega (arith, c.get_piece.ensures.onward, c.loop-gathered.invariant.onward);
-      gathers = gathers_more g.row.S.Denot g.T.Texts.text c.loop-gathered.gathered c.put.new.gathered c.loop-gathered.at_line_start c.in-Some.ends_line c.loop-gathered.self.rest.now rest c.args.self.now.rest.now piece
-          c.loop-gathered.invariant.gathers (c.in_ok-piece.ensures.gives ∙ ap (λ z. got (option_map (step_view g.row.S.Denot g.T.Texts.text) z) rest) c.in-Some.is)
-          c.in_ok-put.ensures.elements c.put.ensures.begins_line c.put.ensures.common_indent;
+      gathers = gathers_more g.row.S.Denot g.T.Texts.text gathered c.get_piece.new.gathered line c.in-Some.ends_line s rest c.args.self.now.rest.now c.loop-gathered.invariant.gathers
+          (piece_put g.row.S.Denot g.T.Texts.text gathered c.get_piece.new.gathered rest _ c.in-Some.ends_line (kept_piece_by line s) c.in-Some.is c.in_ok-ends_line.ensures.gives);
     }
 
 pub get_lines-returns-clause-gives : goal.get_lines-returns-clause-gives
 get_lines-returns-clause-gives g t c =
-    let piece = c.in_ok-piece.ensures.gives ∙ ap (λ z. got (option_map (step_view g.row.S.Denot g.T.Texts.text) z) c.get_piece.new.self.rest.now) c.in_default.is in
-    gathers_all g.row.S.Denot g.T.Texts.text c.loop-gathered.gathered c.loop-gathered.at_line_start c.loop-gathered.self.rest.now c.get_piece.new.self.rest.now c.args.self.now.rest.now c.loop-gathered.invariant.gathers piece
-    ∙ ap (λ z. got z c.get_piece.new.self.rest.now) (sym c.in_ok-pattern.ensures)
+    let line = c.loop-gathered.at_line_start in
+    let s = c.loop-gathered.self.rest.now in
+    let rest = c.get_piece.new.self.rest.now in
+    let gathered = c.loop-gathered.gathered in
+    let view = element_view g.row.S.Denot g.T.Texts.text in
+    let end = no_piece g.row.S.Denot g.T.Texts.text gathered c.get_piece.new.gathered rest _ (kept_piece_by line s) c.in_default.is c.in_ok-ends_line.ensures.gives in
+    gathers_all g.row.S.Denot g.T.Texts.text gathered line s rest c.args.self.now.rest.now c.loop-gathered.invariant.gathers end.0
+    ∙ ap (λ z. got (value_by z.begins_line z.common_indent (map view z.elements.items)) rest) (sym end.1)
+    ∙ ap (λ z. got z rest) (sym c.in_ok-pattern.ensures)
 
 pub get_piece_behind-advance-requires : goal.get_piece_behind-advance-requires
 get_piece_behind-advance-requires g t c =
@@ -225,10 +233,26 @@ pub get_piece_behind-take-requires-clause-cuts : goal.get_piece_behind-take-requ
 get_piece_behind-take-requires-clause-cuts g t c =
     cut_line_feed c.args.self.now.rest.now c.from-behind.result.now c.advance-then-begins_crlf.new.self.rest.now c.args.indent (c.from-behind.ensures ∙ ap (drop c.args.indent) c.bytes.ensures.value) (sym c.begins_crlf.ensures ∙ c.if-begins_crlf.true) c.advance-then-begins_crlf.ensures.rest
 
-pub get_piece_behind-returns-in_ok-text-clause-gives : goal.get_piece_behind-returns-in_ok-text-clause-gives
-get_piece_behind-returns-in_ok-text-clause-gives g t c =
-    line_feed_read c.args.self.now.rest.now c.from-behind.result.now c.advance-then-begins_crlf.new.self.rest.now c.take.new.self.rest.now (g.T.Texts.text c.in_ok-text.text) c.args.at_line_start c.args.indent (c.from-behind.ensures ∙ ap (drop c.args.indent) c.bytes.ensures.value)
-    (sym c.is_empty.ensures ∙ c.if-is_empty.false) (sym c.begins_with.ensures ∙ c.if-begins_with.false) (sym c.begins_crlf.ensures ∙ c.if-begins_crlf.true) c.advance-then-begins_crlf.ensures.rest c.in_ok-text.ensures.value c.take.ensures.rest
+pub get_piece_behind-returns-in_ok-push-clause-gives : goal.get_piece_behind-returns-in_ok-push-clause-gives
+get_piece_behind-returns-in_ok-push-clause-gives g t c =
+    let u = drop c.args.indent c.args.self.now.rest.now in
+    let behind = c.from-behind.ensures ∙ ap (drop c.args.indent) c.bytes.ensures.value in
+    let zero : c.if-at_line_start.column_zero ≡ (c.args.at_line_start && c.args.indent == 0) = elim c.if-at_line_start.branch [
+      | get_piece_behind-then-at_line_start w ↦ rw w.if-at_line_start.true w.column_zero-is
+      | get_piece_behind-else-at_line_start w ↦ rw w.if-at_line_start.false (w.column_zero-is ∙ w.if-at_line_start.false)
+    ] in
+    placeable_put g.row.S.Denot g.T.Texts.text c.args.gathered.now c.push.new.self u c.get_placeable.new.self.rest.now c.in_ok-expression.expression c.args.at_line_start c.if-at_line_start.column_zero c.args.indent c.then_some.result
+    (ap (λ z. length z == 0) (sym behind) ∙ sym c.is_empty.ensures ∙ c.if-is_empty.false) (ap (begins_with w.open_brace) (sym behind) ∙ sym c.begins_with.ensures ∙ c.if-begins_with.true)
+    (ap placeable_by (sym c.advance-then-begins_with.ensures.rest) ∙ c.in_ok-expression.ensures.gives) zero c.then_some.ensures
+    (record { elements = c.in_ok-push.ensures.elements; begins_line = c.push.ensures.begins_line; common_indent = c.push.ensures.common_indent })
+
+pub get_piece_behind-returns-in_ok-push-2-clause-gives : goal.get_piece_behind-returns-in_ok-push-2-clause-gives
+get_piece_behind-returns-in_ok-push-2-clause-gives g t c =
+    let behind = c.from-behind.ensures ∙ ap (drop c.args.indent) c.bytes.ensures.value in
+    feed_put g.row.S.Denot g.T.Texts.text c.args.gathered.now c.push-then-begins_crlf.new.self c.take.new.self.rest.now c.in_ok-value.value (piece_behind c.args.at_line_start c.args.indent (drop c.args.indent c.args.self.now.rest.now))
+    (line_feed_read c.args.self.now.rest.now c.from-behind.result.now c.advance-then-begins_crlf.new.self.rest.now c.take.new.self.rest.now (g.T.Texts.text c.in_ok-value.value) c.args.at_line_start c.args.indent behind
+    (sym c.is_empty.ensures ∙ c.if-is_empty.false) (sym c.begins_with.ensures ∙ c.if-begins_with.false) (sym c.begins_crlf.ensures ∙ c.if-begins_crlf.true) c.advance-then-begins_crlf.ensures.rest c.in_ok-value.ensures.value c.take.ensures.rest)
+    (record { elements = c.in_ok-push-2.ensures.elements; begins_line = c.push-then-begins_crlf.ensures.begins_line; common_indent = c.push-then-begins_crlf.ensures.common_indent })
 
 pub get_variants-returns-then-has_default-clause-gives : goal.get_variants-returns-then-has_default-clause-gives
 get_variants-returns-then-has_default-clause-gives g t c =

@@ -33,7 +33,7 @@ loop-attributes-preserved g c =
       text = c.next_attribute.ensures.text ∙ c.loop-attributes.invariant.text;
       onward = omega (arith, c.next_attribute.ensures.onward, c.loop-attributes.invariant.onward);
       read = attributes_go_on c.args.self.now.rest.now c.loop-attributes.self.rest.now _ (map view c.loop-attributes.attributes.items) _ _
-          (ap (map view) c.in_ok-push.ensures.items ∙ map-append view c.loop-attributes.attributes.items _) (rw c.in-Some.is at c.in_ok-attribute.ensures.gives) c.loop-attributes.invariant.read;
+          (ap (map view) c.in_ok-push_tight.ensures ∙ map-append view c.loop-attributes.attributes.items _) (rw c.in-Some.is at c.in_ok-attribute.ensures.gives) c.loop-attributes.invariant.read;
     }
 
 pub returns-clause-gives : goal.returns-clause-gives

@@ -1,8 +1,8 @@
 use Rattle.std.proofs.Common.{drop, ap, ◌∙◌}
-use Rattle.fluent_grammar.specs.Lines.{ends_line}
-use Rattle.fluent_parser.specs.declared.pieces.Piece.TheVariants as piece
-use Rattle.fluent_parser.specs.Pieces.{piece_view}
-use Rattle.fluent_parser.proofs.Runs.{cut_behind_indent, piece_seen, piece_right, text_read, text_shorter}
+use Rattle.fluent_grammar.specs.Lines.{ends_line, indent_of}
+use Rattle.fluent_parser.specs.Steps.{text_piece}
+use Rattle.fluent_parser.proofs.Runs.{cut_behind_indent, text_shorter}
+use Rattle.fluent_parser.proofs.PutPieces.{text_put}
 use Rattle.fluent_parser.proofs.helper.Parser.get_text_piece.Goals as goal
 
 pub take-requires-clause-cuts : goal.take-requires-clause-cuts
@@ -15,20 +15,15 @@ advance-requires g c =
     let behind = c.from-behind.ensures ∙ ap (drop c.args.indent) c.bytes.ensures.value in
     cut_behind_indent c.args.at_line_start c.args.self.now.rest.now c.from-behind.result.now c.args.indent c.in-Err.count c.requires.indent behind c.in-Err.ensures.1
 
-pub returns-in_ok-text-in-Ok-clause-gives : goal.returns-in_ok-text-in-Ok-clause-gives
-returns-in_ok-text-in-Ok-clause-gives g c =
-    let s = c.args.self.now.rest.now in
+pub returns-in_ok-push-in-Ok-clause-gives : goal.returns-in_ok-push-in-Ok-clause-gives
+returns-in_ok-push-in-Ok-clause-gives g c =
     let behind = c.from-behind.ensures ∙ ap (drop c.args.indent) c.bytes.ensures.value in
-    let seen = piece_seen g.row.S.Denot g.T.Texts.text s c.in_ok-text-in-Ok.text c.args.at_line_start c.args.indent c.in-Ok.count c.then_some-indent.result c.requires.indent c.in_ok-text-in-Ok.ensures.value c.then_some-indent.ensures in
-    text_read s c.from-behind.result.now c.take.new.self.rest.now c.args.at_line_start c.args.indent c.in-Ok.count
-    (piece_view g.row.S.Denot g.T.Texts.text (piece.Text c.in_ok-text-in-Ok.text c.then_some-indent.result)) c.ends_line-ends_line.result
-    behind c.in-Ok.ensures.0 seen (c.ends_line-ends_line.ensures ∙ ap ends_line c.front.ensures) c.take.ensures.rest
+    text_put g.row.S.Denot g.T.Texts.text c.args.gathered.now c.push.new.self c.args.self.now.rest.now c.from-behind.result.now c.take.new.self.rest.now c.in_ok-value-in-Ok.value
+    c.args.at_line_start c.ends_line.result c.args.indent c.in-Ok.count c.said_by-said.result c.requires.indent behind c.in-Ok.ensures.0 (c.ends_line.ensures ∙ ap ends_line c.front-text.ensures) c.take.ensures.rest c.in_ok-value-in-Ok.ensures.value
+    (c.said_by-said.ensures ∙ ap (λ z. indent_of (text_piece c.args.at_line_start c.args.indent z)) c.front-text.ensures)
+    (record { elements = c.in_ok-push-in-Ok.ensures.elements; begins_line = c.push.ensures.begins_line; common_indent = c.push.ensures.common_indent })
 
-pub returns-in_ok-text-in-Ok-clause-right : goal.returns-in_ok-text-in-Ok-clause-right
-returns-in_ok-text-in-Ok-clause-right g c =
-    piece_right g.row.S.Denot g.T.Texts.text c.args.self.now.rest.now c.in_ok-text-in-Ok.text c.args.at_line_start c.args.indent c.in-Ok.count c.then_some-indent.result c.requires.indent c.in_ok-text-in-Ok.ensures.value c.then_some-indent.ensures
-
-pub returns-in_ok-text-in-Ok-clause-less : goal.returns-in_ok-text-in-Ok-clause-less
-returns-in_ok-text-in-Ok-clause-less g c =
+pub returns-in_ok-push-in-Ok-clause-less : goal.returns-in_ok-push-in-Ok-clause-less
+returns-in_ok-push-in-Ok-clause-less g c =
     let behind = c.from-behind.ensures ∙ ap (drop c.args.indent) c.bytes.ensures.value in
     text_shorter c.args.self.now.rest.now c.from-behind.result.now c.take.new.self.rest.now c.args.indent c.in-Ok.count behind c.in-Ok.ensures.0 c.requires.some c.take.ensures.rest
