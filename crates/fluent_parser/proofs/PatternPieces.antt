@@ -1,4 +1,4 @@
--- Pieces of a pattern: blank ones, and leading spaces.
+-- Blank pieces at the end of a pattern.
 use Rattle.std.proofs.Common.{◌≡◌, ℕ, zero, suc, Bool, true, cond, ◌&&◌, ◌||◌, List, [], ◌∷◌, ◌++◌, length, drop, replicate, refl, ap, ◌∙◌}
 use Rattle.std.specs.Prelude.{◌==◌}
 use Rattle.std.specs.List.{list_all}
@@ -6,15 +6,6 @@ use Rattle.std.proofs.lemmas.List.Folds.{list_all-append}
 use Rattle.fluent_grammar.specs.Words.{Text, space}
 use Rattle.fluent_grammar.specs.Lines as l
 use Rattle.fluent_grammar.specs.Lines.{is_blank_text}
-
-blank_spaces : (n : ℕ) → list_all (λ c. c == space || c == 10) (replicate n space) ≡ true
-blank_spaces zero = refl
-blank_spaces (suc n) = blank_spaces n
-
-pub blank_indented : (x : Text) (n : ℕ) → x ≡ replicate n space ++ drop n x → is_blank_text x ≡ is_blank_text (drop n x)
-blank_indented x n e =
-    ap is_blank_text e ∙ list_all-append (λ c. c == space || c == 10) (replicate n space) (drop n x)
-    ∙ ap (λ (b : Bool). b && is_blank_text (drop n x)) (blank_spaces n)
 
 -- the last piece, if it is blank
 pub wbe_blank : (m : List l.Piece) (p : l.Piece) → l.is_blank p ≡ true → l.without_blank_end (m ++ p ∷ []) ≡ l.without_blank_end m

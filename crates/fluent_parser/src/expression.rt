@@ -1,22 +1,22 @@
 //! Expressions.
 #![tactic(auto, using(crate::proofs::Failing::handed, fluent_words::proofs::Counted::cuts, crate::proofs::Steps::placeable_is))]
 
-ghost use Rattle.std.specs.Prelude.{◌≡◌, ◌≤◌, ◌<◌, true, length, drop, option_map};
+ghost use Rattle.std.specs.Prelude.{◌≡◌, ◌≤◌, ◌<◌, true, length, drop, map, option_map};
 ghost use Rattle.std.specs.List.{list_all};
 ghost use Rattle.fluent_grammar.specs.Words as w;
 
 use crate::ErrorKind;
 use crate::fault::Fault;
 use crate::helper::Parser;
-use fluent_ast::{Expression, Identifier, InlineExpression};
+use fluent_ast::{Expression, Identifier, InlineExpression, Variant};
 use fluent_slice::Texts;
 use fluent_words as words;
 
 impl<'p, S: Drop, T: Texts<S>> Parser<'p, S, T> {
     ghost use Rattle.fluent_parser.specs.Reads.{Gives, whole, string_or_number_at, inline_by};
     ghost use Rattle.fluent_parser.specs.Steps.{expression_by, placeable_by};
-    ghost use Rattle.fluent_ast.specs.View.{name_of, inline_view, expression_view};
-    ghost use Rattle.fluent_grammar.specs.Reading.{identifier_at, accessor_at, term_at, named_at};
+    ghost use Rattle.fluent_ast.specs.View.{name_of, inline_view, expression_view, variant_view, variants_of};
+    ghost use Rattle.fluent_grammar.specs.Reading.{identifier_at, accessor_at, term_at, named_at, select_at, selector_fault};
     ghost use Rattle.fluent_grammar.specs.Refusal.{mapped};
     ghost use Rattle.fluent_grammar.specs.Tree as t;
 
@@ -42,7 +42,7 @@ impl<'p, S: Drop, T: Texts<S>> Parser<'p, S, T> {
 
     /// An inline expression, or a select.
     #[cycle(parser)]
-    #[tactic(auto, using(crate::proofs::Failing::handed, fluent_words::proofs::Counted::cuts), unfolding(crate::specs::Steps::expression_by, fluent_grammar::specs::Reading::select_or_inline_at, fluent_grammar::specs::Reading::select_at, fluent_grammar::specs::Reading::variants_after))]
+    #[tactic(auto, using(crate::proofs::Failing::handed, fluent_words::proofs::Counted::cuts), unfolding(crate::specs::Steps::expression_by, fluent_grammar::specs::Reading::select_or_inline_at))]
     fn get_expression(&mut self) -> Result<Expression<S>, Fault>
         requires { T.text self.old.source.now ≡ self.old.text.now }
         ensures gives { Gives (expression_view S T.text) self.new.rest.now result
@@ -56,7 +56,28 @@ impl<'p, S: Drop, T: Texts<S>> Parser<'p, S, T> {
         if !words::begins_arrow(self.bytes()) {
             return self.inline_expression(selector);
         }
-        if let Some(kind) = self.selector_fault(&selector) {
+        let variants = self.get_select_variants(&selector)?;
+        Ok(Expression::Select { selector, variants })
+    }
+
+    /// The variants of a select over this selector, from its arrow on.
+    #[cycle(parser)]
+    #[tactic(auto, using(crate::proofs::Failing::handed, fluent_words::proofs::Counted::cuts), unfolding(fluent_grammar::specs::Reading::select_at, fluent_grammar::specs::Reading::variants_after))]
+    fn get_select_variants(
+        &mut self,
+        selector: &InlineExpression<S>,
+    ) -> Result<Vec<Variant<S>>, Fault>
+        requires tied { T.text self.old.source.now ≡ self.old.text.now }
+        requires arrow { w.begins_arrow self.old.rest.now ≡ true }
+        ensures gives { Gives (λ vs. t.select (inline_view S T.text selector.now)
+            (variants_of (map (variant_view S T.text) vs.items))) self.new.rest.now result
+            (select_at whole (inline_view S T.text selector.now)
+            (selector_fault (inline_view S T.text selector.now)) self.old.rest.now) }
+        ensures source { self.new.source.now ≡ self.old.source.now }
+        ensures text { self.new.text.now ≡ self.old.text.now }
+        ensures onward { length self.new.rest.now ≤ length self.old.rest.now }
+    {
+        if let Some(kind) = self.selector_fault(selector) {
             return Err(Fault::Refused(kind));
         }
         self.advance(2);
@@ -66,7 +87,7 @@ impl<'p, S: Drop, T: Texts<S>> Parser<'p, S, T> {
         }
         self.skip_blank();
         let variants = self.get_variants()?;
-        Ok(Expression::Select { selector, variants })
+        Ok(variants)
     }
 
     /// An expression that no arrow follows.

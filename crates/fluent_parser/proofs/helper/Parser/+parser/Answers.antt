@@ -85,9 +85,9 @@ get_inline_expression-returns-else-begins_with-3-clause-gives g t c =
     let brace = ap (begins_with w.open_brace) (sym c.bytes-bytes.ensures.value) ∙ sym c.begins_with-else-begins_with_letter.ensures ∙ c.if-begins_with-3.false in
     rw (inline_none c.args.self.now.rest.now lit minus dollar letter brace) (refl, refl)
 
-pub get_expression-advance-requires : goal.get_expression-advance-requires
-get_expression-advance-requires g t c =
-    cut_arrow c.skip_blank.new.self.rest.now (ap w.begins_arrow (sym c.bytes.ensures.value) ∙ sym c.begins_arrow.ensures ∙ c.if-not-begins_arrow.false)
+pub get_select_variants-advance-requires : goal.get_select_variants-advance-requires
+get_select_variants-advance-requires g t c =
+    cut_arrow c.args.self.now.rest.now c.requires.arrow
 
 pub get_named_reference-returns-then-is_callee-clause-gives : goal.get_named_reference-returns-then-is_callee-clause-gives
 get_named_reference-returns-then-is_callee-clause-gives g t c =

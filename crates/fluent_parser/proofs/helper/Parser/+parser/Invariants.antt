@@ -40,6 +40,9 @@ decreases-get_piece_behind g l = 6 * length l.self.now.rest.now + 1
 abbrev pub decreases-get_placeable : goal.decreases-get_placeable
 decreases-get_placeable g l = 6 * length l.self.now.rest.now + 0
 
+abbrev pub decreases-get_select_variants : goal.decreases-get_select_variants
+decreases-get_select_variants g l = 6 * length l.self.now.rest.now + 4
+
 abbrev pub decreases-get_term_reference : goal.decreases-get_term_reference
 decreases-get_term_reference g l = 6 * length l.self.now.rest.now + 1
 
