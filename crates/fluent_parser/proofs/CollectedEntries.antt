@@ -2,10 +2,11 @@
 use Rattle.std.proofs.Common.{◌≡◌, ◌≢◌, ℕ, ◌<◌, List, [], ◌∷◌, ◌++◌, length, map, false, refl, sym, ap, ◌∙◌, arith, append_assoc}
 use Rattle.std.specs.Prelude.{◌==◌}
 use Rattle.std.proofs.lemmas.Bool.Decides.{nat_tests}
+use Rattle.std.proofs.lemmas.List.{map-append}
 
--- an entry behind others
-pub put : {A : Type 0} (old left new : List A) (e : A) (rest : List A) → new ≡ (old ++ left) ++ e ∷ [] → new ++ rest ≡ old ++ (left ++ e ∷ rest)
-put old left new e rest is = ap (λ l. l ++ rest) is ∙ append_assoc (old ++ left) (e ∷ []) rest ∙ append_assoc old left (e ∷ rest)
+-- one more error
+pub told_more : {A B : Type 0} (f : A → B) (old new : List A) (e : A) (rest : List B) → new ≡ old ++ e ∷ [] → map f new ++ rest ≡ map f old ++ f e ∷ rest
+told_more f old new e rest is = ap (λ l. map f l ++ rest) is ∙ ap (λ l. l ++ rest) (map-append f old (e ∷ [])) ∙ append_assoc (map f old) (f e ∷ []) rest
 
 nothing_more : {A : Type 0} (l : List A) → l ++ [] ≡ l
 nothing_more [] = refl

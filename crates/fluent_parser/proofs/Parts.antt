@@ -1,5 +1,5 @@
 -- The parts of a source, and the errors of junk.
-use Rattle.std.proofs.Common.{◌≡◌, ℕ, ◌+◌, ◌-◌, ◌<◌, Bool, true, false, cond, [], ◌∷◌, ◌++◌, length, take, drop, refl, sym, ap, ◌∙◌, arith, subst, Some}
+use Rattle.std.proofs.Common.{◌≡◌, ℕ, ◌+◌, ◌-◌, ◌<◌, Bool, true, false, cond, List, [], ◌∷◌, ◌++◌, length, drop, map, refl, sym, ap, ◌∙◌, arith, subst, Some}
 use Rattle.std.specs.Str.{IsUtf8}
 use Rattle.std.proofs.lemmas.List.{length-append}
 use Rattle.fluent_grammar.specs.Words.{Text}
@@ -8,7 +8,7 @@ use Rattle.fluent_grammar.specs.Refusal as r
 use Rattle.fluent_grammar.specs.Tree as t
 use Rattle.fluent_grammar.specs.Ends.{EndsIn}
 use Rattle.fluent_grammar.specs.Reading.{entry_at}
-use Rattle.fluent_grammar.specs.Tiling.{is_field_kind, error_of, behind_junk}
+use Rattle.fluent_grammar.specs.Tiling.{Piece, errors_of, is_field_kind, error_of, behind_junk}
 use Rattle.fluent_grammar.proofs.Within.{end-le, end-cons}
 use Rattle.fluent_grammar.proofs.TilesJunk.{junk-end}
 use Rattle.fluent_grammar.proofs.LawsOfDepth.{entry-took}
@@ -16,7 +16,7 @@ use Rattle.fluent_parser.specs.ErrorView.{Told, told, ErrorView, error_told, kin
 use Rattle.fluent_parser.specs.Places.{shows_entry, shown_span, error_by}
 use Rattle.fluent_words.specs.Counted.{Cuts}
 use Rattle.fluent_parser.specs.Reads.{Refuses}
-use Rattle.fluent_parser.specs.Parts.{piece_of, behind_piece, IsJunk}
+use Rattle.fluent_parser.specs.Parts.{piece_of, behind_piece}
 use Rattle.fluent_parser.specs.declared.errors.ErrorKind.{ErrorKind}
 use Rattle.fluent_words.proofs.Counted.{place_of_tail}
 
@@ -121,14 +121,14 @@ junk_behind s behind kind rest h e =
 pub entry_less : (s : Text) (e : t.Entry) (rest : Text) → entry_at s ≡ got e rest → length rest < length s
 entry_less s e rest read = rw read at (entry-took s)
 
--- the piece that junk is
-pub junk_shown : (at : ℕ) (apart : Bool) (s behind : Text) (kind : ErrorKind) (rest : Text) (content : Text) (error : ErrorView) (p end : ℕ) → Refuses kind rest (entry_at s) → behind ≡ behind_junk s rest
-    → content ≡ take (length s - length behind) s → error ≡ error_by (kind_view kind) at p end → p ≡ at + (length s - length rest) → end ≡ at + (length s - length behind)
-    → IsJunk content error (piece_of at apart s (entry_at s))
-junk_shown at apart s behind kind rest content error p end h e c f g k =
+-- what the error of junk tells
+pub junk_told : (at : ℕ) (apart : Bool) (s behind : Text) (kind : ErrorKind) (rest : Text) (error : ErrorView) (p end : ℕ) (ps : List Piece) → Refuses kind rest (entry_at s) → behind ≡ behind_junk s rest
+    → error ≡ error_by (kind_view kind) at p end → p ≡ at + (length s - length rest) → end ≡ at + (length s - length behind)
+    → error ∷ map error_told (errors_of ps) ≡ map error_told (errors_of (piece_of at apart s (entry_at s) ∷ ps))
+junk_told at apart s behind kind rest error p end ps h e f g k =
     let q = refused_is kind rest (entry_at s) h in
     let same : behind ≡ behind_junk s q.fault.at = e ∙ ap (behind_junk s) q.place in
-    subst (λ (x : Reading t.Entry). IsJunk content error (piece_of at apart s x)) (sym q.read) (
-      c ∙ ap (λ (z : Text). take (length s - length z) s) same,
-      f ∙ error_same at s q.fault (kind_view kind) p end q.told_kind (g ∙ ap (λ (z : Text). at + (length s - length z)) q.place) (k ∙ ap (λ (z : Text). at + (length s - length z)) same),
-    )
+    let place : p ≡ at + (length s - length q.fault.at) = g ∙ ap (λ (z : Text). at + (length s - length z)) q.place in
+    let last : end ≡ at + (length s - length (behind_junk s q.fault.at)) = k ∙ ap (λ (z : Text). at + (length s - length z)) same in
+    ap (λ (told_of : ErrorView). told_of ∷ map error_told (errors_of ps)) (f ∙ error_same at s q.fault (kind_view kind) p end q.told_kind place last)
+    ∙ ap (λ (x : Reading t.Entry). map error_told (errors_of (piece_of at apart s x ∷ ps))) (sym q.read)

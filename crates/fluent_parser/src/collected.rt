@@ -1,15 +1,13 @@
 //! What the parts of a source make: its tree and its errors.
 #![tactic(auto)]
 
-ghost use Rattle.std.specs.Prelude.{◌≡◌, ◌++◌, ◌∷◌, [], ℕ, List, None, IfOk, map, option_map};
+ghost use Rattle.std.specs.Prelude.{◌≡◌, ◌<◌, ◌++◌, ◌∷◌, [], ℕ, List, None, IfOk, map, vec_len, vec_capacity};
 ghost use Rattle.fluent_grammar.specs.Tree as t;
 ghost use Rattle.fluent_grammar.specs.Tiling.{Piece, entry, entries_of, errors_of, waiting, attached, left_alone};
-ghost use Rattle.fluent_ast.specs.View.{entry_view, comment_view, message_view, term_view};
+ghost use Rattle.fluent_ast.specs.View.{entry_view, message_view, term_view};
 ghost use Rattle.fluent_parser.specs.ErrorView.{error_told};
-ghost use Rattle.fluent_parser.specs.Parts.{Shows};
 ghost use Rattle.fluent_parser.specs.Collected.{body_of, held_by, entries_with, errors_with, HasTree, HasErrors};
 
-use crate::part::Part;
 use crate::{Error, ParserError};
 use fluent_ast::{Comment, Entry, Message, Resource, Term};
 use std::alloc::{AllocError, Global};
@@ -38,24 +36,8 @@ impl<S: Drop> Collected<S> {
         }
     }
 
-    /// Puts a part behind the others. `apart` says whether a blank line stands before it.
-    pub fn push(&mut self, part: Part<S>, apart: bool) -> Result<(), AllocError>
-        ensures entries { IfOk result (λ u. (text_of : S → List ℕ) (piece : Piece)
-            (pieces : List Piece) → Shows S text_of part apart piece
-            → entries_with S text_of self.new pieces
-            ≡ entries_with S text_of self.old (piece ∷ pieces)) }
-        ensures errors { IfOk result (λ u. (text_of : S → List ℕ) (piece : Piece)
-            (pieces : List Piece) → Shows S text_of part apart piece
-            → errors_with S self.new pieces ≡ errors_with S self.old (piece ∷ pieces)) }
-    {
-        match part {
-            Part::Entry(entry) => self.push_entry(entry, apart),
-            Part::Junk { content, error } => self.push_junk(content, error),
-        }
-    }
-
     /// Puts junk behind the other entries, and its error behind the other errors.
-    fn push_junk(&mut self, content: S, error: ParserError) -> Result<(), AllocError>
+    pub fn push_junk(&mut self, content: S, error: ParserError) -> Result<(), AllocError>
         ensures body { IfOk result (λ u. (text_of : S → List ℕ)
             → body_of S text_of self.new ≡ body_of S text_of self.old
             ++ waiting (held_by S text_of self.old) ++ t.junk (text_of content) ∷ []) }
@@ -69,8 +51,8 @@ impl<S: Drop> Collected<S> {
         Ok(())
     }
 
-    /// Puts an entry behind the others.
-    fn push_entry(&mut self, added: Entry<S>, apart: bool) -> Result<(), AllocError>
+    /// Puts an entry behind the others. `apart` says whether a blank line stands before it.
+    pub fn push_entry(&mut self, added: Entry<S>, apart: bool) -> Result<(), AllocError>
         ensures entries { IfOk result (λ u. (text_of : S → List ℕ) (pieces : List Piece)
             → entries_with S text_of self.new pieces
             ≡ entries_with S text_of self.old (entry apart (entry_view S text_of added) ∷ pieces)) }
@@ -100,9 +82,10 @@ impl<S: Drop> Collected<S> {
             (t.message (message_view S text_of message)) ∷ pieces)) }
         ensures errors { IfOk result (λ u. self.new.errors.items ≡ self.old.errors.items) }
     {
-        let comment = self.take_comment(apart)?;
+        self.make_room(apart)?;
+        let comment = self.comment.take();
         self.body
-            .push(Entry::Message(Message { comment, ..message }))?;
+            .push_reserved(Entry::Message(Message { comment, ..message }));
         Ok(())
     }
 
@@ -114,27 +97,31 @@ impl<S: Drop> Collected<S> {
             ∷ pieces)) }
         ensures errors { IfOk result (λ u. self.new.errors.items ≡ self.old.errors.items) }
     {
-        let comment = self.take_comment(apart)?;
-        self.body.push(Entry::Term(Term { comment, ..term }))?;
+        self.make_room(apart)?;
+        let comment = self.comment.take();
+        self.body
+            .push_reserved(Entry::Term(Term { comment, ..term }));
         Ok(())
     }
 
-    /// The comment that the next message or term takes. It doesn't take one from above a blank line.
-    fn take_comment(&mut self, apart: bool) -> Result<Option<Comment<S>>, AllocError>
-        ensures taken { IfOk result (λ c. (text_of : S → List ℕ)
-            → option_map (comment_view S text_of) c ≡ attached (held_by S text_of self.old) apart) }
-        ensures body { IfOk result (λ c. (text_of : S → List ℕ)
+    /// Makes room for a message or a term. A comment from above a blank line doesn't wait for it, and becomes an entry.
+    fn make_room(&mut self, apart: bool) -> Result<(), AllocError>
+        ensures body { IfOk result (λ u. (text_of : S → List ℕ)
             → body_of S text_of self.new ≡ body_of S text_of self.old
             ++ left_alone (held_by S text_of self.old) apart) }
-        ensures comment { IfOk result (λ c. self.new.comment ≡ None) }
+        ensures held { IfOk result (λ u. (text_of : S → List ℕ)
+            → held_by S text_of self.new ≡ attached (held_by S text_of self.old) apart) }
+        ensures room { IfOk result (λ u. vec_len self.new.body < vec_capacity self.new.body) }
         ensures errors { self.new.errors.items ≡ self.old.errors.items }
     {
         if apart {
             self.push_comment()?;
-            Ok(None)
-        } else {
-            Ok(self.comment.take())
         }
+        // Mostly there is room, and then this test is all that runs.
+        if self.body.len() < self.body.capacity() {
+            return Ok(());
+        }
+        self.body.reserve(1)
     }
 
     /// Puts the comment that waits behind the other entries.

@@ -6,45 +6,48 @@ ghost use Rattle.fluent_grammar.specs.Tiling.{behind_junk};
 ghost use Rattle.fluent_parser.specs.ErrorView.{error_view, kind_view};
 ghost use Rattle.fluent_parser.specs.Places.{error_by};
 
+use crate::collected::Collected;
 use crate::fault::Fault;
 use crate::helper::Parser;
 use crate::recovery::entry_start;
 use crate::{ErrorKind, ParserError};
-use fluent_ast::Entry;
 use fluent_slice::Texts;
 use std::alloc::AllocError;
 
-/// A part of a source.
-#[derive(Drop)]
-pub enum Part<S> {
-    Entry(Entry<S>),
-    /// A stretch in which no entry could be read, and why.
-    Junk { content: S, error: ParserError },
-}
-
 impl<'p, S: Drop, T: Texts<S>> Parser<'p, S, T> {
-    ghost use Rattle.fluent_parser.specs.Parts.{Shows, piece_of, behind_piece};
-    ghost use Rattle.std.specs.Prelude.{Bool};
+    ghost use Rattle.std.specs.Prelude.{◌∷◌, List};
+    ghost use Rattle.fluent_grammar.specs.Tiling.{Piece};
     ghost use Rattle.fluent_grammar.specs.Reading.{entry_at};
+    ghost use Rattle.fluent_parser.specs.Parts.{piece_of, behind_piece};
+    ghost use Rattle.fluent_parser.specs.Collected.{entries_with, errors_with};
 
-    /// The part that begins here. Behind a refused entry, reading goes on at the first place that may begin another:
-    /// at or behind the place of the refusal, at column 0, before a letter, `-` or `#`.
-    pub fn get_part(&mut self) -> Result<Part<S>, AllocError>
+    /// Reads the part that begins here, and puts it behind those that were collected. `apart` says whether a blank line
+    /// stands before it. Behind a refused entry, reading goes on at the first place that may begin another: at or behind
+    /// the place of the refusal, at column 0, before a letter, `-` or `#`.
+    pub fn get_part(&mut self, collected: &mut Collected<S>, apart: bool) -> Result<(), AllocError>
         requires tied { T.text self.old.source.now ≡ self.old.text.now }
         requires some { 0 < length self.old.rest.now }
-        ensures part { IfOk result (λ part. (apart : Bool)
-            → Shows S T.text part apart (piece_of (length self.old.text.now - length
-            self.old.rest.now) apart self.old.rest.now (entry_at self.old.rest.now))) }
-        ensures rest { IfOk result (λ part. self.new.rest.now
+        ensures entries { IfOk result (λ u. (pieces : List Piece)
+            → entries_with S T.text collected.new pieces ≡ entries_with S T.text collected.old
+            (piece_of (length self.old.text.now - length self.old.rest.now) apart
+            self.old.rest.now (entry_at self.old.rest.now) ∷ pieces)) }
+        ensures errors { IfOk result (λ u. (pieces : List Piece)
+            → errors_with S collected.new pieces ≡ errors_with S collected.old
+            (piece_of (length self.old.text.now - length self.old.rest.now) apart
+            self.old.rest.now (entry_at self.old.rest.now) ∷ pieces)) }
+        ensures rest { IfOk result (λ u. self.new.rest.now
             ≡ behind_piece self.old.rest.now (entry_at self.old.rest.now)) }
-        ensures onward { IfOk result (λ part. length self.new.rest.now < length self.old.rest.now) }
+        ensures onward { IfOk result (λ u. length self.new.rest.now < length self.old.rest.now) }
         ensures source { self.new.source.now ≡ self.old.source.now }
         ensures text { self.new.text.now ≡ self.old.text.now }
     {
         let start = self.rest();
         let slice_start = self.place();
         match self.get_entry() {
-            Ok(entry) => Ok(Part::Entry(entry)),
+            Ok(entry) => {
+                collected.push_entry(entry, apart)?;
+                Ok(())
+            }
             Err(Fault::Memory) => Err(AllocError),
             Err(Fault::Refused(kind)) => {
                 let place = self.place();
@@ -53,7 +56,8 @@ impl<'p, S: Drop, T: Texts<S>> Parser<'p, S, T> {
                 self.set_rest(start);
                 let content = self.take(junk_len)?;
                 let error = error_at(kind, slice_start, place, slice_start + junk_len);
-                Ok(Part::Junk { content, error })
+                collected.push_junk(content, error)?;
+                Ok(())
             }
         }
     }

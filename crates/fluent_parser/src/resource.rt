@@ -31,8 +31,7 @@ impl<'p, S: Drop, T: Texts<S>> Parser<'p, S, T> {
             if self.bytes().is_empty() {
                 return Ok(collected);
             }
-            let part = self.get_part()?;
-            collected.push(part, apart)?;
+            self.get_part(&mut collected, apart)?;
         }
     }
 
@@ -56,8 +55,7 @@ impl<'p, S: Drop, T: Texts<S>> Parser<'p, S, T> {
                 self.skip_line();
                 continue;
             }
-            let part = self.get_part()?;
-            collected.push(part, false)?;
+            self.get_part(&mut collected, false)?;
         }
     }
 

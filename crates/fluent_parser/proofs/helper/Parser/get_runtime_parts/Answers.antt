@@ -1,10 +1,10 @@
-use Rattle.std.proofs.Common.{◌≡◌, ◌∙◌, ◌-◌, ◌<◌, ℕ, true, false, List, ◌∷◌, length, sym, ap, arith, rules, subst}
+use Rattle.std.proofs.Common.{◌≡◌, ◌∙◌, ◌-◌, ◌<◌, ℕ, true, false, List, ◌∷◌, length, sym, ap, arith, rules}
 use Rattle.std.specs.Prelude.{◌==◌}
 use Rattle.fluent_grammar.specs.Reading.{entry_at}
 use Rattle.fluent_grammar.specs.Tiling.{Piece}
 use Rattle.fluent_parser.specs.Collected.{entries_with, errors_with}
 use Rattle.fluent_parser.specs.Left.{runtime_left}
-use Rattle.fluent_parser.specs.Parts.{piece_of, Shows}
+use Rattle.fluent_parser.specs.Parts.{piece_of}
 use Rattle.fluent_parser.proofs.CollectedEntries.{test_some}
 use Rattle.fluent_parser.proofs.Left.{nothing_left_at_runtime, piece_left_at_runtime, line_passed, line_less}
 use Rattle.fluent_words.proofs.Scanned.{test_of}
@@ -55,17 +55,20 @@ parts-preserved g c =
     let u = c.skip_blank_block.new.self.rest.now in
     let rest = c.get_part.new.self.rest.now in
     let z : (length u == 0) ≡ false = search rules in
-    let less : length rest < length u = c.in_ok-part.ensures.onward in
+    let less : length rest < length u = c.in_ok-get_part.ensures.onward in
     let step : runtime_left total s ≡ piece_of (total - length u) false u (entry_at u) ∷ runtime_left total rest =
-    piece_left_at_runtime total s u rest c.parts.invariant.within c.skip_blank_block.ensures.rest (test_some (length u) z) (sym c.is_current_byte.ensures ∙ c.if-is_current_byte.false) c.in_ok-part.ensures.rest less in
-    let shows : Shows g.row.S.Denot g.T.Texts.text c.in_ok-part.part false (piece_of (total - length u) false u (entry_at u)) =
-    subst (λ (n : ℕ). Shows g.row.S.Denot g.T.Texts.text c.in_ok-part.part false (piece_of (n - length u) false u (entry_at u))) (ap length (c.skip_blank_block.ensures.text ∙ c.parts.invariant.text)) (c.in_ok-part.ensures.part false) in
+    piece_left_at_runtime total s u rest c.parts.invariant.within c.skip_blank_block.ensures.rest (test_some (length u) z) (sym c.is_current_byte.ensures ∙ c.if-is_current_byte.false) c.in_ok-get_part.ensures.rest less in
+    let here : length c.skip_blank_block.new.self.text.now ≡ total = ap length (c.skip_blank_block.ensures.text ∙ c.parts.invariant.text) in
+    let old = c.parts.collected in
+    let more = runtime_left total rest in
+    let put : entries_with g.row.S.Denot g.T.Texts.text c.get_part.new.collected more ≡ entries_with g.row.S.Denot g.T.Texts.text old (piece_of (total - length u) false u (entry_at u) ∷ more) =
+    c.in_ok-get_part.ensures.entries more ∙ ap (λ (n : ℕ). entries_with g.row.S.Denot g.T.Texts.text old (piece_of (n - length u) false u (entry_at u) ∷ more)) here in
+    let told : errors_with g.row.S.Denot c.get_part.new.collected more ≡ errors_with g.row.S.Denot old (piece_of (total - length u) false u (entry_at u) ∷ more) =
+    c.in_ok-get_part.ensures.errors more ∙ ap (λ (n : ℕ). errors_with g.row.S.Denot old (piece_of (n - length u) false u (entry_at u) ∷ more)) here in
     record {
       source = c.get_part.ensures.source ∙ c.skip_blank_block.ensures.source ∙ c.parts.invariant.source;
       text = c.get_part.ensures.text ∙ c.skip_blank_block.ensures.text ∙ c.parts.invariant.text;
       within = omega (arith, less, c.skip_blank_block.ensures.onward, c.parts.invariant.within);
-      entries = c.in_ok-push.ensures.entries g.T.Texts.text (piece_of (total - length u) false u (entry_at u)) (runtime_left total rest) shows
-          ∙ ap (λ (ps : List Piece). entries_with g.row.S.Denot g.T.Texts.text c.parts.collected ps) (sym step) ∙ c.parts.invariant.entries;
-      errors = c.in_ok-push.ensures.errors g.T.Texts.text (piece_of (total - length u) false u (entry_at u)) (runtime_left total rest) shows
-          ∙ ap (λ (ps : List Piece). errors_with g.row.S.Denot c.parts.collected ps) (sym step) ∙ c.parts.invariant.errors;
+      entries = put ∙ ap (λ (ps : List Piece). entries_with g.row.S.Denot g.T.Texts.text old ps) (sym step) ∙ c.parts.invariant.entries;
+      errors = told ∙ ap (λ (ps : List Piece). errors_with g.row.S.Denot old ps) (sym step) ∙ c.parts.invariant.errors;
     }
