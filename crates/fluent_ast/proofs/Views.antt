@@ -1,7 +1,10 @@
 -- What the views are at each variant of an enum, and at a struct by its fields.
-use Rattle.std.proofs.Common.{◌≡◌, ℕ, List, Option, None, Some, option_map, map, ap, sym, ◌∙◌}
+use Rattle.std.proofs.Common.{◌≡◌, ℕ, Bool, List, Option, None, Some, option_map, map, ap, sym, ◌∙◌, Vec, Global}
 use Rattle.fluent_grammar.specs.Tree as t
 use Rattle.fluent_ast.specs.declared.Identifier.{Identifier}
+use Rattle.fluent_ast.specs.declared.VariantKey.{VariantKey}
+use Rattle.fluent_ast.specs.declared.Message.{Message}
+use Rattle.fluent_ast.specs.declared.Term.{Term}
 use Rattle.fluent_ast.specs.declared.Expression.{Expression, fold-roll-Expression}
 use Rattle.fluent_ast.specs.declared.Expression.TheVariants.{Select, Inline, rolls-Select, rolls-Inline}
 use Rattle.fluent_ast.specs.declared.InlineExpression.{InlineExpression, fold-roll-InlineExpression}
@@ -11,9 +14,9 @@ use Rattle.fluent_ast.specs.declared.PatternElement.TheVariants.{TextElement, Pl
 use Rattle.fluent_ast.specs.declared.Pattern.{Pattern, out-Pattern, roll-Pattern, fold-roll-Pattern, fold_out-Pattern}
 use Rattle.fluent_ast.specs.declared.CallArguments.{CallArguments, out-CallArguments, roll-CallArguments, fold-roll-CallArguments, fold_out-CallArguments}
 use Rattle.fluent_ast.specs.declared.NamedArgument.{NamedArgument, out-NamedArgument, roll-NamedArgument, fold-roll-NamedArgument, fold_out-NamedArgument}
-use Rattle.fluent_ast.specs.declared.Variant.{Variant, out-Variant, fold_out-Variant}
+use Rattle.fluent_ast.specs.declared.Variant.{Variant, out-Variant, roll-Variant, fold-roll-Variant, fold_out-Variant}
 use Rattle.fluent_ast.specs.declared.Expression.TheOpen as o
-use Rattle.fluent_ast.specs.View.{expression_step, inline_step, element_step, arguments_step, named_step, pattern_step, variant_step, pattern_view, element_view, expression_view, inline_view, variant_view, arguments_view, named_view, key_of, name_of, elements_of, variants_of, inlines_of, nameds_of, maybe_arguments, text, placeable}
+use Rattle.fluent_ast.specs.View.{message_view, term_view, attribute_view, comment_view, expression_step, inline_step, element_step, arguments_step, named_step, pattern_step, variant_step, pattern_view, element_view, expression_view, inline_view, variant_view, arguments_view, named_view, key_of, name_of, elements_of, variants_of, inlines_of, nameds_of, maybe_arguments, text, placeable}
 
 module _ (S : Type 0) (text_of : S → List ℕ) where
   pub expression_view-Select : (s : InlineExpression S) (vs : _) → expression_view S text_of (Select s vs) ≡ t.select (inline_view S text_of s) (variants_of (map (variant_view S text_of) vs.items))
@@ -102,3 +105,50 @@ module _ (S : Type 0) (text_of : S → List ℕ) where
       ∙ ap (λ n. t.function_reference n (arguments_view S text_of a)) names
       ∙ ap (t.function_reference (name_of S text_of j)) arguments
       ∙ sym (inline_view-FunctionReference j b)
+
+  pub variant_view-roll : (x : _) → variant_view S text_of (roll-Variant S x) ≡ record { key = key_of S text_of x.key; value = pattern_view S text_of x.value; default = x.default }
+  variant_view-roll x = fold-roll-Variant S _ _ _ _ _ _ _ (expression_step S text_of) (inline_step S text_of) (element_step S text_of) (arguments_step S text_of) (named_step S text_of) (pattern_step S text_of) (variant_step S text_of) x
+
+  -- two texts with the same bytes, as elements
+  pub element_view-TextElement_same : (s r : S) → text_of s ≡ text_of r → element_view S text_of (TextElement s) ≡ element_view S text_of (TextElement r)
+  element_view-TextElement_same s r texts = element_view-TextElement s ∙ ap text texts ∙ sym (element_view-TextElement r)
+
+  -- two choices with selectors and variants that are equal as plain data
+  pub expression_view-Select_same : (s r : InlineExpression S) (vs ws : Vec (Variant S) Global) → inline_view S text_of s ≡ inline_view S text_of r → map (variant_view S text_of) vs.items ≡ map (variant_view S text_of) ws.items → expression_view S text_of (Select s vs) ≡ expression_view S text_of (Select r ws)
+  expression_view-Select_same s r vs ws selectors variants =
+      expression_view-Select s vs
+      ∙ ap (λ e. t.select e (variants_of (map (variant_view S text_of) vs.items))) selectors
+      ∙ ap (λ l. t.select (inline_view S text_of r) (variants_of l)) variants
+      ∙ sym (expression_view-Select r ws)
+
+  -- two references to one message and one attribute
+  pub inline_view-MessageReference_same : (i j : Identifier S) (a b : Option (Identifier S)) → name_of S text_of i ≡ name_of S text_of j → option_map (name_of S text_of) a ≡ option_map (name_of S text_of) b → inline_view S text_of (MessageReference i a) ≡ inline_view S text_of (MessageReference j b)
+  inline_view-MessageReference_same i j a b names attributes =
+      inline_view-MessageReference i a
+      ∙ ap (λ n. t.message_reference n (option_map (name_of S text_of) a)) names
+      ∙ ap (t.message_reference (name_of S text_of j)) attributes
+      ∙ sym (inline_view-MessageReference j b)
+
+  -- arguments whose lists are equal as plain data
+  pub arguments_view_same : (ps : Vec (InlineExpression S) Global) (ns : Vec (NamedArgument S) Global) (y : CallArguments S) → map (inline_view S text_of) ps.items ≡ map (inline_view S text_of) (out-CallArguments S y).positional.items → map (named_view S text_of) ns.items ≡ map (named_view S text_of) (out-CallArguments S y).named.items → arguments_view S text_of (roll-CallArguments S (record { positional = ps; named = ns })) ≡ arguments_view S text_of y
+  arguments_view_same ps ns y positional named =
+      arguments_view-roll (record { positional = ps; named = ns })
+      ∙ ap (λ l. t.arguments (inlines_of l) (nameds_of (map (named_view S text_of) ns.items))) positional
+      ∙ ap (λ l. t.arguments (inlines_of (map (inline_view S text_of) (out-CallArguments S y).positional.items)) (nameds_of l)) named
+      ∙ sym (arguments_view-out y)
+
+  -- a named argument whose name and value are equal as plain data
+  pub named_view_same : (i : Identifier S) (e : InlineExpression S) (y : NamedArgument S) → name_of S text_of i ≡ name_of S text_of (out-NamedArgument S y).name → inline_view S text_of e ≡ inline_view S text_of (out-NamedArgument S y).value → named_view S text_of (roll-NamedArgument S (record { name = i; value = e })) ≡ named_view S text_of y
+  named_view_same i e y names values = cc (named_view-roll (record { name = i; value = e }), named_view-out y, names, values)
+
+  -- a variant whose parts are equal as plain data
+  pub variant_view_same : (k : VariantKey S) (p : Pattern S) (d : Bool) (y : Variant S) → key_of S text_of k ≡ key_of S text_of (out-Variant S y).key → pattern_view S text_of p ≡ pattern_view S text_of (out-Variant S y).value → d ≡ (out-Variant S y).default → variant_view S text_of (roll-Variant S (record { key = k; value = p; default = d })) ≡ variant_view S text_of y
+  variant_view_same k p d y keys values defaults = cc (variant_view-roll (record { key = k; value = p; default = d }), variant_view-out y, keys, values, defaults)
+
+  -- a message whose parts are equal as plain data
+  pub message_view_same : (x y : Message S) → name_of S text_of x.id ≡ name_of S text_of y.id → option_map (pattern_view S text_of) x.value ≡ option_map (pattern_view S text_of) y.value → map (attribute_view S text_of) x.attributes.items ≡ map (attribute_view S text_of) y.attributes.items → option_map (comment_view S text_of) x.comment ≡ option_map (comment_view S text_of) y.comment → message_view S text_of x ≡ message_view S text_of y
+  message_view_same x y ids values attributes comments = cc (ids, values, attributes, comments)
+
+  -- a term whose parts are equal as plain data
+  pub term_view_same : (x y : Term S) → name_of S text_of x.id ≡ name_of S text_of y.id → pattern_view S text_of x.value ≡ pattern_view S text_of y.value → map (attribute_view S text_of) x.attributes.items ≡ map (attribute_view S text_of) y.attributes.items → option_map (comment_view S text_of) x.comment ≡ option_map (comment_view S text_of) y.comment → term_view S text_of x ≡ term_view S text_of y
+  term_view_same x y ids values attributes comments = cc (ids, values, attributes, comments)

@@ -110,7 +110,8 @@ impl<'s, S: Slice<'s>> Comment<S> {
     {
         let mut content = Vec::new(alloc);
         for line in &self.content {
-            content.push(line.try_clone(alloc)?)?;
+            let copy = line.try_clone(alloc)?;
+            content.push(copy)?;
         }
         Ok(Comment { content })
     }

@@ -3,7 +3,8 @@
 //! The functions on patterns and expressions call each other, so they take the text type as a value under [`Texts`].
 
 ghost use Rattle.std.specs.Prelude.{◌≡◌, IfOk, map, option_map};
-ghost use Rattle.fluent_ast.specs.declared.InlineExpression.TheVariants.{FunctionReference, MessageReference, TermReference};
+ghost use Rattle.fluent_ast.specs.declared.InlineExpression.TheVariants.{StringLiteral, NumberLiteral, FunctionReference, MessageReference, TermReference, VariableReference};
+ghost use Rattle.fluent_grammar.specs.Tree.{nested};
 ghost use Rattle.fluent_ast.specs.View.{pattern_view, element_view, expression_view, inline_view, variant_view, arguments_view, named_view, key_of, name_of};
 
 use crate::{
@@ -104,8 +105,8 @@ pub(crate) fn clone_expression<S: Drop, T: Texts<S>>(
 {
     match expression {
         Expression::Select { selector, variants } => {
-            let selector = clone_inline(texts, alloc, selector)?;
             let variants = clone_variants(texts, alloc, variants)?;
+            let selector = clone_inline(texts, alloc, selector)?;
             Ok(Expression::Select { selector, variants })
         }
         Expression::Inline(inline) => Ok(Expression::Inline(clone_inline(texts, alloc, inline)?)),
@@ -154,14 +155,8 @@ pub(crate) fn clone_inline<S: Drop, T: Texts<S>>(
     ensures { IfOk result (λ copy. inline_view S T.text copy ≡ inline_view S T.text inline.now) }
 {
     match inline {
-        InlineExpression::StringLiteral { value } => {
-            let value = texts.try_clone(value, alloc)?;
-            Ok(InlineExpression::StringLiteral { value })
-        }
-        InlineExpression::NumberLiteral { value } => {
-            let value = texts.try_clone(value, alloc)?;
-            Ok(InlineExpression::NumberLiteral { value })
-        }
+        InlineExpression::StringLiteral { value } => clone_string(texts, alloc, value),
+        InlineExpression::NumberLiteral { value } => clone_number(texts, alloc, value),
         InlineExpression::FunctionReference { id, arguments } => {
             clone_call(texts, alloc, id, arguments)
         }
@@ -173,15 +168,62 @@ pub(crate) fn clone_inline<S: Drop, T: Texts<S>>(
             attribute,
             arguments,
         } => clone_term_reference(texts, alloc, id, attribute, arguments),
-        InlineExpression::VariableReference { id } => {
-            let id = clone_identifier(texts, alloc, id)?;
-            Ok(InlineExpression::VariableReference { id })
-        }
-        InlineExpression::Placeable { expression } => {
-            let expression = Box::new(alloc, clone_expression(texts, alloc, expression)?)?;
-            Ok(InlineExpression::Placeable { expression })
-        }
+        InlineExpression::VariableReference { id } => clone_variable(texts, alloc, id),
+        InlineExpression::Placeable { expression } => clone_nested(texts, alloc, expression),
     }
+}
+
+/// A string literal of the same text.
+fn clone_string<S: Drop, T: Texts<S>>(
+    texts: &T,
+    alloc: Global,
+    value: &S,
+) -> Result<InlineExpression<S>, AllocError>
+    ensures { IfOk result (λ copy. inline_view S T.text copy
+        ≡ inline_view S T.text (StringLiteral value.now)) }
+{
+    let value = texts.try_clone(value, alloc)?;
+    Ok(InlineExpression::StringLiteral { value })
+}
+
+/// A number literal of the same digits.
+fn clone_number<S: Drop, T: Texts<S>>(
+    texts: &T,
+    alloc: Global,
+    value: &S,
+) -> Result<InlineExpression<S>, AllocError>
+    ensures { IfOk result (λ copy. inline_view S T.text copy
+        ≡ inline_view S T.text (NumberLiteral value.now)) }
+{
+    let value = texts.try_clone(value, alloc)?;
+    Ok(InlineExpression::NumberLiteral { value })
+}
+
+/// A reference to the same variable.
+fn clone_variable<S: Drop, T: Texts<S>>(
+    texts: &T,
+    alloc: Global,
+    id: &Identifier<S>,
+) -> Result<InlineExpression<S>, AllocError>
+    ensures { IfOk result (λ copy. inline_view S T.text copy
+        ≡ inline_view S T.text (VariableReference id.now)) }
+{
+    let id = clone_identifier(texts, alloc, id)?;
+    Ok(InlineExpression::VariableReference { id })
+}
+
+/// A placeable of the same expression, inside a placeable.
+#[cycle(copies)]
+fn clone_nested<S: Drop, T: Texts<S>>(
+    texts: &T,
+    alloc: Global,
+    expression: &Expression<S>,
+) -> Result<InlineExpression<S>, AllocError>
+    ensures { IfOk result (λ copy. inline_view S T.text copy
+        ≡ nested (expression_view S T.text expression.now)) }
+{
+    let expression = Box::new(alloc, clone_expression(texts, alloc, expression)?)?;
+    Ok(InlineExpression::Placeable { expression })
 }
 
 #[cycle(copies)]
