@@ -1,0 +1,35 @@
+-- The lines of a text.
+use Rattle.std.specs.Prelude.{ℕ, suc, ◌+◌, Bool, List, [], ◌∷◌, ◌==◌, length, if◌then◌else◌}
+use Rattle.fluent_grammar.specs.Words.{Text, line_feed, begins, begins_entry, spaces, rest_of_line}
+use Rattle.fluent_grammar.specs.Lines.{pattern_ends}
+use Rattle.fluent_lines.specs.declared.row.Row.{Row}
+
+-- A line: where it begins, where it ends without its line end, how many spaces stand at its front, whether an entry can begin
+-- here, and whether a pattern ends before it.
+pub record Line : Type 0 where
+  pub start : ℕ
+  pub end : ℕ
+  pub spaces : ℕ
+  pub begins_entry : Bool
+  pub ends_pattern : Bool
+
+-- the line at the front of a text, of so many bytes, where the text begins at this offset
+abbrev pub cut_line_at : ℕ → ℕ → Text → Line
+cut_line_at at count s = record { start = at; end = at + count; spaces = spaces s; begins_entry = begins begins_entry s; ends_pattern = pattern_ends s }
+
+-- the same, up to its line end
+abbrev pub line_at : ℕ → Text → Line
+line_at at s = cut_line_at at (length (rest_of_line s).0) s
+
+-- the lines behind the first one: one behind each line feed
+abbrev pub later_lines : ℕ → Text → List Line
+later_lines at [] = []
+later_lines at (c ∷ cs) = let more = later_lines (suc at) cs in if c == line_feed then line_at (suc at) cs ∷ more else more
+
+-- all lines of a text
+abbrev pub lines : Text → List Line
+lines s = line_at 0 s ∷ later_lines 0 s
+
+-- what a row says
+abbrev pub row_view : Row → Line
+row_view r = record { start = r.start; end = r.end; spaces = r.spaces; begins_entry = r.begins_entry; ends_pattern = r.ends_pattern }

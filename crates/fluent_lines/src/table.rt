@@ -1,0 +1,37 @@
+//! All lines.
+#![tactic(auto, using(fluent_words::proofs::Counted::cuts))]
+
+ghost use Rattle.std.specs.Prelude.{◌≡◌, IfOk, map};
+ghost use Rattle.fluent_lines.specs.Table.{row_view, lines};
+
+use crate::Row;
+use fluent_words as words;
+use std::alloc::{AllocError, Global};
+
+/// How many bytes a line has, about. A table for longer lines has room to spare, one for shorter ones grows.
+const TYPICAL: usize = 32;
+
+/// The lines of a text, in their order. Behind a line feed at the end of the text there is one more, which is empty.
+///
+/// A line ends at LF or CR LF; a carriage return alone belongs to its line.
+///
+/// # Errors
+///
+/// Where memory runs out, or a line has 4,294,967,296 spaces at its front, nothing of the table is left.
+pub fn line_table(alloc: Global, text: &[u8]) -> Result<Vec<Row>, AllocError>
+    ensures { IfOk result (λ rows. map row_view rows.items ≡ lines text.now) }
+{
+    let mut rows = Vec::with_capacity(alloc, text.len() / TYPICAL + 1)?;
+    let mut start = 0;
+    'lines: loop {
+        let line = words::from(text, start);
+        let len = words::line_len(line);
+        let row = Row::new(line, start, len)?;
+        rows.push(row)?;
+        let line_end = words::line_end_len(words::from(line, len));
+        if line_end == 0 {
+            return Ok(rows);
+        }
+        start += len + line_end;
+    }
+}
