@@ -1,6 +1,6 @@
 //! `try_clone` of each type of the tree: the same node, each text copied by [`Slice::try_clone`].
 //!
-//! The only error is want of memory. Nothing of the copy is left then.
+//! The only error is that memory runs out. Nothing of the copy is left then.
 
 ghost use Rattle.std.specs.Prelude.{◌≡◌, IfOk, map, option_map};
 ghost use Rattle.fluent_ast.specs.View.{pattern_view, element_view, expression_view, inline_view, variant_view, arguments_view, named_view, key_of, name_of, comment_view, attribute_view, message_view, term_view, entry_view, resource_view};

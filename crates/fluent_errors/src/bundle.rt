@@ -23,7 +23,7 @@ pub enum FluentError {
 }
 
 impl FluentError {
-    /// The same error. The only error of the call is want of memory.
+    /// The same error. The call fails only where memory runs out.
     pub fn try_clone(&self, alloc: Global) -> Result<Self, AllocError>
         ensures { IfOk result (λ copy. bundle_view copy ≡ bundle_view self.now) }
     {

@@ -31,8 +31,8 @@ pub enum ReferenceKind {
 }
 
 impl ReferenceKind {
-    /// What an expression refers to, with names copied; `None` for a literal and for a placeable. The only error is want of
-    /// memory.
+    /// What an expression refers to, with names copied; `None` for a literal and for a placeable. The only error is that
+    /// memory runs out.
     pub fn of<'s, S: Slice<'s>>(
         alloc: Global,
         expression: &InlineExpression<S>,
@@ -65,7 +65,7 @@ impl ReferenceKind {
         }))
     }
 
-    /// The same reference. The only error is want of memory.
+    /// The same reference. The only error is that memory runs out.
     pub fn try_clone(&self, alloc: Global) -> Result<Self, AllocError>
         ensures { IfOk result (λ copy. reference_view copy ≡ reference_view self.now) }
     {

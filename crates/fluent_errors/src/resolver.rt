@@ -24,7 +24,7 @@ pub enum ResolverError {
 }
 
 impl ResolverError {
-    /// The same error. The only error of the call is want of memory.
+    /// The same error. The call fails only where memory runs out.
     pub fn try_clone(&self, alloc: Global) -> Result<Self, AllocError>
         ensures { IfOk result (λ copy. resolver_view copy ≡ resolver_view self.now) }
     {

@@ -67,7 +67,7 @@ pub enum ErrorKind {
 }
 
 impl ErrorKind {
-    /// The same kind. The only error is want of memory.
+    /// The same kind. The only error is that memory runs out.
     pub fn try_clone(&self, alloc: Global) -> Result<Self, AllocError>
         ensures { IfOk result (λ copy. kind_view copy ≡ kind_view self.now) }
     {
@@ -147,7 +147,7 @@ impl fmt::Display for ErrorKind {
 }
 
 impl ParserError {
-    /// The same error. The only error of the call is want of memory.
+    /// The same error. The call fails only where memory runs out.
     pub fn try_clone(&self, alloc: Global) -> Result<Self, AllocError>
         ensures { IfOk result (λ copy. error_view copy ≡ error_view self.now) }
     {

@@ -42,7 +42,7 @@ use std::fmt;
 pub enum Error<S> {
     /// Parts of the source are no entries. The tree has them as junk, and each junk has one error, in the same order.
     Broken(Resource<S>, Vec<ParserError>),
-    /// Want of memory.
+    /// Memory ran out. Nothing of the tree is left.
     Memory,
 }
 
@@ -65,7 +65,8 @@ pub type Result<S> = std::result::Result<Resource<S>, Error<S>>;
 ///
 /// Each stretch of the source that isn't an entry, a blank line or a comment becomes junk in the tree, up to the next
 /// line that may begin an entry, and has one error. Where there is junk the answer is [`Error::Broken`] with the whole
-/// tree and the errors in the order of their places, which are bytes of the source. The other error is want of memory.
+/// tree and the errors in the order of their places, which are bytes of the source. The other error, [`Error::Memory`], comes
+/// where memory runs out.
 ///
 /// A comment of one `#` becomes the comment of the message or the term right below it, where no blank line lies
 /// between. The grammar is that of Fluent Syntax 1.0, production `Resource`.

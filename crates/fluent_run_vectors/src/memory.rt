@@ -1,4 +1,4 @@
-//! Want of memory: `rt try --fail-alloc N` refuses an allocation.
+//! Memory that runs out: `rt try --fail-alloc N` refuses an allocation.
 
 use crate::case::{Case, Run};
 use crate::devices::{Reading, Writing};

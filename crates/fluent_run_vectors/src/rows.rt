@@ -23,7 +23,7 @@ use std::fs;
 enum Trial {
     /// Devices of all kinds.
     Devices,
-    /// Want of memory.
+    /// Memory ran out.
     Memory,
 }
 

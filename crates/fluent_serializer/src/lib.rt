@@ -27,7 +27,7 @@ pub struct Options {
     pub with_junk: bool,
 }
 
-/// The text of a tree, without its junk. The only error is want of memory.
+/// The text of a tree, without its junk. The only error is that memory runs out.
 pub fn serialize<'s, S: Slice<'s>>(
     alloc: Global,
     resource: &Resource<S>,
@@ -38,7 +38,7 @@ pub fn serialize<'s, S: Slice<'s>>(
     serialize_with_options(alloc, resource, Options::default())
 }
 
-/// The text of a tree, by the options. The only error is want of memory.
+/// The text of a tree, by the options. The only error is that memory runs out.
 pub fn serialize_with_options<'s, S: Slice<'s>>(
     alloc: Global,
     resource: &Resource<S>,

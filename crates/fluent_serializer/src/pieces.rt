@@ -6,8 +6,8 @@ ghost use Rattle.fluent_grammar.specs.Written.{default_mark, ends_line, indent, 
 
 use std::alloc::AllocError;
 
-/// The level so many levels in. One past the largest number counts as want of memory, since its indent is longer than
-/// any text.
+/// The level so many levels in. One past the largest number counts as memory that ran out, since its indent is longer
+/// than any text.
 pub(crate) fn deeper(level: usize, by: usize) -> Result<usize, AllocError>
     ensures { IfOk result (λ deep. deep ≡ level + by) }
 {

@@ -22,7 +22,7 @@ pub trait Slice<'s>: PartialEq + Drop {
         ensures { result.now ≡ text self.now };
 
     /// The part of the text in `range`, whose ends stand in order within the text, each at the boundary of a
-    /// character. The only error is want of memory.
+    /// character. The only error is that memory runs out.
     fn slice(&self, alloc: Global, range: Range<usize>) -> Result<Self, AllocError>
         requires ordered { range.start ≤ range.end }
         requires start_boundary { IsCharBoundary (text self.now) range.start }
@@ -34,7 +34,7 @@ pub trait Slice<'s>: PartialEq + Drop {
     fn trim(&mut self)
         ensures { text self.new ≡ trim_end (text self.old) };
 
-    /// The same text. The only error is want of memory.
+    /// The same text. The only error is that memory runs out.
     fn try_clone(&self, alloc: Global) -> Result<Self, AllocError>
         ensures { IfOk result (λ copy. text copy ≡ text self.now) };
 

@@ -23,7 +23,7 @@ const SOURCES: [&str; 6] = [
     "a = { F(x: 1, x: 2) }\nb = { \"\\q\" }\nc = { \"\\u12\" }\nd =\n-e =\nf = { 1 -> }\n9\n",
 ];
 
-/// Of two answers at most one is want of memory, and without it they are equal.
+/// Of two answers at most one says that memory ran out; where neither does, they are equal.
 fn agree<T: PartialEq + Drop>(rt: &impl Abort, one: Option<T>, other: Option<T>) {
     match (one, other) {
         (None, None) => assert!(rt; false, "refused twice"),
@@ -32,7 +32,7 @@ fn agree<T: PartialEq + Drop>(rt: &impl Abort, one: Option<T>, other: Option<T>)
     }
 }
 
-/// An answer, or None for want of memory.
+/// An answer, or None where memory ran out.
 fn told<S: Drop>(answer: parser::Result<S>) -> Option<parser::Result<S>> {
     match answer {
         Err(Error::Memory) => None,
@@ -48,7 +48,7 @@ fn read(rt: &impl Abort, alloc: Global, source: &str) {
     agree(rt, runtime, told(parse_runtime(alloc, source)));
 }
 
-/// The tree of a copy of a source, or None for want of memory.
+/// The tree of a copy of a source, or None where memory ran out.
 fn read_copy(alloc: Global, source: &str) -> Option<parser::Result<String>> {
     let copy = String::from_str(alloc, source).ok()?;
     told(parse(alloc, copy))

@@ -31,7 +31,7 @@ pub fn unescape_unicode<W: TextWrite>(w: &mut W, text: &str) -> fmt::Result
 }
 
 /// What the raw text of a string literal stands for, as [`unescape_unicode`] writes it. A text without a backslash is
-/// borrowed, which takes no memory and succeeds; any other is a text of its own. The only error is want of memory.
+/// borrowed, which takes no memory and succeeds; any other is a text of its own. The only error is that memory runs out.
 pub fn unescape_unicode_to_string(alloc: Global, text: &str) -> Result<CowStr<'_>, AllocError>
     ensures value { IfOk result (λ cow. cow_str_bytes cow ≡ unescaped text.now) }
     ensures borrowed { IfOk result (λ cow. IsBorrowedStr cow ↔ has_backslash text.now ≡ false) }
