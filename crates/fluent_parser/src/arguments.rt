@@ -37,11 +37,9 @@ impl<'p, S: Drop, T: Texts<S>> Parser<'p, S, T> {
     /// The arguments of a call, from the opening parenthesis on. Production `CallArguments`.
     #[cycle(parser)]
     pub fn get_call_arguments(&mut self) -> Result<CallArguments<S>, Fault>
-        requires tied { T.text self.old.source.now ≡ self.old.text.now }
         requires parenthesis { w.begins_with w.open_paren self.old.rest.now ≡ true }
         ensures gives { Gives (arguments_view S T.text) self.new.rest.now result
             (whole.arguments [] (w.skip_blank (drop 1 self.old.rest.now))) }
-        ensures source { self.new.source.now ≡ self.old.source.now }
         ensures text { self.new.text.now ≡ self.old.text.now }
         ensures onward { length self.new.rest.now ≤ length self.old.rest.now }
     {
@@ -69,14 +67,12 @@ impl<'p, S: Drop, T: Texts<S>> Parser<'p, S, T> {
     /// An argument of a call, behind these named ones. Productions `Argument` and `NamedArgument`.
     #[cycle(parser)]
     fn get_argument(&mut self, others: &NamedArguments<'p, S>) -> Result<Argument<'p, S>, Fault>
-        requires tied { T.text self.old.source.now ≡ self.old.text.now }
         requires indexed { IsIndexed S T.text others.now }
         ensures less { OnOk result (length self.new.rest.now < length self.old.rest.now) }
         ensures gives { Gives (argument_view S T.text) self.new.rest.now result
             (argument_by (names_of (map (named_view S T.text) others.now.all.items))
             self.old.rest.now) }
         ensures named { IfOk result (IsNamed S T.text) }
-        ensures source { self.new.source.now ≡ self.old.source.now }
         ensures text { self.new.text.now ≡ self.old.text.now }
         ensures onward { length self.new.rest.now ≤ length self.old.rest.now }
     {
@@ -135,13 +131,11 @@ impl<'p, S: Drop, T: Texts<S>> Parser<'p, S, T> {
         name: &str,
         others: &NamedArguments<'p, S>,
     ) -> Result<InlineExpression<S>, Fault>
-        requires tied { T.text self.old.source.now ≡ self.old.text.now }
         requires indexed { IsIndexed S T.text others.now }
         requires colon { w.begins_with w.colon self.old.rest.now ≡ true }
         ensures gives { Gives (inline_view S T.text) self.new.rest.now result
             (argument_value_at (names_of (map (named_view S T.text) others.now.all.items)) name.now
             self.old.rest.now) }
-        ensures source { self.new.source.now ≡ self.old.source.now }
         ensures text { self.new.text.now ≡ self.old.text.now }
         ensures onward { length self.new.rest.now ≤ length self.old.rest.now }
     {
@@ -161,7 +155,6 @@ impl<'p, S: Drop, T: Texts<S>> Parser<'p, S, T> {
     /// Passes over what stands between arguments.
     fn skip_separator(&mut self)
         ensures rest { self.new.rest.now ≡ w.skip_separator self.old.rest.now }
-        ensures source { self.new.source.now ≡ self.old.source.now }
         ensures text { self.new.text.now ≡ self.old.text.now }
         ensures onward { length self.new.rest.now ≤ length self.old.rest.now }
     {

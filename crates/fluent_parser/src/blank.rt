@@ -12,7 +12,6 @@ impl<'p, S: Drop, T: Texts<S>> Parser<'p, S, T> {
     /// Passes over spaces.
     pub fn skip_blank_inline(&mut self)
         ensures rest { self.new.rest.now ≡ w.skip_spaces self.old.rest.now }
-        ensures source { self.new.source.now ≡ self.old.source.now }
         ensures text { self.new.text.now ≡ self.old.text.now }
         ensures onward { length self.new.rest.now ≤ length self.old.rest.now }
     {
@@ -22,7 +21,6 @@ impl<'p, S: Drop, T: Texts<S>> Parser<'p, S, T> {
     /// Passes over spaces and line ends.
     pub fn skip_blank(&mut self)
         ensures rest { self.new.rest.now ≡ w.skip_blank self.old.rest.now }
-        ensures source { self.new.source.now ≡ self.old.source.now }
         ensures text { self.new.text.now ≡ self.old.text.now }
         ensures onward { length self.new.rest.now ≤ length self.old.rest.now }
     {
@@ -33,7 +31,6 @@ impl<'p, S: Drop, T: Texts<S>> Parser<'p, S, T> {
     pub fn skip_blank_block(&mut self) -> bool
         ensures value { result ≡ not (length self.new.rest.now == length self.old.rest.now) }
         ensures rest { self.new.rest.now ≡ w.skip_blank_block self.old.rest.now }
-        ensures source { self.new.source.now ≡ self.old.source.now }
         ensures text { self.new.text.now ≡ self.old.text.now }
         ensures onward { length self.new.rest.now ≤ length self.old.rest.now }
     {
@@ -47,7 +44,6 @@ impl<'p, S: Drop, T: Texts<S>> Parser<'p, S, T> {
         ensures value { result ≡ is_some (w.after_line_end self.old.rest.now) }
         ensures rest { self.new.rest.now ≡ unwrap_or (w.after_line_end self.old.rest.now)
             self.old.rest.now }
-        ensures source { self.new.source.now ≡ self.old.source.now }
         ensures text { self.new.text.now ≡ self.old.text.now }
         ensures onward { length self.new.rest.now ≤ length self.old.rest.now }
     {

@@ -36,11 +36,9 @@ impl<'p, S: Drop, T: Texts<S>> Parser<'p, S, T> {
     /// A comment with all its lines, from its first sign on. Productions `CommentLine`, `GroupComment` and
     /// `ResourceComment`.
     pub fn get_comment(&mut self) -> Result<Entry<S>, Fault>
-        requires tied { T.text self.old.source.now ≡ self.old.text.now }
         requires sign { w.begins_with w.number_sign self.old.rest.now ≡ true }
         ensures gives { Gives (entry_view S T.text) self.new.rest.now result
             (comment_at self.old.rest.now) }
-        ensures source { self.new.source.now ≡ self.old.source.now }
         ensures text { self.new.text.now ≡ self.old.text.now }
         ensures onward { length self.new.rest.now ≤ length self.old.rest.now }
     {
@@ -51,12 +49,10 @@ impl<'p, S: Drop, T: Texts<S>> Parser<'p, S, T> {
 
     /// The lines of a comment of this level. The first one has to stand here.
     fn get_comment_content(&mut self, level: usize) -> Result<Vec<S>, Fault>
-        requires tied { T.text self.old.source.now ≡ self.old.text.now }
         requires signs { level ≡ w.comment_level self.old.rest.now }
         requires some { 0 < level }
         ensures gives { Gives (λ lines. map T.text lines.items) self.new.rest.now result
             (comment_content_by level self.old.rest.now) }
-        ensures source { self.new.source.now ≡ self.old.source.now }
         ensures text { self.new.text.now ≡ self.old.text.now }
         ensures onward { length self.new.rest.now ≤ length self.old.rest.now }
     {
@@ -79,12 +75,10 @@ impl<'p, S: Drop, T: Texts<S>> Parser<'p, S, T> {
 
     /// Puts the line that stands here behind others of its comment.
     fn push_comment_line(&mut self, level: usize, lines: &mut Vec<S>) -> Result<(), Fault>
-        requires tied { T.text self.old.source.now ≡ self.old.text.now }
         requires signs { level ≡ w.comment_level self.old.rest.now }
         ensures gives { Gives (λ u. map T.text lines.new.items) self.new.rest.now result
             (lines_with (map T.text lines.old.items)
             (comment_line_at (drop level self.old.rest.now))) }
-        ensures source { self.new.source.now ≡ self.old.source.now }
         ensures text { self.new.text.now ≡ self.old.text.now }
         ensures onward { length self.new.rest.now ≤ length self.old.rest.now - level }
     {
@@ -97,10 +91,8 @@ impl<'p, S: Drop, T: Texts<S>> Parser<'p, S, T> {
 
     /// What stands behind the sign of a comment's line. None at the end of the text, where a sign adds no line.
     fn get_comment_line(&mut self) -> Result<Option<S>, Fault>
-        requires { T.text self.old.source.now ≡ self.old.text.now }
         ensures gives { Gives (line_of T.text) self.new.rest.now result
             (comment_line_at self.old.rest.now) }
-        ensures source { self.new.source.now ≡ self.old.source.now }
         ensures text { self.new.text.now ≡ self.old.text.now }
         ensures onward { length self.new.rest.now ≤ length self.old.rest.now }
     {

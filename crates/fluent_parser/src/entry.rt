@@ -24,10 +24,8 @@ impl<'p, S: Drop, T: Texts<S>> Parser<'p, S, T> {
     /// What begins here, told by its first byte. Production `Entry`.
     #[tactic(auto, using(crate::proofs::Failing::handed), unfolding(fluent_grammar::specs::Reading::entry_at))]
     pub fn get_entry(&mut self) -> Result<Entry<S>, Fault>
-        requires { T.text self.old.source.now ≡ self.old.text.now }
         ensures gives { Gives (entry_view S T.text) self.new.rest.now result
             (entry_at self.old.rest.now) }
-        ensures source { self.new.source.now ≡ self.old.source.now }
         ensures text { self.new.text.now ≡ self.old.text.now }
         ensures onward { length self.new.rest.now ≤ length self.old.rest.now }
     {
@@ -45,10 +43,8 @@ impl<'p, S: Drop, T: Texts<S>> Parser<'p, S, T> {
     /// Production `Message`.
     #[tactic(auto, using(crate::proofs::Failing::handed, fluent_words::proofs::Counted::cuts), unfolding(crate::specs::Entries::message_by))]
     fn get_message(&mut self) -> Result<Message<S>, Fault>
-        requires { T.text self.old.source.now ≡ self.old.text.now }
         ensures gives { Gives (λ m. t.message (message_view S T.text m)) self.new.rest.now result
             (message_by self.old.rest.now) }
-        ensures source { self.new.source.now ≡ self.old.source.now }
         ensures text { self.new.text.now ≡ self.old.text.now }
         ensures onward { length self.new.rest.now ≤ length self.old.rest.now }
     {
@@ -69,11 +65,9 @@ impl<'p, S: Drop, T: Texts<S>> Parser<'p, S, T> {
     /// Production `Term`, from its minus sign on.
     #[tactic(auto, using(crate::proofs::Failing::handed, fluent_words::proofs::Counted::cuts), unfolding(crate::specs::Entries::term_by))]
     fn get_term(&mut self) -> Result<Term<S>, Fault>
-        requires tied { T.text self.old.source.now ≡ self.old.text.now }
         requires minus { w.begins_with w.hyphen self.old.rest.now ≡ true }
         ensures gives { Gives (λ m. t.term (term_view S T.text m)) self.new.rest.now result
             (term_by self.old.rest.now) }
-        ensures source { self.new.source.now ≡ self.old.source.now }
         ensures text { self.new.text.now ≡ self.old.text.now }
         ensures onward { length self.new.rest.now ≤ length self.old.rest.now }
     {
@@ -115,10 +109,8 @@ impl<'p, S: Drop, T: Texts<S>> Parser<'p, S, T> {
     /// What a message or a term begins with: its name, an equals sign and its value, if it has one.
     #[tactic(auto, using(crate::proofs::Failing::handed, fluent_words::proofs::Counted::cuts), unfolding(crate::specs::Entries::head_by))]
     fn get_head(&mut self) -> Result<Head<S>, Fault>
-        requires { T.text self.old.source.now ≡ self.old.text.now }
         ensures gives { Gives (head_view S T.text) self.new.rest.now result
             (head_by self.old.rest.now) }
-        ensures source { self.new.source.now ≡ self.old.source.now }
         ensures text { self.new.text.now ≡ self.old.text.now }
         ensures onward { length self.new.rest.now ≤ length self.old.rest.now }
     {
@@ -131,10 +123,8 @@ impl<'p, S: Drop, T: Texts<S>> Parser<'p, S, T> {
 
     /// The attributes up to the first line that isn't one, where the parser then stands.
     fn get_attributes(&mut self) -> Result<Vec<Attribute<S>>, Fault>
-        requires { T.text self.old.source.now ≡ self.old.text.now }
         ensures gives { Gives (λ all. map (attribute_view S T.text) all.items) self.new.rest.now
             result (attributes_by self.old.rest.now) }
-        ensures source { self.new.source.now ≡ self.old.source.now }
         ensures text { self.new.text.now ≡ self.old.text.now }
         ensures onward { length self.new.rest.now ≤ length self.old.rest.now }
     {
@@ -148,10 +138,8 @@ impl<'p, S: Drop, T: Texts<S>> Parser<'p, S, T> {
     /// The attribute of this line. None where none can be read: the parser then stands where it stood.
     #[tactic(auto, using(crate::proofs::Failing::handed, fluent_words::proofs::Counted::cuts), unfolding(crate::specs::Entries::next_attribute_by))]
     fn next_attribute(&mut self) -> Result<Option<Attribute<S>>, Fault>
-        requires { T.text self.old.source.now ≡ self.old.text.now }
         ensures gives { Gives (option_map (attribute_view S T.text)) self.new.rest.now result
             (next_attribute_by self.old.rest.now) }
-        ensures source { self.new.source.now ≡ self.old.source.now }
         ensures text { self.new.text.now ≡ self.old.text.now }
         ensures onward { length self.new.rest.now ≤ length self.old.rest.now }
     {
@@ -181,11 +169,9 @@ impl<'p, S: Drop, T: Texts<S>> Parser<'p, S, T> {
     /// Production `Attribute`, from the start of its line on.
     #[tactic(auto, using(crate::proofs::Failing::handed, fluent_words::proofs::Counted::cuts), unfolding(crate::specs::Entries::attribute_by))]
     fn get_attribute(&mut self) -> Result<Attribute<S>, Fault>
-        requires tied { T.text self.old.source.now ≡ self.old.text.now }
         requires dot { w.begins_with w.dot (w.skip_spaces self.old.rest.now) ≡ true }
         ensures gives { Gives (attribute_view S T.text) self.new.rest.now result
             (attribute_by self.old.rest.now) }
-        ensures source { self.new.source.now ≡ self.old.source.now }
         ensures text { self.new.text.now ≡ self.old.text.now }
         ensures onward { length self.new.rest.now ≤ length self.old.rest.now }
     {

@@ -16,7 +16,6 @@ impl<'p, S: Drop, T: Texts<S>> Parser<'p, S, T> {
     pub fn expect_byte(&mut self, byte: u8) -> Result<(), Fault>
         requires { byte < 128 }
         ensures gives { Gives (λ u. u) self.new.rest.now result (byte_at byte self.old.rest.now) }
-        ensures source { self.new.source.now ≡ self.old.source.now }
         ensures text { self.new.text.now ≡ self.old.text.now }
         ensures onward { length self.new.rest.now ≤ length self.old.rest.now }
     {

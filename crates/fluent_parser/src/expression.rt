@@ -24,12 +24,10 @@ impl<'p, S: Drop, T: Texts<S>> Parser<'p, S, T> {
     #[cycle(parser)]
     #[tactic(auto, using(crate::proofs::Failing::handed, fluent_words::proofs::Counted::cuts), unfolding(crate::specs::Steps::placeable_by))]
     pub fn get_placeable(&mut self) -> Result<Expression<S>, Fault>
-        requires tied { T.text self.old.source.now ≡ self.old.text.now }
         requires brace { w.begins_with w.open_brace self.old.rest.now ≡ true }
         ensures gives { Gives (expression_view S T.text) self.new.rest.now result
             (placeable_by self.old.rest.now) }
         ensures less { length self.new.rest.now < length self.old.rest.now }
-        ensures source { self.new.source.now ≡ self.old.source.now }
         ensures text { self.new.text.now ≡ self.old.text.now }
     {
         self.advance(1);
@@ -44,10 +42,8 @@ impl<'p, S: Drop, T: Texts<S>> Parser<'p, S, T> {
     #[cycle(parser)]
     #[tactic(auto, using(crate::proofs::Failing::handed, fluent_words::proofs::Counted::cuts), unfolding(crate::specs::Steps::expression_by, fluent_grammar::specs::Reading::select_or_inline_at))]
     fn get_expression(&mut self) -> Result<Expression<S>, Fault>
-        requires { T.text self.old.source.now ≡ self.old.text.now }
         ensures gives { Gives (expression_view S T.text) self.new.rest.now result
             (expression_by self.old.rest.now) }
-        ensures source { self.new.source.now ≡ self.old.source.now }
         ensures text { self.new.text.now ≡ self.old.text.now }
         ensures onward { length self.new.rest.now ≤ length self.old.rest.now }
     {
@@ -67,13 +63,11 @@ impl<'p, S: Drop, T: Texts<S>> Parser<'p, S, T> {
         &mut self,
         selector: &InlineExpression<S>,
     ) -> Result<Vec<Variant<S>>, Fault>
-        requires tied { T.text self.old.source.now ≡ self.old.text.now }
         requires arrow { w.begins_arrow self.old.rest.now ≡ true }
         ensures gives { Gives (λ vs. t.select (inline_view S T.text selector.now)
             (variants_of (map (variant_view S T.text) vs.items))) self.new.rest.now result
             (select_at whole (inline_view S T.text selector.now)
             (selector_fault (inline_view S T.text selector.now)) self.old.rest.now) }
-        ensures source { self.new.source.now ≡ self.old.source.now }
         ensures text { self.new.text.now ≡ self.old.text.now }
         ensures onward { length self.new.rest.now ≤ length self.old.rest.now }
     {
@@ -108,10 +102,8 @@ impl<'p, S: Drop, T: Texts<S>> Parser<'p, S, T> {
     /// An inline expression. Production `InlineExpression`.
     #[cycle(parser)]
     pub fn get_inline_expression(&mut self) -> Result<InlineExpression<S>, Fault>
-        requires { T.text self.old.source.now ≡ self.old.text.now }
         ensures gives { Gives (inline_view S T.text) self.new.rest.now result
             (whole.inline self.old.rest.now) }
-        ensures source { self.new.source.now ≡ self.old.source.now }
         ensures text { self.new.text.now ≡ self.old.text.now }
         ensures onward { length self.new.rest.now ≤ length self.old.rest.now }
     {
@@ -137,11 +129,9 @@ impl<'p, S: Drop, T: Texts<S>> Parser<'p, S, T> {
     #[cycle(parser)]
     #[tactic(auto, using(crate::proofs::Failing::handed, fluent_words::proofs::Counted::cuts), unfolding(fluent_grammar::specs::Reading::term_at, fluent_grammar::specs::Reading::term_arguments_at))]
     fn get_term_reference(&mut self) -> Result<InlineExpression<S>, Fault>
-        requires tied { T.text self.old.source.now ≡ self.old.text.now }
         requires minus { w.begins_with w.hyphen self.old.rest.now ≡ true }
         ensures gives { Gives (inline_view S T.text) self.new.rest.now result
             (term_at whole (drop 1 self.old.rest.now)) }
-        ensures source { self.new.source.now ≡ self.old.source.now }
         ensures text { self.new.text.now ≡ self.old.text.now }
         ensures onward { length self.new.rest.now ≤ length self.old.rest.now }
     {
@@ -168,10 +158,8 @@ impl<'p, S: Drop, T: Texts<S>> Parser<'p, S, T> {
     #[cycle(parser)]
     #[tactic(auto, using(crate::proofs::Failing::handed, fluent_words::proofs::Counted::cuts), unfolding(fluent_grammar::specs::Reading::named_at, fluent_grammar::specs::Reading::called_at, fluent_grammar::specs::Reading::function_of))]
     fn get_named_reference(&mut self) -> Result<InlineExpression<S>, Fault>
-        requires { T.text self.old.source.now ≡ self.old.text.now }
         ensures gives { Gives (inline_view S T.text) self.new.rest.now result
             (named_at whole self.old.rest.now) }
-        ensures source { self.new.source.now ≡ self.old.source.now }
         ensures text { self.new.text.now ≡ self.old.text.now }
         ensures onward { length self.new.rest.now ≤ length self.old.rest.now }
     {
@@ -191,10 +179,8 @@ impl<'p, S: Drop, T: Texts<S>> Parser<'p, S, T> {
 
     /// A string or a number. Productions `StringLiteral` and `NumberLiteral`.
     pub fn get_literal(&mut self) -> Result<InlineExpression<S>, Fault>
-        requires { T.text self.old.source.now ≡ self.old.text.now }
         ensures gives { Gives (inline_view S T.text) self.new.rest.now result
             (string_or_number_at self.old.rest.now) }
-        ensures source { self.new.source.now ≡ self.old.source.now }
         ensures text { self.new.text.now ≡ self.old.text.now }
         ensures onward { length self.new.rest.now ≤ length self.old.rest.now }
     {
@@ -209,11 +195,9 @@ impl<'p, S: Drop, T: Texts<S>> Parser<'p, S, T> {
 
     /// Production `VariableReference`, from its dollar sign on.
     fn get_variable_reference(&mut self) -> Result<InlineExpression<S>, Fault>
-        requires tied { T.text self.old.source.now ≡ self.old.text.now }
         requires dollar { w.begins_with w.dollar self.old.rest.now ≡ true }
         ensures gives { Gives (inline_view S T.text) self.new.rest.now result
             (mapped t.variable_reference (identifier_at (drop 1 self.old.rest.now))) }
-        ensures source { self.new.source.now ≡ self.old.source.now }
         ensures text { self.new.text.now ≡ self.old.text.now }
         ensures onward { length self.new.rest.now ≤ length self.old.rest.now }
     {
@@ -225,10 +209,8 @@ impl<'p, S: Drop, T: Texts<S>> Parser<'p, S, T> {
     /// The attribute that a reference names, if it names one. Production `AttributeAccessor`.
     #[tactic(auto, using(crate::proofs::Failing::handed), unfolding(fluent_grammar::specs::Reading::accessor_at))]
     fn get_attribute_accessor(&mut self) -> Result<Option<Identifier<S>>, Fault>
-        requires { T.text self.old.source.now ≡ self.old.text.now }
         ensures gives { Gives (option_map (name_of S T.text)) self.new.rest.now result
             (accessor_at self.old.rest.now) }
-        ensures source { self.new.source.now ≡ self.old.source.now }
         ensures text { self.new.text.now ≡ self.old.text.now }
         ensures onward { length self.new.rest.now ≤ length self.old.rest.now }
     {

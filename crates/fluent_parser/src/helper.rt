@@ -12,7 +12,7 @@ use std::alloc::{AllocError, Global};
 
 /// A parser of a source, which stands before `rest`.
 #[derive(Drop)]
-pub struct Parser<'p, S, T> {
+pub struct Parser<'p, S, T: Texts<S>> {
     pub texts: &'p T,
     /// What texts are sliced from.
     source: &'p S,
@@ -21,6 +21,7 @@ pub struct Parser<'p, S, T> {
     /// What is left to read.
     rest: &'p str,
     pub alloc: Global,
+    ghost tied: { T.text source.now ≡ text.now },
     ghost is_tail: { rest.now ≡ drop (length text.now - length rest.now) text.now },
 }
 
@@ -37,7 +38,6 @@ impl<'p, S: Drop, T: Texts<S>> Parser<'p, S, T> {
     pub fn new(alloc: Global, texts: &'p T, source: &'p S) -> Self
         ensures rest { result.rest.now ≡ T.text source.entry.now }
         ensures text { result.text.now ≡ T.text source.entry.now }
-        ensures source { result.source.now ≡ source.entry.now }
     {
         let text = texts.as_str(source);
         Parser {
@@ -68,7 +68,6 @@ impl<'p, S: Drop, T: Texts<S>> Parser<'p, S, T> {
     pub fn set_rest(&mut self, rest: &'p str)
         requires { rest.now ≡ drop (length self.old.text.now - length rest.now) self.old.text.now }
         ensures rest { self.new.rest.now ≡ rest.now }
-        ensures source { self.new.source.now ≡ self.old.source.now }
         ensures text { self.new.text.now ≡ self.old.text.now }
     {
         self.rest = rest;
@@ -86,7 +85,6 @@ impl<'p, S: Drop, T: Texts<S>> Parser<'p, S, T> {
     pub fn advance(&mut self, count: usize)
         requires { Cuts self.old.rest.now count }
         ensures rest { self.new.rest.now ≡ drop count self.old.rest.now }
-        ensures source { self.new.source.now ≡ self.old.source.now }
         ensures text { self.new.text.now ≡ self.old.text.now }
         ensures onward { length self.new.rest.now ≤ length self.old.rest.now }
     {
@@ -95,11 +93,9 @@ impl<'p, S: Drop, T: Texts<S>> Parser<'p, S, T> {
 
     /// The text of so many bytes at the place, passed over.
     pub fn take(&mut self, count: usize) -> Result<S, AllocError>
-        requires tied { T.text self.old.source.now ≡ self.old.text.now }
-        requires cuts { Cuts self.old.rest.now count }
+        requires { Cuts self.old.rest.now count }
         ensures value { IfOk result (λ part. T.text part ≡ take count self.old.rest.now) }
         ensures rest { self.new.rest.now ≡ drop count self.old.rest.now }
-        ensures source { self.new.source.now ≡ self.old.source.now }
         ensures text { self.new.text.now ≡ self.old.text.now }
         ensures onward { length self.new.rest.now ≤ length self.old.rest.now }
     {
@@ -125,7 +121,6 @@ impl<'p, S: Drop, T: Texts<S>> Parser<'p, S, T> {
         ensures value { result ≡ w.begins_with byte self.old.rest.now }
         ensures rest { self.new.rest.now ≡ (if w.begins_with byte self.old.rest.now then drop 1
             self.old.rest.now else self.old.rest.now) }
-        ensures source { self.new.source.now ≡ self.old.source.now }
         ensures text { self.new.text.now ≡ self.old.text.now }
         ensures onward { length self.new.rest.now ≤ length self.old.rest.now }
     {

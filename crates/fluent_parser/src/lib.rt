@@ -33,7 +33,7 @@ pub use errors::{ErrorKind, ParserError};
 use fluent_ast::Resource;
 pub use fluent_slice::Slice;
 use fluent_slice::Slices;
-use helper::Parser;
+use resource::{parts_of, runtime_parts_of};
 use std::alloc::Global;
 use std::fmt;
 
@@ -74,9 +74,7 @@ pub fn parse<'s, S: Slice<'s>>(alloc: Global, input: S) -> Result<S>
     ensures tree { HasTree S S.text result (tree (S.text input)) }
     ensures errors { HasErrors S result (map error_told (errors (S.text input))) }
 {
-    let texts = Slices::new();
-    let mut parser = Parser::new(alloc, &texts, &input);
-    match parser.get_parts() {
+    match parts_of(alloc, &Slices::new(), &input) {
         Ok(parts) => parts.finish(),
         Err(_) => Err(Error::Memory),
     }
@@ -90,9 +88,7 @@ pub fn parse_runtime<'s, S: Slice<'s>>(alloc: Global, input: S) -> Result<S>
     ensures tree { HasTree S S.text result (runtime_tree (S.text input)) }
     ensures errors { HasErrors S result (map error_told (runtime_errors (S.text input))) }
 {
-    let texts = Slices::new();
-    let mut parser = Parser::new(alloc, &texts, &input);
-    match parser.get_runtime_parts() {
+    match runtime_parts_of(alloc, &Slices::new(), &input) {
         Ok(parts) => parts.finish(),
         Err(_) => Err(Error::Memory),
     }

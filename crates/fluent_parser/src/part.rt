@@ -25,7 +25,6 @@ impl<'p, S: Drop, T: Texts<S>> Parser<'p, S, T> {
     /// stands before it. Behind a refused entry, reading goes on at the first place that may begin another: at or behind
     /// the place of the refusal, at column 0, before a letter, `-` or `#`.
     pub fn get_part(&mut self, collected: &mut Collected<S>, apart: bool) -> Result<(), AllocError>
-        requires tied { T.text self.old.source.now ≡ self.old.text.now }
         requires some { 0 < length self.old.rest.now }
         ensures entries { IfOk result (λ u. (pieces : List Piece)
             → entries_with S T.text collected.new pieces ≡ entries_with S T.text collected.old
@@ -38,7 +37,6 @@ impl<'p, S: Drop, T: Texts<S>> Parser<'p, S, T> {
         ensures rest { IfOk result (λ u. self.new.rest.now
             ≡ behind_piece self.old.rest.now (entry_at self.old.rest.now)) }
         ensures onward { IfOk result (λ u. length self.new.rest.now < length self.old.rest.now) }
-        ensures source { self.new.source.now ≡ self.old.source.now }
         ensures text { self.new.text.now ≡ self.old.text.now }
     {
         let start = self.rest();
@@ -66,7 +64,6 @@ impl<'p, S: Drop, T: Texts<S>> Parser<'p, S, T> {
     fn skip_to_next_entry_start(&mut self, start: &str)
         requires { length self.old.rest.now ≤ length start.now }
         ensures rest { self.new.rest.now ≡ behind_junk start.now self.old.rest.now }
-        ensures source { self.new.source.now ≡ self.old.source.now }
         ensures text { self.new.text.now ≡ self.old.text.now }
         ensures onward { length self.new.rest.now ≤ length self.old.rest.now }
     {

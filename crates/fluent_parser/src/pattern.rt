@@ -55,10 +55,8 @@ impl<'p, S: Drop, T: Texts<S>> Parser<'p, S, T> {
     /// A pattern, or none where nothing but blank stands. Production `Pattern`.
     #[cycle(parser)]
     pub fn get_pattern(&mut self) -> Result<Option<Pattern<S>>, Fault>
-        requires { T.text self.old.source.now ≡ self.old.text.now }
         ensures gives { Gives (option_map (pattern_view S T.text)) self.new.rest.now result
             (pattern_by self.old.rest.now) }
-        ensures source { self.new.source.now ≡ self.old.source.now }
         ensures text { self.new.text.now ≡ self.old.text.now }
         ensures onward { length self.new.rest.now ≤ length self.old.rest.now }
     {
@@ -71,11 +69,9 @@ impl<'p, S: Drop, T: Texts<S>> Parser<'p, S, T> {
 
     /// A pattern of one line, whose text has so many bytes with its line feed. Most patterns are such.
     fn get_one_line(&mut self, count: usize) -> Result<Option<Pattern<S>>, Fault>
-        requires tied { T.text self.old.source.now ≡ self.old.text.now }
         requires line { IsOneLine self.old.rest.now (Some count) }
         ensures gives { Gives (option_map (pattern_view S T.text)) self.new.rest.now result
             (pattern_behind self.old.rest.now) }
-        ensures source { self.new.source.now ≡ self.old.source.now }
         ensures text { self.new.text.now ≡ self.old.text.now }
         ensures onward { length self.new.rest.now ≤ length self.old.rest.now }
     {
@@ -90,10 +86,8 @@ impl<'p, S: Drop, T: Texts<S>> Parser<'p, S, T> {
     /// Any pattern, behind the blank before it.
     #[cycle(parser)]
     fn get_lines(&mut self) -> Result<Option<Pattern<S>>, Fault>
-        requires { T.text self.old.source.now ≡ self.old.text.now }
         ensures gives { Gives (option_map (pattern_view S T.text)) self.new.rest.now result
             (pattern_behind self.old.rest.now) }
-        ensures source { self.new.source.now ≡ self.old.source.now }
         ensures text { self.new.text.now ≡ self.old.text.now }
         ensures onward { length self.new.rest.now ≤ length self.old.rest.now }
     {
@@ -110,7 +104,6 @@ impl<'p, S: Drop, T: Texts<S>> Parser<'p, S, T> {
     fn skip_to_line(&mut self) -> bool
         ensures place { (result, self.new.rest.now)
             ≡ first_place self.old.rest.now (w.after_line_end self.old.rest.now) }
-        ensures source { self.new.source.now ≡ self.old.source.now }
         ensures text { self.new.text.now ≡ self.old.text.now }
         ensures onward { length self.new.rest.now ≤ length self.old.rest.now }
     {
@@ -130,12 +123,10 @@ impl<'p, S: Drop, T: Texts<S>> Parser<'p, S, T> {
         at_line_start: bool,
         gathered: &mut Gathered<S>,
     ) -> Result<Option<bool>, Fault>
-        requires { T.text self.old.source.now ≡ self.old.text.now }
         ensures gives { GivesPiece S T.text gathered.old gathered.new self.new.rest.now result
             (kept_piece_by at_line_start self.old.rest.now) }
         ensures less { IfOk result (λ found. IfSome found
             (λ ends. length self.new.rest.now < length self.old.rest.now)) }
-        ensures source { self.new.source.now ≡ self.old.source.now }
         ensures text { self.new.text.now ≡ self.old.text.now }
         ensures onward { length self.new.rest.now ≤ length self.old.rest.now }
     {
@@ -163,13 +154,11 @@ impl<'p, S: Drop, T: Texts<S>> Parser<'p, S, T> {
         indent: usize,
         gathered: &mut Gathered<S>,
     ) -> Result<Option<bool>, Fault>
-        requires tied { T.text self.old.source.now ≡ self.old.text.now }
         requires indent { indent ≡ indent_at at_line_start self.old.rest.now }
         ensures gives { GivesPiece S T.text gathered.old gathered.new self.new.rest.now result
             (piece_behind at_line_start indent (drop indent self.old.rest.now)) }
         ensures less { IfOk result (λ found. IfSome found
             (λ ends. length self.new.rest.now < length self.old.rest.now)) }
-        ensures source { self.new.source.now ≡ self.old.source.now }
         ensures text { self.new.text.now ≡ self.old.text.now }
         ensures onward { length self.new.rest.now ≤ length self.old.rest.now }
     {
@@ -201,14 +190,12 @@ impl<'p, S: Drop, T: Texts<S>> Parser<'p, S, T> {
         indent: usize,
         gathered: &mut Gathered<S>,
     ) -> Result<Option<bool>, Fault>
-        requires tied { T.text self.old.source.now ≡ self.old.text.now }
         requires indent { indent ≡ indent_at at_line_start self.old.rest.now }
         requires some { IsTextStart (drop indent self.old.rest.now) }
         ensures gives { GivesPiece S T.text gathered.old gathered.new self.new.rest.now result
             (text_step at_line_start indent (drop indent self.old.rest.now)) }
         ensures less { IfOk result (λ found. IfSome found
             (λ ends. length self.new.rest.now < length self.old.rest.now)) }
-        ensures source { self.new.source.now ≡ self.old.source.now }
         ensures text { self.new.text.now ≡ self.old.text.now }
         ensures onward { length self.new.rest.now ≤ length self.old.rest.now }
     {

@@ -3,12 +3,45 @@
 
 ghost use Rattle.std.specs.Prelude.{◌≡◌, ◌-◌, ◌≤◌, [], None, IfOk, length, map};
 ghost use Rattle.fluent_grammar.specs.Words as w;
+ghost use Rattle.fluent_grammar.specs.Tiling.{tree, errors, runtime_tree, runtime_errors};
+ghost use Rattle.fluent_parser.specs.Collected.{entries_with, errors_with};
+ghost use Rattle.fluent_parser.specs.ErrorView.{error_told};
 
 use crate::collected::Collected;
 use crate::helper::Parser;
 use fluent_slice::Texts;
 use fluent_words as words;
-use std::alloc::AllocError;
+use std::alloc::{AllocError, Global};
+
+/// The parts of a source, with their comments.
+pub fn parts_of<S: Drop, T: Texts<S>>(
+    alloc: Global,
+    texts: &T,
+    source: &S,
+) -> Result<Collected<S>, AllocError>
+    ensures entries { IfOk result (λ all. entries_with S T.text all []
+        ≡ tree (T.text source.now)) }
+    ensures errors { IfOk result (λ all. errors_with S all []
+        ≡ map error_told (errors (T.text source.now))) }
+{
+    let mut parser = Parser::new(alloc, texts, source);
+    parser.get_parts()
+}
+
+/// The parts of a source, without comments.
+pub fn runtime_parts_of<S: Drop, T: Texts<S>>(
+    alloc: Global,
+    texts: &T,
+    source: &S,
+) -> Result<Collected<S>, AllocError>
+    ensures entries { IfOk result (λ all. entries_with S T.text all []
+        ≡ runtime_tree (T.text source.now)) }
+    ensures errors { IfOk result (λ all. errors_with S all []
+        ≡ map error_told (runtime_errors (T.text source.now))) }
+{
+    let mut parser = Parser::new(alloc, texts, source);
+    parser.get_runtime_parts()
+}
 
 impl<'p, S: Drop, T: Texts<S>> Parser<'p, S, T> {
     ghost use Rattle.fluent_parser.specs.Collected.{entries_with, errors_with};
@@ -18,7 +51,6 @@ impl<'p, S: Drop, T: Texts<S>> Parser<'p, S, T> {
 
     /// All parts that are left, with their comments.
     pub fn get_parts(&mut self) -> Result<Collected<S>, AllocError>
-        requires { T.text self.old.source.now ≡ self.old.text.now }
         ensures entries { IfOk result (λ all. entries_with S T.text all []
             ≡ entries_of None (pieces_left (length self.old.text.now) self.old.rest.now)) }
         ensures errors { IfOk result (λ all. errors_with S all []
@@ -38,7 +70,6 @@ impl<'p, S: Drop, T: Texts<S>> Parser<'p, S, T> {
     /// All parts that are left, without comments: a line that begins with `#` where a part may begin is passed over,
     /// whatever follows.
     pub fn get_runtime_parts(&mut self) -> Result<Collected<S>, AllocError>
-        requires { T.text self.old.source.now ≡ self.old.text.now }
         ensures entries { IfOk result (λ all. entries_with S T.text all []
             ≡ entries_of None (runtime_left (length self.old.text.now) self.old.rest.now)) }
         ensures errors { IfOk result (λ all. errors_with S all []
@@ -62,7 +93,6 @@ impl<'p, S: Drop, T: Texts<S>> Parser<'p, S, T> {
     /// Passes over the rest of the line with its line end.
     fn skip_line(&mut self)
         ensures rest { self.new.rest.now ≡ (w.rest_of_line self.old.rest.now).1 }
-        ensures source { self.new.source.now ≡ self.old.source.now }
         ensures text { self.new.text.now ≡ self.old.text.now }
         ensures onward { length self.new.rest.now ≤ length self.old.rest.now }
     {

@@ -44,10 +44,8 @@ impl<'p, S: Drop, T: Texts<S>> Parser<'p, S, T> {
     /// The variants of a select. Production `variant_list`.
     #[cycle(parser)]
     pub fn get_variants(&mut self) -> Result<Vec<Variant<S>>, Fault>
-        requires { T.text self.old.source.now ≡ self.old.text.now }
         ensures gives { Gives (λ vs. variants_of (map (variant_view S T.text) vs.items))
             self.new.rest.now result (whole.variants false self.old.rest.now) }
-        ensures source { self.new.source.now ≡ self.old.source.now }
         ensures text { self.new.text.now ≡ self.old.text.now }
         ensures onward { length self.new.rest.now ≤ length self.old.rest.now }
     {
@@ -73,7 +71,6 @@ impl<'p, S: Drop, T: Texts<S>> Parser<'p, S, T> {
     fn take_default_mark(&mut self, has_default: bool) -> Result<bool, Fault>
         ensures gives { Gives (λ found. found) self.new.rest.now result
             (default_mark_at has_default self.old.rest.now) }
-        ensures source { self.new.source.now ≡ self.old.source.now }
         ensures text { self.new.text.now ≡ self.old.text.now }
         ensures onward { length self.new.rest.now ≤ length self.old.rest.now }
     {
@@ -88,12 +85,10 @@ impl<'p, S: Drop, T: Texts<S>> Parser<'p, S, T> {
     #[cycle(parser)]
     #[tactic(auto, using(crate::proofs::Failing::handed, fluent_words::proofs::Counted::cuts), unfolding(crate::specs::Steps::variant_by))]
     fn get_variant(&mut self, default: bool) -> Result<Variant<S>, Fault>
-        requires tied { T.text self.old.source.now ≡ self.old.text.now }
         requires bracket { w.begins_with w.open_bracket self.old.rest.now ≡ true }
         ensures gives { Gives (variant_view S T.text) self.new.rest.now result
             (variant_by default self.old.rest.now) }
         ensures less { length self.new.rest.now < length self.old.rest.now }
-        ensures source { self.new.source.now ≡ self.old.source.now }
         ensures text { self.new.text.now ≡ self.old.text.now }
     {
         self.advance(1);
@@ -110,10 +105,8 @@ impl<'p, S: Drop, T: Texts<S>> Parser<'p, S, T> {
 
     /// A variant's key with its closing bracket. Production `VariantKey`.
     fn get_variant_key(&mut self) -> Result<VariantKey<S>, Fault>
-        requires { T.text self.old.source.now ≡ self.old.text.now }
         ensures gives { Gives (key_of S T.text) self.new.rest.now result
             (key_in_brackets_at self.old.rest.now) }
-        ensures source { self.new.source.now ≡ self.old.source.now }
         ensures text { self.new.text.now ≡ self.old.text.now }
         ensures onward { length self.new.rest.now ≤ length self.old.rest.now }
     {
@@ -127,10 +120,8 @@ impl<'p, S: Drop, T: Texts<S>> Parser<'p, S, T> {
     /// A number or an identifier.
     #[tactic(auto, using(crate::proofs::Failing::handed), unfolding(fluent_grammar::specs::Reading::key_at))]
     fn get_key(&mut self) -> Result<VariantKey<S>, Fault>
-        requires { T.text self.old.source.now ≡ self.old.text.now }
         ensures gives { Gives (key_of S T.text) self.new.rest.now result
             (key_at self.old.rest.now) }
-        ensures source { self.new.source.now ≡ self.old.source.now }
         ensures text { self.new.text.now ≡ self.old.text.now }
         ensures onward { length self.new.rest.now ≤ length self.old.rest.now }
     {

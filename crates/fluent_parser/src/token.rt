@@ -40,10 +40,8 @@ impl<'p, S: Drop, T: Texts<S>> Parser<'p, S, T> {
     /// Production `Identifier`.
     #[tactic(auto, using(fluent_words::proofs::Counted::cuts), unfolding(fluent_grammar::specs::Reading::identifier_at))]
     pub fn get_identifier(&mut self) -> Result<Identifier<S>, Fault>
-        requires { T.text self.old.source.now ≡ self.old.text.now }
         ensures gives { Gives (name_of S T.text) self.new.rest.now result
             (identifier_at self.old.rest.now) }
-        ensures source { self.new.source.now ≡ self.old.source.now }
         ensures text { self.new.text.now ≡ self.old.text.now }
         ensures onward { length self.new.rest.now ≤ length self.old.rest.now }
     {
@@ -57,9 +55,7 @@ impl<'p, S: Drop, T: Texts<S>> Parser<'p, S, T> {
 
     /// Production `NumberLiteral`.
     pub fn get_number_literal(&mut self) -> Result<S, Fault>
-        requires { T.text self.old.source.now ≡ self.old.text.now }
         ensures gives { Gives T.text self.new.rest.now result (number_at self.old.rest.now) }
-        ensures source { self.new.source.now ≡ self.old.source.now }
         ensures text { self.new.text.now ≡ self.old.text.now }
         ensures onward { length self.new.rest.now ≤ length self.old.rest.now }
     {
@@ -77,9 +73,7 @@ impl<'p, S: Drop, T: Texts<S>> Parser<'p, S, T> {
 
     /// The content of a string, behind its opening quote, with the closing one. Production `StringLiteral`.
     pub fn get_string_content(&mut self) -> Result<S, Fault>
-        requires { T.text self.old.source.now ≡ self.old.text.now }
         ensures gives { Gives T.text self.new.rest.now result (string_content self.old.rest.now) }
-        ensures source { self.new.source.now ≡ self.old.source.now }
         ensures text { self.new.text.now ≡ self.old.text.now }
         ensures onward { length self.new.rest.now ≤ length self.old.rest.now }
     {

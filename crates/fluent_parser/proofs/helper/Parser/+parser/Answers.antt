@@ -109,7 +109,6 @@ pub get_call_arguments-loop-self-init : goal.get_call_arguments-loop-self-init
 get_call_arguments-loop-self-init g t c =
     let skipped = c.skip_blank.ensures.rest ∙ ap skip_blank c.advance.ensures.rest in
     record {
-      source = c.skip_blank.ensures.source ∙ c.advance.ensures.source;
       text = c.skip_blank.ensures.text ∙ c.advance.ensures.text;
       onward = omega (arith, begun_shorter c.args.self.now.rest.now c.advance.new.self.rest.now w.open_paren c.requires.parenthesis c.advance.ensures.rest, c.skip_blank.ensures.onward);
       same = arguments_start (inline_view g.row.S.Denot g.T.Texts.text) (named_view g.row.S.Denot g.T.Texts.text) c.new-positional.result.items c.new-named.result.all.items c.skip_blank.new.self.rest.now (skip_blank (drop 1 c.args.self.now.rest.now)) c.new-positional.ensures.items c.new-named.ensures.all skipped;
@@ -162,7 +161,6 @@ get_call_arguments-loop-self-preserved g t c =
           (w.in_ok-push-in-Named.ensures.indexed g.T.Texts.text (subst (IsNamed g.row.S.Denot g.T.Texts.text) w.in-Named.is c.in_ok-argument.ensures.named) c.loop-self.invariant.indexed)
     ] in
     record {
-      source = c.skip_separator.ensures.source ∙ c.get_argument.ensures.source ∙ c.loop-self.invariant.source;
       text = c.skip_separator.ensures.text ∙ c.get_argument.ensures.text ∙ c.loop-self.invariant.text;
       onward = omega (arith, c.skip_separator.ensures.onward, c.get_argument.ensures.onward, c.loop-self.invariant.onward);
       same = same;
@@ -186,7 +184,6 @@ get_pattern-returns-clause-gives g t c =
 pub get_lines-loop-gathered-init : goal.get_lines-loop-gathered-init
 get_lines-loop-gathered-init g t c =
     record {
-      source = c.skip_to_line-at_line_start.ensures.source;
       text = c.skip_to_line-at_line_start.ensures.text;
       onward = c.skip_to_line-at_line_start.ensures.onward;
       gathers = gathers_none g.row.S.Denot g.T.Texts.text c.new-gathered.result c.skip_to_line-at_line_start.result c.skip_to_line-at_line_start.new.self.rest.now c.args.self.now.rest.now c.new-gathered.ensures.elements c.new-gathered.ensures.begins_line c.new-gathered.ensures.common_indent c.skip_to_line-at_line_start.ensures.place;
@@ -206,7 +203,6 @@ get_lines-loop-gathered-preserved g t c =
     let rest = c.get_piece.new.self.rest.now in
     let gathered = c.loop-gathered.gathered in
     record {
-      source = c.get_piece.ensures.source ∙ c.loop-gathered.invariant.source;
       text = c.get_piece.ensures.text ∙ c.loop-gathered.invariant.text;
       onward = omega (arith, c.get_piece.ensures.onward, c.loop-gathered.invariant.onward);
       gathers = gathers_more g.row.S.Denot g.T.Texts.text gathered c.get_piece.new.gathered line c.in-Some.ends_line s rest c.args.self.now.rest.now c.loop-gathered.invariant.gathers
@@ -229,8 +225,8 @@ pub get_piece_behind-advance-requires : goal.get_piece_behind-advance-requires
 get_piece_behind-advance-requires g t c =
     cut_indent_at c.args.at_line_start c.args.self.now.rest.now c.args.indent c.requires.indent
 
-pub get_piece_behind-take-requires-clause-cuts : goal.get_piece_behind-take-requires-clause-cuts
-get_piece_behind-take-requires-clause-cuts g t c =
+pub get_piece_behind-take-requires : goal.get_piece_behind-take-requires
+get_piece_behind-take-requires g t c =
     cut_line_feed c.args.self.now.rest.now c.from-behind.result.now c.advance-then-begins_crlf.new.self.rest.now c.args.indent (c.from-behind.ensures ∙ ap (drop c.args.indent) c.bytes.ensures.value) (sym c.begins_crlf.ensures ∙ c.if-begins_crlf.true) c.advance-then-begins_crlf.ensures.rest
 
 pub get_piece_behind-returns-in_ok-push-clause-gives : goal.get_piece_behind-returns-in_ok-push-clause-gives
@@ -271,7 +267,6 @@ get_variants-loop-variants-preserved g t c =
     let x = variant_view g.row.S.Denot g.T.Texts.text c.in_ok-get_variant.field-0 in
     let items = pushed (variant_view g.row.S.Denot g.T.Texts.text) c.loop-variants.variants.items c.push.new.self.items c.in_ok-get_variant.field-0 c.in_ok-push.ensures.items in
     record {
-      source = c.skip_blank.ensures.source ∙ c.get_variant.ensures.source ∙ c.take_default_mark.ensures.source ∙ c.loop-variants.invariant.source;
       text = c.skip_blank.ensures.text ∙ c.get_variant.ensures.text ∙ c.take_default_mark.ensures.text ∙ c.loop-variants.invariant.text;
       onward = omega (arith, c.skip_blank.ensures.onward, c.get_variant.ensures.less, c.take_default_mark.ensures.onward, c.loop-variants.invariant.onward);
       same = variants_same ((map (variant_view g.row.S.Denot g.T.Texts.text) c.loop-variants.variants.items) ++ x ∷ []) (map (variant_view g.row.S.Denot g.T.Texts.text) c.push.new.self.items) (c.loop-variants.has_default || c.in_ok-default.default) c.skip_blank.new.self.rest.now (whole.variants false c.args.self.now.rest.now) items

@@ -13,7 +13,6 @@ pub loop-attributes-init : goal.loop-attributes-init
 loop-attributes-init g c =
     let none : map (attribute_view g.row.S.Denot g.T.Texts.text) c.new-attributes.result.items ≡ [] = search rules in
     record {
-      source = refl;
       text = refl;
       onward = omega arith;
       read = attributes_begin c.args.self.now.rest.now _ none;
@@ -29,7 +28,6 @@ pub loop-attributes-preserved : goal.loop-attributes-preserved
 loop-attributes-preserved g c =
     let view = attribute_view g.row.S.Denot g.T.Texts.text in
     record {
-      source = c.next_attribute.ensures.source ∙ c.loop-attributes.invariant.source;
       text = c.next_attribute.ensures.text ∙ c.loop-attributes.invariant.text;
       onward = omega (arith, c.next_attribute.ensures.onward, c.loop-attributes.invariant.onward);
       read = attributes_go_on c.args.self.now.rest.now c.loop-attributes.self.rest.now _ (map view c.loop-attributes.attributes.items) _ _

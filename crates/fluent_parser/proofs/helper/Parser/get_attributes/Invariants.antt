@@ -6,7 +6,6 @@ use Rattle.fluent_parser.proofs.helper.Parser.get_attributes.Given as goal
 
 abbrev pub invariant-loop-attributes : goal.invariant-loop-attributes
 invariant-loop-attributes g l = record {
-  source : l.self.source.now ≡ l.fn.self.source.now;
   text : l.self.text.now ≡ l.fn.self.text.now;
   onward : length l.self.rest.now ≤ length l.fn.self.rest.now;
   read : attributes_by l.fn.self.rest.now ≡ got (map (attribute_view g.row.S.Denot g.T.Texts.text) l.attributes.items ++ (attributes_left l.self.rest.now).0) (attributes_left l.self.rest.now).1;

@@ -10,7 +10,6 @@ pub loop-self-init : goal.loop-self-init
 loop-self-init g c =
     let none : map g.T.Texts.text c.new-lines.result.items ≡ [] = search rules in
     record {
-      source = c.push_comment_line.ensures.source;
       text = c.push_comment_line.ensures.text;
       onward = omega (arith, c.push_comment_line.ensures.onward);
       read = content_begins c.args.level c.args.self.now.rest.now _ _ _ none c.in_ok-push_comment_line.ensures.gives;
@@ -22,7 +21,6 @@ loop-self-preserved g c =
     let t = line_test c.args.level u (sym c.is_comment_line.ensures ∙ c.loop-self-test.true) in
     let cut = (level_cuts u c.args.level (sym t.0)).within in
     record {
-      source = c.push_comment_line-in-loop-self.ensures.source ∙ c.loop-self.invariant.source;
       text = c.push_comment_line-in-loop-self.ensures.text ∙ c.loop-self.invariant.text;
       onward = omega (arith, c.push_comment_line-in-loop-self.ensures.onward, c.loop-self.invariant.onward);
       read = content_goes_on c.args.level c.args.self.now.rest.now u _ _ _ t.0 (omega (arith, c.push_comment_line-in-loop-self.ensures.onward, c.requires.some)) c.in_ok-push_comment_line-2.ensures.gives c.loop-self.invariant.read;

@@ -5,7 +5,6 @@ use Rattle.fluent_parser.proofs.helper.Parser.get_comment_content.Given as goal
 
 abbrev pub invariant-loop-self : goal.invariant-loop-self
 invariant-loop-self g l = record {
-  source : l.self.source.now ≡ l.fn.self.source.now;
   text : l.self.text.now ≡ l.fn.self.text.now;
   onward : length l.self.rest.now ≤ length l.fn.self.rest.now;
   read : comment_content_by l.level l.fn.self.rest.now ≡ got (map g.T.Texts.text l.lines.items ++ (lines_left l.level l.self.rest.now).0) (lines_left l.level l.self.rest.now).1;

@@ -11,8 +11,8 @@ use Rattle.fluent_parser.proofs.CollectedEntries.{told_more}
 use Rattle.fluent_parser.proofs.Parts.{junk_cuts, junk_less, junk_rest, junk_behind, junk_told, entry_less}
 use Rattle.fluent_parser.proofs.helper.Parser.get_part.Goals as goal
 
-pub take-requires-clause-cuts : goal.take-requires-clause-cuts
-take-requires-clause-cuts g c =
+pub take-requires : goal.take-requires
+take-requires g c =
     let s = c.args.self.now.rest.now in
     let place = c.get_entry.new.self.rest.now in
     let h : Refuses c.in-Err-Refused.kind place (entry_at s) = rw c.in-Err-Refused.field-0-is at c.in-Err-Refused.ensures.gives in

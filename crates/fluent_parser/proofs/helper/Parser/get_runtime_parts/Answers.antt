@@ -41,7 +41,6 @@ parts-preserved-then-is_current_byte g c =
     let step : runtime_left total s ≡ runtime_left total rest =
     line_passed total s u rest c.parts.invariant.within c.skip_blank_block.ensures.rest (test_some (length u) z) (sym c.is_current_byte.ensures ∙ c.if-is_current_byte.true) c.skip_line.ensures.rest less in
     record {
-      source = c.skip_line.ensures.source ∙ c.skip_blank_block.ensures.source ∙ c.parts.invariant.source;
       text = c.skip_line.ensures.text ∙ c.skip_blank_block.ensures.text ∙ c.parts.invariant.text;
       within = omega (arith, less, c.skip_blank_block.ensures.onward, c.parts.invariant.within);
       entries = ap (λ (ps : List Piece). entries_with g.row.S.Denot g.T.Texts.text c.parts.collected ps) (sym step) ∙ c.parts.invariant.entries;
@@ -66,7 +65,6 @@ parts-preserved g c =
     let told : errors_with g.row.S.Denot c.get_part.new.collected more ≡ errors_with g.row.S.Denot old (piece_of (total - length u) false u (entry_at u) ∷ more) =
     c.in_ok-get_part.ensures.errors more ∙ ap (λ (n : ℕ). errors_with g.row.S.Denot old (piece_of (n - length u) false u (entry_at u) ∷ more)) here in
     record {
-      source = c.get_part.ensures.source ∙ c.skip_blank_block.ensures.source ∙ c.parts.invariant.source;
       text = c.get_part.ensures.text ∙ c.skip_blank_block.ensures.text ∙ c.parts.invariant.text;
       within = omega (arith, less, c.skip_blank_block.ensures.onward, c.parts.invariant.within);
       entries = put ∙ ap (λ (ps : List Piece). entries_with g.row.S.Denot g.T.Texts.text old ps) (sym step) ∙ c.parts.invariant.entries;

@@ -7,7 +7,6 @@ use Rattle.fluent_parser.proofs.helper.Parser.get_runtime_parts.Given as goal
 
 abbrev pub invariant-parts : goal.invariant-parts
 invariant-parts g l = record {
-  source : l.self.source.now ≡ l.fn.self.source.now;
   text : l.self.text.now ≡ l.fn.self.text.now;
   within : length l.self.rest.now ≤ length l.fn.self.text.now;
   entries : entries_with g.row.S.Denot g.T.Texts.text l.collected (runtime_left (length l.fn.self.text.now) l.self.rest.now) ≡ entries_of None (runtime_left (length l.fn.self.text.now) l.fn.self.rest.now);

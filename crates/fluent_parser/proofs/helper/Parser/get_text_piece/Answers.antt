@@ -5,8 +5,8 @@ use Rattle.fluent_parser.proofs.Runs.{cut_behind_indent, text_shorter}
 use Rattle.fluent_parser.proofs.PutPieces.{text_put}
 use Rattle.fluent_parser.proofs.helper.Parser.get_text_piece.Goals as goal
 
-pub take-requires-clause-cuts : goal.take-requires-clause-cuts
-take-requires-clause-cuts g c =
+pub take-requires : goal.take-requires
+take-requires g c =
     let behind = c.from-behind.ensures ∙ ap (drop c.args.indent) c.bytes.ensures.value in
     cut_behind_indent c.args.at_line_start c.args.self.now.rest.now c.from-behind.result.now c.args.indent c.in-Ok.count c.requires.indent behind c.in-Ok.ensures.1
 

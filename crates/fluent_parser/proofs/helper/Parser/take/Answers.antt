@@ -8,5 +8,5 @@ slice-part-requires-clause-start_boundary g c =
     let p = c.args.self.now in
     let u : IsUtf8 p.rest.now = subst IsUtf8 c.bytes-rest.ensures.value c.bytes-rest.ensures.utf8 in
     let b = place_of_tail p.text.now p.rest.now p.is_tail u in
-    let t : IsCharBoundary (g.T.Texts.text p.source.now) (length p.text.now - length p.rest.now) = subst (λ (x : List ℕ). IsCharBoundary x (length p.text.now - length p.rest.now)) (sym c.requires.tied) b in
+    let t : IsCharBoundary (g.T.Texts.text p.source.now) (length p.text.now - length p.rest.now) = subst (λ (x : List ℕ). IsCharBoundary x (length p.text.now - length p.rest.now)) (sym p.tied) b in
     subst (λ (x : List ℕ). IsCharBoundary (g.T.Texts.text p.source.now) (length p.text.now - length x)) (sym c.bytes-rest.ensures.value) t

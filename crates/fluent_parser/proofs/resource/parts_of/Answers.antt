@@ -1,0 +1,17 @@
+use Rattle.std.proofs.Common.{ap, [], None, List, map, subst, ◌≡◌, IfOk}
+use Rattle.fluent_grammar.specs.Tree as t
+use Rattle.fluent_grammar.specs.Tiling.{Piece, entries_of, errors_of}
+use Rattle.fluent_parser.specs.ErrorView.{ErrorView, error_told}
+use Rattle.fluent_parser.specs.Collected.{entries_with, errors_with}
+use Rattle.fluent_parser.proofs.Left.{whole_left}
+use Rattle.fluent_parser.proofs.resource.parts_of.Goals as goal
+
+pub returns-clause-entries : goal.returns-clause-entries
+returns-clause-entries g c =
+    let whole = whole_left (g.T.Texts.text c.args.source.now) c.new-parser.result.text.now c.new-parser.result.rest.now c.new-parser.ensures.text c.new-parser.ensures.rest in
+    subst (λ (es : List t.Entry). IfOk c.get_parts.result (λ all. entries_with g.row.S.Denot g.T.Texts.text all [] ≡ es)) (ap (entries_of None) whole) c.get_parts.ensures.entries
+
+pub returns-clause-errors : goal.returns-clause-errors
+returns-clause-errors g c =
+    let whole = whole_left (g.T.Texts.text c.args.source.now) c.new-parser.result.text.now c.new-parser.result.rest.now c.new-parser.ensures.text c.new-parser.ensures.rest in
+    subst (λ (es : List ErrorView). IfOk c.get_parts.result (λ all. errors_with g.row.S.Denot all [] ≡ es)) (ap (λ (ps : List Piece). map error_told (errors_of ps)) whole) c.get_parts.ensures.errors
