@@ -1,5 +1,6 @@
 pub mod ErrorView
 pub mod ErrorText
+pub mod Frame
 pub mod Reads
 pub mod Steps
 pub mod Pieces

@@ -3,6 +3,7 @@
 
 ghost use Rattle.std.specs.Prelude.{◌≡◌, ◌≤◌, ◌<◌, [], true, IfOk, OnOk, length, drop, map, take};
 ghost use Rattle.fluent_grammar.specs.Words as w;
+ghost use Rattle.fluent_parser.specs.Frame.{Advances};
 
 use crate::ErrorKind;
 use crate::fault::Fault;
@@ -40,8 +41,7 @@ impl<'p, S: Drop, T: Texts<S>> Parser<'p, S, T> {
         requires parenthesis { w.begins_with w.open_paren self.old.rest.now ≡ true }
         ensures gives { Gives (arguments_view S T.text) self.new.rest.now result
             (whole.arguments [] (w.skip_blank (drop 1 self.old.rest.now))) }
-        ensures text { self.new.text.now ≡ self.old.text.now }
-        ensures onward { length self.new.rest.now ≤ length self.old.rest.now }
+        ensures advances { Advances self.old self.new }
     {
         let mut positional = Vec::new(self.alloc);
         let mut named = NamedArguments::new(self.alloc);
@@ -73,8 +73,7 @@ impl<'p, S: Drop, T: Texts<S>> Parser<'p, S, T> {
             (argument_by (names_of (map (named_view S T.text) others.now.all.items))
             self.old.rest.now) }
         ensures named { IfOk result (IsNamed S T.text) }
-        ensures text { self.new.text.now ≡ self.old.text.now }
-        ensures onward { length self.new.rest.now ≤ length self.old.rest.now }
+        ensures advances { Advances self.old self.new }
     {
         let start = self.rest();
         let argument = self.get_inline_expression()?;
@@ -136,8 +135,7 @@ impl<'p, S: Drop, T: Texts<S>> Parser<'p, S, T> {
         ensures gives { Gives (inline_view S T.text) self.new.rest.now result
             (argument_value_at (names_of (map (named_view S T.text) others.now.all.items)) name.now
             self.old.rest.now) }
-        ensures text { self.new.text.now ≡ self.old.text.now }
-        ensures onward { length self.new.rest.now ≤ length self.old.rest.now }
+        ensures advances { Advances self.old self.new }
     {
         if others.has_name(self.texts, name) {
             let name = String::from_str(self.alloc, name)?;
@@ -155,8 +153,7 @@ impl<'p, S: Drop, T: Texts<S>> Parser<'p, S, T> {
     /// Passes over what stands between arguments.
     fn skip_separator(&mut self)
         ensures rest { self.new.rest.now ≡ w.skip_separator self.old.rest.now }
-        ensures text { self.new.text.now ≡ self.old.text.now }
-        ensures onward { length self.new.rest.now ≤ length self.old.rest.now }
+        ensures advances { Advances self.old self.new }
     {
         self.skip_blank();
         self.take_byte_if(b',');

@@ -3,6 +3,7 @@
 
 ghost use Rattle.std.specs.Prelude.{◌≡◌, ◌≤◌, not, ◌==◌, is_some, unwrap_or, length};
 ghost use Rattle.fluent_grammar.specs.Words as w;
+ghost use Rattle.fluent_parser.specs.Frame.{Advances};
 
 use crate::helper::Parser;
 use fluent_slice::Texts;
@@ -12,8 +13,7 @@ impl<'p, S: Drop, T: Texts<S>> Parser<'p, S, T> {
     /// Passes over spaces.
     pub fn skip_blank_inline(&mut self)
         ensures rest { self.new.rest.now ≡ w.skip_spaces self.old.rest.now }
-        ensures text { self.new.text.now ≡ self.old.text.now }
-        ensures onward { length self.new.rest.now ≤ length self.old.rest.now }
+        ensures advances { Advances self.old self.new }
     {
         self.advance(words::blank_inline_len(self.bytes()));
     }
@@ -21,8 +21,7 @@ impl<'p, S: Drop, T: Texts<S>> Parser<'p, S, T> {
     /// Passes over spaces and line ends.
     pub fn skip_blank(&mut self)
         ensures rest { self.new.rest.now ≡ w.skip_blank self.old.rest.now }
-        ensures text { self.new.text.now ≡ self.old.text.now }
-        ensures onward { length self.new.rest.now ≤ length self.old.rest.now }
+        ensures advances { Advances self.old self.new }
     {
         self.advance(words::blank_len(self.bytes()));
     }
@@ -31,8 +30,7 @@ impl<'p, S: Drop, T: Texts<S>> Parser<'p, S, T> {
     pub fn skip_blank_block(&mut self) -> bool
         ensures value { result ≡ not (length self.new.rest.now == length self.old.rest.now) }
         ensures rest { self.new.rest.now ≡ w.skip_blank_block self.old.rest.now }
-        ensures text { self.new.text.now ≡ self.old.text.now }
-        ensures onward { length self.new.rest.now ≤ length self.old.rest.now }
+        ensures advances { Advances self.old self.new }
     {
         let count = words::blank_block_len(self.bytes());
         self.advance(count);
@@ -44,8 +42,7 @@ impl<'p, S: Drop, T: Texts<S>> Parser<'p, S, T> {
         ensures value { result ≡ is_some (w.after_line_end self.old.rest.now) }
         ensures rest { self.new.rest.now ≡ unwrap_or (w.after_line_end self.old.rest.now)
             self.old.rest.now }
-        ensures text { self.new.text.now ≡ self.old.text.now }
-        ensures onward { length self.new.rest.now ≤ length self.old.rest.now }
+        ensures advances { Advances self.old self.new }
     {
         let count = words::line_end_len(self.bytes());
         self.advance(count);

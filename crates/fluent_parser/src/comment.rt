@@ -6,6 +6,7 @@ ghost use Rattle.fluent_grammar.specs.Words as w;
 ghost use Rattle.fluent_words.specs.Counted.{is_comment_line};
 ghost use Rattle.fluent_grammar.specs.Reading.{comment_of};
 ghost use Rattle.fluent_ast.specs.View.{entry_view};
+ghost use Rattle.fluent_parser.specs.Frame.{Advances};
 
 use crate::ErrorKind;
 use crate::fault::Fault;
@@ -39,8 +40,7 @@ impl<'p, S: Drop, T: Texts<S>> Parser<'p, S, T> {
         requires sign { w.begins_with w.number_sign self.old.rest.now ≡ true }
         ensures gives { Gives (entry_view S T.text) self.new.rest.now result
             (comment_at self.old.rest.now) }
-        ensures text { self.new.text.now ≡ self.old.text.now }
-        ensures onward { length self.new.rest.now ≤ length self.old.rest.now }
+        ensures advances { Advances self.old self.new }
     {
         let level = words::comment_level(self.bytes());
         let content = self.get_comment_content(level)?;
@@ -53,8 +53,7 @@ impl<'p, S: Drop, T: Texts<S>> Parser<'p, S, T> {
         requires some { 0 < level }
         ensures gives { Gives (λ lines. map T.text lines.items) self.new.rest.now result
             (comment_content_by level self.old.rest.now) }
-        ensures text { self.new.text.now ≡ self.old.text.now }
-        ensures onward { length self.new.rest.now ≤ length self.old.rest.now }
+        ensures advances { Advances self.old self.new }
     {
         let mut lines = Vec::new(self.alloc);
         self.push_comment_line(level, &mut lines)?;
@@ -79,8 +78,8 @@ impl<'p, S: Drop, T: Texts<S>> Parser<'p, S, T> {
         ensures gives { Gives (λ u. map T.text lines.new.items) self.new.rest.now result
             (lines_with (map T.text lines.old.items)
             (comment_line_at (drop level self.old.rest.now))) }
-        ensures text { self.new.text.now ≡ self.old.text.now }
-        ensures onward { length self.new.rest.now ≤ length self.old.rest.now - level }
+        ensures past { length self.new.rest.now ≤ length self.old.rest.now - level }
+        ensures advances { Advances self.old self.new }
     {
         self.advance(level);
         if let Some(line) = self.get_comment_line()? {
@@ -93,8 +92,7 @@ impl<'p, S: Drop, T: Texts<S>> Parser<'p, S, T> {
     fn get_comment_line(&mut self) -> Result<Option<S>, Fault>
         ensures gives { Gives (line_of T.text) self.new.rest.now result
             (comment_line_at self.old.rest.now) }
-        ensures text { self.new.text.now ≡ self.old.text.now }
-        ensures onward { length self.new.rest.now ≤ length self.old.rest.now }
+        ensures advances { Advances self.old self.new }
     {
         if self.bytes().is_empty() {
             return Ok(None);

@@ -4,6 +4,7 @@
 ghost use Rattle.std.specs.Prelude.{◌≡◌, ◌≤◌, true, length, map, option_map};
 ghost use Rattle.fluent_grammar.specs.Words as w;
 ghost use Rattle.fluent_grammar.specs.Refusal as r;
+ghost use Rattle.fluent_parser.specs.Frame.{Advances};
 
 use crate::ErrorKind;
 use crate::fault::Fault;
@@ -26,8 +27,7 @@ impl<'p, S: Drop, T: Texts<S>> Parser<'p, S, T> {
     pub fn get_entry(&mut self) -> Result<Entry<S>, Fault>
         ensures gives { Gives (entry_view S T.text) self.new.rest.now result
             (entry_at self.old.rest.now) }
-        ensures text { self.new.text.now ≡ self.old.text.now }
-        ensures onward { length self.new.rest.now ≤ length self.old.rest.now }
+        ensures advances { Advances self.old self.new }
     {
         if self.is_current_byte(b'#') {
             self.get_comment()
@@ -45,8 +45,7 @@ impl<'p, S: Drop, T: Texts<S>> Parser<'p, S, T> {
     fn get_message(&mut self) -> Result<Message<S>, Fault>
         ensures gives { Gives (λ m. t.message (message_view S T.text m)) self.new.rest.now result
             (message_by self.old.rest.now) }
-        ensures text { self.new.text.now ≡ self.old.text.now }
-        ensures onward { length self.new.rest.now ≤ length self.old.rest.now }
+        ensures advances { Advances self.old self.new }
     {
         let Head { id, value } = self.get_head()?;
         self.skip_blank_block();
@@ -68,8 +67,7 @@ impl<'p, S: Drop, T: Texts<S>> Parser<'p, S, T> {
         requires minus { w.begins_with w.hyphen self.old.rest.now ≡ true }
         ensures gives { Gives (λ m. t.term (term_view S T.text m)) self.new.rest.now result
             (term_by self.old.rest.now) }
-        ensures text { self.new.text.now ≡ self.old.text.now }
-        ensures onward { length self.new.rest.now ≤ length self.old.rest.now }
+        ensures advances { Advances self.old self.new }
     {
         self.advance(1);
         let Head { id, value } = self.get_head()?;
@@ -111,8 +109,7 @@ impl<'p, S: Drop, T: Texts<S>> Parser<'p, S, T> {
     fn get_head(&mut self) -> Result<Head<S>, Fault>
         ensures gives { Gives (head_view S T.text) self.new.rest.now result
             (head_by self.old.rest.now) }
-        ensures text { self.new.text.now ≡ self.old.text.now }
-        ensures onward { length self.new.rest.now ≤ length self.old.rest.now }
+        ensures advances { Advances self.old self.new }
     {
         let id = self.get_identifier()?;
         self.skip_blank_inline();
@@ -125,8 +122,7 @@ impl<'p, S: Drop, T: Texts<S>> Parser<'p, S, T> {
     fn get_attributes(&mut self) -> Result<Vec<Attribute<S>>, Fault>
         ensures gives { Gives (λ all. map (attribute_view S T.text) all.items) self.new.rest.now
             result (attributes_by self.old.rest.now) }
-        ensures text { self.new.text.now ≡ self.old.text.now }
-        ensures onward { length self.new.rest.now ≤ length self.old.rest.now }
+        ensures advances { Advances self.old self.new }
     {
         let mut attributes = Vec::new(self.alloc);
         while let Some(attribute) = self.next_attribute()? {
@@ -140,8 +136,7 @@ impl<'p, S: Drop, T: Texts<S>> Parser<'p, S, T> {
     fn next_attribute(&mut self) -> Result<Option<Attribute<S>>, Fault>
         ensures gives { Gives (option_map (attribute_view S T.text)) self.new.rest.now result
             (next_attribute_by self.old.rest.now) }
-        ensures text { self.new.text.now ≡ self.old.text.now }
-        ensures onward { length self.new.rest.now ≤ length self.old.rest.now }
+        ensures advances { Advances self.old self.new }
     {
         if !self.is_attribute_line() {
             return Ok(None);
@@ -172,8 +167,7 @@ impl<'p, S: Drop, T: Texts<S>> Parser<'p, S, T> {
         requires dot { w.begins_with w.dot (w.skip_spaces self.old.rest.now) ≡ true }
         ensures gives { Gives (attribute_view S T.text) self.new.rest.now result
             (attribute_by self.old.rest.now) }
-        ensures text { self.new.text.now ≡ self.old.text.now }
-        ensures onward { length self.new.rest.now ≤ length self.old.rest.now }
+        ensures advances { Advances self.old self.new }
     {
         self.skip_blank_inline();
         self.advance(1);

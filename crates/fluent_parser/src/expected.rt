@@ -3,6 +3,7 @@
 
 ghost use Rattle.std.specs.Prelude.{◌≡◌, ◌<◌, ◌≤◌, length};
 ghost use Rattle.fluent_grammar.specs.Refusal as r;
+ghost use Rattle.fluent_parser.specs.Frame.{Advances};
 
 use crate::ErrorKind;
 use crate::fault::Fault;
@@ -16,8 +17,7 @@ impl<'p, S: Drop, T: Texts<S>> Parser<'p, S, T> {
     pub fn expect_byte(&mut self, byte: u8) -> Result<(), Fault>
         requires { byte < 128 }
         ensures gives { Gives (λ u. u) self.new.rest.now result (byte_at byte self.old.rest.now) }
-        ensures text { self.new.text.now ≡ self.old.text.now }
-        ensures onward { length self.new.rest.now ≤ length self.old.rest.now }
+        ensures advances { Advances self.old self.new }
     {
         if self.take_byte_if(byte) {
             Ok(())

@@ -4,6 +4,7 @@
 ghost use Rattle.std.specs.Prelude.{◌≡◌, ◌≤◌, ◌<◌, true, length, drop, map, option_map};
 ghost use Rattle.std.specs.List.{list_all};
 ghost use Rattle.fluent_grammar.specs.Words as w;
+ghost use Rattle.fluent_parser.specs.Frame.{Advances};
 
 use crate::ErrorKind;
 use crate::fault::Fault;
@@ -28,7 +29,7 @@ impl<'p, S: Drop, T: Texts<S>> Parser<'p, S, T> {
         ensures gives { Gives (expression_view S T.text) self.new.rest.now result
             (placeable_by self.old.rest.now) }
         ensures less { length self.new.rest.now < length self.old.rest.now }
-        ensures text { self.new.text.now ≡ self.old.text.now }
+        ensures advances { Advances self.old self.new }
     {
         self.advance(1);
         self.skip_blank();
@@ -44,8 +45,7 @@ impl<'p, S: Drop, T: Texts<S>> Parser<'p, S, T> {
     fn get_expression(&mut self) -> Result<Expression<S>, Fault>
         ensures gives { Gives (expression_view S T.text) self.new.rest.now result
             (expression_by self.old.rest.now) }
-        ensures text { self.new.text.now ≡ self.old.text.now }
-        ensures onward { length self.new.rest.now ≤ length self.old.rest.now }
+        ensures advances { Advances self.old self.new }
     {
         let selector = self.get_inline_expression()?;
         self.skip_blank();
@@ -68,8 +68,7 @@ impl<'p, S: Drop, T: Texts<S>> Parser<'p, S, T> {
             (variants_of (map (variant_view S T.text) vs.items))) self.new.rest.now result
             (select_at whole (inline_view S T.text selector.now)
             (selector_fault (inline_view S T.text selector.now)) self.old.rest.now) }
-        ensures text { self.new.text.now ≡ self.old.text.now }
-        ensures onward { length self.new.rest.now ≤ length self.old.rest.now }
+        ensures advances { Advances self.old self.new }
     {
         if let Some(kind) = self.selector_fault(selector) {
             return Err(Fault::Refused(kind));
@@ -104,8 +103,7 @@ impl<'p, S: Drop, T: Texts<S>> Parser<'p, S, T> {
     pub fn get_inline_expression(&mut self) -> Result<InlineExpression<S>, Fault>
         ensures gives { Gives (inline_view S T.text) self.new.rest.now result
             (whole.inline self.old.rest.now) }
-        ensures text { self.new.text.now ≡ self.old.text.now }
-        ensures onward { length self.new.rest.now ≤ length self.old.rest.now }
+        ensures advances { Advances self.old self.new }
     {
         let bytes = self.bytes();
         if words::begins_literal(bytes) {
@@ -132,8 +130,7 @@ impl<'p, S: Drop, T: Texts<S>> Parser<'p, S, T> {
         requires minus { w.begins_with w.hyphen self.old.rest.now ≡ true }
         ensures gives { Gives (inline_view S T.text) self.new.rest.now result
             (term_at whole (drop 1 self.old.rest.now)) }
-        ensures text { self.new.text.now ≡ self.old.text.now }
-        ensures onward { length self.new.rest.now ≤ length self.old.rest.now }
+        ensures advances { Advances self.old self.new }
     {
         self.advance(1);
         let id = self.get_identifier()?;
@@ -160,8 +157,7 @@ impl<'p, S: Drop, T: Texts<S>> Parser<'p, S, T> {
     fn get_named_reference(&mut self) -> Result<InlineExpression<S>, Fault>
         ensures gives { Gives (inline_view S T.text) self.new.rest.now result
             (named_at whole self.old.rest.now) }
-        ensures text { self.new.text.now ≡ self.old.text.now }
-        ensures onward { length self.new.rest.now ≤ length self.old.rest.now }
+        ensures advances { Advances self.old self.new }
     {
         let id = self.get_identifier()?;
         self.skip_blank();
@@ -181,8 +177,7 @@ impl<'p, S: Drop, T: Texts<S>> Parser<'p, S, T> {
     pub fn get_literal(&mut self) -> Result<InlineExpression<S>, Fault>
         ensures gives { Gives (inline_view S T.text) self.new.rest.now result
             (string_or_number_at self.old.rest.now) }
-        ensures text { self.new.text.now ≡ self.old.text.now }
-        ensures onward { length self.new.rest.now ≤ length self.old.rest.now }
+        ensures advances { Advances self.old self.new }
     {
         if self.take_byte_if(b'"') {
             let value = self.get_string_content()?;
@@ -198,8 +193,7 @@ impl<'p, S: Drop, T: Texts<S>> Parser<'p, S, T> {
         requires dollar { w.begins_with w.dollar self.old.rest.now ≡ true }
         ensures gives { Gives (inline_view S T.text) self.new.rest.now result
             (mapped t.variable_reference (identifier_at (drop 1 self.old.rest.now))) }
-        ensures text { self.new.text.now ≡ self.old.text.now }
-        ensures onward { length self.new.rest.now ≤ length self.old.rest.now }
+        ensures advances { Advances self.old self.new }
     {
         self.advance(1);
         let id = self.get_identifier()?;
@@ -211,8 +205,7 @@ impl<'p, S: Drop, T: Texts<S>> Parser<'p, S, T> {
     fn get_attribute_accessor(&mut self) -> Result<Option<Identifier<S>>, Fault>
         ensures gives { Gives (option_map (name_of S T.text)) self.new.rest.now result
             (accessor_at self.old.rest.now) }
-        ensures text { self.new.text.now ≡ self.old.text.now }
-        ensures onward { length self.new.rest.now ≤ length self.old.rest.now }
+        ensures advances { Advances self.old self.new }
     {
         if !self.take_byte_if(b'.') {
             return Ok(None);

@@ -34,6 +34,8 @@ pub fn behind<'a>(text: &'a str, count: usize) -> &'a str
 }
 
 impl<'p, S: Drop, T: Texts<S>> Parser<'p, S, T> {
+    ghost use Rattle.fluent_parser.specs.Frame.{Advances};
+
     /// A parser before a whole source.
     pub fn new(alloc: Global, texts: &'p T, source: &'p S) -> Self
         ensures rest { result.rest.now ≡ T.text source.entry.now }
@@ -85,8 +87,7 @@ impl<'p, S: Drop, T: Texts<S>> Parser<'p, S, T> {
     pub fn advance(&mut self, count: usize)
         requires { Cuts self.old.rest.now count }
         ensures rest { self.new.rest.now ≡ drop count self.old.rest.now }
-        ensures text { self.new.text.now ≡ self.old.text.now }
-        ensures onward { length self.new.rest.now ≤ length self.old.rest.now }
+        ensures advances { Advances self.old self.new }
     {
         self.rest = behind(self.rest, count);
     }
@@ -96,8 +97,7 @@ impl<'p, S: Drop, T: Texts<S>> Parser<'p, S, T> {
         requires { Cuts self.old.rest.now count }
         ensures value { IfOk result (λ part. T.text part ≡ take count self.old.rest.now) }
         ensures rest { self.new.rest.now ≡ drop count self.old.rest.now }
-        ensures text { self.new.text.now ≡ self.old.text.now }
-        ensures onward { length self.new.rest.now ≤ length self.old.rest.now }
+        ensures advances { Advances self.old self.new }
     {
         let rest = self.bytes();
         let start = self.text.len() - rest.len();
@@ -121,8 +121,7 @@ impl<'p, S: Drop, T: Texts<S>> Parser<'p, S, T> {
         ensures value { result ≡ w.begins_with byte self.old.rest.now }
         ensures rest { self.new.rest.now ≡ (if w.begins_with byte self.old.rest.now then drop 1
             self.old.rest.now else self.old.rest.now) }
-        ensures text { self.new.text.now ≡ self.old.text.now }
-        ensures onward { length self.new.rest.now ≤ length self.old.rest.now }
+        ensures advances { Advances self.old self.new }
     {
         let found = self.is_current_byte(byte);
         if found {

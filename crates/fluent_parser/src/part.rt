@@ -5,6 +5,7 @@ ghost use Rattle.std.specs.Prelude.{◌≡◌, ◌<◌, ◌≤◌, ◌-◌, ◌^
 ghost use Rattle.fluent_grammar.specs.Tiling.{behind_junk};
 ghost use Rattle.fluent_parser.specs.ErrorView.{error_view, kind_view};
 ghost use Rattle.fluent_parser.specs.Places.{error_by};
+ghost use Rattle.fluent_parser.specs.Frame.{Advances};
 
 use crate::collected::Collected;
 use crate::fault::Fault;
@@ -36,7 +37,7 @@ impl<'p, S: Drop, T: Texts<S>> Parser<'p, S, T> {
             self.old.rest.now (entry_at self.old.rest.now) ∷ pieces)) }
         ensures rest { IfOk result (λ u. self.new.rest.now
             ≡ behind_piece self.old.rest.now (entry_at self.old.rest.now)) }
-        ensures onward { IfOk result (λ u. length self.new.rest.now < length self.old.rest.now) }
+        ensures less { IfOk result (λ u. length self.new.rest.now < length self.old.rest.now) }
         ensures text { self.new.text.now ≡ self.old.text.now }
     {
         let start = self.rest();
@@ -64,8 +65,7 @@ impl<'p, S: Drop, T: Texts<S>> Parser<'p, S, T> {
     fn skip_to_next_entry_start(&mut self, start: &str)
         requires { length self.old.rest.now ≤ length start.now }
         ensures rest { self.new.rest.now ≡ behind_junk start.now self.old.rest.now }
-        ensures text { self.new.text.now ≡ self.old.text.now }
-        ensures onward { length self.new.rest.now ≤ length self.old.rest.now }
+        ensures advances { Advances self.old self.new }
     {
         let rest = self.bytes();
         let read = start.len() - rest.len();

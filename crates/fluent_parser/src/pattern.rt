@@ -5,6 +5,7 @@ ghost use Rattle.std.specs.Prelude.{◌≡◌, ◌≤◌, ◌<◌, ◌||◌, IfO
 ghost use Rattle.fluent_grammar.specs.Words as w;
 ghost use Rattle.fluent_grammar.specs.Lines.{pattern_ends, indent_of};
 ghost use Rattle.fluent_parser.specs.Steps.{is_last_feed, text_piece, IsOneLine};
+ghost use Rattle.fluent_parser.specs.Frame.{Advances};
 
 use crate::ErrorKind;
 use crate::fault::Fault;
@@ -57,8 +58,7 @@ impl<'p, S: Drop, T: Texts<S>> Parser<'p, S, T> {
     pub fn get_pattern(&mut self) -> Result<Option<Pattern<S>>, Fault>
         ensures gives { Gives (option_map (pattern_view S T.text)) self.new.rest.now result
             (pattern_by self.old.rest.now) }
-        ensures text { self.new.text.now ≡ self.old.text.now }
-        ensures onward { length self.new.rest.now ≤ length self.old.rest.now }
+        ensures advances { Advances self.old self.new }
     {
         self.skip_blank_inline();
         if let Some(count) = one_line_len(self.bytes()) {
@@ -72,8 +72,7 @@ impl<'p, S: Drop, T: Texts<S>> Parser<'p, S, T> {
         requires line { IsOneLine self.old.rest.now (Some count) }
         ensures gives { Gives (option_map (pattern_view S T.text)) self.new.rest.now result
             (pattern_behind self.old.rest.now) }
-        ensures text { self.new.text.now ≡ self.old.text.now }
-        ensures onward { length self.new.rest.now ≤ length self.old.rest.now }
+        ensures advances { Advances self.old self.new }
     {
         let mut value = self.take(count)?;
         self.take_byte_if(b'\n');
@@ -88,8 +87,7 @@ impl<'p, S: Drop, T: Texts<S>> Parser<'p, S, T> {
     fn get_lines(&mut self) -> Result<Option<Pattern<S>>, Fault>
         ensures gives { Gives (option_map (pattern_view S T.text)) self.new.rest.now result
             (pattern_behind self.old.rest.now) }
-        ensures text { self.new.text.now ≡ self.old.text.now }
-        ensures onward { length self.new.rest.now ≤ length self.old.rest.now }
+        ensures advances { Advances self.old self.new }
     {
         let mut at_line_start = self.skip_to_line();
         let mut gathered = Gathered::new(self.alloc, at_line_start);
@@ -104,8 +102,7 @@ impl<'p, S: Drop, T: Texts<S>> Parser<'p, S, T> {
     fn skip_to_line(&mut self) -> bool
         ensures place { (result, self.new.rest.now)
             ≡ first_place self.old.rest.now (w.after_line_end self.old.rest.now) }
-        ensures text { self.new.text.now ≡ self.old.text.now }
-        ensures onward { length self.new.rest.now ≤ length self.old.rest.now }
+        ensures advances { Advances self.old self.new }
     {
         let begins_line = self.skip_eol();
         if begins_line {
@@ -127,8 +124,7 @@ impl<'p, S: Drop, T: Texts<S>> Parser<'p, S, T> {
             (kept_piece_by at_line_start self.old.rest.now) }
         ensures less { IfOk result (λ found. IfSome found
             (λ ends. length self.new.rest.now < length self.old.rest.now)) }
-        ensures text { self.new.text.now ≡ self.old.text.now }
-        ensures onward { length self.new.rest.now ≤ length self.old.rest.now }
+        ensures advances { Advances self.old self.new }
     {
         if at_line_start && is_last_feed(self.bytes()) {
             self.advance(1);
@@ -159,8 +155,7 @@ impl<'p, S: Drop, T: Texts<S>> Parser<'p, S, T> {
             (piece_behind at_line_start indent (drop indent self.old.rest.now)) }
         ensures less { IfOk result (λ found. IfSome found
             (λ ends. length self.new.rest.now < length self.old.rest.now)) }
-        ensures text { self.new.text.now ≡ self.old.text.now }
-        ensures onward { length self.new.rest.now ≤ length self.old.rest.now }
+        ensures advances { Advances self.old self.new }
     {
         let behind = words::from(self.bytes(), indent);
         if behind.is_empty() {
@@ -196,8 +191,7 @@ impl<'p, S: Drop, T: Texts<S>> Parser<'p, S, T> {
             (text_step at_line_start indent (drop indent self.old.rest.now)) }
         ensures less { IfOk result (λ found. IfSome found
             (λ ends. length self.new.rest.now < length self.old.rest.now)) }
-        ensures text { self.new.text.now ≡ self.old.text.now }
-        ensures onward { length self.new.rest.now ≤ length self.old.rest.now }
+        ensures advances { Advances self.old self.new }
     {
         let behind = words::from(self.bytes(), indent);
         match words::text_len(behind) {

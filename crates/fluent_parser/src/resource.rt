@@ -6,6 +6,7 @@ ghost use Rattle.fluent_grammar.specs.Words as w;
 ghost use Rattle.fluent_grammar.specs.Tiling.{tree, errors, runtime_tree, runtime_errors};
 ghost use Rattle.fluent_parser.specs.Collected.{entries_with, errors_with};
 ghost use Rattle.fluent_parser.specs.ErrorView.{error_told};
+ghost use Rattle.fluent_parser.specs.Frame.{Advances};
 
 use crate::collected::Collected;
 use crate::helper::Parser;
@@ -93,8 +94,7 @@ impl<'p, S: Drop, T: Texts<S>> Parser<'p, S, T> {
     /// Passes over the rest of the line with its line end.
     fn skip_line(&mut self)
         ensures rest { self.new.rest.now ≡ (w.rest_of_line self.old.rest.now).1 }
-        ensures text { self.new.text.now ≡ self.old.text.now }
-        ensures onward { length self.new.rest.now ≤ length self.old.rest.now }
+        ensures advances { Advances self.old self.new }
     {
         self.advance(words::line_len(self.bytes()));
         self.skip_eol();

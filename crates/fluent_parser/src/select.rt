@@ -4,6 +4,7 @@
 ghost use Rattle.std.specs.Prelude.{◌≡◌, ◌≤◌, ◌<◌, true, false, length, map};
 ghost use Rattle.fluent_grammar.specs.Words as w;
 ghost use Rattle.fluent_grammar.specs.Reading.{selector_fault};
+ghost use Rattle.fluent_parser.specs.Frame.{Advances};
 
 use crate::ErrorKind;
 use crate::fault::Fault;
@@ -46,8 +47,7 @@ impl<'p, S: Drop, T: Texts<S>> Parser<'p, S, T> {
     pub fn get_variants(&mut self) -> Result<Vec<Variant<S>>, Fault>
         ensures gives { Gives (λ vs. variants_of (map (variant_view S T.text) vs.items))
             self.new.rest.now result (whole.variants false self.old.rest.now) }
-        ensures text { self.new.text.now ≡ self.old.text.now }
-        ensures onward { length self.new.rest.now ≤ length self.old.rest.now }
+        ensures advances { Advances self.old self.new }
     {
         let mut variants = Vec::new(self.alloc);
         let mut has_default = false;
@@ -71,8 +71,7 @@ impl<'p, S: Drop, T: Texts<S>> Parser<'p, S, T> {
     fn take_default_mark(&mut self, has_default: bool) -> Result<bool, Fault>
         ensures gives { Gives (λ found. found) self.new.rest.now result
             (default_mark_at has_default self.old.rest.now) }
-        ensures text { self.new.text.now ≡ self.old.text.now }
-        ensures onward { length self.new.rest.now ≤ length self.old.rest.now }
+        ensures advances { Advances self.old self.new }
     {
         let found = self.take_byte_if(b'*');
         if found && has_default {
@@ -89,7 +88,7 @@ impl<'p, S: Drop, T: Texts<S>> Parser<'p, S, T> {
         ensures gives { Gives (variant_view S T.text) self.new.rest.now result
             (variant_by default self.old.rest.now) }
         ensures less { length self.new.rest.now < length self.old.rest.now }
-        ensures text { self.new.text.now ≡ self.old.text.now }
+        ensures advances { Advances self.old self.new }
     {
         self.advance(1);
         let key = self.get_variant_key()?;
@@ -107,8 +106,7 @@ impl<'p, S: Drop, T: Texts<S>> Parser<'p, S, T> {
     fn get_variant_key(&mut self) -> Result<VariantKey<S>, Fault>
         ensures gives { Gives (key_of S T.text) self.new.rest.now result
             (key_in_brackets_at self.old.rest.now) }
-        ensures text { self.new.text.now ≡ self.old.text.now }
-        ensures onward { length self.new.rest.now ≤ length self.old.rest.now }
+        ensures advances { Advances self.old self.new }
     {
         self.skip_blank();
         let key = self.get_key()?;
@@ -122,8 +120,7 @@ impl<'p, S: Drop, T: Texts<S>> Parser<'p, S, T> {
     fn get_key(&mut self) -> Result<VariantKey<S>, Fault>
         ensures gives { Gives (key_of S T.text) self.new.rest.now result
             (key_at self.old.rest.now) }
-        ensures text { self.new.text.now ≡ self.old.text.now }
-        ensures onward { length self.new.rest.now ≤ length self.old.rest.now }
+        ensures advances { Advances self.old self.new }
     {
         if words::begins_number(self.bytes()) {
             let value = self.get_number_literal()?;

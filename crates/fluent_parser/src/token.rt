@@ -7,6 +7,7 @@ ghost use Rattle.fluent_words.specs.Counted.{Cuts, character_or_space};
 ghost use Rattle.fluent_grammar.specs.Words as w;
 ghost use Rattle.fluent_grammar.specs.Refusal as r;
 ghost use Rattle.fluent_grammar.specs.Reading.{first_char};
+ghost use Rattle.fluent_parser.specs.Frame.{Advances};
 
 use crate::ErrorKind;
 use crate::fault::Fault;
@@ -42,8 +43,7 @@ impl<'p, S: Drop, T: Texts<S>> Parser<'p, S, T> {
     pub fn get_identifier(&mut self) -> Result<Identifier<S>, Fault>
         ensures gives { Gives (name_of S T.text) self.new.rest.now result
             (identifier_at self.old.rest.now) }
-        ensures text { self.new.text.now ≡ self.old.text.now }
-        ensures onward { length self.new.rest.now ≤ length self.old.rest.now }
+        ensures advances { Advances self.old self.new }
     {
         let count = words::identifier_len(self.bytes());
         if count == 0 {
@@ -56,8 +56,7 @@ impl<'p, S: Drop, T: Texts<S>> Parser<'p, S, T> {
     /// Production `NumberLiteral`.
     pub fn get_number_literal(&mut self) -> Result<S, Fault>
         ensures gives { Gives T.text self.new.rest.now result (number_at self.old.rest.now) }
-        ensures text { self.new.text.now ≡ self.old.text.now }
-        ensures onward { length self.new.rest.now ≤ length self.old.rest.now }
+        ensures advances { Advances self.old self.new }
     {
         match words::number_len(self.bytes()) {
             Ok(count) => {
@@ -74,8 +73,7 @@ impl<'p, S: Drop, T: Texts<S>> Parser<'p, S, T> {
     /// The content of a string, behind its opening quote, with the closing one. Production `StringLiteral`.
     pub fn get_string_content(&mut self) -> Result<S, Fault>
         ensures gives { Gives T.text self.new.rest.now result (string_content self.old.rest.now) }
-        ensures text { self.new.text.now ≡ self.old.text.now }
-        ensures onward { length self.new.rest.now ≤ length self.old.rest.now }
+        ensures advances { Advances self.old self.new }
     {
         match words::string_end(self.bytes()) {
             StringEnd::Quote(count) => {

@@ -103,14 +103,14 @@ get_term_reference-returns-clause-gives g t c =
 
 pub get_variant-returns-clause-less : goal.get_variant-returns-clause-less
 get_variant-returns-clause-less g t c =
-    omega (arith, begun_shorter c.args.self.now.rest.now c.advance.new.self.rest.now w.open_bracket c.requires.bracket c.advance.ensures.rest, c.get_variant_key.ensures.onward, c.get_pattern.ensures.onward)
+    omega (arith, begun_shorter c.args.self.now.rest.now c.advance.new.self.rest.now w.open_bracket c.requires.bracket c.advance.ensures.rest, c.get_variant_key.ensures.advances.onward, c.get_pattern.ensures.advances.onward)
 
 pub get_call_arguments-loop-self-init : goal.get_call_arguments-loop-self-init
 get_call_arguments-loop-self-init g t c =
     let skipped = c.skip_blank.ensures.rest ∙ ap skip_blank c.advance.ensures.rest in
     record {
-      text = c.skip_blank.ensures.text ∙ c.advance.ensures.text;
-      onward = omega (arith, begun_shorter c.args.self.now.rest.now c.advance.new.self.rest.now w.open_paren c.requires.parenthesis c.advance.ensures.rest, c.skip_blank.ensures.onward);
+      text = c.skip_blank.ensures.advances.text ∙ c.advance.ensures.advances.text;
+      onward = omega (arith, begun_shorter c.args.self.now.rest.now c.advance.new.self.rest.now w.open_paren c.requires.parenthesis c.advance.ensures.rest, c.skip_blank.ensures.advances.onward);
       same = arguments_start (inline_view g.row.S.Denot g.T.Texts.text) (named_view g.row.S.Denot g.T.Texts.text) c.new-positional.result.items c.new-named.result.all.items c.skip_blank.new.self.rest.now (skip_blank (drop 1 c.args.self.now.rest.now)) c.new-positional.ensures.items c.new-named.ensures.all skipped;
       indexed = c.new-named.ensures.indexed g.T.Texts.text;
     }
@@ -161,8 +161,8 @@ get_call_arguments-loop-self-preserved g t c =
           (w.in_ok-push-in-Named.ensures.indexed g.T.Texts.text (subst (IsNamed g.row.S.Denot g.T.Texts.text) w.in-Named.is c.in_ok-argument.ensures.named) c.loop-self.invariant.indexed)
     ] in
     record {
-      text = c.skip_separator.ensures.text ∙ c.get_argument.ensures.text ∙ c.loop-self.invariant.text;
-      onward = omega (arith, c.skip_separator.ensures.onward, c.get_argument.ensures.onward, c.loop-self.invariant.onward);
+      text = c.skip_separator.ensures.advances.text ∙ c.get_argument.ensures.advances.text ∙ c.loop-self.invariant.text;
+      onward = omega (arith, c.skip_separator.ensures.advances.onward, c.get_argument.ensures.advances.onward, c.loop-self.invariant.onward);
       same = same;
       indexed = indexed;
     }
@@ -184,8 +184,8 @@ get_pattern-returns-clause-gives g t c =
 pub get_lines-loop-gathered-init : goal.get_lines-loop-gathered-init
 get_lines-loop-gathered-init g t c =
     record {
-      text = c.skip_to_line-at_line_start.ensures.text;
-      onward = c.skip_to_line-at_line_start.ensures.onward;
+      text = c.skip_to_line-at_line_start.ensures.advances.text;
+      onward = c.skip_to_line-at_line_start.ensures.advances.onward;
       gathers = gathers_none g.row.S.Denot g.T.Texts.text c.new-gathered.result c.skip_to_line-at_line_start.result c.skip_to_line-at_line_start.new.self.rest.now c.args.self.now.rest.now c.new-gathered.ensures.elements c.new-gathered.ensures.begins_line c.new-gathered.ensures.common_indent c.skip_to_line-at_line_start.ensures.place;
     }
 
@@ -203,8 +203,8 @@ get_lines-loop-gathered-preserved g t c =
     let rest = c.get_piece.new.self.rest.now in
     let gathered = c.loop-gathered.gathered in
     record {
-      text = c.get_piece.ensures.text ∙ c.loop-gathered.invariant.text;
-      onward = omega (arith, c.get_piece.ensures.onward, c.loop-gathered.invariant.onward);
+      text = c.get_piece.ensures.advances.text ∙ c.loop-gathered.invariant.text;
+      onward = omega (arith, c.get_piece.ensures.advances.onward, c.loop-gathered.invariant.onward);
       gathers = gathers_more g.row.S.Denot g.T.Texts.text gathered c.get_piece.new.gathered line c.in-Some.ends_line s rest c.args.self.now.rest.now c.loop-gathered.invariant.gathers
           (piece_put g.row.S.Denot g.T.Texts.text gathered c.get_piece.new.gathered rest _ c.in-Some.ends_line (kept_piece_by line s) c.in-Some.is c.in_ok-ends_line.ensures.gives);
     }
@@ -267,8 +267,8 @@ get_variants-loop-variants-preserved g t c =
     let x = variant_view g.row.S.Denot g.T.Texts.text c.in_ok-get_variant.field-0 in
     let items = pushed (variant_view g.row.S.Denot g.T.Texts.text) c.loop-variants.variants.items c.push.new.self.items c.in_ok-get_variant.field-0 c.in_ok-push.ensures.items in
     record {
-      text = c.skip_blank.ensures.text ∙ c.get_variant.ensures.text ∙ c.take_default_mark.ensures.text ∙ c.loop-variants.invariant.text;
-      onward = omega (arith, c.skip_blank.ensures.onward, c.get_variant.ensures.less, c.take_default_mark.ensures.onward, c.loop-variants.invariant.onward);
+      text = c.skip_blank.ensures.advances.text ∙ c.get_variant.ensures.advances.text ∙ c.take_default_mark.ensures.advances.text ∙ c.loop-variants.invariant.text;
+      onward = omega (arith, c.skip_blank.ensures.advances.onward, c.get_variant.ensures.less, c.take_default_mark.ensures.advances.onward, c.loop-variants.invariant.onward);
       same = variants_same ((map (variant_view g.row.S.Denot g.T.Texts.text) c.loop-variants.variants.items) ++ x ∷ []) (map (variant_view g.row.S.Denot g.T.Texts.text) c.push.new.self.items) (c.loop-variants.has_default || c.in_ok-default.default) c.skip_blank.new.self.rest.now (whole.variants false c.args.self.now.rest.now) items
           (variants_read (map (variant_view g.row.S.Denot g.T.Texts.text) c.loop-variants.variants.items) c.loop-variants.has_default c.in_ok-default.default c.loop-variants.self.rest.now c.args.self.now.rest.now c.take_default_mark.new.self.rest.now c.get_variant.new.self.rest.now c.skip_blank.new.self.rest.now x c.loop-variants.invariant.same c.in_ok-default.ensures.gives (sym c.is_current_byte.ensures ∙ c.if-not-is_current_byte.false) c.in_ok-get_variant.ensures.gives c.skip_blank.ensures.rest);
     }
@@ -312,7 +312,7 @@ get_argument-returns-in_err-value-in-Ok-clause-gives g t c =
 
 pub get_argument-returns-in_ok-value-in-Ok-clause-less : goal.get_argument-returns-in_ok-value-in-Ok-clause-less
 get_argument-returns-in_ok-value-in-Ok-clause-less g t c =
-    omega (arith, inline_shorter c.args.self.now.rest.now c.get_inline_expression.new.self.rest.now (inline_view g.row.S.Denot g.T.Texts.text c.in_ok-argument.argument) c.in_ok-argument.ensures.gives, c.get_argument_value.ensures.onward)
+    omega (arith, inline_shorter c.args.self.now.rest.now c.get_inline_expression.new.self.rest.now (inline_view g.row.S.Denot g.T.Texts.text c.in_ok-argument.argument) c.in_ok-argument.ensures.gives, c.get_argument_value.ensures.advances.onward)
 
 pub get_argument-returns-in_ok-value-in-Ok-clause-gives : goal.get_argument-returns-in_ok-value-in-Ok-clause-gives
 get_argument-returns-in_ok-value-in-Ok-clause-gives g t c =

@@ -28,8 +28,8 @@ pub loop-attributes-preserved : goal.loop-attributes-preserved
 loop-attributes-preserved g c =
     let view = attribute_view g.row.S.Denot g.T.Texts.text in
     record {
-      text = c.next_attribute.ensures.text ∙ c.loop-attributes.invariant.text;
-      onward = omega (arith, c.next_attribute.ensures.onward, c.loop-attributes.invariant.onward);
+      text = c.next_attribute.ensures.advances.text ∙ c.loop-attributes.invariant.text;
+      onward = omega (arith, c.next_attribute.ensures.advances.onward, c.loop-attributes.invariant.onward);
       read = attributes_go_on c.args.self.now.rest.now c.loop-attributes.self.rest.now _ (map view c.loop-attributes.attributes.items) _ _
           (ap (map view) c.in_ok-push_tight.ensures ∙ map-append view c.loop-attributes.attributes.items _) (rw c.in-Some.is at c.in_ok-attribute.ensures.gives) c.loop-attributes.invariant.read;
     }

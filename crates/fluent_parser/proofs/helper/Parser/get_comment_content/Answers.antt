@@ -10,8 +10,8 @@ pub loop-self-init : goal.loop-self-init
 loop-self-init g c =
     let none : map g.T.Texts.text c.new-lines.result.items ≡ [] = search rules in
     record {
-      text = c.push_comment_line.ensures.text;
-      onward = omega (arith, c.push_comment_line.ensures.onward);
+      text = c.push_comment_line.ensures.advances.text;
+      onward = omega (arith, c.push_comment_line.ensures.past);
       read = content_begins c.args.level c.args.self.now.rest.now _ _ _ none c.in_ok-push_comment_line.ensures.gives;
     }
 
@@ -21,9 +21,9 @@ loop-self-preserved g c =
     let t = line_test c.args.level u (sym c.is_comment_line.ensures ∙ c.loop-self-test.true) in
     let cut = (level_cuts u c.args.level (sym t.0)).within in
     record {
-      text = c.push_comment_line-in-loop-self.ensures.text ∙ c.loop-self.invariant.text;
-      onward = omega (arith, c.push_comment_line-in-loop-self.ensures.onward, c.loop-self.invariant.onward);
-      read = content_goes_on c.args.level c.args.self.now.rest.now u _ _ _ t.0 (omega (arith, c.push_comment_line-in-loop-self.ensures.onward, c.requires.some)) c.in_ok-push_comment_line-2.ensures.gives c.loop-self.invariant.read;
+      text = c.push_comment_line-in-loop-self.ensures.advances.text ∙ c.loop-self.invariant.text;
+      onward = omega (arith, c.push_comment_line-in-loop-self.ensures.past, c.loop-self.invariant.onward);
+      read = content_goes_on c.args.level c.args.self.now.rest.now u _ _ _ t.0 (omega (arith, c.push_comment_line-in-loop-self.ensures.past, c.requires.some)) c.in_ok-push_comment_line-2.ensures.gives c.loop-self.invariant.read;
     }
 
 pub returns-in_err-push_comment_line-2-clause-gives : goal.returns-in_err-push_comment_line-2-clause-gives

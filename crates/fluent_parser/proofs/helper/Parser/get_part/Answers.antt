@@ -21,11 +21,11 @@ take-requires g c =
     let at_start : Cuts c.rest-start.result.now (length c.rest-start.result.now - length c.rest.result.now) = subst (λ (z : Text). Cuts z (length z - length c.rest.result.now)) (sym c.rest-start.ensures) cut in
     subst (λ (z : Text). Cuts z (length c.rest-start.result.now - length c.rest.result.now)) (sym c.set_rest.ensures.rest) at_start
 
-pub returns-in_ok-push_entry-in-Ok-clause-onward : goal.returns-in_ok-push_entry-in-Ok-clause-onward
-returns-in_ok-push_entry-in-Ok-clause-onward g c = entry_less c.args.self.now.rest.now _ _ c.in-Ok.ensures.gives
+pub returns-in_ok-push_entry-in-Ok-clause-less : goal.returns-in_ok-push_entry-in-Ok-clause-less
+returns-in_ok-push_entry-in-Ok-clause-less g c = entry_less c.args.self.now.rest.now _ _ c.in-Ok.ensures.gives
 
-pub returns-in_ok-push_junk-in-Err-Refused-clause-onward : goal.returns-in_ok-push_junk-in-Err-Refused-clause-onward
-returns-in_ok-push_junk-in-Err-Refused-clause-onward g c =
+pub returns-in_ok-push_junk-in-Err-Refused-clause-less : goal.returns-in_ok-push_junk-in-Err-Refused-clause-less
+returns-in_ok-push_junk-in-Err-Refused-clause-less g c =
     let s = c.args.self.now.rest.now in
     let place = c.get_entry.new.self.rest.now in
     let h : Refuses c.in-Err-Refused.kind place (entry_at s) = rw c.in-Err-Refused.field-0-is at c.in-Err-Refused.ensures.gives in
@@ -47,9 +47,9 @@ returns-in_ok-push_junk-in-Err-Refused-clause-errors g c = λ pieces.
     let h : Refuses c.in-Err-Refused.kind place (entry_at s) = rw c.in-Err-Refused.field-0-is at c.in-Err-Refused.ensures.gives in
     let e : behind ≡ behind_junk s place = c.rest.ensures ∙ c.skip_to_next_entry_start.ensures.rest ∙ ap (λ (z : Text). behind_junk z place) c.rest-start.ensures in
     let start : length c.rest-start.result.now ≡ length s = ap length c.rest-start.ensures in
-    let here : length c.get_entry.new.self.text.now ≡ length text = ap length c.get_entry.ensures.text in
+    let here : length c.get_entry.new.self.text.now ≡ length text = ap length c.get_entry.ensures.advances.text in
     told_more error_view old c.push_junk.new.self.errors.items c.error_at-error.result (map error_told (errors_of pieces)) c.in_ok-push_junk-in-Err-Refused.ensures.errors
     ∙ ap (λ (told : List ErrorView). map error_view old ++ told) (junk_told (length text - length s) c.args.apart s behind c.in-Err-Refused.kind place (error_view c.error_at-error.result) c.place-place.result end pieces h e
     (c.error_at-error.ensures ∙ ap (λ (n : ℕ). error_by (kind_view c.in-Err-Refused.kind) n c.place-place.result end) c.place-slice_start.ensures.value)
-    (omega (arith, c.place-place.ensures.value, here, c.get_entry.ensures.onward, c.place-slice_start.ensures.within))
+    (omega (arith, c.place-place.ensures.value, here, c.get_entry.ensures.advances.onward, c.place-slice_start.ensures.within))
     (omega (arith, c.place-slice_start.ensures.value, start)))

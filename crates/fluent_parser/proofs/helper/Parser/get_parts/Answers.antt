@@ -32,11 +32,11 @@ parts-preserved g c =
     let rest = c.get_part.new.self.rest.now in
     let apart = c.skip_blank_block-apart.result in
     let z : (length u == 0) ≡ false = search rules in
-    let less : length rest < length u = c.in_ok-get_part.ensures.onward in
+    let less : length rest < length u = c.in_ok-get_part.ensures.less in
     let step : pieces_left total s ≡ piece_of (total - length u) apart u (entry_at u) ∷ pieces_left total rest =
     piece_left total s u rest c.parts.invariant.within c.skip_blank_block-apart.ensures.rest (test_some (length u) z) c.in_ok-get_part.ensures.rest less
     ∙ ap (λ (b : Bool). piece_of (total - length u) b u (entry_at u) ∷ pieces_left total rest) (sym c.skip_blank_block-apart.ensures.value) in
-    let here : length c.skip_blank_block-apart.new.self.text.now ≡ total = ap length (c.skip_blank_block-apart.ensures.text ∙ c.parts.invariant.text) in
+    let here : length c.skip_blank_block-apart.new.self.text.now ≡ total = ap length (c.skip_blank_block-apart.ensures.advances.text ∙ c.parts.invariant.text) in
     let old = c.parts.collected in
     let more = pieces_left total rest in
     let put : entries_with g.row.S.Denot g.T.Texts.text c.get_part.new.collected more ≡ entries_with g.row.S.Denot g.T.Texts.text old (piece_of (total - length u) apart u (entry_at u) ∷ more) =
@@ -44,8 +44,8 @@ parts-preserved g c =
     let told : errors_with g.row.S.Denot c.get_part.new.collected more ≡ errors_with g.row.S.Denot old (piece_of (total - length u) apart u (entry_at u) ∷ more) =
     c.in_ok-get_part.ensures.errors more ∙ ap (λ (n : ℕ). errors_with g.row.S.Denot old (piece_of (n - length u) apart u (entry_at u) ∷ more)) here in
     record {
-      text = c.get_part.ensures.text ∙ c.skip_blank_block-apart.ensures.text ∙ c.parts.invariant.text;
-      within = omega (arith, less, c.skip_blank_block-apart.ensures.onward, c.parts.invariant.within);
+      text = c.get_part.ensures.text ∙ c.skip_blank_block-apart.ensures.advances.text ∙ c.parts.invariant.text;
+      within = omega (arith, less, c.skip_blank_block-apart.ensures.advances.onward, c.parts.invariant.within);
       entries = put ∙ ap (λ (ps : List Piece). entries_with g.row.S.Denot g.T.Texts.text old ps) (sym step) ∙ c.parts.invariant.entries;
       errors = told ∙ ap (λ (ps : List Piece). errors_with g.row.S.Denot old ps) (sym step) ∙ c.parts.invariant.errors;
     }

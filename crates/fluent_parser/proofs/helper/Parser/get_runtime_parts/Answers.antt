@@ -28,7 +28,7 @@ pub parts-smaller-then-is_current_byte : goal.parts-smaller-then-is_current_byte
 parts-smaller-then-is_current_byte g c =
     let u = c.skip_blank_block.new.self.rest.now in
     let z : (length u == 0) ≡ false = search rules in
-    omega (arith, line_less u c.skip_line.new.self.rest.now (test_some (length u) z) c.skip_line.ensures.rest, c.skip_blank_block.ensures.onward)
+    omega (arith, line_less u c.skip_line.new.self.rest.now (test_some (length u) z) c.skip_line.ensures.rest, c.skip_blank_block.ensures.advances.onward)
 
 pub parts-preserved-then-is_current_byte : goal.parts-preserved-then-is_current_byte
 parts-preserved-then-is_current_byte g c =
@@ -41,8 +41,8 @@ parts-preserved-then-is_current_byte g c =
     let step : runtime_left total s ≡ runtime_left total rest =
     line_passed total s u rest c.parts.invariant.within c.skip_blank_block.ensures.rest (test_some (length u) z) (sym c.is_current_byte.ensures ∙ c.if-is_current_byte.true) c.skip_line.ensures.rest less in
     record {
-      text = c.skip_line.ensures.text ∙ c.skip_blank_block.ensures.text ∙ c.parts.invariant.text;
-      within = omega (arith, less, c.skip_blank_block.ensures.onward, c.parts.invariant.within);
+      text = c.skip_line.ensures.advances.text ∙ c.skip_blank_block.ensures.advances.text ∙ c.parts.invariant.text;
+      within = omega (arith, less, c.skip_blank_block.ensures.advances.onward, c.parts.invariant.within);
       entries = ap (λ (ps : List Piece). entries_with g.row.S.Denot g.T.Texts.text c.parts.collected ps) (sym step) ∙ c.parts.invariant.entries;
       errors = ap (λ (ps : List Piece). errors_with g.row.S.Denot c.parts.collected ps) (sym step) ∙ c.parts.invariant.errors;
     }
@@ -54,10 +54,10 @@ parts-preserved g c =
     let u = c.skip_blank_block.new.self.rest.now in
     let rest = c.get_part.new.self.rest.now in
     let z : (length u == 0) ≡ false = search rules in
-    let less : length rest < length u = c.in_ok-get_part.ensures.onward in
+    let less : length rest < length u = c.in_ok-get_part.ensures.less in
     let step : runtime_left total s ≡ piece_of (total - length u) false u (entry_at u) ∷ runtime_left total rest =
     piece_left_at_runtime total s u rest c.parts.invariant.within c.skip_blank_block.ensures.rest (test_some (length u) z) (sym c.is_current_byte.ensures ∙ c.if-is_current_byte.false) c.in_ok-get_part.ensures.rest less in
-    let here : length c.skip_blank_block.new.self.text.now ≡ total = ap length (c.skip_blank_block.ensures.text ∙ c.parts.invariant.text) in
+    let here : length c.skip_blank_block.new.self.text.now ≡ total = ap length (c.skip_blank_block.ensures.advances.text ∙ c.parts.invariant.text) in
     let old = c.parts.collected in
     let more = runtime_left total rest in
     let put : entries_with g.row.S.Denot g.T.Texts.text c.get_part.new.collected more ≡ entries_with g.row.S.Denot g.T.Texts.text old (piece_of (total - length u) false u (entry_at u) ∷ more) =
@@ -65,8 +65,8 @@ parts-preserved g c =
     let told : errors_with g.row.S.Denot c.get_part.new.collected more ≡ errors_with g.row.S.Denot old (piece_of (total - length u) false u (entry_at u) ∷ more) =
     c.in_ok-get_part.ensures.errors more ∙ ap (λ (n : ℕ). errors_with g.row.S.Denot old (piece_of (n - length u) false u (entry_at u) ∷ more)) here in
     record {
-      text = c.get_part.ensures.text ∙ c.skip_blank_block.ensures.text ∙ c.parts.invariant.text;
-      within = omega (arith, less, c.skip_blank_block.ensures.onward, c.parts.invariant.within);
+      text = c.get_part.ensures.text ∙ c.skip_blank_block.ensures.advances.text ∙ c.parts.invariant.text;
+      within = omega (arith, less, c.skip_blank_block.ensures.advances.onward, c.parts.invariant.within);
       entries = put ∙ ap (λ (ps : List Piece). entries_with g.row.S.Denot g.T.Texts.text old ps) (sym step) ∙ c.parts.invariant.entries;
       errors = told ∙ ap (λ (ps : List Piece). errors_with g.row.S.Denot old ps) (sym step) ∙ c.parts.invariant.errors;
     }

@@ -1,0 +1,9 @@
+-- What readers do to their parser.
+use Rattle.std.specs.Prelude.{◌≡◌, ◌≤◌, length}
+use Rattle.fluent_slice.specs.declared.Texts.{Ghosts}
+use Rattle.fluent_parser.specs.declared.helper.Parser.{Parser}
+
+-- it reads the same text, from its place on or from behind it
+pub record Advances {S T : Type 0} {texts : Ghosts T S} (old new : Parser S T texts) : Type 0 where
+  pub text : new.text.now ≡ old.text.now
+  pub onward : length new.rest.now ≤ length old.rest.now
