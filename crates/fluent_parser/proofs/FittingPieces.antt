@@ -45,7 +45,7 @@ run_spaces (c ∷ cs) x rest h n =
 -- ---- what was read
 
 -- a piece, and whether a line begins behind it
-abbrev found : Piece → Bool → Option (Piece × Bool)
+abbrev pub found : Piece → Bool → Option (Piece × Bool)
 found p next = Some (p, next)
 
 piece_of : Piece × Bool → Reading (Option (Piece × Bool)) → Piece × Bool
@@ -53,7 +53,7 @@ piece_of other (got (Some q) rest) = q
 piece_of other (got None rest) = other
 piece_of other (refused fault) = other
 
-same_piece : (p q : Piece) (a b : Bool) (rest behind : Text) → got (found p a) rest ≡ got (found q b) behind → (p ≡ q) × (a ≡ b)
+pub same_piece : (p q : Piece) (a b : Bool) (rest behind : Text) → got (found p a) rest ≡ got (found q b) behind → (p ≡ q) × (a ≡ b)
 unfolding piece_of
 same_piece p q a b rest behind h =
     let k = ap (piece_of (q, b)) h in

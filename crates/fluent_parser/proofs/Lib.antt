@@ -9,6 +9,7 @@ pub mod Cycle
 pub mod LastFeeds
 pub mod OneLine
 pub mod FittingPieces
+pub mod LineStarts
 pub mod GatheredPieces
 pub mod Values
 pub mod Runs

@@ -1,5 +1,7 @@
 -- What readers do to their parser.
-use Rattle.std.specs.Prelude.{◌≡◌, ◌≤◌, length}
+use Rattle.std.specs.Prelude.{◌≡◌, ◌≤◌, Bool, true, false, length}
+use Rattle.fluent_grammar.specs.Words.{Text}
+use Rattle.fluent_grammar.specs.Tiling.{at_column_zero}
 use Rattle.fluent_slice.specs.declared.Texts.{Ghosts}
 use Rattle.fluent_parser.specs.declared.helper.Parser.{Parser}
 
@@ -7,3 +9,8 @@ use Rattle.fluent_parser.specs.declared.helper.Parser.{Parser}
 pub record Advances {S T : Type 0} {texts : Ghosts T S} (old new : Parser S T texts) : Type 0 where
   pub text : new.text.now ≡ old.text.now
   pub onward : length new.rest.now ≤ length old.rest.now
+
+-- a line of the text starts at this rest of it, where it is said so
+abbrev pub StartsLine : Bool → Text → Text → Type 0
+StartsLine true text rest = at_column_zero text rest ≡ true
+StartsLine false text rest = Unit {0}

@@ -5,7 +5,7 @@ ghost use Rattle.std.specs.Prelude.{◌≡◌, ◌≤◌, ◌<◌, ◌||◌, IfO
 ghost use Rattle.fluent_grammar.specs.Words as w;
 ghost use Rattle.fluent_grammar.specs.Lines.{pattern_ends, indent_of};
 ghost use Rattle.fluent_parser.specs.Steps.{is_last_feed, text_piece, IsOneLine};
-ghost use Rattle.fluent_parser.specs.Frame.{Advances};
+ghost use Rattle.fluent_parser.specs.Frame.{Advances, StartsLine};
 
 use crate::ErrorKind;
 use crate::fault::Fault;
@@ -120,6 +120,7 @@ impl<'p, S: Drop, T: Texts<S>> Parser<'p, S, T> {
         at_line_start: bool,
         gathered: &mut Gathered<S>,
     ) -> Result<Option<bool>, Fault>
+        requires { StartsLine at_line_start self.old.text.now self.old.rest.now }
         ensures gives { GivesPiece S T.text gathered.old gathered.new self.new.rest.now result
             (kept_piece_by at_line_start self.old.rest.now) }
         ensures less { IfOk result (λ found. IfSome found

@@ -23,7 +23,9 @@ use Rattle.fluent_parser.proofs.Failing.{handed_on, fails_mapped, fails_same}
 use Rattle.fluent_words.proofs.Scanned.{test_of}
 use Rattle.fluent_parser.proofs.Runs.{cut_indent_at, cut_line_feed, line_feed_read, begun_shorter, cut_arrow}
 use Rattle.fluent_parser.proofs.Cycle.{gives_same, pattern_is_behind, inline_literal, inline_term, inline_variable, inline_named, inline_nested, inline_none, inline_shorter, argument_fails, argument_not_named, argument_unnamed, argument_named, arguments_start, arguments_empty, arguments_fail, argument_fail, positional_read, named_read, arguments_end, mark_fails, variants_fail, variant_fails, variants_read, variants_end, variants_refused, pattern_fails, term_read, function_read, pushed, arguments_same, variants_same, on_ok_always}
+use Rattle.fluent_parser.specs.Frame.{StartsLine}
 use Rattle.fluent_parser.proofs.LastFeeds.{kept_fails}
+use Rattle.fluent_parser.proofs.LineStarts.{first_starts, piece_starts}
 use Rattle.fluent_parser.proofs.PutPieces.{piece_put, no_piece, placeable_put, feed_put}
 use Rattle.fluent_parser.proofs.GatheredPieces.{gathers_none, gathers_more, gathers_all}
 use Rattle.fluent_parser.proofs.helper.Parser.+parser.Goals as goal
@@ -187,6 +189,9 @@ get_lines-loop-gathered-init g t c =
       text = c.skip_to_line-at_line_start.ensures.advances.text;
       onward = c.skip_to_line-at_line_start.ensures.advances.onward;
       gathers = gathers_none g.row.S.Denot g.T.Texts.text c.new-gathered.result c.skip_to_line-at_line_start.result c.skip_to_line-at_line_start.new.self.rest.now c.args.self.now.rest.now c.new-gathered.ensures.elements c.new-gathered.ensures.begins_line c.new-gathered.ensures.common_indent c.skip_to_line-at_line_start.ensures.place;
+      line_start = let rest = c.skip_to_line-at_line_start.new.self.rest.now in
+          subst (λ (z : List ℕ). StartsLine c.skip_to_line-at_line_start.result z rest) (sym c.skip_to_line-at_line_start.ensures.advances.text)
+          (first_starts c.skip_to_line-at_line_start.result c.args.self.now.text.now c.args.self.now.rest.now rest c.args.self.now.is_tail c.skip_to_line-at_line_start.ensures.place);
     }
 
 pub get_lines-returns-in_err-ends_line-clause-gives : goal.get_lines-returns-in_err-ends_line-clause-gives
@@ -202,11 +207,13 @@ get_lines-loop-gathered-preserved g t c =
     let s = c.loop-gathered.self.rest.now in
     let rest = c.get_piece.new.self.rest.now in
     let gathered = c.loop-gathered.gathered in
+    let put = piece_put g.row.S.Denot g.T.Texts.text gathered c.get_piece.new.gathered rest _ c.in-Some.ends_line (kept_piece_by line s) c.in-Some.is c.in_ok-ends_line.ensures.gives in
     record {
       text = c.get_piece.ensures.advances.text ∙ c.loop-gathered.invariant.text;
       onward = omega (arith, c.get_piece.ensures.advances.onward, c.loop-gathered.invariant.onward);
-      gathers = gathers_more g.row.S.Denot g.T.Texts.text gathered c.get_piece.new.gathered line c.in-Some.ends_line s rest c.args.self.now.rest.now c.loop-gathered.invariant.gathers
-          (piece_put g.row.S.Denot g.T.Texts.text gathered c.get_piece.new.gathered rest _ c.in-Some.ends_line (kept_piece_by line s) c.in-Some.is c.in_ok-ends_line.ensures.gives);
+      gathers = gathers_more g.row.S.Denot g.T.Texts.text gathered c.get_piece.new.gathered line c.in-Some.ends_line s rest c.args.self.now.rest.now c.loop-gathered.invariant.gathers put;
+      line_start = subst (λ (z : List ℕ). StartsLine c.in-Some.ends_line z rest) (sym c.get_piece.ensures.advances.text)
+          (piece_starts line c.loop-gathered.self.text.now s rest put.piece c.in-Some.ends_line c.loop-gathered.self.is_tail put.read_is);
     }
 
 pub get_lines-returns-clause-gives : goal.get_lines-returns-clause-gives

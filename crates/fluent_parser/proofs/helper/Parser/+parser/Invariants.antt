@@ -3,6 +3,7 @@ use Rattle.std.proofs.Common.{◌≡◌, ◌+◌, ◌*◌, ◌<◌, ◌≤◌, [
 use Rattle.std.specs.Prelude.{false}
 use Rattle.fluent_grammar.specs.Words as w
 use Rattle.fluent_grammar.specs.Refusal.{mapped}
+use Rattle.fluent_parser.specs.Frame.{StartsLine}
 use Rattle.fluent_parser.specs.Reads.{whole}
 use Rattle.fluent_parser.specs.Steps.{arguments_behind, names_of, variants_behind}
 use Rattle.fluent_parser.specs.Indexed.{IsIndexed}
@@ -71,6 +72,7 @@ invariant-get_lines-loop-gathered g l = record {
   text : l.self.text.now ≡ l.fn.self.text.now;
   onward : length l.self.rest.now ≤ length l.fn.self.rest.now;
   gathers : Gathers g.row.S.Denot g.T.Texts.text l.gathered l.at_line_start l.self.rest.now l.fn.self.rest.now;
+  line_start : StartsLine l.at_line_start l.self.text.now l.self.rest.now;
 }
 
 abbrev pub decreases-get_lines-loop-gathered : goal.decreases-get_lines-loop-gathered
