@@ -1,2 +1,7 @@
-pub mod Lines
+pub mod OneByOne
 pub mod Rows
+pub mod Places
+pub mod LineEnds
+pub mod EntryStarts
+pub mod PlainTexts
+pub mod OneLines

@@ -1,10 +1,17 @@
 -- Tables of lines, computed. Counted by hand.
 use Rattle.std.specs.Prelude.{◌≡◌, ℕ, Bool, true, false, [], ◌∷◌, ◌++◌, codes}
 use Rattle.std.proofs.Common.{refl}
+use Rattle.fluent_lines.specs.declared.row.Row.{Row}
 use Rattle.fluent_lines.specs.Table.{Line, lines}
+use Rattle.fluent_lines.specs.Lookup.{is_last_line}
 
+-- a line with no brace
 abbrev line : ℕ → ℕ → ℕ → Bool → Bool → Line
-line start end spaces begins_entry ends_pattern = record { start = start; end = end; spaces = spaces; begins_entry = begins_entry; ends_pattern = ends_pattern }
+line start end spaces begins_entry ends_pattern = record { start = start; end = end; spaces = spaces; begins_entry = begins_entry; ends_pattern = ends_pattern; is_plain = true }
+
+-- a line with one
+abbrev braced : ℕ → ℕ → ℕ → Bool → Bool → Line
+braced start end spaces begins_entry ends_pattern = record { start = start; end = end; spaces = spaces; begins_entry = begins_entry; ends_pattern = ends_pattern; is_plain = false }
 
 no_byte : lines [] ≡ line 0 0 0 false true ∷ []
 no_byte = refl
@@ -19,13 +26,13 @@ term_without_line_feed = refl
 comment : lines (codes "# c\n\n") ≡ line 0 3 0 true true ∷ line 4 4 0 false false ∷ line 5 5 0 false true ∷ []
 comment = refl
 
-indented_lines : lines (codes "    b\n  }") ≡ line 0 5 4 false false ∷ line 6 9 2 false true ∷ []
+indented_lines : lines (codes "    b\n  }") ≡ line 0 5 4 false false ∷ braced 6 9 2 false true ∷ []
 indented_lines = refl
 
 attribute : lines (codes " .a") ≡ line 0 3 1 false true ∷ []
 attribute = refl
 
-brace_at_column_zero : lines (codes "{x}") ≡ line 0 3 0 false false ∷ []
+brace_at_column_zero : lines (codes "{x}") ≡ braced 0 3 0 false false ∷ []
 brace_at_column_zero = refl
 
 only_spaces : lines (codes " \n") ≡ line 0 1 1 false false ∷ line 2 2 0 false true ∷ []
@@ -41,3 +48,40 @@ blank_crlf = refl
 -- a carriage return alone is none
 carriage_return : lines (codes "a" ++ 13 ∷ codes "b") ≡ line 0 3 0 true true ∷ []
 carriage_return = refl
+
+-- a brace makes its own line alone one that isn't plain
+brace_behind_plain : lines (codes "a\nb {") ≡ line 0 1 0 true true ∷ braced 2 5 0 true true ∷ []
+brace_behind_plain = refl
+
+closing_brace : lines (codes "a }\n") ≡ braced 0 3 0 true true ∷ line 4 4 0 false true ∷ []
+closing_brace = refl
+
+-- ---- patterns of one line
+
+-- a row of a plain line that begins no entry
+abbrev row : ℕ → ℕ → Bool → Row
+row start end ends_pattern = record { start = start; end = end; spaces = 0; begins_entry = false; ends_pattern = ends_pattern; is_plain = true }
+
+-- a, LF, b
+ended : is_last_line (row 0 1 true) (row 2 3 true ∷ []) ≡ true
+ended = refl
+
+-- a, LF, two spaces, b
+goes_on : is_last_line (row 0 1 true) (row 2 5 false ∷ []) ≡ false
+goes_on = refl
+
+-- a
+end_of_text : is_last_line (row 0 1 true) [] ≡ false
+end_of_text = refl
+
+-- a, LF, LF, b
+blank_behind : is_last_line (row 0 1 true) (row 2 2 false ∷ row 3 4 true ∷ []) ≡ true
+blank_behind = refl
+
+-- a, CR, LF, b
+crlf_behind : is_last_line (row 0 1 true) (row 3 4 true ∷ []) ≡ false
+crlf_behind = refl
+
+-- a, LF, CR, LF, b
+blank_crlf_behind : is_last_line (row 0 1 true) (row 2 2 false ∷ row 4 5 true ∷ []) ≡ false
+blank_crlf_behind = refl

@@ -1,10 +1,12 @@
 //! One line.
 #![tactic(auto)]
 
-ghost use Rattle.std.specs.Prelude.{◌≡◌, ◌≤◌, ◌+◌, ◌-◌, ◌^◌, length, IfOk};
+ghost use Rattle.std.specs.Prelude.{◌≡◌, ◌≤◌, ◌+◌, ◌-◌, ◌^◌, length, take, IfOk};
 ghost use Rattle.fluent_grammar.specs.Words as w;
 ghost use Rattle.fluent_grammar.specs.Lines.{pattern_ends};
+ghost use Rattle.fluent_words.specs.Counted as counted;
 ghost use Rattle.fluent_lines.specs.Table.{row_view, cut_line_at};
+ghost use Rattle.fluent_lines.specs.Lookup.{feeds_into};
 
 use fluent_words as words;
 use std::alloc::AllocError;
@@ -22,20 +24,24 @@ pub struct Row {
     pub begins_entry: bool,
     /// Whether a pattern ends before this line, by the byte that stands behind its spaces.
     pub ends_pattern: bool,
+    /// Whether the line is plain: no brace stands in it.
+    pub is_plain: bool,
 }
 
 impl Row {
-    /// The row of the line at the front of a text, which has so many bytes and begins at `start` of a source.
+    /// The row of the line at the front of a text, which has so many bytes, is plain or not, and begins at `start` of a source.
     ///
     /// # Errors
     ///
     /// A line with 4,294,967,296 spaces at its front or more has no row.
-    pub fn new(line: &[u8], start: usize, len: usize) -> Result<Row, AllocError>
+    pub fn new(line: &[u8], start: usize, len: usize, is_plain: bool) -> Result<Row, AllocError>
         requires fits { start + length line.now ≤ 2 ^ 64 - 1 }
         requires within { len ≤ length line.now }
+        requires plain { is_plain ≡ counted.is_plain (take len line.now) }
         ensures { IfOk result (λ row. row_view row ≡ cut_line_at start len line.now) }
     {
-        let Ok(spaces) = u32::try_from(words::blank_inline_len(line)) else {
+        let indent = words::blank_inline_len(line);
+        let Ok(spaces) = u32::try_from(indent) else {
             return Err(AllocError);
         };
         Ok(Row {
@@ -43,14 +49,26 @@ impl Row {
             end: start + len,
             spaces,
             begins_entry: begins_entry(line),
-            ends_pattern: words::pattern_ends(line),
+            ends_pattern: words::pattern_ends(line, indent),
+            is_plain,
         })
+    }
+
+    /// Whether one byte stands between the line and the next: its line end is a line feed alone.
+    pub(crate) fn feeds_into(&self, next: &Row) -> bool
+        ensures { result ≡ feeds_into self.now next.now }
+    {
+        next.start.saturating_sub(self.end) == 1
     }
 }
 
-/// Whether a text begins with a byte that may begin an entry.
-fn begins_entry(text: &[u8]) -> bool
+/// Whether a text begins with a byte that may begin an entry: an ASCII letter, `-` or `#`.
+pub fn begins_entry(text: &[u8]) -> bool
     ensures { result ≡ w.begins w.begins_entry text.now }
 {
-    matches!(text, [b'a'..=b'z' | b'A'..=b'Z' | b'-' | b'#', ..])
+    let Some(byte) = text.first() else {
+        return false;
+    };
+    // Without a branch, since no processor foresees the byte.
+    byte.is_ascii_alphabetic() | (*byte == b'-') | (*byte == b'#')
 }

@@ -25,8 +25,8 @@ pub fn line_table(alloc: Global, text: &[u8]) -> Result<Vec<Row>, AllocError>
     let mut start = 0;
     'lines: loop {
         let line = words::from(text, start);
-        let len = words::line_len(line);
-        let row = Row::new(line, start, len)?;
+        let (len, is_plain) = words::measure_line(line);
+        let row = Row::new(line, start, len, is_plain)?;
         rows.push(row)?;
         let line_end = words::line_end_len(words::from(line, len));
         if line_end == 0 {

@@ -10,6 +10,7 @@ pub mod LastFeeds
 pub mod OneLine
 pub mod FittingPieces
 pub mod LineStarts
+pub mod LinePieces
 pub mod GatheredPieces
 pub mod Values
 pub mod Runs

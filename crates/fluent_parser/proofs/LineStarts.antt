@@ -38,8 +38,8 @@ unfolding Behind
 column text s rest e b =
     let front = take (length text - length s) text in
     let whole : text ≡ ((front ++ b.0) ++ line_feed ∷ []) ++ rest =
-      sym (take-append-drop (length text - length s) text) ∙ ap (λ z. front ++ z) (sym e ∙ b.1)
-      ∙ sym (append_assoc front b.0 (line_feed ∷ rest)) ∙ sym (append_assoc (front ++ b.0) (line_feed ∷ []) rest) in
+    sym (take-append-drop (length text - length s) text) ∙ ap (λ z. front ++ z) (sym e ∙ b.1)
+    ∙ sym (append_assoc front b.0 (line_feed ∷ rest)) ∙ sym (append_assoc (front ++ b.0) (line_feed ∷ []) rest) in
     ap (λ (z : Text). at_column_zero z rest) whole ∙ column-snoc (front ++ b.0) line_feed rest
 
 -- ---- behind a text

@@ -25,6 +25,18 @@ cut_indent_at false s n e = cut_none s n e
 pub cut_behind_indent : (line : Bool) (s u : Text) (n k : ℕ) → n ≡ indent_at line s → u ≡ drop n s → Cuts u k → Cuts s (n + k)
 cut_behind_indent line s u n k e f c = cut_more s n k (n + k) refl (cut_indent_at line s n e) (subst (λ (z : Text). Cuts z k) f c)
 
+-- a carriage return at the front
+crlf_first : (c : ℕ) (cs : Text) → begins_crlf (c ∷ cs) ≡ true → (c == w.carriage_return) ≡ true
+crlf_first c cs h = first (c == w.carriage_return) (begins_with line_feed cs) h
+  where
+    first : (a b : Bool) → (a && b) ≡ true → a ≡ true
+    first true b h = refl
+    first false b h = absurd cc
+
+pub cut_crlf : (s : Text) → begins_crlf s ≡ true → Cuts s 1
+cut_crlf [] h = absurd cc
+cut_crlf (c ∷ cs) h = cut_begun (c ∷ cs) 13 (omega arith) (crlf_first c cs h)
+
 -- spaces at the front
 front_case : (b : Bool) (c : ℕ) (cs : Text) → (c == space) ≡ b → take (spaces cs) cs ≡ replicate (spaces cs) space → take (cond b (1 + spaces cs) 0) (c ∷ cs) ≡ replicate (cond b (1 + spaces cs) 0) space
 front_case true c cs e h =

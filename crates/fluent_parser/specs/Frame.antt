@@ -3,12 +3,17 @@ use Rattle.std.specs.Prelude.{◌≡◌, ◌≤◌, Bool, true, false, length}
 use Rattle.fluent_grammar.specs.Words.{Text}
 use Rattle.fluent_grammar.specs.Tiling.{at_column_zero}
 use Rattle.fluent_slice.specs.declared.Texts.{Ghosts}
-use Rattle.fluent_parser.specs.declared.helper.Parser.{Parser}
+use Rattle.fluent_parser.specs.declared.parser.Parser.{Parser}
 
 -- it reads the same text, from its place on or from behind it
 pub record Advances {S T : Type 0} {texts : Ghosts T S} (old new : Parser S T texts) : Type 0 where
   pub text : new.text.now ≡ old.text.now
   pub onward : length new.rest.now ≤ length old.rest.now
+
+-- it reads the same text, and stands where it stood
+pub record Stays {S T : Type 0} {texts : Ghosts T S} (old new : Parser S T texts) : Type 0 where
+  pub text : new.text.now ≡ old.text.now
+  pub rest : new.rest.now ≡ old.rest.now
 
 -- a line of the text starts at this rest of it, where it is said so
 abbrev pub StartsLine : Bool → Text → Text → Type 0

@@ -1,13 +1,13 @@
 -- The grammar's readers of what nests or repeats, cut into the steps that the parser takes.
-use Rattle.std.specs.Prelude.{◌≡◌, ℕ, Bool, true, false, ◌&&◌, ◌==◌, List, [], ◌∷◌, length, drop, Option, Some, None, map, reverse, take, ◌||◌, Ok, if◌then◌else◌}
-use Rattle.fluent_grammar.specs.Words.{Text, asterisk, begins_with, begins, begins_crlf, after_line_end, open_brace, close_brace, colon, line_feed, spaces, skip_blank, skip_blank_block}
+use Rattle.std.specs.Prelude.{◌≡◌, ℕ, Bool, true, false, ◌&&◌, ◌==◌, List, [], ◌∷◌, length, drop, Option, Some, None, map, reverse, if◌then◌else◌}
+use Rattle.fluent_grammar.specs.Words.{Text, asterisk, begins_with, begins_crlf, after_line_end, open_brace, close_brace, colon, line_feed, spaces, skip_blank, skip_blank_block}
 use Rattle.fluent_grammar.specs.Refusal.{Kind, Reading, got, refused, refuse, mapped, ◌>>=◌}
 use Rattle.fluent_grammar.specs.Refusal as r
 use Rattle.fluent_grammar.specs.Tree as t
 use Rattle.fluent_grammar.specs.Lines.{Piece, at_line_start, in_line, placed, elements_of, value_of, ends_line, pattern_ends}
 use Rattle.fluent_grammar.specs.Reading.{select_or_inline_at, pattern_at, first_pieces_at, name_of_argument, text_run}
 use Rattle.fluent_parser.specs.Reads.{whole, byte_at, key_in_brackets_at, argument_value_at}
-use Rattle.fluent_words.specs.Counted.{IsText, starts_text}
+use Rattle.fluent_lines.specs.Lookup.{is_last_feed}
 use Rattle.fluent_ast.specs.View.{Variant, Named}
 
 -- an inline expression or a select
@@ -109,17 +109,6 @@ piece_behind line indent u =
 -- The next piece, at a line start or within a line. None where the pattern ends.
 unfoldable pub piece_by : Bool → Text → Reading (Option (Piece × Bool))
 piece_by line s = if line && pattern_ends s then got None s else piece_behind line (indent_at line s) (drop (indent_at line s) s)
-
--- whether a line feed stands here, behind which the pattern ends
-abbrev pub is_last_feed : Text → Bool
-is_last_feed s = begins_with line_feed s && pattern_ends (drop 1 s)
-
--- A text that is all of a pattern: so many bytes of one line with its line feed, behind which the pattern ends.
-abbrev pub IsOneLine : Text → Option ℕ → Type 0
-IsOneLine s None = Unit {0}
-IsOneLine s (Some count) =
-    (begins starts_text s ≡ true) × IsText s (Ok count) × (ends_line (take count s) ≡ true)
-    × ((pattern_ends (drop count s) || is_last_feed (drop count s)) ≡ true)
 
 -- The same, but a last line feed is passed over, since no blank end of a pattern is kept.
 unfoldable pub kept_piece_by : Bool → Text → Reading (Option (Piece × Bool))

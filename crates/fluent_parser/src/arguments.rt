@@ -7,8 +7,8 @@ ghost use Rattle.fluent_parser.specs.Frame.{Advances};
 
 use crate::ErrorKind;
 use crate::fault::Fault;
-use crate::helper::Parser;
 use crate::named_arguments::NamedArguments;
+use crate::parser::Parser;
 use fluent_ast::{CallArguments, Identifier, InlineExpression, NamedArgument};
 use fluent_slice::Texts;
 use fluent_words as words;

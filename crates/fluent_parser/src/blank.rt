@@ -5,7 +5,7 @@ ghost use Rattle.std.specs.Prelude.{◌≡◌, ◌≤◌, not, ◌==◌, is_some
 ghost use Rattle.fluent_grammar.specs.Words as w;
 ghost use Rattle.fluent_parser.specs.Frame.{Advances};
 
-use crate::helper::Parser;
+use crate::parser::Parser;
 use fluent_slice::Texts;
 use fluent_words as words;
 

@@ -10,7 +10,7 @@ ghost use Rattle.fluent_parser.specs.Frame.{Advances};
 
 use crate::ErrorKind;
 use crate::fault::Fault;
-use crate::helper::Parser;
+use crate::parser::Parser;
 use fluent_ast::{Comment, Entry};
 use fluent_slice::Texts;
 use fluent_words as words;
@@ -101,7 +101,8 @@ impl<'p, S: Drop, T: Texts<S>> Parser<'p, S, T> {
             return Err(Fault::Refused(ErrorKind::ExpectedToken(' ')));
         }
         self.take_byte_if(b' ');
-        let line = self.take(words::line_len(self.bytes()))?;
+        let count = self.line_len();
+        let line = self.take(count)?;
         self.skip_eol();
         Ok(Some(line))
     }

@@ -8,7 +8,7 @@ ghost use Rattle.fluent_parser.specs.Frame.{Advances};
 
 use crate::ErrorKind;
 use crate::fault::Fault;
-use crate::helper::Parser;
+use crate::parser::Parser;
 use fluent_ast::{Attribute, Entry, Identifier, Message, Pattern, Term};
 use fluent_elements::push_tight;
 use fluent_slice::Texts;

@@ -7,7 +7,7 @@ ghost use Rattle.fluent_parser.specs.Frame.{Advances};
 
 use crate::ErrorKind;
 use crate::fault::Fault;
-use crate::helper::Parser;
+use crate::parser::Parser;
 use fluent_slice::Texts;
 
 impl<'p, S: Drop, T: Texts<S>> Parser<'p, S, T> {

@@ -8,7 +8,7 @@ ghost use Rattle.fluent_parser.specs.Frame.{Advances};
 
 use crate::ErrorKind;
 use crate::fault::Fault;
-use crate::helper::Parser;
+use crate::parser::Parser;
 use fluent_ast::{Expression, Identifier, InlineExpression, Variant};
 use fluent_slice::Texts;
 use fluent_words as words;

@@ -1,17 +1,18 @@
 //! One part of a source: an entry, or junk with its error.
 #![tactic(auto, using(crate::proofs::Failing::handed, fluent_words::proofs::Counted::cuts))]
 
-ghost use Rattle.std.specs.Prelude.{◌≡◌, ◌<◌, ◌≤◌, ◌-◌, ◌^◌, IfOk, length};
-ghost use Rattle.fluent_grammar.specs.Tiling.{behind_junk};
+ghost use Rattle.std.specs.Prelude.{◌≡◌, ◌<◌, ◌≤◌, ◌-◌, ◌^◌, IfOk, drop, length};
+ghost use Rattle.fluent_words.specs.Counted.{Cuts};
+ghost use Rattle.fluent_grammar.specs.Tiling.{behind_junk, resume};
 ghost use Rattle.fluent_parser.specs.ErrorView.{error_view, kind_view};
 ghost use Rattle.fluent_parser.specs.Places.{error_by};
-ghost use Rattle.fluent_parser.specs.Frame.{Advances};
+ghost use Rattle.fluent_parser.specs.Frame.{Advances, Stays};
 
 use crate::collected::Collected;
 use crate::fault::Fault;
-use crate::helper::Parser;
-use crate::recovery::entry_start;
+use crate::parser::Parser;
 use crate::{ErrorKind, ParserError};
+use fluent_lines::begins_entry;
 use fluent_slice::Texts;
 use std::alloc::AllocError;
 
@@ -70,7 +71,23 @@ impl<'p, S: Drop, T: Texts<S>> Parser<'p, S, T> {
         let rest = self.bytes();
         let read = start.len() - rest.len();
         let at_column_zero = read == 0 || start.as_bytes()[read - 1] == b'\n';
-        self.advance(entry_start(rest, at_column_zero));
+        let count = self.entry_start(at_column_zero);
+        self.advance(count);
+    }
+
+    /// How many bytes stand before the next place at column 0 that may begin an entry: all, where there is none. The parser
+    /// stands at column 0 or not.
+    #[tactic(auto, using(crate::proofs::EntryStarts::resume_here, crate::proofs::EntryStarts::resume_later, fluent_words::proofs::Counted::cuts))]
+    fn entry_start(&mut self, at_column_zero: bool) -> usize
+        ensures value { drop result self.old.rest.now ≡ resume at_column_zero self.old.rest.now }
+        ensures cuts { Cuts self.old.rest.now result }
+        ensures stays { Stays self.old self.new }
+    {
+        if at_column_zero && begins_entry(self.bytes()) {
+            0
+        } else {
+            self.next_entry()
+        }
     }
 }
 

@@ -3,38 +3,18 @@
 
 ghost use Rattle.std.specs.Prelude.{◌≡◌, ◌≤◌, ◌<◌, ◌||◌, IfOk, IfSome, Some, true, false, length, drop, map, option_map};
 ghost use Rattle.fluent_grammar.specs.Words as w;
-ghost use Rattle.fluent_grammar.specs.Lines.{pattern_ends, indent_of};
-ghost use Rattle.fluent_parser.specs.Steps.{is_last_feed, text_piece, IsOneLine};
+ghost use Rattle.fluent_grammar.specs.Lines.{indent_of};
+ghost use Rattle.fluent_parser.specs.Steps.{text_piece};
+ghost use Rattle.fluent_lines.specs.Lookup.{IsOneLine};
 ghost use Rattle.fluent_parser.specs.Frame.{Advances, StartsLine};
 
 use crate::ErrorKind;
 use crate::fault::Fault;
-use crate::helper::Parser;
+use crate::parser::Parser;
 use fluent_ast::{Pattern, PatternElement};
 use fluent_elements::{Gathered, is_blank_text};
 use fluent_slice::Texts;
 use fluent_words as words;
-
-/// The length of a text that is all of a pattern: of one line, with its line feed.
-fn one_line_len(text: &[u8]) -> Option<usize>
-    ensures { IsOneLine text.now result }
-{
-    if !words::begins_text(text) {
-        return None;
-    }
-    let count = words::text_len(text).ok()?;
-    let behind = words::from(text, count);
-    let is_whole = words::ends_line(words::front(text, count))
-        && (words::pattern_ends(behind) || is_last_feed(behind));
-    is_whole.then_some(count)
-}
-
-/// Whether a line feed stands here, behind which the pattern ends.
-fn is_last_feed(text: &[u8]) -> bool
-    ensures { result ≡ is_last_feed text.now }
-{
-    words::begins_with(text, b'\n') && words::pattern_ends(words::from(text, 1))
-}
 
 /// What a text says of the common indent, behind so many spaces at a line start or within a line: nothing where it is blank.
 fn said_by(at_line_start: bool, indent: usize, text: &[u8]) -> Option<usize>
@@ -61,7 +41,7 @@ impl<'p, S: Drop, T: Texts<S>> Parser<'p, S, T> {
         ensures advances { Advances self.old self.new }
     {
         self.skip_blank_inline();
-        if let Some(count) = one_line_len(self.bytes()) {
+        if let Some(count) = self.one_line_len() {
             return self.get_one_line(count);
         }
         self.get_lines()
@@ -114,7 +94,6 @@ impl<'p, S: Drop, T: Texts<S>> Parser<'p, S, T> {
     /// Reads the next piece of a pattern, puts it behind those that were gathered, and says whether it ends its line. None where the
     /// pattern ends. A blank line behind most patterns would be a piece of its own, which is dropped again: its line feed is passed over.
     #[cycle(parser)]
-    #[tactic(auto, using(crate::proofs::Failing::handed, fluent_words::proofs::Counted::cuts), unfolding(crate::specs::Steps::piece_by, crate::specs::Steps::kept_piece_by))]
     fn get_piece(
         &mut self,
         at_line_start: bool,
@@ -127,19 +106,18 @@ impl<'p, S: Drop, T: Texts<S>> Parser<'p, S, T> {
             (λ ends. length self.new.rest.now < length self.old.rest.now)) }
         ensures advances { Advances self.old self.new }
     {
-        if at_line_start && is_last_feed(self.bytes()) {
+        if !at_line_start {
+            return self.get_piece_behind(false, 0, gathered);
+        }
+        if self.is_last_feed() {
             self.advance(1);
             return Ok(None);
         }
-        if at_line_start && words::pattern_ends(self.bytes()) {
+        let row = self.row();
+        if row.ends_pattern {
             return Ok(None);
         }
-        let indent = if at_line_start {
-            words::blank_inline_len(self.bytes())
-        } else {
-            0
-        };
-        self.get_piece_behind(at_line_start, indent, gathered)
+        self.get_piece_behind(true, row.spaces as usize, gathered)
     }
 
     /// The same for a piece behind so many spaces. Productions `inline_text`, `block_text`, `inline_placeable` and
@@ -195,7 +173,7 @@ impl<'p, S: Drop, T: Texts<S>> Parser<'p, S, T> {
         ensures advances { Advances self.old self.new }
     {
         let behind = words::from(self.bytes(), indent);
-        match words::text_len(behind) {
+        match self.text_len(indent) {
             Ok(count) => {
                 let text = words::front(behind, count);
                 let said = said_by(at_line_start, indent, text);

@@ -9,9 +9,9 @@ ghost use Rattle.fluent_parser.specs.ErrorView.{error_told};
 ghost use Rattle.fluent_parser.specs.Frame.{Advances};
 
 use crate::collected::Collected;
-use crate::helper::Parser;
+use crate::parser::Parser;
+use fluent_lines::line_table;
 use fluent_slice::Texts;
-use fluent_words as words;
 use std::alloc::{AllocError, Global};
 
 /// The parts of a source, with their comments.
@@ -25,7 +25,8 @@ pub fn parts_of<S: Drop, T: Texts<S>>(
     ensures errors { IfOk result (λ all. errors_with S all []
         ≡ map error_told (errors (T.text source.now))) }
 {
-    let mut parser = Parser::new(alloc, texts, source);
+    let rows = line_table(alloc, texts.as_str(source).as_bytes())?;
+    let mut parser = Parser::new(alloc, texts, source, &rows);
     parser.get_parts()
 }
 
@@ -40,7 +41,8 @@ pub fn runtime_parts_of<S: Drop, T: Texts<S>>(
     ensures errors { IfOk result (λ all. errors_with S all []
         ≡ map error_told (runtime_errors (T.text source.now))) }
 {
-    let mut parser = Parser::new(alloc, texts, source);
+    let rows = line_table(alloc, texts.as_str(source).as_bytes())?;
+    let mut parser = Parser::new(alloc, texts, source, &rows);
     parser.get_runtime_parts()
 }
 
@@ -96,7 +98,8 @@ impl<'p, S: Drop, T: Texts<S>> Parser<'p, S, T> {
         ensures rest { self.new.rest.now ≡ (w.rest_of_line self.old.rest.now).1 }
         ensures advances { Advances self.old self.new }
     {
-        self.advance(words::line_len(self.bytes()));
+        let count = self.line_len();
+        self.advance(count);
         self.skip_eol();
     }
 }

@@ -11,7 +11,7 @@ ghost use Rattle.fluent_parser.specs.Frame.{Advances};
 
 use crate::ErrorKind;
 use crate::fault::Fault;
-use crate::helper::{Parser, behind};
+use crate::parser::{Parser, behind};
 use fluent_ast::Identifier;
 use fluent_slice::Texts;
 use fluent_words as words;

@@ -4,3 +4,4 @@ pub mod StringContent
 pub mod Chars
 pub mod Masked
 pub mod Rows
+pub mod Measured

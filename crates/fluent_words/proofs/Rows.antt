@@ -6,7 +6,7 @@ use Rattle.fluent_grammar.specs.Refusal.{got, refuse}
 use Rattle.fluent_grammar.specs.Refusal as r
 use Rattle.fluent_grammar.specs.Lines.{ends_line, pattern_ends}
 use Rattle.fluent_grammar.specs.Reading.{number_at, digits_at, fraction_at, text_run, string_content, missing_hex}
-use Rattle.fluent_words.specs.Counted.{begins_value, begins_literal, starts_text, char_len, is_comment_line}
+use Rattle.fluent_words.specs.Counted.{begins_value, begins_literal, starts_text, char_len, is_comment_line, is_plain}
 
 -- ---- first bytes
 
@@ -143,6 +143,15 @@ feed_before = refl
 
 no_line : ends_line [] ≡ false
 no_line = refl
+
+plain : is_plain (codes "a b") ≡ true
+plain = refl
+
+opened : is_plain (codes "a {") ≡ false
+opened = refl
+
+closed : is_plain (codes "} a") ≡ false
+closed = refl
 
 -- ---- texts of patterns
 

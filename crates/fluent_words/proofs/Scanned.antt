@@ -177,7 +177,7 @@ test_eq a b h = grind (arith, nat_tests)
 pub test_ne : (a b : ℕ) → a ≢ b → (a == b) ≡ false
 test_ne a b h = grind (arith, nat_tests)
 
-and_false : (p q : Bool) → q ≡ false → (p && q) ≡ false
+pub and_false : (p q : Bool) → q ≡ false → (p && q) ≡ false
 and_false true q h = h
 and_false false q h = refl
 
@@ -259,7 +259,7 @@ pub record Plain (text : Text) (k : ℕ) : Type 0 where
   pub close : (j : ℕ) → j < k → get_or text j 0 ≢ 125
   pub line : (j : ℕ) → j < k → get_or text j 0 ≢ 10
 
-plain_tail : (c : ℕ) (cs : Text) (k : ℕ) → Plain (c ∷ cs) (suc k) → Plain cs k
+pub plain_tail : (c : ℕ) (cs : Text) (k : ℕ) → Plain (c ∷ cs) (suc k) → Plain cs k
 plain_tail c cs k p = record { brace = λ j h. p.brace (suc j) (omega arith); close = λ j h. p.close (suc j) (omega arith); line = λ j h. p.line (suc j) (omega arith) }
 
 -- a plain byte before a byte that isn't a line feed

@@ -1,8 +1,8 @@
 -- What the counts of bytes say that the words of the grammar have.
 use Rattle.std.specs.Prelude.{◌≡◌, ℕ, suc, ◌+◌, ◌-◌, ◌<◌, ◌≤◌, Bool, true, false, not, ◌&&◌, ◌||◌, ◌==◌, nat_lt, [], ◌∷◌, length, take, drop, slice_index, Some, None, is_some, Result, Ok, Err, unwrap_or, if◌then◌else◌}
 use Rattle.std.specs.Str.{IsUtf8, IsCharBoundary, continuation_len}
-use Rattle.std.specs.List.{prefix_len}
-use Rattle.fluent_grammar.specs.Words.{Text, begins, is_digit, is_letter, hyphen, space, line_feed, carriage_return, quote, backslash, number_sign, open_brace, begins_with, after_line_end, is_hex_digit, rest_of_line}
+use Rattle.std.specs.List.{prefix_len, list_all}
+use Rattle.fluent_grammar.specs.Words.{Text, begins, is_digit, is_letter, hyphen, space, line_feed, carriage_return, quote, backslash, number_sign, open_brace, close_brace, begins_with, after_line_end, is_hex_digit, rest_of_line}
 use Rattle.fluent_grammar.specs.Refusal.{Reading, got, refuse}
 use Rattle.fluent_grammar.specs.Refusal as r
 use Rattle.fluent_grammar.specs.Reading.{number_at, text_run, string_content, before, missing_hex, first_char}
@@ -45,6 +45,17 @@ line_feed_end text end = if nat_lt 0 end && slice_index text (end - 1) == carria
 -- a line without its line end
 abbrev pub IsLine : Text → ℕ → Type 0
 IsLine text count = rest_of_line text ≡ (take count text, unwrap_or (after_line_end (drop count text)) [])
+
+-- the end of the line whose line feed is here
+abbrev pub before_feed : Text → ℕ → ℕ
+before_feed text end = if nat_lt 0 end && slice_index text (end - 1) == carriage_return then end - 1 else end
+
+-- no brace stands in a text
+abbrev pub is_no_brace : ℕ → Bool
+is_no_brace c = not (c == open_brace || c == close_brace)
+
+abbrev pub is_plain : Text → Bool
+is_plain text = list_all is_no_brace text
 
 -- how many bytes the character at the front has
 abbrev pub char_len : Text → ℕ

@@ -20,7 +20,7 @@ pub use first_bytes::{
     begins_with, begins_with_letter, char_len,
 };
 pub use identifiers::identifier_len;
-pub use lines::{ends_line, line_end_len, line_len};
+pub use lines::{ends_line, line_end_len, line_len, measure_line};
 pub use numbers::number_len;
 pub use patterns::{pattern_ends, text_len};
 pub use strings::{StringEnd, string_end};

@@ -1,10 +1,11 @@
 //! Lines and their ends.
 #![tactic(auto, using(crate::proofs::Counted::cuts))]
 
-ghost use Rattle.std.specs.Prelude.{◌≡◌};
+ghost use Rattle.std.specs.Prelude.{◌≡◌, ◌<◌, length, take};
 ghost use Rattle.fluent_grammar.specs.Lines.{ends_line};
-ghost use Rattle.fluent_words.specs.Counted.{Cuts, IsLineEnd, IsLine};
+ghost use Rattle.fluent_words.specs.Counted.{Cuts, IsLineEnd, IsLine, before_feed, is_plain};
 
+use crate::patterns::stop;
 use memchr::memchr;
 
 /// How many bytes the line end at the front has, or 0: LF, or CR LF. Production `line_end`.
@@ -27,6 +28,30 @@ pub fn line_len(text: &[u8]) -> usize
     let Some(end) = memchr(b'\n', text) else {
         return text.len();
     };
+    before_feed(text, end)
+}
+
+/// How many bytes the line at the front has without its line end, and whether it is plain: no brace stands in it.
+pub fn measure_line(text: &[u8]) -> (usize, bool)
+    ensures value { IsLine text.now result.0 }
+    ensures cuts { Cuts text.now result.0 }
+    ensures plain { result.1 ≡ is_plain (take result.0 text.now) }
+{
+    let Some(end) = stop(text) else {
+        return (text.len(), true);
+    };
+    if text[end] == b'\n' {
+        (before_feed(text, end), true)
+    } else {
+        (line_len(text), false)
+    }
+}
+
+/// The end of the line whose line feed is here.
+fn before_feed(text: &[u8], end: usize) -> usize
+    requires { end < length text.now }
+    ensures { result ≡ before_feed text.now end }
+{
     if end > 0 && text[end - 1] == b'\r' {
         end - 1
     } else {

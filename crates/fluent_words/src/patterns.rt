@@ -2,13 +2,14 @@
 #![tactic(auto, using(crate::proofs::Counted::cuts))]
 
 ghost use Rattle.std.specs.Prelude.{◌≡◌, ◌<◌, length};
+ghost use Rattle.fluent_grammar.specs.Words as w;
 ghost use Rattle.fluent_grammar.specs.Lines.{pattern_ends};
 ghost use Rattle.fluent_words.specs.Bytes.{is_stop};
 ghost use Rattle.fluent_words.specs.Counted.{IsText, line_feed_end};
 ghost use Rattle.memchr.specs.Find.{IsFirstByte};
 
+use crate::from;
 use crate::lanes::{LANES, stops};
-use crate::{blank_inline_len, from};
 use memchr::memchr3;
 use std::simd::prelude::*;
 
@@ -33,7 +34,8 @@ pub fn text_len(text: &[u8]) -> Result<usize, usize>
 }
 
 /// The offset of the first brace or line feed.
-fn stop(text: &[u8]) -> Option<usize>
+#[inline(always)]
+pub(crate) fn stop(text: &[u8]) -> Option<usize>
     ensures { IsFirstByte is_stop text.now result }
 {
     let mut end = 0;
@@ -60,15 +62,18 @@ fn line_feed_end(text: &[u8], end: usize) -> usize
     }
 }
 
-/// Whether a pattern ends at the line start here.
-pub fn pattern_ends(text: &[u8]) -> bool
+/// Whether a pattern ends at the line start here, behind which so many spaces stand.
+pub fn pattern_ends(text: &[u8], indent: usize) -> bool
+    requires { indent ≡ w.spaces text.now }
     ensures { result ≡ pattern_ends text.now }
 {
-    let indent = blank_inline_len(text);
-    let behind = from(text, indent);
+    let Some(byte) = from(text, indent).first() else {
+        return indent == 0;
+    };
+    // Which byte it is, is told without a branch: it is another in each line, and no processor foresees it.
     if indent == 0 {
-        !matches!(behind, [b'{' | b'\r' | b'\n', ..])
+        !((*byte == b'{') | (*byte == b'\r') | (*byte == b'\n'))
     } else {
-        matches!(behind, [b'}' | b'.' | b'[' | b'*', ..])
+        (*byte == b'}') | (*byte == b'.') | (*byte == b'[') | (*byte == b'*')
     }
 }

@@ -1,5 +1,0 @@
-use Rattle.fluent_words.proofs.Counted.{cut_hex}
-use Rattle.fluent_parser.proofs.helper.Parser.missing_digit.Goals as goal
-
-pub with_next_char-requires : goal.with_next_char-requires
-with_next_char-requires g c = rw c.rest.ensures (cut_hex c.args.self.now.rest.now c.args.digits c.requires)

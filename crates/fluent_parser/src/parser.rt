@@ -1,0 +1,201 @@
+//! The parser's place in its source.
+#![tactic(auto, using(fluent_words::proofs::Counted::cuts))]
+
+ghost use Rattle.std.specs.Prelude.{◌≡◌, ◌-◌, ◌<◌, ◌≤◌, if◌then◌else◌, length, drop, map, take, true, false, IfOk};
+ghost use Rattle.std.specs.Str.{IsUtf8};
+ghost use Rattle.fluent_words.specs.Counted.{Cuts, IsLine, IsText};
+ghost use Rattle.fluent_lines.specs.Lookup.{IsOneLine, is_last_feed};
+ghost use Rattle.fluent_grammar.specs.Lines.{pattern_ends};
+ghost use Rattle.fluent_lines.specs.Table as table;
+ghost use Rattle.fluent_grammar.specs.Words as w;
+ghost use Rattle.fluent_grammar.specs.Tiling.{resume};
+
+use fluent_lines::{Lines, Row};
+use fluent_slice::Texts;
+use fluent_words as words;
+use std::alloc::{AllocError, Global};
+
+/// A parser of a source, which stands before `rest`.
+#[derive(Drop)]
+pub struct Parser<'p, S, T: Texts<S>> {
+    pub texts: &'p T,
+    /// What texts are sliced from.
+    source: &'p S,
+    /// The text of the source.
+    text: &'p str,
+    /// What is left to read.
+    rest: &'p str,
+    /// The lines of the text.
+    lines: Lines<'p>,
+    pub alloc: Global,
+    ghost tied: { T.text source.now ≡ text.now },
+    ghost is_tail: { rest.now ≡ drop (length text.now - length rest.now) text.now },
+    ghost lined: { lines.text.now ≡ text.now },
+}
+
+/// A text behind so many bytes.
+pub fn behind<'a>(text: &'a str, count: usize) -> &'a str
+    requires { Cuts text.now count }
+    ensures { result.now ≡ drop count text.now }
+{
+    &text[count..]
+}
+
+impl<'p, S: Drop, T: Texts<S>> Parser<'p, S, T> {
+    ghost use Rattle.fluent_parser.specs.Frame.{Advances, StartsLine, Stays};
+
+    /// A parser before a whole source, whose text has these lines.
+    pub fn new(alloc: Global, texts: &'p T, source: &'p S, rows: &'p [Row]) -> Self
+        requires { map table.row_view rows.now ≡ table.lines (T.text source.now) }
+        ensures rest { result.rest.now ≡ T.text source.entry.now }
+        ensures text { result.text.now ≡ T.text source.entry.now }
+    {
+        let text = texts.as_str(source);
+        Parser {
+            texts,
+            source,
+            text,
+            rest: text,
+            lines: Lines::new(text.as_bytes(), rows),
+            alloc,
+        }
+    }
+
+    /// What is left to read.
+    pub fn bytes(&self) -> &'p [u8]
+        ensures value { result.now ≡ self.now.rest.now }
+        ensures utf8 { IsUtf8 result.now }
+    {
+        self.rest.as_bytes()
+    }
+
+    /// What is left to read, to come back to by `set_rest`.
+    pub fn rest(&self) -> &'p str
+        ensures { result.now ≡ self.now.rest.now }
+    {
+        self.rest
+    }
+
+    /// Goes back to what was left to read before.
+    pub fn set_rest(&mut self, rest: &'p str)
+        requires { rest.now ≡ drop (length self.old.text.now - length rest.now) self.old.text.now }
+        ensures rest { self.new.rest.now ≡ rest.now }
+        ensures text { self.new.text.now ≡ self.old.text.now }
+    {
+        self.rest = rest;
+    }
+
+    /// The offset in the source.
+    pub fn place(&self) -> usize
+        ensures value { result ≡ length self.now.text.now - length self.now.rest.now }
+        ensures within { length self.now.rest.now ≤ length self.now.text.now }
+    {
+        self.text.len() - self.rest.len()
+    }
+
+    /// How many bytes are left of the line, without its line end.
+    pub fn line_len(&mut self) -> usize
+        ensures value { IsLine self.old.rest.now result }
+        ensures cuts { Cuts self.old.rest.now result }
+        ensures stays { Stays self.old self.new }
+    {
+        let place = self.place();
+        self.lines.line_len(place)
+    }
+
+    /// How many bytes stand before the next line behind this one that may begin an entry: all, where there is none.
+    pub fn next_entry(&mut self) -> usize
+        ensures value { drop result self.old.rest.now ≡ resume false self.old.rest.now }
+        ensures cuts { Cuts self.old.rest.now result }
+        ensures stays { Stays self.old self.new }
+    {
+        let place = self.place();
+        self.lines.entry_start(place)
+    }
+
+    /// The text of a pattern that stands behind so many bytes: see `text_len` of `fluent_lines`.
+    pub fn text_len(&mut self, indent: usize) -> Result<usize, usize>
+        requires { indent ≤ length self.old.rest.now }
+        ensures value { IsText (drop indent self.old.rest.now) result }
+        ensures stays { Stays self.old self.new }
+    {
+        let place = self.place() + indent;
+        self.lines.text_len(place)
+    }
+
+    /// The length of a text that is all of a pattern: of one line, with its line feed.
+    pub fn one_line_len(&mut self) -> Option<usize>
+        ensures value { IsOneLine self.old.rest.now result }
+        ensures stays { Stays self.old self.new }
+    {
+        let place = self.place();
+        self.lines.one_line_len(place)
+    }
+
+    /// Whether a line feed stands here, behind which a pattern ends.
+    pub fn is_last_feed(&mut self) -> bool
+        ensures value { result ≡ is_last_feed self.old.rest.now }
+        ensures stays { Stays self.old self.new }
+    {
+        let place = self.place();
+        self.lines.is_last_feed(place)
+    }
+
+    /// The row of the line that starts here.
+    pub fn row(&mut self) -> Row
+        requires { StartsLine true self.old.text.now self.old.rest.now }
+        ensures spaces { result.spaces ≡ w.spaces self.old.rest.now }
+        ensures ends_pattern { result.ends_pattern ≡ pattern_ends self.old.rest.now }
+        ensures stays { Stays self.old self.new }
+    {
+        let place = self.place();
+        self.lines.line_at(place)
+    }
+
+    /// Passes over so many bytes, behind which a character begins.
+    pub fn advance(&mut self, count: usize)
+        requires { Cuts self.old.rest.now count }
+        ensures rest { self.new.rest.now ≡ drop count self.old.rest.now }
+        ensures advances { Advances self.old self.new }
+    {
+        self.rest = behind(self.rest, count);
+    }
+
+    /// The text of so many bytes at the place, passed over.
+    pub fn take(&mut self, count: usize) -> Result<S, AllocError>
+        requires { Cuts self.old.rest.now count }
+        ensures value { IfOk result (λ part. T.text part ≡ take count self.old.rest.now) }
+        ensures rest { self.new.rest.now ≡ drop count self.old.rest.now }
+        ensures advances { Advances self.old self.new }
+    {
+        let rest = self.bytes();
+        let start = self.text.len() - rest.len();
+        let part = self
+            .texts
+            .slice(self.source, self.alloc, start..start + count);
+        self.advance(count);
+        part
+    }
+
+    /// Whether the next byte is this one.
+    pub fn is_current_byte(&self, byte: u8) -> bool
+        ensures { result ≡ w.begins_with byte self.now.rest.now }
+    {
+        words::begins_with(self.bytes(), byte)
+    }
+
+    /// Passes over a byte, if it is the next one.
+    pub fn take_byte_if(&mut self, byte: u8) -> bool
+        requires { byte < 128 }
+        ensures value { result ≡ w.begins_with byte self.old.rest.now }
+        ensures rest { self.new.rest.now ≡ (if w.begins_with byte self.old.rest.now then drop 1
+            self.old.rest.now else self.old.rest.now) }
+        ensures advances { Advances self.old self.new }
+    {
+        let found = self.is_current_byte(byte);
+        if found {
+            self.advance(1);
+        }
+        found
+    }
+}
