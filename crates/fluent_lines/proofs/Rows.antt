@@ -59,29 +59,29 @@ closing_brace = refl
 -- ---- patterns of one line
 
 -- a row of a plain line that begins no entry
-abbrev row : ℕ → ℕ → Bool → Row
-row start end ends_pattern = record { start = start; end = end; spaces = 0; begins_entry = false; ends_pattern = ends_pattern; is_plain = true }
+abbrev plain_row : ℕ → ℕ → Bool → Row
+plain_row start end ends_pattern = record { start = start; end = end; spaces = 0; begins_entry = false; ends_pattern = ends_pattern; is_plain = true }
 
 -- a, LF, b
-ended : is_last_line (row 0 1 true) (row 2 3 true ∷ []) ≡ true
+ended : is_last_line (plain_row 0 1 true) (plain_row 2 3 true ∷ []) ≡ true
 ended = refl
 
 -- a, LF, two spaces, b
-goes_on : is_last_line (row 0 1 true) (row 2 5 false ∷ []) ≡ false
+goes_on : is_last_line (plain_row 0 1 true) (plain_row 2 5 false ∷ []) ≡ false
 goes_on = refl
 
 -- a
-end_of_text : is_last_line (row 0 1 true) [] ≡ false
+end_of_text : is_last_line (plain_row 0 1 true) [] ≡ false
 end_of_text = refl
 
 -- a, LF, LF, b
-blank_behind : is_last_line (row 0 1 true) (row 2 2 false ∷ row 3 4 true ∷ []) ≡ true
+blank_behind : is_last_line (plain_row 0 1 true) (plain_row 2 2 false ∷ plain_row 3 4 true ∷ []) ≡ true
 blank_behind = refl
 
 -- a, CR, LF, b
-crlf_behind : is_last_line (row 0 1 true) (row 3 4 true ∷ []) ≡ false
+crlf_behind : is_last_line (plain_row 0 1 true) (plain_row 3 4 true ∷ []) ≡ false
 crlf_behind = refl
 
 -- a, LF, CR, LF, b
-blank_crlf_behind : is_last_line (row 0 1 true) (row 2 2 false ∷ row 4 5 true ∷ []) ≡ false
+blank_crlf_behind : is_last_line (plain_row 0 1 true) (plain_row 2 2 false ∷ plain_row 4 5 true ∷ []) ≡ false
 blank_crlf_behind = refl
