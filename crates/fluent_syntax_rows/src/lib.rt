@@ -1,8 +1,5 @@
-//! Trees and values made by hand: what `fluent_json` gives for them, odd ones among them, and what `fluent_syntax` gives where
-//! memory or a piece is refused.
+//! Trees and values made by hand: what `fluent_json` gives for them, odd ones among them.
 #![tactic(auto)]
 
 #[cfg(test)]
 mod json_values;
-#[cfg(test)]
-mod refused;

@@ -1,12 +1,8 @@
-//! Values: where they come from, what they equal and match, and what they are shown as.
+//! Values: what they equal and match, their copies, and what they are shown as.
 
-mod args;
-mod builtins;
-mod conversions;
 mod copies;
 mod equality;
 mod matching;
-mod numbers;
 mod scope;
 mod showing;
 
