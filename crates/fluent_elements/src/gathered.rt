@@ -53,7 +53,7 @@ impl<S: Drop> Gathered<S> {
         ensures common_indent { self.new.common_indent ≡ lesser self.old.common_indent indent }
     {
         self.common_indent = lesser(self.common_indent, indent);
-        push_tight(&mut self.elements, element)
+        push_tight(&mut self.elements, element, 3)
     }
 
     /// The pattern that the elements give, or none where nothing but blank was read.

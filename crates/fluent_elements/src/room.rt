@@ -5,16 +5,16 @@ ghost use Rattle.std.specs.Prelude.{◌≡◌, ◌++◌, ◌∷◌, [], IfOk};
 
 use std::alloc::AllocError;
 
-/// Puts an item behind the others of a list. The first one gets room for itself alone, since many lists stay at one.
+/// Puts an item behind the others of a list. The first one gets room for so many, since most lists stay short.
 ///
 /// # Errors
 ///
 /// Where memory runs out the item is dropped.
-pub fn push_tight<T: Drop>(list: &mut Vec<T>, item: T) -> Result<(), AllocError>
+pub fn push_tight<T: Drop>(list: &mut Vec<T>, item: T, room: usize) -> Result<(), AllocError>
     ensures { IfOk result (λ u. list.new.items ≡ list.old.items ++ item ∷ []) }
 {
     if list.is_empty() {
-        list.reserve_exact(1)?;
+        list.reserve_exact(room)?;
     }
     list.push(item)?;
     Ok(())

@@ -168,3 +168,10 @@ feed_told (c ∷ cs) place row [] n h = none (c == line_feed) refl
     none true e = let more : later_lines place (c ∷ cs) ≡ line_at (suc place) cs ∷ later_lines (suc place) cs = rw e refl in let k : [] ≡ line_at (suc place) cs ∷ later_lines (suc place) cs = h ∙ more in absurd cc
     none false e = rw e refl
 feed_told (c ∷ cs) place row (next ∷ rows) n h = feed_by (c == line_feed) (c == carriage_return && begins_with line_feed cs) place c cs row next rows refl refl n h
+
+-- one test for three
+pub all_three : (a b c : Bool) → ((a && b) && c) ≡ true → (a ≡ true) × (b ≡ true) × (c ≡ true)
+all_three true true true h = (refl, refl, refl)
+all_three true true false h = absurd cc
+all_three true false c h = absurd cc
+all_three false b c h = absurd cc

@@ -126,7 +126,7 @@ impl<'p, S: Drop, T: Texts<S>> Parser<'p, S, T> {
     {
         let mut attributes = Vec::new(self.alloc);
         while let Some(attribute) = self.next_attribute()? {
-            push_tight(&mut attributes, attribute)?;
+            push_tight(&mut attributes, attribute, 2)?;
         }
         Ok(attributes)
     }

@@ -5,13 +5,13 @@ use Rattle.std.proofs.lemmas.Simd.{mask_l-mod, chunk-drop, length-chunk, leading
 use Rattle.std.proofs.lemmas.List.{length-map, length-drop, get_or-drop}
 use Rattle.std.proofs.lemmas.List.Folds.{prefix_len-append}
 use Rattle.std.proofs.lemmas.List.Sums.{prefix_len-le-length}
-use Rattle.std.specs.Prelude.{Option, None, Some}
+use Rattle.std.specs.Prelude.{Option, None, Some, ◌==◌}
 use Rattle.std.specs.List.{prefix_len}
 use lib.Count.{count_trailing_zeros}
 use lib.Lanes.{Each1, chunk, mask_l, top}
 use Rattle.fluent_grammar.specs.Words as w
 use Rattle.memchr.specs.Find.{Nowhere, Passes, IsFirstByte}
-use Rattle.fluent_words.specs.Bytes.{is_no_name_byte, is_stop}
+use Rattle.fluent_words.specs.Bytes.{is_no_name_byte, is_no_space, is_stop}
 
 each_byte : (f : ℕ → ℕ) (p : ℕ → Bool) → agree_below (λ x. top 7 (f x)) p 256 ≡ true → (v : List ℕ) → Each1 (Fits w8) v → map (top 7) (map f v) ≡ map p v
 each_byte f p all [] fits = refl
@@ -64,36 +64,92 @@ pub names_stop : (d : List ℕ) (i n m : ℕ) → m ≡ mask_l (map is_no_name_b
 names_stop d i n m e room short some =
     run_stops is_no_name_byte w.is_name_byte (λ x. not-not (w.is_name_byte x)) d i n room short (omega arith) ∙ ap (count_trailing_zeros 64) (sym e)
 
--- no stop in these bytes, and none before them
-pub stops_none : (d : List ℕ) (i n m : ℕ) → m ≡ mask_l (map is_stop (chunk i n d)) → i + n ≤ length d → m ≡ 0 → Nowhere (Passes is_stop d) 0 i → Nowhere (Passes is_stop d) 0 (i + n)
-stops_none d i n m e room none before k low high p =
-    elim (cases_lt k i) [
-      | inl early ↦ before k low early p
-      | inr late ↦ absurd (false≢true (sym (none_from_empty_mask is_stop d i n 0 room (sym e ∙ none) k (omega arith) high) ∙ p))
-    ]
+-- and spaces those that are no other byte
+pub spaces_through : (d : List ℕ) (i n : ℕ) → i + n ≤ length d → mask_l (map is_no_space (chunk i n d)) ≡ 0 → w.spaces (drop i d) ≡ n + w.spaces (drop (i + n) d)
+spaces_through = run_through is_no_space (λ c. c == w.space) (λ x. not-not (x == w.space))
 
--- the first stop in these bytes, with none before them
+pub spaces_stop : (d : List ℕ) (i n m : ℕ) → m ≡ mask_l (map is_no_space (chunk i n d)) → i + n ≤ length d → n ≤ 64 → m ≢ 0 → w.spaces (drop i d) ≡ count_trailing_zeros 64 m
+spaces_stop d i n m e room short some =
+    run_stops is_no_space (λ c. c == w.space) (λ x. not-not (x == w.space)) d i n room short (omega arith) ∙ ap (count_trailing_zeros 64) (sym e)
+
+-- a mask of 64 bits that is empty has 64 zeros
+no_bit : count_trailing_zeros 64 0 ≡ 64
+unfolding count_trailing_zeros
+no_bit = refl
+
+-- the bytes that pass p, by the mask of n of them from the i-th on
+module _ (p : ℕ → Bool) (d : List ℕ) (i n m : ℕ) (e : m ≡ mask_l (map p (chunk i n d))) (room : i + n ≤ length d) where
+  -- none in these bytes, and none before them
+  pub none_passes : m ≡ 0 → Nowhere (Passes p d) 0 i → Nowhere (Passes p d) 0 (i + n)
+  none_passes none before k low high x =
+      elim (cases_lt k i) [
+        | inl early ↦ before k low early x
+        | inr late ↦ absurd (false≢true (sym (none_from_empty_mask p d i n 0 room (sym e ∙ none) k (omega arith) high) ∙ x))
+      ]
+
+  module _ (short : n ≤ 64) (some : m ≢ 0) where
+    counted : count_trailing_zeros 64 m ≡ prefix_len (λ x. not (p x)) (chunk i n d)
+    counted = ap (count_trailing_zeros 64) e ∙ trailing_mask_l p 64 (chunk i n d) (omega (arith, length-chunk i n d room)) (omega arith)
+
+    pub first_inside : count_trailing_zeros 64 m < n
+    first_inside =
+        let c = chunk i n d in
+        let r = count_trailing_zeros 64 m in
+        let within : r ≤ n = run_in_chunk_le p d i n r 0 room counted in
+        elim (cases_eq r n) [
+          | inl whole ↦ absurd (some (e ∙ no_mask p (λ x. not (p x)) (λ x. refl) c (sym counted ∙ whole ∙ sym (length-chunk i n d room))))
+          | inr other ↦ omega arith
+        ]
+
+    -- the first in these bytes, with none before them
+    pub first_passes : Nowhere (Passes p d) 0 i → IsFirstByte p d (Some (i + count_trailing_zeros 64 m))
+    first_passes before =
+        let r = count_trailing_zeros 64 m in
+        let inside = first_inside in (
+          record {
+            low = omega arith;
+            high = omega arith;
+            before = λ k low high x. elim (cases_lt k i) [
+              | inl early ↦ before k low early x
+              | inr late ↦ absurd (false≢true (sym (run_in_chunk_fails p d i n r 0 room counted k late high) ∙ x))
+            ];
+          },
+          run_in_chunk_stops p d i n r 0 room counted inside,
+        )
+
+pub stops_none : (d : List ℕ) (i n m : ℕ) → m ≡ mask_l (map is_stop (chunk i n d)) → i + n ≤ length d → m ≡ 0 → Nowhere (Passes is_stop d) 0 i → Nowhere (Passes is_stop d) 0 (i + n)
+stops_none = none_passes is_stop
+
 pub stops_at : (d : List ℕ) (i n m : ℕ) → m ≡ mask_l (map is_stop (chunk i n d)) → i + n ≤ length d → n ≤ 64 → m ≢ 0 → Nowhere (Passes is_stop d) 0 i → IsFirstByte is_stop d (Some (i + count_trailing_zeros 64 m))
-stops_at d i n m e room short some before =
-    let c = chunk i n d in
-    let r = count_trailing_zeros 64 m in
-    let long : length c ≡ n = length-chunk i n d room in
-    let counted : r ≡ prefix_len (λ x. not (is_stop x)) c = ap (count_trailing_zeros 64) e ∙ trailing_mask_l is_stop 64 c (omega arith) (omega arith) in
-    let within : r ≤ n = run_in_chunk_le is_stop d i n r 0 room counted in
-    let inside : r < n = elim (cases_eq r n) [
-      | inl whole ↦ absurd (some (e ∙ no_mask is_stop (λ x. not (is_stop x)) (λ x. refl) c (sym counted ∙ whole ∙ sym long)))
-      | inr other ↦ omega arith
-    ] in (
-      record {
-        low = omega arith;
-        high = omega arith;
-        before = λ k low high p. elim (cases_lt k i) [
-          | inl early ↦ before k low early p
-          | inr late ↦ absurd (false≢true (sym (run_in_chunk_fails is_stop d i n r 0 room counted k late high) ∙ p))
-        ];
-      },
-      run_in_chunk_stops is_stop d i n r 0 room counted inside,
-    )
+stops_at = first_passes is_stop
+
+-- the first in the first 64 bytes, and what stands before a place there
+module _ (p : ℕ → Bool) (d : List ℕ) (m : ℕ) (e : m ≡ mask_l (map p (chunk 0 64 d))) (room : 64 ≤ length d) where
+  nowhere_yet : Nowhere (Passes p d) 0 0
+  nowhere_yet k low high x = absurd (omega arith)
+
+  pub first_of_64 : m ≢ 0 → IsFirstByte p d (Some (count_trailing_zeros 64 m))
+  first_of_64 some =
+      let same : 0 + count_trailing_zeros 64 m ≡ count_trailing_zeros 64 m = omega arith in
+      rw same at (first_passes p d 0 64 m e room (omega arith) some nowhere_yet)
+
+  pub below_64 : m ≢ 0 → count_trailing_zeros 64 m < 64
+  below_64 some = first_inside p d 0 64 m e room (omega arith) some
+
+  -- where no bit is set there are as many zeros as bytes
+  pub none_before : (k : ℕ) → k ≤ 64 → k ≤ count_trailing_zeros 64 m → Nowhere (Passes p d) 0 k
+  none_before k short h j low high x =
+      elim (cases_eq m 0) [
+        | inl none ↦ none_passes p d 0 64 m e room none nowhere_yet j low (omega arith) x
+        | inr some ↦ (first_of_64 some).0.before j low (omega arith) x
+      ]
+
+  pub first_before : (k : ℕ) → k ≤ 64 → count_trailing_zeros 64 m < k → IsFirstByte p d (Some (count_trailing_zeros 64 m))
+  first_before k short h =
+      elim (cases_eq m 0) [
+        | inl none ↦ absurd (omega (arith, ap (count_trailing_zeros 64) none ∙ no_bit))
+        | inr some ↦ first_of_64 some
+      ]
 
 nowhere_behind : (d : List ℕ) (i j : ℕ) → Nowhere (Passes is_stop d) 0 i → Nowhere (Passes is_stop (drop i d)) 0 j → Nowhere (Passes is_stop d) 0 (i + j)
 nowhere_behind d i j before behind k low high p =

@@ -44,7 +44,7 @@ plain_front (c ∷ cs) (suc k) (suc n) p h =
     let one = no_brace c (p.brace 0 (omega arith)) (p.close 0 (omega arith)) in
     ap (λ (b : Bool). b && is_plain (take n cs)) one ∙ more
 
-brace_front : (s : Text) (k n : ℕ) → k < n → is_no_brace (get_or s k 0) ≡ false → is_plain (take n s) ≡ false
+pub brace_front : (s : Text) (k n : ℕ) → k < n → is_no_brace (get_or s k 0) ≡ false → is_plain (take n s) ≡ false
 brace_front s k zero h e = absurd (omega (arith, h))
 brace_front [] k (suc n) h e = absurd cc
 brace_front (c ∷ cs) zero (suc n) h e = ap (λ (b : Bool). b && is_plain (take n cs)) e
@@ -62,7 +62,7 @@ feed_next [] f = refl
 feed_next (c ∷ cs) f = test_ne c 10 f
 
 -- a brace is no other byte
-other : (c b : ℕ) → is_no_brace c ≡ false → b < 123 → c ≢ b
+pub other : (c b : ℕ) → is_no_brace c ≡ false → b < 123 → c ≢ b
 other c b e h x = absurd (let t = no_brace c (λ (y : c ≡ 123). omega (arith, x, y, h)) (λ (y : c ≡ 125). omega (arith, x, y, h)) in cc)
 
 next_of : (cs : Text) (k : ℕ) → Plain cs k → is_no_brace (get_or cs k 0) ≡ false → get_or cs 0 0 ≢ 10

@@ -5,8 +5,26 @@ ghost use Rattle.std.specs.Prelude.{◌≡◌, drop};
 ghost use Rattle.fluent_grammar.specs.Words as w;
 ghost use Rattle.fluent_words.specs.Counted.{Cuts, is_blank_at};
 
+use crate::lanes::{LANES, no_spaces};
+use std::simd::prelude::*;
+
 /// How many spaces stand at the front: production `blank_inline`, which may be empty here.
 pub fn blank_inline_len(text: &[u8]) -> usize
+    ensures { result ≡ w.spaces text.now }
+{
+    let mut end = 0;
+    while text.len() - end >= LANES {
+        let others = no_spaces(u8x16::from_slice(&text[end..]));
+        if others != 0 {
+            return end + others.trailing_zeros() as usize;
+        }
+        end += LANES;
+    }
+    end + last_spaces_len(&text[end..])
+}
+
+/// The same for the last bytes of a text, told one by one.
+fn last_spaces_len(text: &[u8]) -> usize
     ensures { result ≡ w.spaces text.now }
 {
     text.iter().take_while(|byte| **byte == b' ').count()

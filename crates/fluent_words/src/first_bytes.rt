@@ -66,7 +66,11 @@ pub fn begins_literal(text: &[u8]) -> bool
 pub fn begins_text(text: &[u8]) -> bool
     ensures { result ≡ w.begins starts_text text.now }
 {
-    matches!(text, [first, ..] if !matches!(*first, b' ' | b'\n' | b'\r' | b'{'))
+    let Some(first) = text.first() else {
+        return false;
+    };
+    // Without a branch, since no processor foresees the byte.
+    !((*first == b' ') | (*first == b'\n') | (*first == b'\r') | (*first == b'{'))
 }
 
 /// How many bytes the character at the front has.

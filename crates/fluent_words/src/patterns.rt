@@ -71,9 +71,8 @@ pub fn pattern_ends(text: &[u8], indent: usize) -> bool
         return indent == 0;
     };
     // Which byte it is, is told without a branch: it is another in each line, and no processor foresees it.
-    if indent == 0 {
-        !((*byte == b'{') | (*byte == b'\r') | (*byte == b'\n'))
-    } else {
-        (*byte == b'}') | (*byte == b'.') | (*byte == b'[') | (*byte == b'*')
-    }
+    let at_column_zero = indent == 0;
+    let goes_on = (*byte == b'{') | (*byte == b'\r') | (*byte == b'\n');
+    let ends = (*byte == b'}') | (*byte == b'.') | (*byte == b'[') | (*byte == b'*');
+    (at_column_zero & !goes_on) | (!at_column_zero & ends)
 }

@@ -1,7 +1,7 @@
 use Rattle.std.proofs.Common.{length, sym, arith}
 use Rattle.fluent_words.proofs.Scanned.{line_is_all, nowhere_plain}
 use Rattle.fluent_words.proofs.Measured.{line_ends, no_feed, before_feed_le, plain_front, not_plain}
-use Rattle.fluent_words.proofs.lines.measure_line.Goals as goal
+use Rattle.fluent_words.proofs.lines.measure_long_line.Goals as goal
 
 pub returns-in_default-clause-value : goal.returns-in_default-clause-value
 returns-in_default-clause-value c =
