@@ -13,6 +13,9 @@ use fluent_ast::{Pattern, PatternElement};
 use fluent_slice::Texts;
 use std::alloc::{AllocError, Global};
 
+/// How many elements most patterns of more than one have: a text, a placeable and a text.
+const TYPICAL: usize = 3;
+
 /// The elements of a pattern that were read so far. A text that begins a line still has its indent.
 #[derive(Drop)]
 pub struct Gathered<S> {
@@ -53,7 +56,7 @@ impl<S: Drop> Gathered<S> {
         ensures common_indent { self.new.common_indent ≡ lesser self.old.common_indent indent }
     {
         self.common_indent = lesser(self.common_indent, indent);
-        push_tight(&mut self.elements, element, 3)
+        push_tight(&mut self.elements, element, TYPICAL)
     }
 
     /// The pattern that the elements give, or none where nothing but blank was read.

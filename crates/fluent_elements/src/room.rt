@@ -5,7 +5,7 @@ ghost use Rattle.std.specs.Prelude.{◌≡◌, ◌++◌, ◌∷◌, [], IfOk};
 
 use std::alloc::AllocError;
 
-/// Puts an item behind the others of a list. The first one gets room for so many, since most lists stay short.
+/// Puts an item behind the others of a list. The first one makes room for as many as most such lists hold.
 ///
 /// # Errors
 ///
@@ -20,7 +20,7 @@ pub fn push_tight<T: Drop>(list: &mut Vec<T>, item: T, room: usize) -> Result<()
     Ok(())
 }
 
-/// Lets go of what a short list has room for. A list that grows has room for four at once, and most hold two or three.
+/// Lets go of the room that a short list doesn't fill. Most lists are short, so that it adds up.
 pub fn shrink_short<T>(list: &mut Vec<T>)
     ensures { list.new.items ≡ list.old.items }
 {

@@ -14,6 +14,9 @@ use fluent_elements::push_tight;
 use fluent_slice::Texts;
 use fluent_words as words;
 
+/// How many attributes messages mostly have that have any: one or two.
+const FEW: usize = 2;
+
 impl<'p, S: Drop, T: Texts<S>> Parser<'p, S, T> {
     ghost use Rattle.fluent_parser.specs.Reads.{Gives, Tells};
     ghost use Rattle.fluent_ast.specs.View.{name_of, entry_view, message_view, term_view, attribute_view, pattern_view};
@@ -126,7 +129,7 @@ impl<'p, S: Drop, T: Texts<S>> Parser<'p, S, T> {
     {
         let mut attributes = Vec::new(self.alloc);
         while let Some(attribute) = self.next_attribute()? {
-            push_tight(&mut attributes, attribute, 2)?;
+            push_tight(&mut attributes, attribute, FEW)?;
         }
         Ok(attributes)
     }

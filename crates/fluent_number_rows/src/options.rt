@@ -2,7 +2,7 @@
 ghost use Rattle.std.specs.Prelude.{if◌then◌else◌, bytes_eq, codes, option_copied, option_map, Some, None};
 ghost use Rattle.fluent_number.specs.Number.{number_of};
 
-use super::memory::{copy_of, copy_of_options, is_merged};
+use crate::memory::{copy_of, copy_of_options, is_merged};
 use fluent_number::{
     FluentNumber, FluentNumberCurrencyDisplayStyle, FluentNumberOptions, FluentNumberStyle,
     FluentNumberType, OptionSource,

@@ -1,6 +1,6 @@
 //! The zeros that are added to a number's text.
 
-use super::memory::text_of;
+use crate::memory::text_of;
 use fluent_number::FluentNumber;
 use std::alloc::{AllocError, Global};
 

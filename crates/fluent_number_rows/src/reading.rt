@@ -1,6 +1,6 @@
 //! Which texts are numbers, and which digits they ask for.
 
-use super::memory::text_of;
+use crate::memory::text_of;
 use fluent_number::{FluentNumber, NotANumber};
 use std::alloc::Global;
 

@@ -1,7 +1,7 @@
 //! Copies and equality of errors.
 
-use super::memory::{copy_of, copy_of_unresolved, errors_of};
-use super::rows::{DIFFERENT, OTHERS, REFERENCES, owned, unresolved};
+use crate::memory::{copy_of, copy_of_unresolved, errors_of};
+use crate::rows::{DIFFERENT, OTHERS, REFERENCES, owned, unresolved};
 use fluent_errors::{EntryKind, FluentError, ResolverError};
 use std::alloc::Global;
 

@@ -1,7 +1,7 @@
 //! The texts of errors.
 
-use super::memory::{errors_of, tells};
-use super::rows::{OTHERS, REFERENCES, owned, unresolved};
+use crate::memory::{errors_of, tells};
+use crate::rows::{OTHERS, REFERENCES, owned, unresolved};
 use fluent_errors::{EntryKind, FluentError};
 use std::alloc::Global;
 

@@ -1,7 +1,7 @@
 //! What expressions refer to.
 
-use super::memory::referred;
-use super::rows::{Named, REFERENCES, reference, words_of};
+use crate::memory::referred;
+use crate::rows::{Named, REFERENCES, reference, words_of};
 use fluent_ast::{CallArguments, Identifier, InlineExpression};
 use std::alloc::Global;
 
