@@ -115,6 +115,10 @@ impl<'a> Lines<'a> {
         ensures value { result ≡ is_last_feed (drop place self.old.text.now) }
         ensures text { self.new.text.now ≡ self.old.text.now }
     {
+        // Mostly no line feed stands here, and no row is looked up.
+        if !words::begins_with(words::from(self.text, place), b'\n') {
+            return false;
+        }
         let row = self.find(place);
         feeds_last(&row, self.later(), place)
     }

@@ -6,6 +6,7 @@ ghost use Rattle.fluent_lines.specs.Table.{row_view, lines};
 
 use crate::Row;
 use fluent_words as words;
+use fluent_words::Told;
 use std::alloc::{AllocError, Global};
 
 /// How many bytes a line has, about. A table for longer lines has room to spare, one for shorter ones grows.
@@ -23,15 +24,16 @@ pub fn line_table(alloc: Global, text: &[u8]) -> Result<Vec<Row>, AllocError>
 {
     let mut rows = Vec::with_capacity(alloc, text.len() / TYPICAL + 1)?;
     let mut start = 0;
+    let mut told = Told::nothing();
     'lines: loop {
         let line = words::from(text, start);
-        let (len, is_plain) = words::measure_line(line);
-        let row = Row::new(line, start, len, is_plain)?;
+        let front = words::measure_line(line, told);
+        let row = Row::new(line, start, front.len, front.is_plain)?;
         rows.push(row)?;
-        let line_end = words::line_end_len(words::from(line, len));
-        if line_end == 0 {
+        let Some(next) = front.next else {
             return Ok(rows);
-        }
-        start += len + line_end;
+        };
+        start += next;
+        told = front.told;
     }
 }

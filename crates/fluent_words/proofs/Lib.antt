@@ -5,4 +5,4 @@ pub mod Chars
 pub mod Masked
 pub mod Rows
 pub mod Measured
-pub mod ShortLines
+pub mod Swept

@@ -1,5 +1,5 @@
 -- Bytes told sixteen at a time, through the mask of those that pass a test.
-use Rattle.std.proofs.Common.{◌≡◌, ◌≢◌, ℕ, ◌+◌, ◌-◌, ◌*◌, ◌%◌, ◌^◌, ◌<◌, ◌≤◌, Bool, true, false, not, cond, eqb, List, [], ◌∷◌, map, length, drop, refl, sym, ap, ap₂, ◌∙◌, arith, w8, Fits, inl, inr}
+use Rattle.std.proofs.Common.{◌≡◌, ◌≢◌, ℕ, ◌+◌, ◌-◌, ◌*◌, ◌%◌, ◌^◌, ◌<◌, ◌≤◌, Bool, true, false, not, cond, eqb, List, [], ◌∷◌, map, length, drop, get_or, refl, sym, ap, ap₂, ◌∙◌, arith, w8, Fits, inl, inr}
 use Rattle.std.proofs.lemmas.Bool.{agree_below, agree_below_at, cases_eq, cases_lt, eq-eqb, ne_eqb, false≢true}
 use Rattle.std.proofs.lemmas.Simd.{mask_l-mod, chunk-drop, length-chunk, leading_from_mask_l, trailing_mask_l, run_in_chunk_le, run_in_chunk_fails, run_in_chunk_stops, none_from_empty_mask}
 use Rattle.std.proofs.lemmas.List.{length-map, length-drop, get_or-drop}
@@ -123,32 +123,21 @@ stops_none = none_passes is_stop
 pub stops_at : (d : List ℕ) (i n m : ℕ) → m ≡ mask_l (map is_stop (chunk i n d)) → i + n ≤ length d → n ≤ 64 → m ≢ 0 → Nowhere (Passes is_stop d) 0 i → IsFirstByte is_stop d (Some (i + count_trailing_zeros 64 m))
 stops_at = first_passes is_stop
 
--- the first in the first 64 bytes, and what stands before a place there
-module _ (p : ℕ → Bool) (d : List ℕ) (m : ℕ) (e : m ≡ mask_l (map p (chunk 0 64 d))) (room : 64 ≤ length d) where
-  nowhere_yet : Nowhere (Passes p d) 0 0
-  nowhere_yet k low high x = absurd (omega arith)
-
-  pub first_of_64 : m ≢ 0 → IsFirstByte p d (Some (count_trailing_zeros 64 m))
-  first_of_64 some =
-      let same : 0 + count_trailing_zeros 64 m ≡ count_trailing_zeros 64 m = omega arith in
-      rw same at (first_passes p d 0 64 m e room (omega arith) some nowhere_yet)
-
-  pub below_64 : m ≢ 0 → count_trailing_zeros 64 m < 64
-  below_64 some = first_inside p d 0 64 m e room (omega arith) some
-
-  -- where no bit is set there are as many zeros as bytes
-  pub none_before : (k : ℕ) → k ≤ 64 → k ≤ count_trailing_zeros 64 m → Nowhere (Passes p d) 0 k
-  none_before k short h j low high x =
+-- what stands before a place among these bytes, and the first of them that passes, where none stands before them
+module _ (p : ℕ → Bool) (d : List ℕ) (i n m : ℕ) (e : m ≡ mask_l (map p (chunk i n d))) (room : i + n ≤ length d) (short : n ≤ 64) where
+  -- where no bit is set there are 64 zeros
+  pub none_to : (k : ℕ) → k ≤ n → k ≤ count_trailing_zeros 64 m → Nowhere (Passes p d) 0 i → Nowhere (Passes p d) 0 (i + k)
+  none_to k within h before j low high x =
       elim (cases_eq m 0) [
-        | inl none ↦ none_passes p d 0 64 m e room none nowhere_yet j low (omega arith) x
-        | inr some ↦ (first_of_64 some).0.before j low (omega arith) x
+        | inl none ↦ none_passes p d i n m e room none before j low (omega arith) x
+        | inr some ↦ (first_passes p d i n m e room short some before).0.before j low (omega arith) x
       ]
 
-  pub first_before : (k : ℕ) → k ≤ 64 → count_trailing_zeros 64 m < k → IsFirstByte p d (Some (count_trailing_zeros 64 m))
-  first_before k short h =
+  pub at_first : count_trailing_zeros 64 m < n → Nowhere (Passes p d) 0 i → p (get_or d (i + count_trailing_zeros 64 m) 0) ≡ true
+  at_first h before =
       elim (cases_eq m 0) [
         | inl none ↦ absurd (omega (arith, ap (count_trailing_zeros 64) none ∙ no_bit))
-        | inr some ↦ first_of_64 some
+        | inr some ↦ (first_passes p d i n m e room short some before).1
       ]
 
 nowhere_behind : (d : List ℕ) (i j : ℕ) → Nowhere (Passes is_stop d) 0 i → Nowhere (Passes is_stop (drop i d)) 0 j → Nowhere (Passes is_stop d) 0 (i + j)

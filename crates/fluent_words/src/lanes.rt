@@ -9,7 +9,7 @@ use std::simd::prelude::*;
 
 /// How many bytes are told at once.
 pub(crate) const LANES: usize = 16;
-/// How many bytes of a line are told at once. Most lines are shorter, and their ends are found without a branch.
+/// How many bytes are told at once of which line feeds and braces are wanted.
 pub(crate) const LINE_LANES: usize = 64;
 
 /// Which of the bytes no identifier has: bit `k` is that of byte `k`.

@@ -11,6 +11,7 @@ mod lines;
 mod numbers;
 mod patterns;
 mod strings;
+mod sweep;
 
 pub use blanks::{blank_block_len, blank_inline_len, blank_len};
 pub use comments::{comment_level, is_comment_line};
@@ -20,7 +21,8 @@ pub use first_bytes::{
     begins_with, begins_with_letter, char_len,
 };
 pub use identifiers::identifier_len;
-pub use lines::{ends_line, line_end_len, line_len, measure_line};
+pub use lines::{ends_line, line_end_len, line_len};
 pub use numbers::number_len;
 pub use patterns::{pattern_ends, text_len};
 pub use strings::{StringEnd, string_end};
+pub use sweep::{FrontLine, Told, measure_line};

@@ -1,14 +1,12 @@
 //! Lines and their ends.
 #![tactic(auto, using(crate::proofs::Counted::cuts))]
 
-ghost use Rattle.std.specs.Prelude.{◌≡◌, ◌<◌, length, take, IfSome};
+ghost use Rattle.std.specs.Prelude.{◌≡◌, ◌<◌, length, take};
 ghost use Rattle.fluent_grammar.specs.Lines.{ends_line};
 ghost use Rattle.fluent_words.specs.Counted.{Cuts, IsLineEnd, IsLine, before_feed, is_plain};
 
-use crate::lanes::{LINE_LANES, braces, line_feeds};
 use crate::patterns::stop;
 use memchr::memchr;
-use std::simd::prelude::*;
 
 /// How many bytes the line end at the front has, or 0: LF, or CR LF. Production `line_end`.
 pub fn line_end_len(text: &[u8]) -> usize
@@ -34,39 +32,7 @@ pub fn line_len(text: &[u8]) -> usize
 }
 
 /// How many bytes the line at the front has without its line end, and whether it is plain: no brace stands in it.
-pub fn measure_line(text: &[u8]) -> (usize, bool)
-    ensures value { IsLine text.now result.0 }
-    ensures cuts { Cuts text.now result.0 }
-    ensures plain { result.1 ≡ is_plain (take result.0 text.now) }
-{
-    match measure_short_line(text) {
-        Some(measured) => measured,
-        None => measure_long_line(text),
-    }
-}
-
-/// The same for a line whose line feed is among the first 64 bytes. `None` where it isn't, or where the text is shorter.
-#[inline(always)]
-fn measure_short_line(text: &[u8]) -> Option<(usize, bool)>
-    ensures value { IfSome result (λ line. IsLine text.now line.0) }
-    ensures cuts { IfSome result (λ line. Cuts text.now line.0) }
-    ensures plain { IfSome result (λ line. line.1 ≡ is_plain (take line.0 text.now)) }
-{
-    if text.len() < LINE_LANES {
-        return None;
-    }
-    let bytes = u8x64::from_slice(text);
-    let feeds = line_feeds(bytes);
-    if feeds == 0 {
-        return None;
-    }
-    let end = feeds.trailing_zeros() as usize;
-    let brace = braces(bytes).trailing_zeros() as usize;
-    Some((before_feed(text, end), brace >= end))
-}
-
-/// The same for any line.
-fn measure_long_line(text: &[u8]) -> (usize, bool)
+pub(crate) fn measure_long_line(text: &[u8]) -> (usize, bool)
     ensures value { IsLine text.now result.0 }
     ensures cuts { Cuts text.now result.0 }
     ensures plain { result.1 ≡ is_plain (take result.0 text.now) }
@@ -82,7 +48,7 @@ fn measure_long_line(text: &[u8]) -> (usize, bool)
 }
 
 /// The end of the line whose line feed is here.
-fn before_feed(text: &[u8], end: usize) -> usize
+pub(crate) fn before_feed(text: &[u8], end: usize) -> usize
     requires { end < length text.now }
     ensures { result ≡ before_feed text.now end }
 {

@@ -1,25 +1,30 @@
-use Rattle.std.proofs.Common.{◌+◌, ◌≤◌, length, drop, ap, ◌∙◌, sym, refl, arith, cond, None, Some}
-use Rattle.std.proofs.lemmas.List.{length-drop}
-use Rattle.fluent_grammar.specs.Words.{after_line_end}
-use Rattle.fluent_words.proofs.Scanned.{test_eq, test_ne}
+use Rattle.std.proofs.Common.{◌≡◌, ◌+◌, ◌-◌, ◌∙◌, ℕ, length, drop, ap, sym, subst, arith, None, Some, Option}
+use Rattle.std.proofs.lemmas.List.{length-drop, drop-drop}
+use Rattle.fluent_words.specs.Swept.{Tells, IsNext}
 use Rattle.fluent_lines.proofs.OneByOne.{last_row, next_row}
 use Rattle.fluent_lines.proofs.table.line_table.Goals as goal
 
-pub returns-then-line_end-eq0 : goal.returns-then-line_end-eq0
-returns-then-line_end-eq0 c =
+pub returns-in_default : goal.returns-in_default
+returns-in_default c =
     let u = c.from-line.result.now in
-    let len = c.measure_line-len.result.0 in
-    let behind = ap after_line_end (sym c.from.ensures) ∙ c.line_end_len-line_end.ensures.value ∙ ap (λ b. cond b None (Some (drop c.line_end_len-line_end.result c.from.result.now))) (test_eq c.line_end_len-line_end.result 0 c.if-line_end-eq0.true) in
-    last_row c.args.text.now u c.lines.rows.items c.push.new.self.items c.in_ok-row.row c.lines.start len c.lines.invariant.rows c.from-line.ensures c.measure_line-len.ensures.value c.measure_line-len.ensures.cuts.within c.in_ok-push.ensures.items c.in_ok-row.ensures behind
+    let front = c.measure_line-front.result in
+    let behind = subst (λ (o : Option ℕ). IsNext u front.len o front.told) c.in_default.is c.measure_line-front.ensures.next in
+    last_row c.args.text.now u c.lines.rows.items c.push.new.self.items c.in_ok-row.row c.lines.start front.len c.lines.invariant.rows c.from-line.ensures c.measure_line-front.ensures.line c.measure_line-front.ensures.cuts.within c.in_ok-push.ensures.items c.in_ok-row.ensures behind
 
 pub lines-preserved : goal.lines-preserved
 lines-preserved c =
+    let text = c.args.text.now in
+    let start = c.lines.start in
     let u = c.from-line.result.now in
-    let len = c.measure_line-len.result.0 in
-    let end = c.line_end_len-line_end.result in
-    let behind = ap after_line_end (sym c.from.ensures) ∙ c.line_end_len-line_end.ensures.value ∙ ap (λ b. cond b None (Some (drop end c.from.result.now))) (test_ne end 0 c.if-line_end-eq0.false) ∙ ap (λ z. Some (drop end z)) c.from.ensures in
-    let within : len + end ≤ length u = omega (arith, c.measure_line-len.ensures.cuts.within, c.line_end_len-line_end.ensures.cuts.within, ap length c.from.ensures, length-drop len u) in
+    let front = c.measure_line-front.result in
+    let next = c.in-Some.next in
+    let n = subst (λ (o : Option ℕ). IsNext u front.len o front.told) c.in-Some.is c.measure_line-front.ensures.next in
+    let line_end = next - front.len in
+    let whole : front.len + line_end ≡ next = omega (arith, n.1) in
+    let behind = n.0 ∙ ap (λ (k : ℕ). Some (drop k u)) (sym whole) ∙ ap Some (sym (drop-drop line_end front.len u)) in
+    let place : drop next u ≡ drop (start + next) text = ap (drop next) c.from-line.ensures ∙ drop-drop next start text in
     record {
-      within = omega (arith, within, c.lines.invariant.within, ap length c.from-line.ensures, length-drop c.lines.start c.args.text.now);
-      rows = next_row c.args.text.now u c.lines.rows.items c.push.new.self.items c.in_ok-row.row c.lines.start len end (c.lines.start + (len + end)) c.lines.invariant.rows c.from-line.ensures c.measure_line-len.ensures.value c.measure_line-len.ensures.cuts.within c.in_ok-push.ensures.items c.in_ok-row.ensures behind within refl;
+      within = omega (arith, n.2, c.lines.invariant.within, ap length c.from-line.ensures, length-drop start text);
+      told = subst (Tells front.told) place n.3;
+      rows = next_row text u c.lines.rows.items c.push.new.self.items c.in_ok-row.row start front.len line_end (start + next) c.lines.invariant.rows c.from-line.ensures c.measure_line-front.ensures.line c.measure_line-front.ensures.cuts.within c.in_ok-push.ensures.items c.in_ok-row.ensures behind (omega (arith, whole, n.2)) (omega (arith, whole));
     }
