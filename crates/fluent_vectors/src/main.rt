@@ -1,16 +1,19 @@
 //! Reads the sources of `data/parse.jsonl`, `data/rows.jsonl` and `data/written.jsonl` by both readers, over both kinds
 //! of text, and compares with the trees, errors and written texts that stand there. A row may leave some of them out.
 //! Then it reads each prefix of the sources of `data/rows.jsonl` and `data/prefixes.jsonl`, writes the trees of
-//! `data/trees.jsonl`, most of which no source reads as, and resolves the escapes of `data/escapes.jsonl`.
+//! `data/trees.jsonl`, most of which no source reads as, reads the values of `data/values.jsonl`, and resolves the escapes of
+//! `data/escapes.jsonl`.
 #![tactic(auto)]
 
 mod errors;
 mod escapes;
+mod prefixes;
 mod trees;
+mod values;
 
 use anyhow::{Context, Result};
-use fluent_prefixes::{count_prefixes, parts};
 use fluent_syntax::parser::{self, ParserError};
+use prefixes::{count_prefixes, parts};
 use serde_json::Value;
 use std::alloc::Global;
 use std::fs;
@@ -22,6 +25,8 @@ enum Rows {
     Sources,
     /// Trees, with their written texts.
     Trees,
+    /// JSON texts, with the trees of their values.
+    Values,
     /// Raw texts of string literals, with what they stand for.
     Escapes,
 }
@@ -32,6 +37,7 @@ fn main(rt: HostRuntime) -> Result<()> {
         ("rows.jsonl", Rows::Sources),
         ("written.jsonl", Rows::Sources),
         ("trees.jsonl", Rows::Trees),
+        ("values.jsonl", Rows::Values),
         ("escapes.jsonl", Rows::Escapes),
     ] {
         try_file(&rt, file, rows)?;
@@ -64,6 +70,7 @@ fn is_right(alloc: Global, rows: Rows, line: &str) -> Result<bool> {
     match rows {
         Rows::Sources => agrees(alloc, &vector),
         Rows::Trees => trees::agrees(alloc, &vector),
+        Rows::Values => values::agrees(alloc, &vector),
         Rows::Escapes => escapes::agrees(alloc, &vector),
     }
 }
@@ -97,53 +104,64 @@ fn text_of<'a>(vector: &'a Value, key: &str) -> Result<&'a str> {
     Ok(text)
 }
 
-/// Whether both readers give what a vector says.
+/// Whether both readers give what a vector says, of its source and of a copy of it.
 fn agrees(alloc: Global, vector: &Value) -> Result<bool> {
-    let source = text_of(vector, "source")?;
-    let owned = parser::parse(alloc, String::from_str(alloc, source)?);
-    let runtime = parser::parse_runtime(alloc, String::from_str(alloc, source)?);
     Ok(
-        has_tree(alloc, vector.get("tree"), vector.get("errors"), owned)?
-            && has_tree(
-                alloc,
-                vector.get("runtime_tree"),
-                vector.get("runtime_errors"),
-                runtime,
-            )?
-            && is_written(alloc, vector, parser::parse(alloc, source))?
-            && has_runtime_errors(alloc, vector, parser::parse_runtime(alloc, source))?,
+        has_tree(alloc, vector)?
+            && has_runtime_tree(alloc, vector)?
+            && is_written(alloc, vector)?
+            && has_runtime_errors(alloc, vector)?,
     )
 }
 
+/// Whether a copy of the source has the tree and the errors that are wanted.
+fn has_tree(alloc: Global, vector: &Value) -> Result<bool> {
+    let copy = String::from_str(alloc, text_of(vector, "source")?)?;
+    let (tree, errors) = (vector.get("tree"), vector.get("errors"));
+    is_answer(alloc, tree, errors, parser::parse(alloc, copy))
+}
+
+/// The same at run time.
+fn has_runtime_tree(alloc: Global, vector: &Value) -> Result<bool> {
+    let copy = String::from_str(alloc, text_of(vector, "source")?)?;
+    let (tree, errors) = (vector.get("runtime_tree"), vector.get("runtime_errors"));
+    is_answer(alloc, tree, errors, parser::parse_runtime(alloc, copy))
+}
+
 /// Whether an answer is the tree and the errors that are wanted.
-fn has_tree(
+fn is_answer(
     alloc: Global,
     tree: Option<&Value>,
     errors: Option<&Value>,
     answer: parser::Result<String>,
 ) -> Result<bool> {
     let (resource, found) = parts(alloc, answer)?;
-    Ok(has_errors(alloc, errors, found.as_slice())? && trees::has_value(alloc, resource, tree)?)
+    Ok(has_errors(alloc, errors, &found)? && trees::has_value(alloc, resource, tree)?)
 }
 
 /// Whether the tree of a source is written as it is wanted, and its errors are.
-fn is_written(alloc: Global, vector: &Value, answer: parser::Result<&str>) -> Result<bool> {
-    let (resource, found) = parts(alloc, answer)?;
+fn is_written(alloc: Global, vector: &Value) -> Result<bool> {
+    let source = text_of(vector, "source")?;
+    let (resource, found) = parts(alloc, parser::parse(alloc, source))?;
     Ok(
         trees::is_written(alloc, vector, &resource)?
-            && has_errors(alloc, vector.get("errors"), found.as_slice())?,
+            && has_errors(alloc, vector.get("errors"), &found)?,
     )
 }
 
-fn has_runtime_errors(alloc: Global, vector: &Value, answer: parser::Result<&str>) -> Result<bool> {
-    let (_resource, found) = parts(alloc, answer)?;
-    has_errors(alloc, vector.get("runtime_errors"), found.as_slice())
+fn has_runtime_errors(alloc: Global, vector: &Value) -> Result<bool> {
+    let source = text_of(vector, "source")?;
+    let (_resource, found) = parts(alloc, parser::parse_runtime(alloc, source))?;
+    has_errors(alloc, vector.get("runtime_errors"), &found)
 }
 
 /// Whether errors are the wanted ones, if any are, and each equals its copy.
 fn has_errors(alloc: Global, wanted: Option<&Value>, errors: &[ParserError]) -> Result<bool> {
-    let found = errors::errors_value(alloc, errors)?;
-    Ok(is_wanted(wanted, &found) && errors::are_copied(alloc, errors)?)
+    match wanted {
+        Some(Value::Array(wanted)) => Ok(errors::are_told(alloc, errors, wanted)?),
+        Some(_) => Ok(false),
+        None => Ok(errors::are_copied(alloc, errors)?),
+    }
 }
 
 /// Whether a value is the wanted one, if one is.

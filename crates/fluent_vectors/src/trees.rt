@@ -33,12 +33,25 @@ pub fn is_written<'s, S: Slice<'s>>(
     vector: &Value,
     tree: &Resource<S>,
 ) -> Result<bool> {
+    Ok(is_written_without_junk(alloc, vector, tree)? && is_written_with_junk(alloc, vector, tree)?)
+}
+
+fn is_written_without_junk<'s, S: Slice<'s>>(
+    alloc: Global,
+    vector: &Value,
+    tree: &Resource<S>,
+) -> Result<bool> {
     let written = serialize(alloc, tree)?;
-    if !is_text(vector.get("written"), &written) {
-        return Ok(false);
-    }
-    let with_junk = serialize_with_options(alloc, tree, Options { with_junk: true })?;
-    Ok(is_text(vector.get("written_with_junk"), &with_junk))
+    Ok(is_text(vector.get("written"), &written))
+}
+
+fn is_written_with_junk<'s, S: Slice<'s>>(
+    alloc: Global,
+    vector: &Value,
+    tree: &Resource<S>,
+) -> Result<bool> {
+    let written = serialize_with_options(alloc, tree, Options { with_junk: true })?;
+    Ok(is_text(vector.get("written_with_junk"), &written))
 }
 
 /// Whether a tree is another one than the row's other tree, if it has one.

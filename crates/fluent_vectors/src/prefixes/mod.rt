@@ -1,9 +1,12 @@
 //! Reads each prefix of a source. What comes out isn't known beforehand, but laws hold of it.
 
-use crate::laws::{are_errors_of, are_same_entries};
+mod laws;
+mod places;
+
 use anyhow::{Result, bail};
 use fluent_syntax::ast::Resource;
 use fluent_syntax::parser::{self, Error, ParserError, Slice};
+use laws::{are_errors_of, are_same_entries};
 use std::alloc::Global;
 
 /// How many prefixes a source has, and how many of them break a law.
@@ -38,16 +41,47 @@ fn with_prefix(alloc: Global, count: Count, prefix: &str) -> Result<Count> {
 /// Whether the laws hold of what both readers give for a source, and both give the same for a copy of it.
 fn are_laws_kept(alloc: Global, source: &str) -> Result<bool> {
     let (tree, errors) = parts(alloc, parser::parse(alloc, source))?;
-    let (runtime, runtime_errors) = parts(alloc, parser::parse_runtime(alloc, source))?;
-    let owned = parser::parse(alloc, String::from_str(alloc, source)?);
-    let owned_runtime = parser::parse_runtime(alloc, String::from_str(alloc, source)?);
     Ok(
-        are_errors_of(source, &tree, errors.as_slice())
-            && are_errors_of(source, &runtime, runtime_errors.as_slice())
-            && are_same_entries(&tree, &runtime)
-            && is_same(alloc, &tree, errors.as_slice(), owned)?
-            && is_same(alloc, &runtime, runtime_errors.as_slice(), owned_runtime)?,
+        are_errors_of(source, &tree, &errors)
+            && is_copy_alike(alloc, source, &tree, &errors)?
+            && are_runtime_laws_kept(alloc, source, &tree)?,
     )
+}
+
+/// The same of the reader for run time, beside the tree that the other one gives.
+fn are_runtime_laws_kept<'s>(
+    alloc: Global,
+    source: &'s str,
+    tree: &Resource<&'s str>,
+) -> Result<bool> {
+    let (runtime, errors) = parts(alloc, parser::parse_runtime(alloc, source))?;
+    Ok(
+        are_errors_of(source, &runtime, &errors)
+            && are_same_entries(tree, &runtime)
+            && is_runtime_copy_alike(alloc, source, &runtime, &errors)?,
+    )
+}
+
+/// Whether a copy of a source is read as this tree with these errors.
+fn is_copy_alike(
+    alloc: Global,
+    source: &str,
+    tree: &Resource<&str>,
+    errors: &[ParserError],
+) -> Result<bool> {
+    let copy = String::from_str(alloc, source)?;
+    is_same(alloc, tree, errors, parser::parse(alloc, copy))
+}
+
+/// The same at run time.
+fn is_runtime_copy_alike(
+    alloc: Global,
+    source: &str,
+    tree: &Resource<&str>,
+    errors: &[ParserError],
+) -> Result<bool> {
+    let copy = String::from_str(alloc, source)?;
+    is_same(alloc, tree, errors, parser::parse_runtime(alloc, copy))
 }
 
 /// Whether an answer is this tree with these errors.
@@ -58,9 +92,17 @@ fn is_same(
     answer: parser::Result<String>,
 ) -> Result<bool> {
     let (other, other_errors) = parts(alloc, answer)?;
+    Ok(errors == other_errors.as_slice() && are_shown_alike(alloc, tree, &other)?)
+}
+
+fn are_shown_alike(alloc: Global, tree: &Resource<&str>, other: &Resource<String>) -> Result<bool> {
     let shown = format!(in alloc; "{tree:?}")?;
-    let other_shown = format!(in alloc; "{other:?}")?;
-    Ok(shown == other_shown && errors == other_errors.as_slice())
+    is_shown(alloc, other, &shown)
+}
+
+fn is_shown(alloc: Global, tree: &Resource<String>, text: &str) -> Result<bool> {
+    let shown = format!(in alloc; "{tree:?}")?;
+    Ok(shown.as_str() == text)
 }
 
 /// The tree and the errors of an answer.
