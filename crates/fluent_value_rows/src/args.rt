@@ -5,8 +5,8 @@
 
 use crate::count::{Count, Value};
 use crate::made::value_of;
-use crate::row::Row;
 use fluent_number::OptionSource;
+use fluent_trials::Row;
 use fluent_value::FluentArgs;
 use std::alloc::Global;
 use std::borrow::CowStr;

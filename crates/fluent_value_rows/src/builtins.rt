@@ -6,8 +6,8 @@
 use crate::args::args_of;
 use crate::count::Value;
 use crate::made::value_of;
-use crate::row::Row;
 use fluent_number::{FluentNumber, FluentNumberOptions, FluentNumberType};
+use fluent_trials::Row;
 use fluent_value::FluentValue;
 use fluent_value::builtins::NUMBER;
 use std::alloc::Global;

@@ -2,7 +2,7 @@
 
 use crate::count::Value;
 use crate::made::value_of;
-use crate::row::Row;
+use fluent_trials::Row;
 use std::alloc::Global;
 
 /// Whether two values are `equal`, or are not, as their row says.

@@ -5,8 +5,8 @@
 
 use crate::count::Value;
 use crate::made::value_of;
-use crate::row::Row;
 use crate::scope::Plain;
+use fluent_trials::Row;
 use fluent_value::FluentValue;
 use std::alloc::Global;
 use std::borrow::CowStr;

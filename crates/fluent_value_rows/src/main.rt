@@ -1,6 +1,6 @@
-//! Tries the rows of `data`: numbers and their options, what values are made of, which are equal, which match and what they are shown as,
-//! what arguments hold, and what the function `NUMBER` gives. It prints of each file how many rows there are, and those that are wrong. The
-//! rows were written by hand.
+//! Tries the rows of `data`: what values are made of, which are equal, which match and what they are shown as, what arguments hold, and
+//! what the function `NUMBER` gives. It prints of each file how many rows there are, and those that are wrong. The rows were written by
+//! hand.
 //!
 //! A row is what is tried, by what, and what must come of it, with bars between. [`made`] says how values are written. A row that is
 //! refused memory is tried once more, so the same counts are printed with any one allocation refused.
@@ -13,15 +13,12 @@ mod equality;
 mod forms;
 mod made;
 mod matching;
-mod number;
-mod row;
 mod scope;
 mod showing;
 mod texts;
 
 use anyhow::{Context, Result};
-use fluent_trials::Tally;
-use row::Row;
+use fluent_trials::{Row, Tally};
 use scope::{Bracketed, Plain};
 use std::alloc::Global;
 use std::fs;
@@ -29,8 +26,6 @@ use std::fs;
 /// What the rows of a file say.
 #[derive(Clone, Copy)]
 enum Rows {
-    /// Numbers.
-    Number(number::Rows),
     /// How values hold what they hold.
     Forms,
     /// Which values are equal.
@@ -57,20 +52,7 @@ enum Rows {
     Builtins,
 }
 
-const FILES: [(&str, Rows); 25] = [
-    ("parts.txt", Rows::Number(number::Rows::Parts)),
-    ("cut.txt", Rows::Number(number::Rows::Cut)),
-    ("back.txt", Rows::Number(number::Rows::Back)),
-    ("read.txt", Rows::Number(number::Rows::Read)),
-    ("no_numbers.txt", Rows::Number(number::Rows::Refused)),
-    ("filled.txt", Rows::Number(number::Rows::Filled)),
-    ("too_many.txt", Rows::Number(number::Rows::TooMany)),
-    ("operands.txt", Rows::Number(number::Rows::Operands)),
-    ("categories.txt", Rows::Number(number::Rows::Categories)),
-    ("differing.txt", Rows::Number(number::Rows::Differing)),
-    ("merged.txt", Rows::Number(number::Rows::Merged)),
-    ("copied.txt", Rows::Number(number::Rows::Copied)),
-    ("named.txt", Rows::Number(number::Rows::Named)),
+const FILES: [(&str, Rows); 12] = [
     ("forms.txt", Rows::Forms),
     ("equal.txt", Rows::Equal),
     ("copies.txt", Rows::Copies),
@@ -121,7 +103,6 @@ fn is_right_again(alloc: Global, rows: Rows, line: &str) -> bool {
 fn is_right(alloc: Global, rows: Rows, line: &str) -> Option<bool> {
     let row = Row::of(line)?;
     match rows {
-        Rows::Number(rows) => number::is_right(alloc, rows, row),
         Rows::Forms => forms::is_right(alloc, row),
         Rows::Equal => equality::is_right(alloc, row),
         Rows::Copies => equality::is_copied(alloc, row),

@@ -1,8 +1,8 @@
 //! Which keys match which values, by the plural rules of English.
 
 use crate::made::value_of;
-use crate::row::Row;
 use crate::scope::Plain;
+use fluent_trials::Row;
 use std::alloc::Global;
 
 /// Whether a key `matches` a value, or doesn't, as their row says.

@@ -4,8 +4,8 @@ ghost use Rattle.std.specs.Prelude.{[]};
 
 use crate::count::{Count, Value};
 use crate::made::value_of;
-use crate::row::Row;
 use crate::scope::Plain;
+use fluent_trials::Row;
 use fluent_value::{EnglishPlurals, FluentType, MemoizerKind, ValueScope};
 use fluent_write::{TextWrite, WriteError};
 use std::alloc::{AllocError, Global};

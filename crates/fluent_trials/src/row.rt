@@ -1,4 +1,4 @@
-//! Rows.
+//! Rows of data: a line each, with bars between what it holds.
 
 /// What is tried, by what, and what must come of it.
 #[derive(Clone, Copy)]

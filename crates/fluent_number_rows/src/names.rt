@@ -1,9 +1,9 @@
 //! The values of options, and the texts that name them.
 
-use crate::row::Row;
 use fluent_number::{
     FluentNumberCurrencyDisplayStyle, FluentNumberOptions, FluentNumberStyle, FluentNumberType,
 };
+use fluent_trials::Row;
 
 /// What stands for the value that an option has by itself.
 const USUAL: &str = "usual()";

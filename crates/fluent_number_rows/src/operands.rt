@@ -1,9 +1,9 @@
 //! Plural operands, and the plural rules of English.
 
-use crate::row::Row;
 use fluent_number::{
     Decimal, FluentNumber, PluralCategory, PluralOperands, PluralRuleType, english_category,
 };
+use fluent_trials::Row;
 use std::str::SplitWhitespace;
 
 /// Whether a number, which may be to have so many fraction digits at least, has these operands `i`, `v`, `w`, `f` and `t`.

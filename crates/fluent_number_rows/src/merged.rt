@@ -1,10 +1,10 @@
 //! Options that others are merged into, one behind the other, with `;` between: a text is a key with `=` and the text, a number a key with
 //! `#` and the number, and `#` with a number alone is the source that has a value under every key.
 
-use super::names::are_choices;
-use super::sources::{Full, One};
-use crate::row::Row;
+use crate::names::are_choices;
+use crate::sources::{Full, One};
 use fluent_number::{FluentNumber, FluentNumberOptions, OptionSource};
+use fluent_trials::Row;
 use std::alloc::Global;
 use std::hash::{DefaultHasher, Hash, Hasher};
 use std::str::SplitWhitespace;

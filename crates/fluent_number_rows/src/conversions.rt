@@ -1,7 +1,7 @@
 //! Decimals and their parts, and integers and the numbers that they are.
 
-use crate::row::Row;
 use fluent_number::{Decimal, FluentNumber};
+use fluent_trials::Row;
 use std::str::SplitWhitespace;
 
 /// Whether a sign, a whole part and a fraction make the decimal whose parts stand behind them, or `none`.

@@ -1,7 +1,7 @@
 //! Which texts are numbers, which digits they ask for, and what numbers are written as.
 
-use crate::row::Row;
 use fluent_number::{FluentNumber, NotANumber};
+use fluent_trials::Row;
 use std::alloc::{AllocError, Global};
 
 /// Whether a text is a number that asks for so many fraction digits, if for any, and is written so.
