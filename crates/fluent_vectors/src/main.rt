@@ -7,13 +7,12 @@
 
 mod errors;
 mod escapes;
-mod prefixes;
 mod trees;
 mod values;
 
 use anyhow::{Context, Result};
+use fluent_prefixes::{count_prefixes, parts};
 use fluent_syntax::parser::{self, ParserError};
-use prefixes::{count_prefixes, parts};
 use serde_json::Value;
 use std::alloc::Global;
 use std::fs;

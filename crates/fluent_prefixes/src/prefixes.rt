@@ -1,12 +1,9 @@
 //! Reads each prefix of a source. What comes out isn't known beforehand, but laws hold of it.
 
-mod laws;
-mod places;
-
+use crate::laws::{are_errors_of, are_same_entries};
 use anyhow::{Result, bail};
 use fluent_syntax::ast::Resource;
 use fluent_syntax::parser::{self, Error, ParserError, Slice};
-use laws::{are_errors_of, are_same_entries};
 use std::alloc::Global;
 
 /// How many prefixes a source has, and how many of them break a law.

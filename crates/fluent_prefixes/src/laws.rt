@@ -1,6 +1,6 @@
 //! Laws that hold of each tree with its errors, whatever the source.
 
-use super::places::fits;
+use crate::places::fits;
 use fluent_syntax::ast::{Entry, Message, Resource, Term};
 use fluent_syntax::parser::ParserError;
 
