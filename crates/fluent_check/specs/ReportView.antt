@@ -4,8 +4,8 @@ use Rattle.std.specs.Global.{Vec}
 use denote.Ref.{Bor}
 use Rattle.fluent_grammar.specs.Words.{Text}
 use Rattle.fluent_grammar.specs.Tiling.{errors}
-use Rattle.fluent_parser.specs.ErrorView.{ErrorView, error_view, error_told}
-use Rattle.fluent_parser.specs.declared.errors.ParserError.{ParserError}
+use Rattle.fluent_parsed.specs.ErrorView.{ErrorView, error_view, error_told}
+use Rattle.fluent_parsed.specs.declared.errors.ParserError.{ParserError}
 use Rattle.fluent_errors.specs.Errors.{Reported}
 use Rattle.fluent_errors.specs.View.{bundle_view}
 use Rattle.fluent_errors.specs.declared.bundle.FluentError.{FluentError}

@@ -12,8 +12,8 @@ use Rattle.fluent_grammar.specs.Tiling.{ParserError, errors}
 use Rattle.fluent_grammar.specs.TilingLaws.{Ascend}
 use Rattle.fluent_grammar.specs.Tiles.{full}
 use Rattle.fluent_grammar.proofs.TilesErrors.{slices_ascend}
-use Rattle.fluent_parser.specs.ErrorView.{Span, span, error_view, error_told}
-use Rattle.fluent_parser.specs.declared.errors.ParserError.{ParserError as Found}
+use Rattle.fluent_parsed.specs.ErrorView.{Span, span, error_view, error_told}
+use Rattle.fluent_parsed.specs.declared.errors.ParserError.{ParserError as Found}
 use Rattle.fluent_cut.specs.Cut.{without_slices, cut}
 use Rattle.fluent_cut.specs.CutLaws.{StandsBetweenCharacters}
 use Rattle.fluent_cut.proofs.Between.{slices_stand_between_characters}

@@ -3,7 +3,7 @@ use Rattle.std.proofs.Common.{◌≡◌, Bool, true, false, Result, Ok, Err, Lis
 use Rattle.std.specs.Prelude.{IsTrue, IfErr, IsErrOf}
 use Rattle.fluent_grammar.specs.Tiling.{ParserError, tree}
 use Rattle.fluent_grammar.specs.Written.{written}
-use Rattle.fluent_parser.specs.ErrorView.{error_told}
+use Rattle.fluent_parsed.specs.ErrorView.{error_told}
 use Rattle.fluent_cut.specs.Cut.{cut}
 use Rattle.fluent_json.specs.Json.{ValueDecides}
 use Rattle.fluent_normal.specs.Normal.{IsCanonical}

@@ -3,7 +3,7 @@
 ghost use Rattle.std.specs.Prelude.{◌≡◌, ◌++◌, IfOk, OnOk, map, string_bytes};
 ghost use Rattle.std.specs.Str.{IsUtf8};
 ghost use Rattle.fluent_grammar.specs.Tiling.{errors};
-ghost use Rattle.fluent_parser.specs.ErrorView.{error_view, error_told};
+ghost use Rattle.fluent_parsed.specs.ErrorView.{error_view, error_told};
 ghost use Rattle.fluent_cut.specs.Cut.{cut};
 
 use fluent_parser::{Error, ParserError, parse};

@@ -2,7 +2,7 @@
 
 use crate::calls::Outcome;
 use fluent_check::{Report, check};
-use fluent_parser::ParserError;
+use fluent_parsed::ParserError;
 use std::alloc::{AllocError, Global};
 use std::fmt;
 

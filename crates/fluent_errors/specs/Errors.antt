@@ -1,7 +1,7 @@
 -- Errors of bundles and of resolving, as plain data. A name is the list of its bytes, without `-` and `$`.
 use Rattle.std.specs.Prelude.{ℕ, List, Option, None, Some}
 use Rattle.fluent_grammar.specs.Tree as t
-use Rattle.fluent_parser.specs.ErrorView.{ErrorView}
+use Rattle.fluent_parsed.specs.ErrorView.{ErrorView}
 
 -- what an id of a bundle stands for
 pub data Kind : Type 0 where

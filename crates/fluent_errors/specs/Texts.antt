@@ -1,6 +1,6 @@
 -- The texts of errors.
 use Rattle.std.specs.Prelude.{ℕ, List, ◌++◌, Option, None, Some, codes}
-use Rattle.fluent_parser.specs.ErrorView.{ErrorView, kind_name}
+use Rattle.fluent_parsed.specs.ErrorView.{ErrorView, kind_name}
 use Rattle.fluent_errors.specs.Errors.{Kind, message, term, function, Reference, to_function, to_message, to_term, to_variable, Unresolved, unknown, no_value, missing_default, cyclic, too_many_placeables, Reported, overriding, damaged, unresolved}
 
 abbrev pub entry_text : Kind → List ℕ

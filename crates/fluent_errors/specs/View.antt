@@ -1,6 +1,6 @@
 -- The plain data that errors stand for.
 use Rattle.std.specs.Prelude.{option_map, string_bytes}
-use Rattle.fluent_parser.specs.ErrorView.{error_view}
+use Rattle.fluent_parsed.specs.ErrorView.{error_view}
 use Rattle.fluent_errors.specs.Errors.{Kind, message, term, function, Reference, to_function, to_message, to_term, to_variable, Unresolved, unknown, no_value, missing_default, cyclic, too_many_placeables, Reported, overriding, damaged, unresolved}
 use Rattle.fluent_errors.specs.declared.entry.EntryKind.{EntryKind}
 use Rattle.fluent_errors.specs.declared.entry.EntryKind.TheVariants as entry

@@ -7,7 +7,7 @@ ghost use Rattle.fluent_errors.specs.View.{bundle_view};
 
 use crate::entry::EntryKind;
 use crate::resolver::ResolverError;
-use fluent_parser::ParserError;
+use fluent_parsed::ParserError;
 use std::alloc::{AllocError, Global};
 use std::fmt;
 

@@ -9,7 +9,7 @@ ghost use Rattle.fluent_errors.specs.declared.reference.ReferenceKind.{Reference
 ghost use Rattle.fluent_errors.specs.declared.resolver.ResolverError.{ResolverError as Resolver};
 
 use crate::{EntryKind, FluentError, ReferenceKind, ResolverError};
-use fluent_parser::laws as parser_laws;
+use fluent_parsed::laws as parser_laws;
 
 /// `==` of kinds of entries is an equivalence, and two are equal exactly where they are the same.
 pub fn equal_entry_kinds()

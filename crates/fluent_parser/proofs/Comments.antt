@@ -15,7 +15,7 @@ use Rattle.fluent_parser.specs.Reads.{Refuses, Fails}
 use Rattle.fluent_parser.specs.declared.fault.Fault.{Fault}
 use Rattle.fluent_parser.specs.declared.fault.Fault.TheVariants as fault
 use Rattle.fluent_parser.proofs.Failing.{fails_bind}
-use Rattle.fluent_parser.specs.declared.errors.ErrorKind.{ErrorKind}
+use Rattle.fluent_parsed.specs.declared.errors.ErrorKind.{ErrorKind}
 use Rattle.fluent_words.proofs.Scanned.{cut_level, test_of}
 
 -- a line that doesn't end is the text

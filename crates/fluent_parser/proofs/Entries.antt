@@ -14,7 +14,7 @@ use Rattle.fluent_parser.specs.Steps.{pattern_by}
 use Rattle.fluent_parser.specs.Entries.{Head, head_by, attribute_with, attribute_by, attribute_or_none, next_attribute_by, attributes_left, attributes_by, message_by, term_by}
 use Rattle.fluent_parser.specs.declared.fault.Fault.{Fault}
 use Rattle.fluent_parser.specs.declared.fault.Fault.TheVariants as fault
-use Rattle.fluent_parser.specs.declared.errors.ErrorKind.{ErrorKind}
+use Rattle.fluent_parsed.specs.declared.errors.ErrorKind.{ErrorKind}
 use Rattle.fluent_parser.proofs.Whole.{whole-pattern}
 
 abbrev equals_if : Bool → Text → Reading (Unit {0})

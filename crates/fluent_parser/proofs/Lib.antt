@@ -20,4 +20,3 @@ pub mod Entries
 pub mod EntryStarts
 pub mod Parts
 pub mod Left
-pub mod CollectedEntries

@@ -1,5 +1,7 @@
-pub mod ErrorView
-pub mod ErrorText
+-- what reading gives
+pub use Rattle.fluent_parsed.specs.ErrorView
+pub use Rattle.fluent_parsed.specs.ErrorText
+pub use Rattle.fluent_parsed.specs.Collected
 pub mod Frame
 pub mod Reads
 pub mod Steps
@@ -10,5 +12,4 @@ pub mod Entries
 pub mod Heads
 pub mod Places
 pub mod Parts
-pub mod Collected
 pub mod Left

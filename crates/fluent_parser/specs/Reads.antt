@@ -5,10 +5,10 @@ use Rattle.fluent_grammar.specs.Tree as t
 use Rattle.fluent_grammar.specs.Refusal as r
 use Rattle.fluent_grammar.specs.Refusal.{Kind, Reading, got, refused, refuse, mapped, ◌>>=◌}
 use Rattle.fluent_grammar.specs.Reading.{Readers, readers, string_content, number_at, key_at, literal_at, is_term_attribute}
-use Rattle.fluent_parser.specs.ErrorView.{kind_view, told, expected_char_range}
+use Rattle.fluent_parsed.specs.ErrorView.{kind_view, told, expected_char_range}
 use Rattle.fluent_parser.specs.declared.fault.Fault.{Fault}
 use Rattle.fluent_parser.specs.declared.fault.Fault.TheVariants as fault
-use Rattle.fluent_parser.specs.declared.errors.ErrorKind.{ErrorKind}
+use Rattle.fluent_parsed.specs.declared.errors.ErrorKind.{ErrorKind}
 
 -- the refusal of a reading is told by this kind, and what stands at its place is this rest
 abbrev pub Refuses : {A : Type 0} → ErrorKind → Text → Reading A → Type 0

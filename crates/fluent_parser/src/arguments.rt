@@ -5,11 +5,11 @@ ghost use Rattle.std.specs.Prelude.{◌≡◌, ◌≤◌, ◌<◌, [], true, IfO
 ghost use Rattle.fluent_grammar.specs.Words as w;
 ghost use Rattle.fluent_parser.specs.Frame.{Advances};
 
-use crate::ErrorKind;
 use crate::fault::Fault;
 use crate::named_arguments::NamedArguments;
 use crate::parser::Parser;
 use fluent_ast::{CallArguments, Identifier, InlineExpression, NamedArgument};
+use fluent_parsed::ErrorKind;
 use fluent_slice::Texts;
 use fluent_words as words;
 

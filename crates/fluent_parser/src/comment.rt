@@ -8,10 +8,10 @@ ghost use Rattle.fluent_grammar.specs.Reading.{comment_of};
 ghost use Rattle.fluent_ast.specs.View.{entry_view};
 ghost use Rattle.fluent_parser.specs.Frame.{Advances};
 
-use crate::ErrorKind;
 use crate::fault::Fault;
 use crate::parser::Parser;
 use fluent_ast::{Comment, Entry};
+use fluent_parsed::ErrorKind;
 use fluent_slice::Texts;
 use fluent_words as words;
 

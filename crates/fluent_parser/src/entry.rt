@@ -6,11 +6,11 @@ ghost use Rattle.fluent_grammar.specs.Words as w;
 ghost use Rattle.fluent_grammar.specs.Refusal as r;
 ghost use Rattle.fluent_parser.specs.Frame.{Advances};
 
-use crate::ErrorKind;
 use crate::fault::Fault;
 use crate::parser::Parser;
 use fluent_ast::{Attribute, Entry, Identifier, Message, Pattern, Term};
 use fluent_elements::push_tight;
+use fluent_parsed::ErrorKind;
 use fluent_slice::Texts;
 use fluent_words as words;
 

@@ -5,9 +5,9 @@ ghost use Rattle.std.specs.Prelude.{◌≡◌, ◌<◌, ◌≤◌, length};
 ghost use Rattle.fluent_grammar.specs.Refusal as r;
 ghost use Rattle.fluent_parser.specs.Frame.{Advances};
 
-use crate::ErrorKind;
 use crate::fault::Fault;
 use crate::parser::Parser;
+use fluent_parsed::ErrorKind;
 use fluent_slice::Texts;
 
 impl<'p, S: Drop, T: Texts<S>> Parser<'p, S, T> {

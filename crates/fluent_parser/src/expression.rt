@@ -6,10 +6,10 @@ ghost use Rattle.std.specs.List.{list_all};
 ghost use Rattle.fluent_grammar.specs.Words as w;
 ghost use Rattle.fluent_parser.specs.Frame.{Advances};
 
-use crate::ErrorKind;
 use crate::fault::Fault;
 use crate::parser::Parser;
 use fluent_ast::{Expression, Identifier, InlineExpression, Variant};
+use fluent_parsed::ErrorKind;
 use fluent_slice::Texts;
 use fluent_words as words;
 

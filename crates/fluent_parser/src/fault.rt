@@ -3,7 +3,7 @@
 ghost use Rattle.std.specs.Prelude.{◌≡◌};
 ghost use Rattle.fluent_parser.specs.declared.fault.Fault.TheVariants.{Memory};
 
-use crate::ErrorKind;
+use fluent_parsed::ErrorKind;
 use std::alloc::{AllocError, AllocFailed};
 
 /// Why nothing was read. After a refusal the parser stands where reading stopped.

@@ -6,14 +6,11 @@
 
 mod arguments;
 mod blank;
-mod collected;
 mod comment;
 mod entry;
-pub mod errors;
 mod expected;
 mod expression;
 mod fault;
-pub mod laws;
 mod named_arguments;
 mod parser;
 mod part;
@@ -22,43 +19,16 @@ mod resource;
 mod select;
 mod token;
 
-ghost use Rattle.std.specs.Prelude.{Some, map};
+ghost use Rattle.std.specs.Prelude.{map};
 ghost use Rattle.fluent_grammar.specs.Tiling.{tree, errors, runtime_tree, runtime_errors};
-ghost use Rattle.fluent_parser.specs.ErrorView.{error_told};
-ghost use Rattle.fluent_parser.specs.Collected.{HasTree, HasErrors};
-ghost use Rattle.fluent_parser.specs.ErrorText.{error_text};
+ghost use Rattle.fluent_parsed.specs.ErrorView.{error_told};
+ghost use Rattle.fluent_parsed.specs.Collected.{HasTree, HasErrors};
 
-pub use errors::{ErrorKind, ParserError};
-use fluent_ast::Resource;
+pub use fluent_parsed::{Error, ErrorKind, ParserError, Result, laws};
 pub use fluent_slice::Slice;
 use fluent_slice::Slices;
 use resource::{parts_of, runtime_parts_of};
 use std::alloc::Global;
-use std::fmt;
-
-/// Why a source isn't read whole.
-#[derive(Debug, PartialEq, Eq, Drop)]
-pub enum Error<S> {
-    /// Parts of the source are no entries. The tree has them as junk, and each junk has one error, in the same order.
-    Broken(Resource<S>, Vec<ParserError>),
-    /// Memory ran out. Nothing of the tree is left.
-    Memory,
-}
-
-/// The text of `docs/errors.md`.
-impl<S> fmt::Display for Error<S> {
-    ghost output = { λ error. Some (error_text S error) };
-
-    fn fmt<W: fmt::Write>(&self, f: &mut fmt::Formatter<W>) -> fmt::Result {
-        f.write_str(match self {
-            Error::Broken(_, _) => "the source has errors",
-            Error::Memory => "out of memory",
-        })
-    }
-}
-
-/// What reading a source gives: its tree, or why it isn't read whole.
-pub type Result<S> = std::result::Result<Resource<S>, Error<S>>;
 
 /// The tree of a source, with its comments.
 ///

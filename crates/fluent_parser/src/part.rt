@@ -4,15 +4,14 @@
 ghost use Rattle.std.specs.Prelude.{◌≡◌, ◌<◌, ◌≤◌, ◌-◌, ◌^◌, IfOk, drop, length};
 ghost use Rattle.fluent_words.specs.Counted.{Cuts};
 ghost use Rattle.fluent_grammar.specs.Tiling.{behind_junk, resume};
-ghost use Rattle.fluent_parser.specs.ErrorView.{error_view, kind_view};
+ghost use Rattle.fluent_parsed.specs.ErrorView.{error_view, kind_view};
 ghost use Rattle.fluent_parser.specs.Places.{error_by};
 ghost use Rattle.fluent_parser.specs.Frame.{Advances, Stays};
 
-use crate::collected::Collected;
 use crate::fault::Fault;
 use crate::parser::Parser;
-use crate::{ErrorKind, ParserError};
 use fluent_lines::begins_entry;
+use fluent_parsed::{Collected, ErrorKind, ParserError};
 use fluent_slice::Texts;
 use std::alloc::AllocError;
 
@@ -21,7 +20,7 @@ impl<'p, S: Drop, T: Texts<S>> Parser<'p, S, T> {
     ghost use Rattle.fluent_grammar.specs.Tiling.{Piece};
     ghost use Rattle.fluent_grammar.specs.Reading.{entry_at};
     ghost use Rattle.fluent_parser.specs.Parts.{piece_of, behind_piece};
-    ghost use Rattle.fluent_parser.specs.Collected.{entries_with, errors_with};
+    ghost use Rattle.fluent_parsed.specs.Collected.{entries_with, errors_with};
 
     /// Reads the part that begins here, and puts it behind those that were collected. `apart` says whether a blank line
     /// stands before it. Behind a refused entry, reading goes on at the first place that may begin another: at or behind

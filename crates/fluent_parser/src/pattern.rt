@@ -8,11 +8,11 @@ ghost use Rattle.fluent_parser.specs.Steps.{text_piece};
 ghost use Rattle.fluent_lines.specs.Lookup.{IsOneLine};
 ghost use Rattle.fluent_parser.specs.Frame.{Advances, StartsLine};
 
-use crate::ErrorKind;
 use crate::fault::Fault;
 use crate::parser::Parser;
 use fluent_ast::{Pattern, PatternElement};
 use fluent_elements::{Gathered, is_blank_text};
+use fluent_parsed::ErrorKind;
 use fluent_slice::Texts;
 use fluent_words as words;
 

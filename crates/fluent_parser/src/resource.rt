@@ -4,13 +4,13 @@
 ghost use Rattle.std.specs.Prelude.{◌≡◌, ◌-◌, ◌≤◌, [], None, IfOk, length, map};
 ghost use Rattle.fluent_grammar.specs.Words as w;
 ghost use Rattle.fluent_grammar.specs.Tiling.{tree, errors, runtime_tree, runtime_errors};
-ghost use Rattle.fluent_parser.specs.Collected.{entries_with, errors_with};
-ghost use Rattle.fluent_parser.specs.ErrorView.{error_told};
+ghost use Rattle.fluent_parsed.specs.Collected.{entries_with, errors_with};
+ghost use Rattle.fluent_parsed.specs.ErrorView.{error_told};
 ghost use Rattle.fluent_parser.specs.Frame.{Advances};
 
-use crate::collected::Collected;
 use crate::parser::Parser;
 use fluent_lines::line_table;
+use fluent_parsed::Collected;
 use fluent_slice::Texts;
 use std::alloc::{AllocError, Global};
 
@@ -47,10 +47,10 @@ pub fn runtime_parts_of<S: Drop, T: Texts<S>>(
 }
 
 impl<'p, S: Drop, T: Texts<S>> Parser<'p, S, T> {
-    ghost use Rattle.fluent_parser.specs.Collected.{entries_with, errors_with};
+    ghost use Rattle.fluent_parsed.specs.Collected.{entries_with, errors_with};
     ghost use Rattle.fluent_parser.specs.Left.{pieces_left, runtime_left};
     ghost use Rattle.fluent_grammar.specs.Tiling.{entries_of, errors_of};
-    ghost use Rattle.fluent_parser.specs.ErrorView.{error_told};
+    ghost use Rattle.fluent_parsed.specs.ErrorView.{error_told};
 
     /// All parts that are left, with their comments.
     pub fn get_parts(&mut self) -> Result<Collected<S>, AllocError>

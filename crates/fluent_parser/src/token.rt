@@ -9,10 +9,10 @@ ghost use Rattle.fluent_grammar.specs.Refusal as r;
 ghost use Rattle.fluent_grammar.specs.Reading.{first_char};
 ghost use Rattle.fluent_parser.specs.Frame.{Advances};
 
-use crate::ErrorKind;
 use crate::fault::Fault;
 use crate::parser::{Parser, behind};
 use fluent_ast::Identifier;
+use fluent_parsed::ErrorKind;
 use fluent_slice::Texts;
 use fluent_words as words;
 use fluent_words::StringEnd;

@@ -4,7 +4,7 @@ use Rattle.fluent_grammar.specs.Words.{Text}
 use Rattle.fluent_grammar.specs.Tree as t
 use Rattle.fluent_grammar.specs.Tiling.{listed}
 use Rattle.fluent_grammar.specs.TilingLaws.{junk_of}
-use Rattle.fluent_parser.specs.ErrorView.{ErrorView, error_view}
+use Rattle.fluent_parsed.specs.ErrorView.{ErrorView, error_view}
 use Rattle.fluent_resource.specs.ResourceView.{entries_view}
 use Rattle.fluent_resource.specs.declared.resource.FluentResource.{FluentResource}
 use Rattle.fluent_resource.specs.declared.error.ResourceError.{ResourceError}

@@ -3,7 +3,7 @@
 ghost use Rattle.std.specs.Prelude.{◌≡◌, length, option_map, option_copied, map, slice_get};
 ghost use Rattle.fluent_ast.specs.View.{entry_view};
 ghost use Rattle.fluent_grammar.specs.Tiling.{list, runtime_tree, runtime_errors};
-ghost use Rattle.fluent_parser.specs.ErrorView.{error_told};
+ghost use Rattle.fluent_parsed.specs.ErrorView.{error_told};
 ghost use Rattle.fluent_resource.specs.ResourceView.{entries_view};
 ghost use Rattle.fluent_resource.specs.EntriesLeft.{entries_left};
 ghost use Rattle.fluent_resource.specs.Reading.{ReadsSource, HoldsEntries, HoldsList, HasErrors, HasAnErrorForEachJunk};

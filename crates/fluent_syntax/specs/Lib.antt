@@ -8,6 +8,6 @@ pub use Rattle.fluent_grammar.specs.Spelling
 pub use Rattle.fluent_grammar.specs.Tiling
 pub use Rattle.fluent_grammar.specs.Written
 pub use Rattle.fluent_ast.specs.View
-pub use Rattle.fluent_parser.specs.ErrorView
-pub use Rattle.fluent_parser.specs.Collected
-pub mod Unescaped
+pub use Rattle.fluent_parsed.specs.ErrorView
+pub use Rattle.fluent_parsed.specs.Collected
+pub use Rattle.fluent_unicode.specs.Unescaped

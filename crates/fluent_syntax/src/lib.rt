@@ -6,8 +6,8 @@
 #![tactic(auto)]
 
 pub mod laws;
-pub mod unicode;
 
 pub use fluent_ast as ast;
 pub use fluent_parser as parser;
 pub use fluent_serializer as serializer;
+pub use fluent_unicode as unicode;

@@ -4,7 +4,7 @@ use Rattle.std.proofs.lemmas.List.{drop_all}
 use Rattle.std.proofs.lemmas.List.Folds.{flat_map-map}
 use Rattle.std.specs.List.{flat_map}
 use Rattle.fluent_grammar.specs.Words.{Text}
-use Rattle.fluent_parser.specs.ErrorView.{ErrorView}
+use Rattle.fluent_parsed.specs.ErrorView.{ErrorView}
 use Rattle.ftl_report.specs.Report.{error_line, errors_text}
 
 -- With the lines of what is left, the lines of all stand behind the old text. `line` is what an item shows.

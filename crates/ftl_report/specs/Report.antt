@@ -2,7 +2,7 @@
 use Rattle.std.specs.Prelude.{ℕ, ◌+◌, List, [], ◌∷◌, ◌++◌, map, codes, decimal}
 use Rattle.std.specs.List.{flat_map}
 use Rattle.fluent_grammar.specs.Words.{Text}
-use Rattle.fluent_parser.specs.ErrorView.{ErrorView, kind_name}
+use Rattle.fluent_parsed.specs.ErrorView.{ErrorView, kind_name}
 use Rattle.fluent_errors.specs.Errors.{Reported}
 use Rattle.fluent_errors.specs.Texts.{bundle_text}
 use Rattle.fluent_requests.specs.Frames.{ended}

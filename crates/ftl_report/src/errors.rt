@@ -3,10 +3,10 @@
 ghost use Rattle.std.specs.Prelude.{◌≡◌, ◌++◌, OnOk, map, string_bytes};
 ghost use Rattle.std.specs.List.{flat_map};
 ghost use Rattle.fluent_check.specs.ReportView.{errors_view};
-ghost use Rattle.fluent_parser.specs.ErrorView.{error_view};
+ghost use Rattle.fluent_parsed.specs.ErrorView.{error_view};
 ghost use Rattle.ftl_report.specs.Report.{error_line, errors_text};
 
-use fluent_parser::ParserError;
+use fluent_parsed::ParserError;
 use std::alloc::AllocError;
 
 /// Puts the lines of all errors behind `text`, source by source.

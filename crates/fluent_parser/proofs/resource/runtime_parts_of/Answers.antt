@@ -1,8 +1,8 @@
 use Rattle.std.proofs.Common.{ap, [], None, List, map, subst, ◌≡◌, IfOk}
 use Rattle.fluent_grammar.specs.Tree as t
 use Rattle.fluent_grammar.specs.Tiling.{Piece, entries_of, errors_of}
-use Rattle.fluent_parser.specs.ErrorView.{ErrorView, error_told}
-use Rattle.fluent_parser.specs.Collected.{entries_with, errors_with}
+use Rattle.fluent_parsed.specs.ErrorView.{ErrorView, error_told}
+use Rattle.fluent_parsed.specs.Collected.{entries_with, errors_with}
 use Rattle.fluent_parser.proofs.Left.{whole_left_at_runtime}
 use Rattle.fluent_parser.proofs.resource.runtime_parts_of.Goals as goal
 

@@ -1,5 +1,5 @@
 use Rattle.std.proofs.Common.{refl, string_bytes, rules}
-use Rattle.fluent_parser.specs.ErrorView.{error_view}
+use Rattle.fluent_parsed.specs.ErrorView.{error_view}
 use Rattle.ftl_report.specs.Report.{error_line}
 use Rattle.ftl_report.proofs.Lines.{lines_next, lines_at_last, by_views}
 use Rattle.ftl_report.proofs.errors.push_errors_of.Goals as goal

@@ -3,11 +3,11 @@ use Rattle.fluent_grammar.specs.Words.{Text}
 use Rattle.fluent_grammar.specs.Reading.{entry_at}
 use Rattle.fluent_grammar.specs.Tiling.{errors_of, behind_junk}
 use Rattle.fluent_words.specs.Counted.{Cuts}
-use Rattle.fluent_parser.specs.ErrorView.{ErrorView, error_view, error_told, kind_view}
+use Rattle.fluent_parsed.specs.ErrorView.{ErrorView, error_view, error_told, kind_view}
 use Rattle.fluent_parser.specs.Places.{error_by}
 use Rattle.fluent_parser.specs.Reads.{Refuses}
 use Rattle.fluent_parser.specs.Parts.{behind_piece}
-use Rattle.fluent_parser.proofs.CollectedEntries.{told_more}
+use Rattle.fluent_parsed.proofs.CollectedEntries.{told_more}
 use Rattle.fluent_parser.proofs.Parts.{junk_cuts, junk_less, junk_rest, junk_behind, junk_told, entry_less}
 use Rattle.fluent_parser.proofs.parser.Parser.get_part.Goals as goal
 

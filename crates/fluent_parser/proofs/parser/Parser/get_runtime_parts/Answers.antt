@@ -2,10 +2,10 @@ use Rattle.std.proofs.Common.{◌≡◌, ◌∙◌, ◌-◌, ◌<◌, ℕ, true,
 use Rattle.std.specs.Prelude.{◌==◌}
 use Rattle.fluent_grammar.specs.Reading.{entry_at}
 use Rattle.fluent_grammar.specs.Tiling.{Piece}
-use Rattle.fluent_parser.specs.Collected.{entries_with, errors_with}
+use Rattle.fluent_parsed.specs.Collected.{entries_with, errors_with}
 use Rattle.fluent_parser.specs.Left.{runtime_left}
 use Rattle.fluent_parser.specs.Parts.{piece_of}
-use Rattle.fluent_parser.proofs.CollectedEntries.{test_some}
+use Rattle.fluent_parsed.proofs.CollectedEntries.{test_some}
 use Rattle.fluent_parser.proofs.Left.{nothing_left_at_runtime, piece_left_at_runtime, line_passed, line_less}
 use Rattle.fluent_words.proofs.Scanned.{test_of}
 use Rattle.fluent_parser.proofs.parser.Parser.get_runtime_parts.Goals as goal

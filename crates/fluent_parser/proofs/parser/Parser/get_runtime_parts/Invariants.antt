@@ -1,7 +1,7 @@
 use Rattle.std.proofs.Common.{◌≡◌, ◌≤◌, None, length, map}
 use Rattle.fluent_grammar.specs.Tiling.{entries_of, errors_of}
-use Rattle.fluent_parser.specs.ErrorView.{error_told}
-use Rattle.fluent_parser.specs.Collected.{entries_with, errors_with}
+use Rattle.fluent_parsed.specs.ErrorView.{error_told}
+use Rattle.fluent_parsed.specs.Collected.{entries_with, errors_with}
 use Rattle.fluent_parser.specs.Left.{runtime_left}
 use Rattle.fluent_parser.proofs.parser.Parser.get_runtime_parts.Given as goal
 

@@ -2,7 +2,7 @@ use Rattle.std.proofs.Common.{◌∙◌, ap, length}
 use Rattle.fluent_grammar.specs.Tiles.{runtime}
 use Rattle.fluent_grammar.specs.Tiling.{runtime_errors}
 use Rattle.fluent_grammar.specs.TilingLaws.{junk_of, sliced}
-use Rattle.fluent_parser.specs.ErrorView.{error_told, error_view}
+use Rattle.fluent_parsed.specs.ErrorView.{error_told, error_view}
 use Rattle.fluent_resource.proofs.Junk.{none_of, as_many}
 use Rattle.fluent_resource.proofs.resource.FluentResource.try_new.Goals as goal
 

@@ -1,0 +1,3 @@
+pub mod ErrorView
+pub mod ErrorText
+pub mod Collected

@@ -1,0 +1,32 @@
+//! What reading a source answers.
+
+ghost use Rattle.std.specs.Prelude.{Some};
+ghost use Rattle.fluent_parsed.specs.ErrorText.{error_text};
+
+use crate::ParserError;
+use fluent_ast::Resource;
+use std::fmt;
+
+/// Why a source isn't read whole.
+#[derive(Debug, PartialEq, Eq, Drop)]
+pub enum Error<S> {
+    /// Parts of the source are no entries. The tree has them as junk, and each junk has one error, in the same order.
+    Broken(Resource<S>, Vec<ParserError>),
+    /// Memory ran out. Nothing of the tree is left.
+    Memory,
+}
+
+/// The text of `docs/errors.md`.
+impl<S> fmt::Display for Error<S> {
+    ghost output = { λ error. Some (error_text S error) };
+
+    fn fmt<W: fmt::Write>(&self, f: &mut fmt::Formatter<W>) -> fmt::Result {
+        f.write_str(match self {
+            Error::Broken(_, _) => "the source has errors",
+            Error::Memory => "out of memory",
+        })
+    }
+}
+
+/// What reading a source gives: its tree, or why it isn't read whole.
+pub type Result<S> = std::result::Result<Resource<S>, Error<S>>;

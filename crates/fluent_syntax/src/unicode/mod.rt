@@ -1,7 +1,0 @@
-//! Escapes of string literals, and what texts are written to.
-
-mod escape;
-mod unescape;
-
-pub use fluent_write::TextWrite;
-pub use unescape::{unescape_unicode, unescape_unicode_to_string};

@@ -1,0 +1,8 @@
+//! Escapes of string literals, and what texts are written to.
+#![tactic(auto)]
+
+mod escape;
+mod unescape;
+
+pub use fluent_write::TextWrite;
+pub use unescape::{unescape_unicode, unescape_unicode_to_string};
