@@ -84,7 +84,8 @@ fn counts_of(alloc: Global, text: &str, reading: Reading) -> Result<FluentCounts
 
 /// The counts of what was read, with or without errors.
 fn counts_of_read(read: parser::Result<&str>) -> Result<FluentCounts, AllocError>
-    ensures { (es : List PlainEntry) (errors : List ParserError) → HasTree Text text_of read.entry es
+    ensures { (es : List PlainEntry) (errors : List ParserError)
+        → HasTree Text text_of read.entry es
         → HasErrors Text read.entry (map error_told errors)
         → IfOk result (λ counts. Counted counts es errors) }
 {

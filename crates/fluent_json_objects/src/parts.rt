@@ -24,7 +24,8 @@ pub fn resource(value: &Value) -> Option<&[Value]>
 /// The identifier, the value, the attributes and the comment of a `Message`.
 pub fn message(value: &Value) -> Option<(&Value, &Value, &[Value], &Value)>
     ensures some { IfSome result (λ parts. view value.now
-        ≡ object.message (view parts.0.now) (view parts.1.now) (items_view parts.2.now) (view parts.3.now)) }
+        ≡ object.message (view parts.0.now) (view parts.1.now) (items_view parts.2.now)
+        (view parts.3.now)) }
     ensures none { IfNone result ((id : Data) (value' : Data) (attributes : Items) (comment : Data)
         → view value.now ≢ object.message id value' attributes comment) }
 {
@@ -43,7 +44,8 @@ pub fn message(value: &Value) -> Option<(&Value, &Value, &[Value], &Value)>
 /// The identifier, the value, the attributes and the comment of a `Term`.
 pub fn term(value: &Value) -> Option<(&Value, &Value, &[Value], &Value)>
     ensures some { IfSome result (λ parts. view value.now
-        ≡ object.term (view parts.0.now) (view parts.1.now) (items_view parts.2.now) (view parts.3.now)) }
+        ≡ object.term (view parts.0.now) (view parts.1.now) (items_view parts.2.now)
+        (view parts.3.now)) }
     ensures none { IfNone result ((id : Data) (value' : Data) (attributes : Items) (comment : Data)
         → view value.now ≢ object.term id value' attributes comment) }
 {

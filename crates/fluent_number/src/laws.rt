@@ -157,7 +157,8 @@ pub fn equal_values_look_the_same()
 pub fn equal_choices_are_the_same()
     ensures types { EqualWhereSeenSame ⟦<FluentNumberType as PartialEq>⟧.eq (λ value. value) }
     ensures styles { EqualWhereSeenSame ⟦<FluentNumberStyle as PartialEq>⟧.eq (λ value. value) }
-    ensures currency_displays { EqualWhereSeenSame ⟦<FluentNumberCurrencyDisplayStyle as PartialEq>⟧.eq (λ value. value) }
+    ensures currency_displays { EqualWhereSeenSame
+        ⟦<FluentNumberCurrencyDisplayStyle as PartialEq>⟧.eq (λ value. value) }
 {}
 
 /// Plural operands are equal where each of them is the same, categories and kinds of rules where they are the same.
@@ -170,8 +171,10 @@ pub fn equal_plurals_are_the_same()
 /// Equal decimals, equal options and equal numbers hash equally.
 pub fn equal_values_hash_equally()
     ensures decimals { HashesEqualAlike ⟦<Decimal as PartialEq>⟧.eq ⟦<Decimal as Hash>⟧.hash_input }
-    ensures options { HashesEqualAlike ⟦<FluentNumberOptions as PartialEq>⟧.eq ⟦<FluentNumberOptions as Hash>⟧.hash_input }
-    ensures numbers { HashesEqualAlike ⟦<FluentNumber as PartialEq>⟧.eq ⟦<FluentNumber as Hash>⟧.hash_input }
+    ensures options { HashesEqualAlike ⟦<FluentNumberOptions as PartialEq>⟧.eq
+        ⟦<FluentNumberOptions as Hash>⟧.hash_input }
+    ensures numbers { HashesEqualAlike ⟦<FluentNumber as PartialEq>⟧.eq
+        ⟦<FluentNumber as Hash>⟧.hash_input }
 {
     hashing_of::<Decimal>();
     hashing_of::<FluentNumberOptions>();
@@ -180,16 +183,23 @@ pub fn equal_values_hash_equally()
 
 /// Equal choices that options hold hash equally.
 pub fn equal_choices_hash_equally()
-    ensures types { HashesEqualAlike ⟦<FluentNumberType as PartialEq>⟧.eq ⟦<FluentNumberType as Hash>⟧.hash_input }
-    ensures styles { HashesEqualAlike ⟦<FluentNumberStyle as PartialEq>⟧.eq ⟦<FluentNumberStyle as Hash>⟧.hash_input }
-    ensures currency_displays { HashesEqualAlike ⟦<FluentNumberCurrencyDisplayStyle as PartialEq>⟧.eq ⟦<FluentNumberCurrencyDisplayStyle as Hash>⟧.hash_input }
+    ensures types { HashesEqualAlike ⟦<FluentNumberType as PartialEq>⟧.eq
+        ⟦<FluentNumberType as Hash>⟧.hash_input }
+    ensures styles { HashesEqualAlike ⟦<FluentNumberStyle as PartialEq>⟧.eq
+        ⟦<FluentNumberStyle as Hash>⟧.hash_input }
+    ensures currency_displays { HashesEqualAlike
+        ⟦<FluentNumberCurrencyDisplayStyle as PartialEq>⟧.eq
+        ⟦<FluentNumberCurrencyDisplayStyle as Hash>⟧.hash_input }
 {}
 
 /// Equal plural operands, equal categories and equal kinds of rules hash equally.
 pub fn equal_plurals_hash_equally()
-    ensures operands { HashesEqualAlike ⟦<PluralOperands as PartialEq>⟧.eq ⟦<PluralOperands as Hash>⟧.hash_input }
-    ensures categories { HashesEqualAlike ⟦<PluralCategory as PartialEq>⟧.eq ⟦<PluralCategory as Hash>⟧.hash_input }
-    ensures rules { HashesEqualAlike ⟦<PluralRuleType as PartialEq>⟧.eq ⟦<PluralRuleType as Hash>⟧.hash_input }
+    ensures operands { HashesEqualAlike ⟦<PluralOperands as PartialEq>⟧.eq
+        ⟦<PluralOperands as Hash>⟧.hash_input }
+    ensures categories { HashesEqualAlike ⟦<PluralCategory as PartialEq>⟧.eq
+        ⟦<PluralCategory as Hash>⟧.hash_input }
+    ensures rules { HashesEqualAlike ⟦<PluralRuleType as PartialEq>⟧.eq
+        ⟦<PluralRuleType as Hash>⟧.hash_input }
 {}
 
 /// The law of `Hash` at any type.

@@ -77,7 +77,8 @@ impl<'b, 'r, 's, M: MemoizerKind> Desk<'b, 'r, 's, M> {
         arguments: &'x FluentArgs<'_, NoCustom>,
     ) -> Result<Reply, AllocError>
         ensures { IfOk result (λ reply. reply_view reply ≡
-            reply_by M.category_of M.stringified self.now (arguments_view arguments.now) (elements_of pattern.now)) }
+            reply_by M.category_of M.stringified self.now (arguments_view arguments.now)
+            (elements_of pattern.now)) }
     {
         let context: Lent<'_, M, NoFormatter, NoTransform> = Lent {
             plurals: self.plurals,
@@ -103,7 +104,8 @@ impl<'b, 'r, 's, M: MemoizerKind> Desk<'b, 'r, 's, M> {
         out: &mut Vec<u8>,
     ) -> Result<(), AllocError>
         ensures ok { OnOk result (out.new.items ≡ out.old.items ++ frame_of (ok
-            (reply_for M.category_of M.stringified self.now (request_view request.now) (elements_of pattern.now)))) }
+            (reply_for M.category_of M.stringified self.now (request_view request.now)
+            (elements_of pattern.now)))) }
         ensures front { IsFrontOf out.old.items out.new.items }
     {
         let arguments = valued_arguments(alloc, &request.arguments)?;

@@ -52,7 +52,8 @@ pub(crate) fn resolve<'b, 'r, 's, 'a, C: FluentType + Drop, F, E: Context<C, F>>
 ) -> Result<Reply, AllocError>
     ensures { IfOk result (λ reply. reply_view reply ≡
         told (answer_written (resolved_in E.environment place.now)
-        (args_or_none C.meaning (given_args C.meaning place.now.arguments)) (elements_of pattern.now))) }
+        (args_or_none C.meaning (given_args C.meaning place.now.arguments))
+        (elements_of pattern.now))) }
 {
     let alloc = place.context.alloc();
     let mut progress = Progress::new(alloc, Some(Vec::new(alloc)));

@@ -114,7 +114,8 @@ fn answer_line<E: Engine, W: Sink>(
     waiting: &mut Waiting,
     end: &[u8],
 ) -> Result<(), RunError>
-    ensures ok { OnOk result (Puts (W.contents writer.old) waiting.old.output.items (W.contents writer.new) waiting.new.output.items
+    ensures ok { OnOk result (Puts (W.contents writer.old) waiting.old.output.items
+        (W.contents writer.new) waiting.new.output.items
         (E.reply engine.now (waiting.old.line.items ++ end.now))) }
     ensures line { OnOk result (waiting.new.line.items ≡ []) }
     ensures failures { OnOk result (W.failures writer.new ≡ W.failures writer.old) }
@@ -123,7 +124,8 @@ fn answer_line<E: Engine, W: Sink>(
         waiting.new.output.items [] }
     ensures memory_failures { IsErrOf result RunError.Memory
         → W.failures writer.new ≡ W.failures writer.old }
-    ensures write { IsErrOf result RunError.Write → PutsFront (W.contents writer.old) waiting.old.output.items (W.contents writer.new)
+    ensures write { IsErrOf result RunError.Write
+        → PutsFront (W.contents writer.old) waiting.old.output.items (W.contents writer.new)
         (E.reply engine.now (waiting.old.line.items ++ end.now)) }
     ensures failed { IsErrOf result RunError.Write
         → HasFailed (W.failures writer.old) (W.failures writer.new) }
@@ -166,17 +168,21 @@ fn answer_block<E: Engine, W: Sink>(
     block: &[u8],
 ) -> Result<(), RunError>
     requires { IsUnfinished waiting.old.line.items }
-    ensures ok { OnOk result (Puts (W.contents writer.old) waiting.old.output.items (W.contents writer.new) waiting.new.output.items
+    ensures ok { OnOk result (Puts (W.contents writer.old) waiting.old.output.items
+        (W.contents writer.new) waiting.new.output.items
         (answers_to (E.reply engine.now) (whole_lines (waiting.old.line.items ++ block.now)))) }
     ensures line { OnOk result (waiting.new.line.items
         ≡ unfinished (waiting.old.line.items ++ block.now)) }
     ensures unfinished { OnOk result (IsUnfinished waiting.new.line.items) }
     ensures failures { OnOk result (W.failures writer.new ≡ W.failures writer.old) }
-    ensures memory { IsErrOf result RunError.Memory → PutsFirst (W.contents writer.old) waiting.old.output.items (W.contents writer.new) waiting.new.output.items
+    ensures memory { IsErrOf result RunError.Memory
+        → PutsFirst (W.contents writer.old) waiting.old.output.items (W.contents writer.new)
+        waiting.new.output.items
         (E.reply engine.now) (whole_lines (waiting.old.line.items ++ block.now)) }
     ensures memory_failures { IsErrOf result RunError.Memory
         → W.failures writer.new ≡ W.failures writer.old }
-    ensures write { IsErrOf result RunError.Write → PutsFront (W.contents writer.old) waiting.old.output.items (W.contents writer.new)
+    ensures write { IsErrOf result RunError.Write
+        → PutsFront (W.contents writer.old) waiting.old.output.items (W.contents writer.new)
         (answers_to (E.reply engine.now) (whole_lines (waiting.old.line.items ++ block.now))) }
     ensures failed { IsErrOf result RunError.Write
         → HasFailed (W.failures writer.old) (W.failures writer.new) }

@@ -89,7 +89,8 @@ fn read_message(
     ensures ok { IfOk result (λ entry. entry_json entry
         ≡ message (view id.now) (view pattern.now) (items_view attributes.now) (view comment.now)) }
     ensures shape { IfErr result (λ e. e ≡ FromValueError.Shape
-        → HasNone json_entry (message (view id.now) (view pattern.now) (items_view attributes.now) (view comment.now))) }
+        → HasNone json_entry (message (view id.now) (view pattern.now) (items_view attributes.now)
+        (view comment.now))) }
 {
     let id = read_identifier(alloc, id)?;
     let value = read_maybe_pattern(alloc, pattern)?;
@@ -114,7 +115,8 @@ fn read_term(
     ensures ok { IfOk result (λ entry. entry_json entry
         ≡ term (view id.now) (view pattern.now) (items_view attributes.now) (view comment.now)) }
     ensures shape { IfErr result (λ e. e ≡ FromValueError.Shape
-        → HasNone json_entry (term (view id.now) (view pattern.now) (items_view attributes.now) (view comment.now))) }
+        → HasNone json_entry (term (view id.now) (view pattern.now) (items_view attributes.now)
+        (view comment.now))) }
 {
     let id = read_identifier(alloc, id)?;
     let value = read_pattern(alloc, pattern)?;

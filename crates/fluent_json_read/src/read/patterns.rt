@@ -242,7 +242,8 @@ fn read_term_reference(
     ensures ok { IfOk result (λ inline. inline_json inline
         ≡ term_reference (view id.now) (view attribute.now) (view arguments.now)) }
     ensures shape { IfErr result (λ e. e ≡ FromValueError.Shape
-        → HasNone json_inline (term_reference (view id.now) (view attribute.now) (view arguments.now))) }
+        → HasNone json_inline (term_reference (view id.now) (view attribute.now)
+        (view arguments.now))) }
 {
     let id = read_identifier(alloc, id)?;
     let attribute = read_accessor(alloc, attribute)?;
