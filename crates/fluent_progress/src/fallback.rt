@@ -1,9 +1,9 @@
 //! What stands in the place of an expression that has no text.
 
-ghost use Rattle.std.specs.Prelude.{◌≡◌, ◌++◌, ◌∷◌, [], OnErr, OnOk, string_bytes};
-ghost use Rattle.fluent_ast.specs.View.{expression_view, inline_view};
+ghost use Rattle.std.specs.Prelude.{◌≡◌, ◌++◌, ◌∷◌, [], OnErr, OnOk, option_copied, option_map, string_bytes};
+ghost use Rattle.fluent_ast.specs.View.{expression_view, inline_view, name_of};
 ghost use Rattle.fluent_errors.specs.View.{resolver_view};
-ghost use Rattle.fluent_meaning.specs.Fallback.{braced, fallback, inline_fallback};
+ghost use Rattle.fluent_meaning.specs.Fallback.{braced, fallback, inline_fallback, with_attribute};
 ghost use Rattle.fluent_meaning.specs.Refused.{TellsSome};
 ghost use Rattle.fluent_meaning.specs.Steps.{faulty};
 ghost use Rattle.fluent_meaning.specs.Told.{Writes};
@@ -11,7 +11,7 @@ ghost use Rattle.fluent_meaning.specs.Work.{times_too_many};
 ghost use Rattle.fluent_progress.specs.Views.{state};
 
 use crate::progress::Progress;
-use fluent_ast::{Expression, InlineExpression};
+use fluent_ast::{Expression, Identifier, InlineExpression};
 use fluent_errors::ResolverError;
 use std::alloc::AllocError;
 
@@ -50,35 +50,16 @@ fn write_inline_fallback(
             out.push_str(id.name)?;
             out.push_str("()")?;
         }
-        InlineExpression::MessageReference {
-            id,
-            attribute: None,
-        } => out.push_str(id.name)?,
-        InlineExpression::MessageReference {
-            id,
-            attribute: Some(attribute),
-        } => {
-            out.push_str(id.name)?;
-            out.push_str(".")?;
-            out.push_str(attribute.name)?;
+        InlineExpression::MessageReference { id, attribute } => {
+            write_name(out, id.name, attribute.as_ref())?;
         }
         InlineExpression::TermReference {
             id,
-            attribute: None,
+            attribute,
             arguments: _,
         } => {
             out.push_str("-")?;
-            out.push_str(id.name)?;
-        }
-        InlineExpression::TermReference {
-            id,
-            attribute: Some(attribute),
-            arguments: _,
-        } => {
-            out.push_str("-")?;
-            out.push_str(id.name)?;
-            out.push_str(".")?;
-            out.push_str(attribute.name)?;
+            write_name(out, id.name, attribute.as_ref())?;
         }
         InlineExpression::VariableReference { id } => {
             out.push_str("$")?;
@@ -87,6 +68,25 @@ fn write_inline_fallback(
         InlineExpression::Placeable { expression } => write_fallback(out, expression)?,
     }
     Ok(())
+}
+
+/// Writes a name, with the attribute that a reference names behind a dot. The only error is that memory runs out.
+fn write_name(
+    out: &mut String,
+    name: &str,
+    attribute: Option<&Identifier<&str>>,
+) -> Result<(), AllocError>
+    ensures { OnOk result (string_bytes out.new ≡ string_bytes out.old ++ with_attribute name.now
+        (option_map (name_of _ (λ s. s.now)) (option_copied attribute.entry))) }
+{
+    out.push_str(name)?;
+    match attribute {
+        Some(attribute) => {
+            out.push_str(".")?;
+            out.push_str(attribute.name)
+        }
+        None => Ok(()),
+    }
 }
 
 /// Writes the fallback of an expression in braces. The only error is that memory runs out.
