@@ -15,15 +15,12 @@ is_built() {
             -newer "$built" 2>/dev/null)" ]
 }
 
-# Proves and builds the program, and tries it on the run that is stored beside it. Branches of crates that don't stand on
-# each other are proved side by side; what goes wrong in one is told by the last step, which tries it again.
+# Proves and builds the program, and tries it on the run that is stored beside it. The crates that it stands on are proved side by
+# side: twice as many at a time as there are processors, since those that wait for another one count too.
 build() (
     mkdir -p "$crate/out" && : >"$built.new"
-    for branch in fluent_resolver fluent_json fluent_serve ftl_words; do
-        (cd "$root/crates/$branch" && rt lib) &
-    done
-    wait
-    cd "$crate" && rt run -- run data/hello.ftl <stdin &&
+    cd "$crate" && rt all check --jobs "$((2 * $(nproc)))" &&
+        rt run -- run data/hello.ftl <stdin &&
         mv -f "$built.new" "$built"
 )
 

@@ -1,5 +1,7 @@
 //! Counts of what was right and what was wrong.
 
+ghost use Rattle.std.specs.Prelude.{◌≡◌, ◌<◌, ◌+◌, ◌^◌, if◌then◌else◌};
+
 /// How many trials there were, and how many of them were wrong.
 #[derive(Clone, Copy, Debug)]
 pub struct Tally {
@@ -9,20 +11,32 @@ pub struct Tally {
 
 impl Tally {
     /// No trial yet.
-    pub fn new() -> Tally {
+    pub fn new() -> Tally
+        ensures tried { result.tried ≡ 0 }
+        ensures wrong { result.wrong ≡ 0 }
+    {
         Tally { tried: 0, wrong: 0 }
     }
 
-    /// Counts one more.
-    pub fn add(&mut self, is_right: bool) {
+    /// Counts one more. A count that is at its greatest value stays there.
+    pub fn add(&mut self, is_right: bool)
+        ensures tried { self.old.tried + 1 < 2 ^ 32 → self.new.tried ≡ self.old.tried + 1 }
+        ensures wrong { self.old.wrong + 1 < 2 ^ 32
+            → self.new.wrong ≡ (if is_right then self.old.wrong else self.old.wrong + 1) }
+    {
         self.tried = self.tried.saturating_add(1);
         if !is_right {
             self.wrong = self.wrong.saturating_add(1);
         }
     }
 
-    /// Counts those of another tally too.
-    pub fn add_all(&mut self, other: Tally) {
+    /// Counts those of another tally too. A count that is at its greatest value stays there.
+    pub fn add_all(&mut self, other: Tally)
+        ensures tried { self.old.tried + other.tried < 2 ^ 32
+            → self.new.tried ≡ self.old.tried + other.tried }
+        ensures wrong { self.old.wrong + other.wrong < 2 ^ 32
+            → self.new.wrong ≡ self.old.wrong + other.wrong }
+    {
         self.tried = self.tried.saturating_add(other.tried);
         self.wrong = self.wrong.saturating_add(other.wrong);
     }

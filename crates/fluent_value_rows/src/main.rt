@@ -1,82 +1,37 @@
-//! Tries the rows of `data`: what values are made of, which are equal, which match and what they are shown as, what arguments hold, and
-//! what the function `NUMBER` gives. It prints of each file how many rows there are, and those that are wrong. The rows were written by
-//! hand.
+//! Tries the rows of `data` on numbers, values and arguments. It prints of each file how many rows there are, and those that are wrong.
+//! The rows were written by hand.
 //!
-//! A row is what is tried, by what, and what must come of it, with bars between. [`made`] says how values are written. A row that is
-//! refused memory is tried once more, so the same counts are printed with any one allocation refused.
+//! A row is what is tried, by what, and what must come of it, with bars between. A row that is refused memory is tried once more, so the
+//! same counts are printed with any one allocation refused.
 #![tactic(auto)]
 
-mod args;
-mod builtins;
-mod count;
-mod equality;
-mod forms;
-mod made;
-mod matching;
-mod scope;
-mod showing;
-mod texts;
+mod numbers;
+mod values;
 
 use anyhow::{Context, Result};
 use fluent_trials::{Row, Tally};
-use scope::{Bracketed, Plain};
 use std::alloc::Global;
 use std::fs;
 
-/// What the rows of a file say.
+/// What the rows of a file are about.
 #[derive(Clone, Copy)]
 enum Rows {
-    /// How values hold what they hold.
-    Forms,
-    /// Which values are equal.
-    Equal,
-    /// Which values equal their copies.
-    Copies,
-    /// Which keys match which values.
-    Matching,
-    /// What values are shown as.
-    Shown,
-    /// What they are shown as by a formatter.
-    Formatted,
-    /// Which values a full writer refuses.
-    Refused,
-    /// What a value of the program's own does.
-    Own,
-    /// Which texts are read as numbers.
-    Texts,
-    /// What arguments hold.
-    Arguments,
-    /// What arguments hold as options.
-    Options,
-    /// What `NUMBER` gives.
-    Builtins,
+    Numbers(numbers::Rows),
+    Values(values::Rows),
 }
 
-const FILES: [(&str, Rows); 12] = [
-    ("forms.txt", Rows::Forms),
-    ("equal.txt", Rows::Equal),
-    ("copies.txt", Rows::Copies),
-    ("matching.txt", Rows::Matching),
-    ("shown.txt", Rows::Shown),
-    ("formatted.txt", Rows::Formatted),
-    ("refused.txt", Rows::Refused),
-    ("own.txt", Rows::Own),
-    ("texts.txt", Rows::Texts),
-    ("arguments.txt", Rows::Arguments),
-    ("options.txt", Rows::Options),
-    ("builtins.txt", Rows::Builtins),
-];
-
 fn main(rt: HostRuntime) -> Result<()> {
-    for (file, rows) in FILES {
-        let tally = try_file(&rt, file, rows)?;
-        println!(rt; "{file}: {} rows, {} wrong", tally.tried, tally.wrong)?;
+    for (file, rows) in numbers::FILES {
+        try_file(&rt, file, Rows::Numbers(rows))?;
+    }
+    for (file, rows) in values::FILES {
+        try_file(&rt, file, Rows::Values(rows))?;
     }
     Ok(())
 }
 
-/// Tries each line of a file, and prints those that are wrong.
-fn try_file(rt: &HostRuntime, file: &str, rows: Rows) -> Result<Tally> {
+/// Tries each line of a file, and prints those that are wrong, and then how many there were of both.
+fn try_file(rt: &HostRuntime, file: &str, rows: Rows) -> Result<()> {
     let text = fs::read_to_string(rt, file)
         .or_else(|_| fs::read_to_string(rt, file))
         .context("the rows")?;
@@ -88,7 +43,8 @@ fn try_file(rt: &HostRuntime, file: &str, rows: Rows) -> Result<Tally> {
         }
         tally.add(is_right);
     }
-    Ok(tally)
+    println!(rt; "{file}: {} rows, {} wrong", tally.tried, tally.wrong)?;
+    Ok(())
 }
 
 /// Whether what a line says is so. Where memory is refused, it is tried once more.
@@ -103,17 +59,7 @@ fn is_right_again(alloc: Global, rows: Rows, line: &str) -> bool {
 fn is_right(alloc: Global, rows: Rows, line: &str) -> Option<bool> {
     let row = Row::of(line)?;
     match rows {
-        Rows::Forms => forms::is_right(alloc, row),
-        Rows::Equal => equality::is_right(alloc, row),
-        Rows::Copies => equality::is_copied(alloc, row),
-        Rows::Matching => matching::is_right(alloc, row),
-        Rows::Shown => showing::is_right(alloc, &Plain(alloc), row),
-        Rows::Formatted => showing::is_right(alloc, &Bracketed(alloc), row),
-        Rows::Refused => showing::is_refused(alloc, row),
-        Rows::Own => showing::is_own(alloc, row),
-        Rows::Texts => texts::is_right(alloc, row),
-        Rows::Arguments => args::are_right(alloc, row),
-        Rows::Options => args::is_option(alloc, row),
-        Rows::Builtins => builtins::is_right(alloc, row),
+        Rows::Numbers(rows) => rows.is_right(alloc, row),
+        Rows::Values(rows) => rows.is_right(alloc, row),
     }
 }

@@ -2,9 +2,9 @@
 
 ghost use Rattle.std.specs.Prelude.{[]};
 
-use crate::count::{Count, Value};
-use crate::made::value_of;
-use crate::scope::Plain;
+use crate::values::count::{Count, Value};
+use crate::values::made::value_of;
+use crate::values::scope::Plain;
 use fluent_trials::Row;
 use fluent_value::{EnglishPlurals, FluentType, MemoizerKind, ValueScope};
 use fluent_write::{TextWrite, WriteError};

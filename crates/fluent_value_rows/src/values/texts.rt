@@ -1,6 +1,6 @@
 //! Texts that are numbers, the fraction digits that they ask for, and what the numbers are shown as.
 
-use crate::count::Value;
+use crate::values::count::Value;
 use fluent_trials::Row;
 use fluent_value::FluentValue;
 use std::alloc::Global;

@@ -1,7 +1,7 @@
 //! Which keys match which values, by the plural rules of English.
 
-use crate::made::value_of;
-use crate::scope::Plain;
+use crate::values::made::value_of;
+use crate::values::scope::Plain;
 use fluent_trials::Row;
 use std::alloc::Global;
 

@@ -1,8 +1,8 @@
 //! Options that others are merged into, one behind the other, with `;` between: a text is a key with `=` and the text, a number a key with
 //! `#` and the number, and `#` with a number alone is the source that has a value under every key.
 
-use crate::names::are_choices;
-use crate::sources::{Full, One};
+use crate::numbers::names::are_choices;
+use crate::numbers::sources::{Full, One};
 use fluent_number::{FluentNumber, FluentNumberOptions, OptionSource};
 use fluent_trials::Row;
 use std::alloc::Global;

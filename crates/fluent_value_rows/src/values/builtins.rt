@@ -3,9 +3,9 @@
 //! A row has its values, with `;` between, and its options, as arguments are written. What it gives is a text and the type of number, or
 //! `usual` where all options are as they are by themselves; or an `error`.
 
-use crate::args::args_of;
-use crate::count::Value;
-use crate::made::value_of;
+use crate::values::args::args_of;
+use crate::values::count::Value;
+use crate::values::made::value_of;
 use fluent_number::{FluentNumber, FluentNumberOptions, FluentNumberType};
 use fluent_trials::Row;
 use fluent_value::FluentValue;

@@ -3,8 +3,8 @@
 //! They are written as names with the words of their values behind `=`, and `;` between. A row says what they are made by: `new`, with
 //! `room` for two, or as `pairs`, of two of them with `+` between.
 
-use crate::count::{Count, Value};
-use crate::made::value_of;
+use crate::values::count::{Count, Value};
+use crate::values::made::value_of;
 use fluent_number::OptionSource;
 use fluent_trials::Row;
 use fluent_value::FluentArgs;

@@ -3,9 +3,9 @@
 //! A row says how a value is got: it is `made`, `copied`, made `owned`, `shown`, or `handed` to what shows it; or its text is `lent` to
 //! it. It is `borrowed` or `owned` then with its text, a `number`, a `count`, `none` or `error`.
 
-use crate::count::Value;
-use crate::made::value_of;
-use crate::scope::Plain;
+use crate::values::count::Value;
+use crate::values::made::value_of;
+use crate::values::scope::Plain;
 use fluent_trials::Row;
 use fluent_value::FluentValue;
 use std::alloc::Global;

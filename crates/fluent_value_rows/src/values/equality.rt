@@ -1,7 +1,7 @@
 //! Which values are equal, and which equal their copies.
 
-use crate::count::Value;
-use crate::made::value_of;
+use crate::values::count::Value;
+use crate::values::made::value_of;
 use fluent_trials::Row;
 use std::alloc::Global;
 

@@ -4,7 +4,7 @@
 //! is read as, and `place` the same as a place in an order. `i8` to `usize` are integers, and `some_u8` is one that may be absent;
 //! `number` is a `FluentNumber`. `count` is a value of the program's own, and there are `none` and `error`.
 
-use crate::count::{Count, Value};
+use crate::values::count::{Count, Value};
 use fluent_number::{FluentNumber, FluentNumberType};
 use fluent_value::FluentValue;
 use std::alloc::Global;
