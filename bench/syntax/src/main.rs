@@ -48,6 +48,14 @@ fn counts(maker: Maker, call: Call, text: &[u8]) -> Counts {
     }
 }
 
+/// Reads a text and writes its tree. Gives the length of the written text.
+fn written_len(maker: Maker, text: &[u8]) -> usize {
+    match maker {
+        Maker::Ours => ours::written_len(text),
+        Maker::Rust => rust::written_len(text),
+    }
+}
+
 /// Prints the peak of one maker that reads a text, or reads it and writes its tree.
 fn peak(maker: &str, task: &str, argument: &str) -> Option<ExitCode> {
     let text = Text::of_argument(argument)?.whole();
@@ -61,11 +69,7 @@ fn peak(maker: &str, task: &str, argument: &str) -> Option<ExitCode> {
             black_box(counts(maker, Call::Parse, black_box(&text)));
         }),
         "write" => memory::peak_of(|| {
-            let text = black_box(&text);
-            black_box(match maker {
-                Maker::Ours => ours::write_times(text, 1),
-                Maker::Rust => rust::write_times(text, 1),
-            });
+            black_box(written_len(maker, black_box(&text)));
         }),
         _ => None,
     }?;

@@ -19,11 +19,13 @@ pub fn peak_of(call: impl FnOnce()) -> Option<u64> {
     Some(status("VmHWM:")?.saturating_sub(before))
 }
 
-/// The peak of a maker at a task over a text, in a process of its own.
+/// The peak of a maker at a task over a text, in a process of its own, with malloc's settings as usual.
 pub fn peak_of_child(maker: &str, task: &str, text: &str) -> Option<u64> {
     let program = env::current_exe().ok()?;
     let run = Command::new(program)
         .args(["peak", maker, task, text])
+        .env_remove("MALLOC_MMAP_MAX_")
+        .env_remove("MALLOC_TRIM_THRESHOLD_")
         .output();
     String::from_utf8(run.ok()?.stdout)
         .ok()?

@@ -1,4 +1,4 @@
-//! The calls of `fluent_c`, and those of `fluent_bench_c`, which only this benchmark wants.
+//! The calls of `fluent_c`.
 
 use crate::Call;
 
@@ -30,13 +30,6 @@ extern "C" {
     fn fluent_free_text(made: *mut Made);
 }
 
-// Those of `fluent_bench_c`.
-extern "C" {
-    fn fluent_checksum(text: *const u8, len: usize, checksum: *mut u64) -> u32;
-    fn fluent_checksum_runtime(text: *const u8, len: usize, checksum: *mut u64) -> u32;
-    fn fluent_write_times(text: *const u8, len: usize, times: u32, written: *mut usize) -> u32;
-}
-
 pub fn counts(call: Call, text: &[u8]) -> Counts {
     let mut counts = Counts::default();
     let read = match call {
@@ -47,18 +40,6 @@ pub fn counts(call: Call, text: &[u8]) -> Counts {
     let answer = unsafe { read(text.as_ptr(), text.len(), &mut counts) };
     assert_eq!(answer, 0, "a text in UTF-8, and memory");
     counts
-}
-
-pub fn checksum(call: Call, text: &[u8]) -> u64 {
-    let mut checksum = 0;
-    let read = match call {
-        Call::Parse => fluent_checksum,
-        Call::ParseRuntime => fluent_checksum_runtime,
-    };
-    // The text and `checksum` live through the call.
-    let answer = unsafe { read(text.as_ptr(), text.len(), &mut checksum) };
-    assert_eq!(answer, 0, "a text in UTF-8, and memory");
-    checksum
 }
 
 impl Made {
@@ -87,13 +68,22 @@ impl Drop for Made {
     }
 }
 
-/// The text that a source's tree is written as.
-pub fn written(text: &[u8], with_junk: bool) -> Vec<u8> {
+fn write(text: &[u8], with_junk: bool) -> Made {
     let mut made = Made::NONE;
     // The text and `made` live through the call.
     let answer = unsafe { fluent_write(text.as_ptr(), text.len(), with_junk, &mut made) };
     assert_eq!(answer, 0, "a text in UTF-8, and memory");
-    made.text()
+    made
+}
+
+/// The text that a source's tree is written as.
+pub fn written(text: &[u8], with_junk: bool) -> Vec<u8> {
+    write(text, with_junk).text()
+}
+
+/// Reads a source and writes its tree, without junk. Gives the length of the written text, which isn't copied.
+pub fn written_len(text: &[u8]) -> usize {
+    write(text, false).len
 }
 
 /// The JSON text of a source's tree.
@@ -103,13 +93,4 @@ pub fn json(text: &[u8]) -> Vec<u8> {
     let answer = unsafe { fluent_write_json(text.as_ptr(), text.len(), &mut made) };
     assert_eq!(answer, 0, "a text in UTF-8, and memory");
     made.text()
-}
-
-/// Reads a source once and writes its tree so many times. Gives the length of the written text.
-pub fn write_times(text: &[u8], times: u32) -> usize {
-    let mut len = 0;
-    // The text and `len` live through the call.
-    let answer = unsafe { fluent_write_times(text.as_ptr(), text.len(), times, &mut len) };
-    assert_eq!(answer, 0, "a text in UTF-8, and memory");
-    len
 }

@@ -1,8 +1,7 @@
 //! How long both take over a text, and how much memory they need.
 
-use crate::compare::read_alike;
 use crate::texts::Text;
-use crate::{clock, counts, memory, ours, rust, Call, Maker};
+use crate::{clock, compare, counts, memory, written_len, Call, Maker};
 use std::hint::black_box;
 use std::time::Duration;
 
@@ -13,42 +12,58 @@ struct Times {
     rust: Duration,
 }
 
-/// The best time of each call in some rounds, in which each has its turn.
-fn best<const N: usize>(text: &[u8], calls: [&dyn Fn(); N]) -> [Duration; N] {
-    let rounds = if text.len() > 20_000_000 { 3 } else { 15 };
-    let mut best = [Duration::MAX; N];
-    for _ in 0..rounds {
-        for (best, call) in best.iter_mut().zip(calls) {
-            *best = clock::timed(call).min(*best);
+impl Times {
+    fn less(self, part: Times) -> Times {
+        Times {
+            ours: self.ours.saturating_sub(part.ours),
+            rust: self.rust.saturating_sub(part.rust),
         }
+    }
+}
+
+/// The best time of each call in some rounds, in which each has its turn: forward, then backward, since who comes first
+/// finds less of the text in the processor's caches.
+fn best<const N: usize>(text: &[u8], calls: [&dyn Fn(); N]) -> [Duration; N] {
+    let rounds = (100_000_000 / text.len().max(1)).clamp(3, 60);
+    let mut best = [Duration::MAX; N];
+    let mut turns: Vec<_> = best.iter_mut().zip(calls).collect();
+    for _ in 0..rounds {
+        for (best, call) in &mut turns {
+            **best = clock::timed(*call).min(**best);
+        }
+        turns.reverse();
     }
     best
 }
 
-fn reading(call: Call, text: &[u8]) -> Times {
-    let read = |maker| {
-        black_box(counts(maker, call, black_box(text)));
-    };
-    let [ours, rust] = best(text, [&|| read(Maker::Ours), &|| read(Maker::Rust)]);
-    Times { ours, rust }
-}
-
-/// The times of writing a text's tree: of some writings more than one, beside one.
-fn writing(text: &[u8]) -> Times {
-    let more = (20_000_000 / text.len().max(1)).clamp(2, 1000) as u32;
-    let write = |write: fn(&[u8], u32) -> usize, times| {
-        move || {
-            black_box(write(black_box(text), times));
-        }
-    };
-    let ours = [1, 1 + more].map(|times| write(ours::write_times, times));
-    let rust = [1, 1 + more].map(|times| write(rust::write_times, times));
-    let best = best(text, [&ours[0], &ours[1], &rust[0], &rust[1]]);
-    let one = |once: Duration, all: Duration| all.saturating_sub(once) / more;
-    Times {
-        ours: one(best[0], best[1]),
-        rust: one(best[2], best[3]),
-    }
+/// What is timed over a text, and its times. The calls of `fluent_c` keep no tree from call to call, so writing is the
+/// difference of two of them; the Rust crate's is taken in the same way.
+fn time(text: &[u8]) -> [(&'static str, Times); 4] {
+    let read = |maker, call| move || _ = black_box(counts(maker, call, black_box(text)));
+    let write = |maker| move || _ = black_box(written_len(maker, black_box(text)));
+    let best = best(
+        text,
+        [
+            &read(Maker::Ours, Call::Parse),
+            &read(Maker::Rust, Call::Parse),
+            &read(Maker::Ours, Call::ParseRuntime),
+            &read(Maker::Rust, Call::ParseRuntime),
+            &write(Maker::Ours),
+            &write(Maker::Rust),
+        ],
+    );
+    let times = |ours, rust| Times { ours, rust };
+    let parse = times(best[0], best[1]);
+    let parse_and_write = times(best[4], best[5]);
+    [
+        (Call::Parse.name(), parse),
+        (Call::ParseRuntime.name(), times(best[2], best[3])),
+        ("parse and write", parse_and_write),
+        (
+            "write (parse and write, less parse)",
+            parse_and_write.less(parse),
+        ),
+    ]
 }
 
 fn milliseconds(time: Duration) -> f64 {
@@ -80,14 +95,11 @@ pub fn report(text: &Text) {
     let name = text.name();
     let whole = text.whole();
     let half = text.half();
-    read_alike(name, &whole);
-    for call in Call::ALL {
-        let times = |text: &Vec<u8>| reading(call, text);
-        let half = half.as_ref().map(times);
-        print_times(name, call.name(), &whole, times(&whole), half);
+    compare::tell_differences(name, &whole);
+    let half = half.as_deref().map(time);
+    for (index, (what, times)) in time(&whole).into_iter().enumerate() {
+        print_times(name, what, &whole, times, half.map(|half| half[index].1));
     }
-    let half = half.as_deref().map(writing);
-    print_times(name, "writing", &whole, writing(&whole), half);
     for task in ["parse", "write"] {
         let peak = |maker| {
             memory::peak_of_child(maker, task, text.argument())
