@@ -9,9 +9,11 @@ from collections import Counter
 
 from shapes import shapes
 
-CALLS = ("parse", "clean", "normalize", "export", "import")
 WHOLE = ("all-en.ftl", "all.ftl")
 VALUES = (None, "1", "2.50", "Jane")
+
+# How often a command is timed. The least time counts.
+ROUNDS = 7
 
 
 class Desk:
@@ -25,6 +27,18 @@ class Desk:
         """What a command writes, and the fault that it tells."""
         done = subprocess.run([self.program, command, *files], input=requests, capture_output=True)
         return done.stdout, done.stderr.decode().removeprefix("ftl: ").strip()
+
+    def time(self, command, *files):
+        """The least seconds of processor time that a command takes, start to end, without requests."""
+        return min(self.time_once(command, *files) for _ in range(ROUNDS))
+
+    def time_once(self, command, *files):
+        """The seconds of processor time of one run. What it writes is let go."""
+        streams = {"stdin": subprocess.DEVNULL, "stdout": subprocess.DEVNULL, "stderr": subprocess.DEVNULL}
+        process = subprocess.Popen([self.program, command, *files], **streams)
+        _, status, used = os.wait4(process.pid, 0)
+        process.returncode = os.waitstatus_to_exitcode(status)
+        return used.ru_utime + used.ru_stime
 
     def keep(self, name, text):
         """A file that holds a text."""
@@ -139,18 +153,18 @@ def try_join(desk, files, tally):
     tally.expect(same, "same answers from the joined files", "join")
 
 
-def tell_times(lines, files):
-    """Prints the times of the calls beside that of reading."""
-    times = {file: [int(time) for time in line.split()] for file, line in zip(files, lines)}
-    parts = [times[file] for file in files if os.path.basename(file) not in WHOLE]
-    rows = {f"{len(parts)} files, each by itself": [sum(column) for column in zip(*parts)]}
-    rows |= {os.path.basename(file): times[file] for file in files if os.path.basename(file) in WHOLE}
-    for name, row in rows.items():
-        ratios = ", ".join(f"{call} {time / row[0]:.2f}" for call, time in zip(CALLS[1:], row[1:]))
-        print(f"{name}: read in {row[0] / 1e6:.1f} ms; beside that {ratios}")
-    joining = int(lines[-1].split()[1])
-    read = sum(row[0] for row in times.values())
-    print(f"join of all: beside reading them {joining / read:.2f}")
+def tell_times(desk, wholes, parts):
+    """Prints the times of the commands as multiples of reading: of `run` without requests. The program's start is taken off."""
+    start = desk.time("run", desk.keep("empty.ftl", b""))
+    for file in wholes:
+        tree = desk.keep("tree.json", desk.call("export", file)[0])
+        read = desk.time("run", file) - start
+        given = {"clean": file, "normalize": file, "export": file, "import": tree}
+        times = {command: desk.time(command, text) - start for command, text in given.items()}
+        ratios = ", ".join(f"{command} {time / read:.2f}" for command, time in times.items())
+        print(f"{os.path.basename(file)}: read by `run` in {read * 1e3:.1f} ms; as multiples of that {ratios}")
+    ratio = (desk.time("join", *parts) - start) / (desk.time("run", *parts) - start)
+    print(f"join of {len(parts)} files: as a multiple of reading them by `run` {ratio:.2f}")
 
 
 def tell(tally):
@@ -163,16 +177,17 @@ def tell(tally):
     print("\n".join(tally.wrong) or "nothing was wrong")
 
 
-def main(program, times):
+def main(program):
     files = sys.stdin.read().splitlines()
-    with open(times) as lines:
-        tell_times(lines.read().splitlines(), files)
+    wholes = [file for file in files if os.path.basename(file) in WHOLE]
+    parts = [file for file in files if file not in wholes]
     tally = Tally()
     with tempfile.TemporaryDirectory() as folder:
         desk = Desk(program, folder)
+        tell_times(desk, wholes, parts)
         for file in files:
             try_file(desk, file, tally)
-        try_join(desk, [file for file in files if os.path.basename(file) not in WHOLE], tally)
+        try_join(desk, parts, tally)
     tell(tally)
     return 1 if tally.wrong else 0
 
