@@ -66,6 +66,7 @@ impl<'a> Lines<'a> {
 
     /// The text at this place, as the text of a pattern: up to and with the line feed, or up to an opening brace, a CR LF or the end. An
     /// `Err` is the offset of a closing brace from here, which no text may have. In a plain line no brace is searched for.
+    #[inline(always)]
     pub fn text_len(&mut self, place: usize) -> Result<usize, usize>
         requires { place ≤ length self.old.text.now }
         ensures value { IsText (drop place self.old.text.now) result }
@@ -93,6 +94,7 @@ impl<'a> Lines<'a> {
 
     /// The length of a text that is all of a pattern: of one line, with its line feed, behind which the pattern ends. It is told by the
     /// rows; only the first byte is looked at, and the one behind the line. `None` where the text is none, or where it isn't told.
+    #[inline(always)]
     pub fn one_line_len(&mut self, place: usize) -> Option<usize>
         requires { place ≤ length self.old.text.now }
         ensures value { IsOneLine (drop place self.old.text.now) result }
@@ -131,6 +133,7 @@ impl<'a> Lines<'a> {
     }
 
     /// The row of the line that holds this place. It is `near` from now on.
+    #[inline(always)]
     fn find(&mut self, place: usize) -> Row
         requires { place ≤ length self.old.text.now }
         ensures holds { Holds self.old.text.now result
