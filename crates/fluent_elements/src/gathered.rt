@@ -45,6 +45,7 @@ impl<S: Drop> Gathered<S> {
     /// # Errors
     ///
     /// Where memory runs out the element is dropped.
+    #[inline(always)]
     pub fn push(
         &mut self,
         element: PatternElement<S>,

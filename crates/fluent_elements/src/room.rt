@@ -10,6 +10,7 @@ use std::alloc::AllocError;
 /// # Errors
 ///
 /// Where memory runs out the item is dropped.
+#[inline(always)]
 pub fn push_tight<T: Drop>(list: &mut Vec<T>, item: T, room: usize) -> Result<(), AllocError>
     ensures { IfOk result (λ u. list.new.items ≡ list.old.items ++ item ∷ []) }
 {
