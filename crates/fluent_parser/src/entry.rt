@@ -109,6 +109,7 @@ impl<'p, S: Drop, T: Texts<S>> Parser<'p, S, T> {
 
     /// What a message or a term begins with: its name, an equals sign and its value, if it has one.
     #[tactic(auto, using(crate::proofs::Failing::handed, fluent_words::proofs::Counted::cuts), unfolding(crate::specs::Entries::head_by))]
+    #[inline(always)]
     fn get_head(&mut self) -> Result<Head<S>, Fault>
         ensures gives { Gives (head_view S T.text) self.new.rest.now result
             (head_by self.old.rest.now) }

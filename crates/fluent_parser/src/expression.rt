@@ -24,6 +24,7 @@ impl<'p, S: Drop, T: Texts<S>> Parser<'p, S, T> {
     /// A placeable, from its opening brace on. Productions `inline_placeable` and `block_placeable`.
     #[cycle(parser)]
     #[tactic(auto, using(crate::proofs::Failing::handed, fluent_words::proofs::Counted::cuts), unfolding(crate::specs::Steps::placeable_by))]
+    #[inline(always)]
     pub fn get_placeable(&mut self) -> Result<Expression<S>, Fault>
         requires brace { w.begins_with w.open_brace self.old.rest.now ≡ true }
         ensures gives { Gives (expression_view S T.text) self.new.rest.now result
@@ -42,6 +43,7 @@ impl<'p, S: Drop, T: Texts<S>> Parser<'p, S, T> {
     /// An inline expression, or a select.
     #[cycle(parser)]
     #[tactic(auto, using(crate::proofs::Failing::handed, fluent_words::proofs::Counted::cuts), unfolding(crate::specs::Steps::expression_by, fluent_grammar::specs::Reading::select_or_inline_at))]
+    #[inline(always)]
     fn get_expression(&mut self) -> Result<Expression<S>, Fault>
         ensures gives { Gives (expression_view S T.text) self.new.rest.now result
             (expression_by self.old.rest.now) }
@@ -84,6 +86,7 @@ impl<'p, S: Drop, T: Texts<S>> Parser<'p, S, T> {
     }
 
     /// An expression that no arrow follows.
+    #[inline(always)]
     fn inline_expression(&self, inline: InlineExpression<S>) -> Result<Expression<S>, Fault>
         ensures { Gives (expression_view S T.text) self.now.rest.now result
             (inline_by (inline_view S T.text inline) self.now.rest.now) }
