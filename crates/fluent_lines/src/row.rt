@@ -40,15 +40,27 @@ impl Row {
         requires plain { is_plain ≡ counted.is_plain (take len line.now) }
         ensures { IfOk result (λ row. row_view row ≡ cut_line_at start len line.now) }
     {
+        let end = start + len;
+        // Most lines begin at column 0, and of those no byte but the first one is looked at.
+        if !words::begins_with(line, b' ') {
+            return Ok(Row {
+                start,
+                end,
+                spaces: 0,
+                begins_entry: begins_entry(line),
+                ends_pattern: words::pattern_ends(line, 0),
+                is_plain,
+            });
+        }
         let indent = words::blank_inline_len(line);
         let Ok(spaces) = u32::try_from(indent) else {
             return Err(AllocError);
         };
         Ok(Row {
             start,
-            end: start + len,
+            end,
             spaces,
-            begins_entry: begins_entry(line),
+            begins_entry: false,
             ends_pattern: words::pattern_ends(line, indent),
             is_plain,
         })
