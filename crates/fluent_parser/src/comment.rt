@@ -73,6 +73,7 @@ impl<'p, S: Drop, T: Texts<S>> Parser<'p, S, T> {
     }
 
     /// Puts the line that stands here behind others of its comment.
+    #[inline(always)]
     fn push_comment_line(&mut self, level: usize, lines: &mut Vec<S>) -> Result<(), Fault>
         requires signs { level ≡ w.comment_level self.old.rest.now }
         ensures gives { Gives (λ u. map T.text lines.new.items) self.new.rest.now result
@@ -89,6 +90,7 @@ impl<'p, S: Drop, T: Texts<S>> Parser<'p, S, T> {
     }
 
     /// What stands behind the sign of a comment's line. None at the end of the text, where a sign adds no line.
+    #[inline(always)]
     fn get_comment_line(&mut self) -> Result<Option<S>, Fault>
         ensures gives { Gives (line_of T.text) self.new.rest.now result
             (comment_line_at self.old.rest.now) }
