@@ -8,8 +8,20 @@ ghost use Rattle.fluent_words.specs.Counted.{Cuts, is_blank_at};
 use crate::lanes::{LANES, no_spaces};
 use std::simd::prelude::*;
 
-/// How many spaces stand at the front: production `blank_inline`, which may be empty here.
+/// How many spaces stand at the front: production `blank_inline`, which may be empty here. Mostly there is none or one.
+#[inline(always)]
 pub fn blank_inline_len(text: &[u8]) -> usize
+    ensures { result ≡ w.spaces text.now }
+{
+    match text {
+        [b' ', b' ', ..] => spaces_len(text),
+        [b' ', ..] => 1,
+        _ => 0,
+    }
+}
+
+/// The same for any number of spaces, told sixteen at a time.
+fn spaces_len(text: &[u8]) -> usize
     ensures { result ≡ w.spaces text.now }
 {
     let mut end = 0;

@@ -1,6 +1,6 @@
 use Rattle.std.proofs.Common.{arith}
 use Rattle.fluent_words.proofs.Masked.{spaces_through, spaces_stop}
-use Rattle.fluent_words.proofs.blanks.blank_inline_len.Goals as goal
+use Rattle.fluent_words.proofs.blanks.spaces_len.Goals as goal
 
 pub loop-end-preserved : goal.loop-end-preserved
 loop-end-preserved c = record {

@@ -1,6 +1,6 @@
 use Rattle.std.proofs.Common.{◌≡◌, ◌+◌, ◌-◌, ◌≤◌, length, drop}
 use Rattle.fluent_grammar.specs.Words as w
-use Rattle.fluent_words.proofs.blanks.blank_inline_len.Given as goal
+use Rattle.fluent_words.proofs.blanks.spaces_len.Given as goal
 
 abbrev pub invariant-loop-end : goal.invariant-loop-end
 invariant-loop-end l = record {
