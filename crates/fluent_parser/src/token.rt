@@ -40,6 +40,7 @@ impl<'p, S: Drop, T: Texts<S>> Parser<'p, S, T> {
 
     /// Production `Identifier`.
     #[tactic(auto, using(fluent_words::proofs::Counted::cuts), unfolding(fluent_grammar::specs::Reading::identifier_at))]
+    #[inline(always)]
     pub fn get_identifier(&mut self) -> Result<Identifier<S>, Fault>
         ensures gives { Gives (name_of S T.text) self.new.rest.now result
             (identifier_at self.old.rest.now) }
