@@ -9,8 +9,9 @@ use fluent_words as words;
 use fluent_words::Told;
 use std::alloc::{AllocError, Global};
 
-/// How many bytes a line has, about. A table for longer lines has room to spare, one for shorter ones grows.
-const TYPICAL: usize = 32;
+/// How many bytes a short line has, about. Room to spare, which a table for longer lines has, is never touched; one for still
+/// shorter lines grows, and is moved then.
+const SHORT: usize = 24;
 
 /// The lines of a text, in their order. Behind a line feed at the end of the text there is one more, which is empty.
 ///
@@ -22,7 +23,7 @@ const TYPICAL: usize = 32;
 pub fn line_table(alloc: Global, text: &[u8]) -> Result<Vec<Row>, AllocError>
     ensures { IfOk result (λ rows. map row_view rows.items ≡ lines text.now) }
 {
-    let mut rows = Vec::with_capacity(alloc, text.len() / TYPICAL + 1)?;
+    let mut rows = Vec::with_capacity(alloc, text.len() / SHORT + 1)?;
     let mut start = 0;
     let mut told = Told::nothing();
     'lines: loop {
