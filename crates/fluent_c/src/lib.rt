@@ -1,5 +1,5 @@
 //! Fluent for programs in Rust and C: the texts of messages, by [`fluent_answer`]; what a source is made of, in numbers;
-//! and its tree as text, written back or as JSON.
+//! and its tree as text, written back or as JSON. Each call makes the one of `fluent_calls` that does it.
 //!
 //! A text is handed out in memory of the library, which the caller frees by [`fluent_free_text`]. A program that calls
 //! the library links C's `malloc`, `realloc` and `free`, as `bench/syntax/run.sh` does. `fluent_c.h` beside
@@ -7,33 +7,24 @@
 #![tactic(auto)]
 
 ghost use Rattle.std.specs.Prelude.{◌≡◌, ◌≢◌, IsUtf8};
+ghost use Rattle.serde_json.specs.Written.{compact_text};
 ghost use Rattle.fluent_syntax.specs.Tiling.{tree, errors, runtime_tree, runtime_errors};
-ghost use Rattle.fluent_c.specs.Counts.{Counted};
+ghost use Rattle.fluent_syntax.specs.Written.{written_with};
+ghost use Rattle.fluent_json.specs.Json.{json};
+ghost use Rattle.fluent_calls.specs.Answering.{texts_of, HoldsOther, english_answers};
+ghost use Rattle.fluent_calls.specs.Counts.{Counted};
+ghost use Rattle.fluent_calls.specs.Made.{Holds, HoldsNone};
 
-mod answering;
-mod counts;
-mod loose;
-mod text;
-mod writing;
-
-pub use answering::{FluentSource, fluent_answer};
-pub use counts::FluentCounts;
-use counts::{Reading, count};
+use fluent_calls::{
+    FluentCounts, FluentSource, FluentText, Form, Reading, answer, count, hand_out,
+};
 use std::alloc::Global;
-pub use text::FluentText;
-pub use writing::{fluent_free_text, fluent_write, fluent_write_json};
-
-/// What a call gives that found its answer.
-pub const FLUENT_READ: u32 = 0;
-/// What a call gives whose text isn't UTF-8.
-pub const FLUENT_NOT_UTF8: u32 = 1;
-/// What a call gives that was refused memory.
-pub const FLUENT_NO_MEMORY: u32 = 2;
 
 /// Counts the entries and the errors of a source, comments included.
 ///
-/// `text` is the source's bytes. The answer is [`FLUENT_READ`], also where the source has errors; [`FLUENT_NOT_UTF8`] or
-/// [`FLUENT_NO_MEMORY`] otherwise, and `counts` is unchanged then. All memory is freed when it returns.
+/// `text` is the source's bytes. The answer is [`FLUENT_READ`](fluent_calls::FLUENT_READ), also where the source has errors;
+/// [`FLUENT_NOT_UTF8`](fluent_calls::FLUENT_NOT_UTF8) or [`FLUENT_NO_MEMORY`](fluent_calls::FLUENT_NO_MEMORY) otherwise, and
+/// `counts` is unchanged then. All memory is freed when it returns.
 #[unsafe(no_mangle)]
 pub extern "C" fn fluent_parse(alloc: Global, text: &[u8], counts: &mut FluentCounts) -> u32
     ensures counted { result ≡ 0 → Counted counts.new (tree text.now) (errors text.now) }
@@ -45,10 +36,7 @@ pub extern "C" fn fluent_parse(alloc: Global, text: &[u8], counts: &mut FluentCo
 }
 
 /// Counts the messages, the terms, the junk and the errors of a source that is read for use at run time, without its
-/// comments.
-///
-/// `text` is the source's bytes. The answer is [`FLUENT_READ`], also where the source has errors; [`FLUENT_NOT_UTF8`] or
-/// [`FLUENT_NO_MEMORY`] otherwise, and `counts` is unchanged then. All memory is freed when it returns.
+/// comments. The answers are those of [`fluent_parse`].
 #[unsafe(no_mangle)]
 pub extern "C" fn fluent_parse_runtime(alloc: Global, text: &[u8], counts: &mut FluentCounts) -> u32
     ensures counted { result ≡ 0 → Counted counts.new (runtime_tree text.now)
@@ -60,51 +48,67 @@ pub extern "C" fn fluent_parse_runtime(alloc: Global, text: &[u8], counts: &mut 
     count(alloc, text, Reading::Runtime, counts)
 }
 
-#[cfg(test)]
-mod tests {
-    use super::*;
-    use std::test::Fail;
+/// Reads a source and writes its tree back.
+///
+/// `text` is the source's bytes. Its junk is written as it stands where `with_junk` is true, and left out where it is
+/// false. The answers are those of [`fluent_parse`]: where the source was read, `made` holds the written text, and what it
+/// held before is freed; else `made` is unchanged. All other memory is freed when it returns.
+#[unsafe(no_mangle)]
+pub extern "C" fn fluent_write(
+    alloc: Global,
+    text: &[u8],
+    with_junk: bool,
+    made: &mut FluentText,
+) -> u32
+    ensures written { result ≡ 0 → Holds made.new (written_with with_junk (tree text.now)) }
+    ensures not_utf8 { result ≡ 1 → ¬ (IsUtf8 text.now) }
+    ensures utf8 { result ≢ 1 → IsUtf8 text.now }
+    ensures unchanged { result ≢ 0 → made.new ≡ made.old }
+{
+    hand_out(alloc, text, Form::Written { with_junk }, made)
+}
 
-    const SOURCE: &[u8] = b"## group\n\n# own\nkey = { -name }\n-name = Firefox\nbroken\n";
+/// Reads a source and writes its tree as JSON, compact, with the keys of each object in the order of their bytes.
+///
+/// The tree has the source's junk. The answers are those of [`fluent_write`].
+#[unsafe(no_mangle)]
+pub extern "C" fn fluent_write_json(alloc: Global, text: &[u8], made: &mut FluentText) -> u32
+    ensures written { result ≡ 0 → Holds made.new (compact_text (json (tree text.now))) }
+    ensures not_utf8 { result ≡ 1 → ¬ (IsUtf8 text.now) }
+    ensures utf8 { result ≢ 1 → IsUtf8 text.now }
+    ensures unchanged { result ≢ 0 → made.new ≡ made.old }
+{
+    hand_out(alloc, text, Form::Json, made)
+}
 
-    fn no_counts() -> FluentCounts {
-        FluentCounts {
-            messages: 0,
-            terms: 0,
-            comments: 0,
-            junk: 0,
-            errors: 0,
-        }
-    }
+/// Answers request lines from the messages and terms of sources, as the command `ftl run` does.
+///
+/// The function `NUMBER` is there, and variants are chosen by the plural rules of English. Placeables stand between marks
+/// where `isolating` is true. Of an id that stands twice the last entry counts where `overriding` is true, and the first
+/// where it is false. `docs/protocol.md` says what a request line and its answer are.
+///
+/// The answers are those of [`fluent_write`], also where a request is bad.
+#[unsafe(no_mangle)]
+pub extern "C" fn fluent_answer(
+    alloc: Global,
+    sources: &[FluentSource<'_>],
+    isolating: bool,
+    overriding: bool,
+    requests: &[u8],
+    made: &mut FluentText,
+) -> u32
+    ensures answered { result ≡ 0 → Holds made.new (english_answers isolating overriding
+        (texts_of sources.now) requests.now) }
+    ensures not_utf8 { result ≡ 1 → HoldsOther sources.now }
+    ensures unchanged { result ≢ 0 → made.new ≡ made.old }
+{
+    answer(alloc, sources, isolating, overriding, requests, made)
+}
 
-    fn shown(counts: &FluentCounts) -> [usize; 5] {
-        [
-            counts.messages,
-            counts.terms,
-            counts.comments,
-            counts.junk,
-            counts.errors,
-        ]
-    }
-
-    #[test]
-    fn entries_are_counted(rt: HostRuntime) -> Result<(), Fail> {
-        let mut counts = no_counts();
-        let answer = fluent_parse(rt.alloc(), SOURCE, &mut counts);
-        assert_eq!(rt; answer, FLUENT_READ);
-        assert_eq!(rt; shown(&counts), [1, 1, 1, 1, 1]);
-        let answer = fluent_parse_runtime(rt.alloc(), SOURCE, &mut counts);
-        assert_eq!(rt; answer, FLUENT_READ);
-        assert_eq!(rt; shown(&counts), [1, 1, 0, 1, 1]);
-        Ok(())
-    }
-
-    #[test]
-    fn other_bytes_are_refused(rt: HostRuntime) -> Result<(), Fail> {
-        let mut counts = no_counts();
-        let answer = fluent_parse(rt.alloc(), b"key = \xff\n", &mut counts);
-        assert_eq!(rt; answer, FLUENT_NOT_UTF8);
-        assert_eq!(rt; shown(&counts), [0, 0, 0, 0, 0]);
-        Ok(())
-    }
+/// Frees the text that `made` holds, if it holds one. It holds none then.
+#[unsafe(no_mangle)]
+pub extern "C" fn fluent_free_text(alloc: Global, made: &mut FluentText)
+    ensures { HoldsNone made.new }
+{
+    made.clear(alloc);
 }

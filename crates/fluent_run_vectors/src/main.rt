@@ -1,10 +1,11 @@
 //! Answers the request lines of `data/rows.jsonl` by `fluent_run::run`, over devices in memory that give and take little at a time
 //! or fail, and prints of each kind how many runs there were and how many of them ended in another way than they must. Readers that
-//! don't end are tried with few calls of `read`.
+//! don't end are tried with few calls of `read`, and the calls for C on a few sources.
 //!
 //! With the word `memory` it tries the rows of `data/memory.jsonl` alone, also where an allocation is refused.
 #![tactic(auto)]
 
+mod calls;
 mod case;
 mod cuts;
 mod devices;
@@ -17,6 +18,7 @@ mod script;
 mod writes;
 
 use anyhow::Result;
+use calls::try_calls;
 use endless::try_endless;
 use fluent_trials::Tally;
 use rows::Tallies;
@@ -28,7 +30,8 @@ fn main(rt: HostRuntime) -> Result<()> {
         return Ok(());
     }
     tell_all(&rt, rows::try_rows(&rt)?)?;
-    tell(&rt, "readers without an end", try_endless(rt.alloc()))
+    tell(&rt, "readers without an end", try_endless(rt.alloc()))?;
+    tell(&rt, "calls for C", try_calls(rt.alloc()))
 }
 
 /// Whether a word is given. Where memory is refused, the words are asked for once more.

@@ -1,7 +1,0 @@
--- What a text that was handed out is.
-use Rattle.std.specs.Prelude.{◌≡◌, ℕ, true, List}
-use Rattle.fluent_c.specs.declared.text.FluentText.{FluentText}
-
--- there is a text, of these bytes
-abbrev pub Holds : FluentText → List ℕ → Type 0
-Holds t text = (t.held ≡ true) × (t.text ≡ text)

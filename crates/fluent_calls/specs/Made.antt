@@ -1,0 +1,11 @@
+-- What a text that was handed out is.
+use Rattle.std.specs.Prelude.{◌≡◌, ℕ, true, false, List}
+use Rattle.fluent_calls.specs.declared.text.FluentText.{FluentText}
+
+-- there is a text, of these bytes
+abbrev pub Holds : FluentText → List ℕ → Type 0
+Holds t text = (t.held ≡ true) × (t.text ≡ text)
+
+-- there is no text
+abbrev pub HoldsNone : FluentText → Type 0
+HoldsNone t = t.held ≡ false

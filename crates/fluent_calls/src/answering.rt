@@ -1,0 +1,118 @@
+//! Answers to request lines, from sources.
+
+ghost use Rattle.std.specs.Prelude.{◌≡◌, ◌≢◌, ◌++◌, ◌∷◌, [], IfOk, IfErr, OnOk, IsUtf8};
+ghost use Rattle.fluent_serve.specs.Texts.{texts};
+ghost use Rattle.fluent_calls.specs.Answering.{texts_of, HoldsOther, english_answers};
+ghost use Rattle.fluent_calls.specs.Made.{Holds};
+ghost use Rattle.fluent_calls.specs.declared.answering.Refusal.TheVariants.{Memory, NotUtf8};
+
+use crate::text::FluentText;
+use crate::{FLUENT_NO_MEMORY, FLUENT_NOT_UTF8, FLUENT_READ};
+use fluent_run::{Settings, answers};
+use fluent_value::EnglishPlurals;
+use simdutf8::basic::from_utf8;
+use std::alloc::{AllocError, Global};
+
+/// A source: its first byte, and its length in bytes.
+#[repr(C)]
+#[derive(Clone, Copy)]
+pub struct FluentSource<'s> {
+    pub text: &'s [u8],
+}
+
+/// Why request lines aren't answered.
+#[derive(Clone, Copy)]
+enum Refusal {
+    /// Memory ran out.
+    Memory = 1,
+    /// A source isn't UTF-8.
+    NotUtf8 = 2,
+}
+
+impl From<AllocError> for Refusal {
+    ghost from_gives = { λ _ refusal. refusal ≡ Memory };
+
+    fn from(_error: AllocError) -> Refusal {
+        Refusal::Memory
+    }
+}
+
+/// The texts of sources, if each is UTF-8.
+fn read_sources<'s>(alloc: Global, sources: &[FluentSource<'s>]) -> Result<Vec<&'s str>, Refusal>
+    ensures read { IfOk result (λ read. texts read.items ≡ texts_of sources.now) }
+    ensures not_utf8 { IfErr result (λ refusal. refusal ≡ NotUtf8 → HoldsOther sources.now) }
+{
+    let mut read = Vec::new(alloc);
+    for source in sources {
+        read_source(source, &mut read)?;
+    }
+    Ok(read)
+}
+
+/// Puts a source's text behind `read`, if it is UTF-8.
+fn read_source<'s>(source: &FluentSource<'s>, read: &mut Vec<&'s str>) -> Result<(), Refusal>
+    ensures read { OnOk result (texts read.new.items
+        ≡ texts read.old.items ++ source.now.text.now ∷ []) }
+    ensures not_utf8 { IfErr result (λ refusal. refusal ≡ NotUtf8
+        → ¬ IsUtf8 source.now.text.now) }
+{
+    let Ok(text) = from_utf8(source.text) else {
+        return Err(Refusal::NotUtf8);
+    };
+    match read.push(text) {
+        Ok(()) => Ok(()),
+        Err(_) => Err(Refusal::Memory),
+    }
+}
+
+/// The answers to request lines, in memory that the caller frees.
+fn answered(
+    alloc: Global,
+    sources: &[FluentSource<'_>],
+    settings: Settings,
+    requests: &[u8],
+) -> Result<FluentText, Refusal>
+    ensures answered { IfOk result (λ made. Holds made (english_answers settings.isolating
+        settings.overriding (texts_of sources.now) requests.now)) }
+    ensures not_utf8 { IfErr result (λ refusal. refusal ≡ NotUtf8 → HoldsOther sources.now) }
+{
+    let sources = read_sources(alloc, sources)?;
+    let answers = answers(alloc, &sources, settings, &EnglishPlurals, requests)?;
+    Ok(FluentText::of(alloc, answers)?)
+}
+
+/// Answers request lines from the messages and terms of sources, as the command `ftl run` does.
+///
+/// The function `NUMBER` is there, and variants are chosen by the plural rules of English. Placeables stand between marks
+/// where `isolating` is true. Of an id that stands twice the last entry counts where `overriding` is true, and the first
+/// where it is false. `docs/protocol.md` says what a request line and its answer are.
+///
+/// The answer is [`FLUENT_READ`], also where a source has errors or a request is bad: then `made` holds the answers, and
+/// what it held before is freed. The answer is [`FLUENT_NOT_UTF8`] where a source isn't UTF-8 or [`FLUENT_NO_MEMORY`]
+/// otherwise, and `made` is unchanged then. All other memory is freed when it returns.
+pub fn answer(
+    alloc: Global,
+    sources: &[FluentSource<'_>],
+    isolating: bool,
+    overriding: bool,
+    requests: &[u8],
+    made: &mut FluentText,
+) -> u32
+    ensures answered { result ≡ 0 → Holds made.new (english_answers isolating overriding
+        (texts_of sources.now) requests.now) }
+    ensures not_utf8 { result ≡ 1 → HoldsOther sources.now }
+    ensures unchanged { result ≢ 0 → made.new ≡ made.old }
+{
+    let settings = Settings {
+        isolating,
+        overriding,
+    };
+    match answered(alloc, sources, settings, requests) {
+        Ok(text) => {
+            made.put(alloc, text);
+            FLUENT_READ
+        }
+        Err(Refusal::NotUtf8) => FLUENT_NOT_UTF8,
+        Err(Refusal::Memory) => FLUENT_NO_MEMORY,
+    }
+}

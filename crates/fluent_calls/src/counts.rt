@@ -1,0 +1,141 @@
+//! How many entries of each kind a tree has.
+
+ghost use Rattle.std.specs.Prelude.{◌≡◌, ◌≢◌, List, map, IfOk, IsUtf8};
+ghost use Rattle.std.specs.List.{count_by};
+ghost use Rattle.fluent_syntax.specs.Collected.{HasTree, HasErrors};
+ghost use Rattle.fluent_syntax.specs.ErrorView.{error_told};
+ghost use Rattle.fluent_syntax.specs.Tiling.{ParserError};
+ghost use Rattle.fluent_syntax.specs.Tree.{Entry as PlainEntry};
+ghost use Rattle.fluent_calls.specs.Counts.{Counted, HasEntries, Text, text_of, plain, tree_of, errors_of, is_message, is_term, is_comment, is_junk};
+
+use crate::{FLUENT_NO_MEMORY, FLUENT_NOT_UTF8, FLUENT_READ};
+use fluent_syntax::ast::{Entry, Resource};
+use fluent_syntax::parser::{self, Error, parse, parse_runtime};
+use simdutf8::basic::from_utf8;
+use std::alloc::{AllocError, Global};
+
+/// What a source is made of.
+#[repr(C)]
+#[derive(Clone, Copy)]
+pub struct FluentCounts {
+    pub messages: usize,
+    pub terms: usize,
+    /// The comments that stand by themselves, of all three kinds: not those of messages and terms.
+    pub comments: usize,
+    pub junk: usize,
+    /// One for each junk.
+    pub errors: usize,
+}
+
+impl FluentCounts {
+    /// The counts of a tree with so many errors.
+    fn of(resource: &Resource<&str>, errors: usize) -> Self
+        ensures entries { HasEntries result (plain resource.now) }
+        ensures errors { result.errors ≡ errors }
+    {
+        FluentCounts {
+            messages: messages(resource),
+            terms: terms(resource),
+            comments: comments(resource),
+            junk: junk(resource),
+            errors,
+        }
+    }
+}
+
+/// The entries that a source is read for.
+#[derive(Clone, Copy)]
+pub enum Reading {
+    /// All of them.
+    Whole,
+    /// Those that are used at run time: no comments.
+    Runtime,
+}
+
+/// Counts what a source is made of.
+///
+/// `text` is the source's bytes. The answer is [`FLUENT_READ`], also where the source has errors; [`FLUENT_NOT_UTF8`] or
+/// [`FLUENT_NO_MEMORY`] otherwise, and `counts` is unchanged then. All memory is freed when it returns.
+pub fn count(alloc: Global, text: &[u8], reading: Reading, counts: &mut FluentCounts) -> u32
+    ensures counted { result ≡ 0
+        → Counted counts.new (tree_of reading text.now) (errors_of reading text.now) }
+    ensures not_utf8 { result ≡ 1 → ¬ (IsUtf8 text.now) }
+    ensures utf8 { result ≢ 1 → IsUtf8 text.now }
+    ensures unchanged { result ≢ 0 → counts.new ≡ counts.old }
+{
+    let Ok(text) = from_utf8(text) else {
+        return FLUENT_NOT_UTF8;
+    };
+    match counts_of(alloc, text, reading) {
+        Ok(found) => {
+            *counts = found;
+            FLUENT_READ
+        }
+        Err(_) => FLUENT_NO_MEMORY,
+    }
+}
+
+fn counts_of(alloc: Global, text: &str, reading: Reading) -> Result<FluentCounts, AllocError>
+    ensures { IfOk result (λ counts. Counted counts (tree_of reading text.now)
+        (errors_of reading text.now)) }
+{
+    match reading {
+        Reading::Whole => counts_of_read(parse(alloc, text)),
+        Reading::Runtime => counts_of_read(parse_runtime(alloc, text)),
+    }
+}
+
+/// The counts of what was read, with or without errors.
+fn counts_of_read(read: parser::Result<&str>) -> Result<FluentCounts, AllocError>
+    ensures { (es : List PlainEntry) (errors : List ParserError)
+        → HasTree Text text_of read.entry es
+        → HasErrors Text read.entry (map error_told errors)
+        → IfOk result (λ counts. Counted counts es errors) }
+{
+    match read {
+        Ok(resource) => Ok(FluentCounts::of(&resource, 0)),
+        Err(Error::Broken(resource, errors)) => Ok(FluentCounts::of(&resource, errors.len())),
+        Err(Error::Memory) => Err(AllocError),
+    }
+}
+
+fn messages(resource: &Resource<&str>) -> usize
+    ensures { result ≡ count_by is_message (plain resource.now) }
+{
+    let entries = resource.body.iter();
+    entries
+        .filter(|entry| matches!(entry, Entry::Message(_)))
+        .count()
+}
+
+fn terms(resource: &Resource<&str>) -> usize
+    ensures { result ≡ count_by is_term (plain resource.now) }
+{
+    let entries = resource.body.iter();
+    entries
+        .filter(|entry| matches!(entry, Entry::Term(_)))
+        .count()
+}
+
+fn comments(resource: &Resource<&str>) -> usize
+    ensures { result ≡ count_by is_comment (plain resource.now) }
+{
+    let entries = resource.body.iter();
+    entries
+        .filter(|entry| {
+            matches!(
+                entry,
+                Entry::Comment(_) | Entry::GroupComment(_) | Entry::ResourceComment(_)
+            )
+        })
+        .count()
+}
+
+fn junk(resource: &Resource<&str>) -> usize
+    ensures { result ≡ count_by is_junk (plain resource.now) }
+{
+    let entries = resource.body.iter();
+    entries
+        .filter(|entry| matches!(entry, Entry::Junk { .. }))
+        .count()
+}

@@ -1,0 +1,111 @@
+//! A text in memory of the library, for a caller that isn't Rattle.
+
+ghost use Rattle.std.specs.Prelude.{◌≡◌, ℕ, List, true, false, vec_items, vec_len, IfOk};
+ghost use Rattle.std.specs.Vec.{vec_ptr};
+ghost use Rattle.std.specs.Option.{MatchOption};
+ghost use Rattle.fluent_calls.specs.Texts.{text_owns};
+
+use crate::loose::Loose;
+use std::alloc::{AllocError, Global};
+use std::marker::Model;
+
+/// A text that was written, or none.
+///
+/// Only this crate makes one that holds a text. A caller in C reads the fields; the text is freed by [`FluentText::clear`].
+#[repr(C)]
+pub struct FluentText {
+    /// Whether there is a text. Where there is none, the other fields say nothing.
+    held: bool,
+    /// The first byte. An empty text may have any pointer here.
+    bytes: *const u8,
+    /// How many bytes the text has.
+    len: usize,
+    /// The vector of the bytes, in a box.
+    owner: *mut u8,
+    pub ghost text: { List ℕ },
+}
+
+impl Model for FluentText {
+    ghost also_owns = { λ t. text_owns t.held t.owner t.bytes t.len t.text };
+}
+
+impl FluentText {
+    /// No text.
+    pub fn none() -> FluentText
+        ensures { result.held ≡ false }
+    {
+        FluentText {
+            held: false,
+            bytes: std::ptr::null(),
+            len: 0,
+            owner: std::ptr::null_mut(),
+        }
+    }
+
+    /// The text of a vector in a box, whose first byte and length these are.
+    fn holding(bytes: *const u8, len: usize, owner: Loose<Vec<u8>, Global>) -> FluentText
+        requires { (vec_ptr owner.value ≡ bytes) × (vec_len owner.value ≡ len) }
+        ensures { (result.held ≡ true) × (result.text ≡ vec_items owner.value) }
+    {
+        let Loose { at, alloc: _ } = owner;
+        FluentText {
+            held: true,
+            bytes,
+            len,
+            owner: at as *mut u8,
+        }
+    }
+
+    /// The vector's box, if there is a text.
+    fn take(self, alloc: Global) -> Option<Loose<Vec<u8>, Global>>
+        ensures { MatchOption result (self.held ≡ false)
+            (λ owner. vec_items owner.value ≡ self.text) }
+    {
+        let FluentText {
+            held,
+            bytes: _,
+            len: _,
+            owner,
+        } = self;
+        if held {
+            Some(Loose {
+                at: owner as *mut Vec<u8>,
+                alloc,
+            })
+        } else {
+            None
+        }
+    }
+
+    /// The text of these bytes.
+    pub(crate) fn of(alloc: Global, bytes: Vec<u8>) -> Result<FluentText, AllocError>
+        ensures { IfOk result (λ text. (text.held ≡ true) × (text.text ≡ vec_items bytes)) }
+    {
+        let first = bytes.as_ptr();
+        let len = bytes.len();
+        let owner = Box::new(alloc, bytes)?;
+        Ok(FluentText::holding(first, len, Loose::of(owner)))
+    }
+
+    /// The bytes, if there is a text.
+    pub fn into_bytes(self, alloc: Global) -> Option<Vec<u8>>
+        ensures { MatchOption result (self.held ≡ false) (λ bytes. vec_items bytes ≡ self.text) }
+    {
+        let owner = self.take(alloc)?;
+        Some(Box::into_inner(owner.into_box()))
+    }
+
+    /// Puts another text in the place of this one, which is freed.
+    pub(crate) fn put(&mut self, alloc: Global, text: FluentText)
+        ensures { self.new ≡ text }
+    {
+        let _freed = std::mem::replace(self, text).into_bytes(alloc);
+    }
+
+    /// Frees the text, if there is one. There is none then.
+    pub fn clear(&mut self, alloc: Global)
+        ensures { self.new.held ≡ false }
+    {
+        self.put(alloc, FluentText::none());
+    }
+}
