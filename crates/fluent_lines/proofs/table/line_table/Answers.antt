@@ -1,4 +1,4 @@
-use Rattle.std.proofs.Common.{◌≡◌, ◌+◌, ◌-◌, ◌∙◌, ℕ, length, drop, ap, sym, subst, arith, None, Some, Option}
+use Rattle.std.proofs.Common.{◌≡◌, ◌+◌, ◌-◌, ◌∙◌, ℕ, length, drop, ap, sym, subst, arith, Some, Option}
 use Rattle.std.proofs.lemmas.List.{length-drop, drop-drop}
 use Rattle.fluent_words.specs.Swept.{Tells, IsNext}
 use Rattle.fluent_lines.proofs.OneByOne.{last_row, next_row}
