@@ -22,18 +22,18 @@ pub struct Collected<S> {
 }
 
 impl<S: Drop> Collected<S> {
-    /// Of no parts.
-    pub fn new(alloc: Global) -> Self
-        ensures entries { (text_of : S → List ℕ) (pieces : List Piece)
-            → entries_with S text_of result pieces ≡ entries_of None pieces }
-        ensures errors { (pieces : List Piece) → errors_with S result pieces
-            ≡ map error_told (errors_of pieces) }
+    /// Of no parts, with room for so many entries. The only error is that memory runs out.
+    pub fn with_capacity(alloc: Global, entries: usize) -> Result<Self, AllocError>
+        ensures entries { IfOk result (λ all. (text_of : S → List ℕ) (pieces : List Piece)
+            → entries_with S text_of all pieces ≡ entries_of None pieces) }
+        ensures errors { IfOk result (λ all. (pieces : List Piece)
+            → errors_with S all pieces ≡ map error_told (errors_of pieces)) }
     {
-        Collected {
-            body: Vec::new(alloc),
+        Ok(Collected {
+            body: Vec::with_capacity(alloc, entries)?,
             errors: Vec::new(alloc),
             comment: None,
-        }
+        })
     }
 
     /// Puts junk behind the other entries, and its error behind the other errors.

@@ -14,6 +14,9 @@ use fluent_parsed::Collected;
 use fluent_slice::Texts;
 use std::alloc::{AllocError, Global};
 
+/// How many bytes a short entry has, about. Room to spare, which there is for longer ones, is never touched.
+const SHORT: usize = 64;
+
 /// The parts of a source, with their comments.
 pub fn parts_of<S: Drop, T: Texts<S>>(
     alloc: Global,
@@ -60,7 +63,7 @@ impl<'p, S: Drop, T: Texts<S>> Parser<'p, S, T> {
             ≡ map error_told (errors_of (pieces_left (length self.old.text.now)
             self.old.rest.now))) }
     {
-        let mut collected = Collected::new(self.alloc);
+        let mut collected = Collected::with_capacity(self.alloc, self.bytes().len() / SHORT + 1)?;
         'parts: loop {
             let apart = self.skip_blank_block();
             if self.bytes().is_empty() {
@@ -79,7 +82,7 @@ impl<'p, S: Drop, T: Texts<S>> Parser<'p, S, T> {
             ≡ map error_told (errors_of (runtime_left (length self.old.text.now)
             self.old.rest.now))) }
     {
-        let mut collected = Collected::new(self.alloc);
+        let mut collected = Collected::with_capacity(self.alloc, self.bytes().len() / SHORT + 1)?;
         'parts: loop {
             self.skip_blank_block();
             if self.bytes().is_empty() {
