@@ -1,12 +1,11 @@
 //! How many entries of each kind a tree has.
 
 ghost use Rattle.std.specs.Prelude.{◌≡◌, ◌≢◌, List, map, IfOk, IsUtf8};
-ghost use Rattle.std.specs.List.{count_by};
 ghost use Rattle.fluent_syntax.specs.Collected.{HasTree, HasErrors};
 ghost use Rattle.fluent_syntax.specs.ErrorView.{error_told};
 ghost use Rattle.fluent_syntax.specs.Tiling.{ParserError};
 ghost use Rattle.fluent_syntax.specs.Tree.{Entry as PlainEntry};
-ghost use Rattle.fluent_calls.specs.Counts.{Counted, HasEntries, Text, text_of, plain, tree_of, errors_of, is_message, is_term, is_comment, is_junk};
+ghost use Rattle.fluent_calls.specs.Counts.{Counted, HasEntries, Text, text_of, plain, tree_of, errors_of};
 
 use crate::{FLUENT_NO_MEMORY, FLUENT_NOT_UTF8, FLUENT_READ};
 use fluent_syntax::ast::{Entry, Resource};
@@ -33,13 +32,24 @@ impl FluentCounts {
         ensures entries { HasEntries result (plain resource.now) }
         ensures errors { result.errors ≡ errors }
     {
-        FluentCounts {
-            messages: messages(resource),
-            terms: terms(resource),
-            comments: comments(resource),
-            junk: junk(resource),
+        let mut counts = FluentCounts {
+            messages: 0,
+            terms: 0,
+            comments: 0,
+            junk: 0,
             errors,
+        };
+        for entry in &resource.body {
+            match entry {
+                Entry::Message(_) => counts.messages += 1,
+                Entry::Term(_) => counts.terms += 1,
+                Entry::Comment(_) | Entry::GroupComment(_) | Entry::ResourceComment(_) => {
+                    counts.comments += 1;
+                }
+                Entry::Junk { .. } => counts.junk += 1,
+            }
         }
+        counts
     }
 }
 
@@ -97,45 +107,4 @@ fn counts_of_read(read: parser::Result<&str>) -> Result<FluentCounts, AllocError
         Err(Error::Broken(resource, errors)) => Ok(FluentCounts::of(&resource, errors.len())),
         Err(Error::Memory) => Err(AllocError),
     }
-}
-
-fn messages(resource: &Resource<&str>) -> usize
-    ensures { result ≡ count_by is_message (plain resource.now) }
-{
-    let entries = resource.body.iter();
-    entries
-        .filter(|entry| matches!(entry, Entry::Message(_)))
-        .count()
-}
-
-fn terms(resource: &Resource<&str>) -> usize
-    ensures { result ≡ count_by is_term (plain resource.now) }
-{
-    let entries = resource.body.iter();
-    entries
-        .filter(|entry| matches!(entry, Entry::Term(_)))
-        .count()
-}
-
-fn comments(resource: &Resource<&str>) -> usize
-    ensures { result ≡ count_by is_comment (plain resource.now) }
-{
-    let entries = resource.body.iter();
-    entries
-        .filter(|entry| {
-            matches!(
-                entry,
-                Entry::Comment(_) | Entry::GroupComment(_) | Entry::ResourceComment(_)
-            )
-        })
-        .count()
-}
-
-fn junk(resource: &Resource<&str>) -> usize
-    ensures { result ≡ count_by is_junk (plain resource.now) }
-{
-    let entries = resource.body.iter();
-    entries
-        .filter(|entry| matches!(entry, Entry::Junk { .. }))
-        .count()
 }
