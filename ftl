@@ -16,10 +16,13 @@ is_built() {
 }
 
 # Proves and builds the program, and tries it on the run that is stored beside it. The crates that it stands on are proved side by
-# side: twice as many at a time as there are processors, since those that wait for another one count too.
+# side: twice as many at a time as there are processors, since those that wait for another one count too, but no more than
+# eight, which have been seen to fit into 24 GB of memory.
 build() (
     mkdir -p "$crate/out" && : >"$built.new"
-    cd "$crate" && rt all check --jobs "$((2 * $(nproc)))" &&
+    jobs=$((2 * $(nproc)))
+    [ "$jobs" -le 8 ] || jobs=8
+    cd "$crate" && rt all check --jobs "$jobs" &&
         rt run -- run data/hello.ftl <stdin &&
         mv -f "$built.new" "$built"
 )
