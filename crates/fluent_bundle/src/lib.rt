@@ -26,10 +26,11 @@ pub mod types;
 pub use bundle::FluentBundle;
 pub use fluent_environment::Environment;
 pub use fluent_errors::{EntryKind, FluentError};
-pub use fluent_ids::{AddFunctionError, AddResourceError, Entry, FunctionRef, GetEntry};
-pub use fluent_resource::{
-    Attributes, Entries, FluentAttribute, FluentMessage, FluentResource, ResourceError,
+pub use fluent_ids::{
+    AddFunctionError, AddResourceError, Attributes, Entry, FluentAttribute, FluentMessage,
+    FunctionRef, GetEntry,
 };
+pub use fluent_resource::{Entries, FluentResource, ResourceError};
 pub use fluent_value::{
     EnglishPlurals, FluentArgs, FluentFunction, FluentValue, IntoIter, Iter, NoCustom, NoFormatter,
     NoFunction, TextTransform, ValueFormatter, ValueScope,

@@ -36,7 +36,7 @@ fn ask_all<'r, 's>(
     arguments: &Args,
 ) -> Result<usize, AllocError> {
     let mut bytes = 0_usize;
-    for entry in resource.body() {
+    for entry in resource.entries() {
         if let Entry::Message(message) = entry {
             let asked = bundle.get_message(message.id.name);
             if let Some(pattern) = asked.and_then(|message| message.value()) {

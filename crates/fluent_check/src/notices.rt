@@ -56,7 +56,7 @@ impl<'r, 's> Added<'r, 's> {
         ensures told { OnOk result (notices_view self.new.told
             ≡ notices_view self.old.told ++ notices (ids_in self.old) (by_id resource.now)) }
     {
-        match self.ids.add_resource(resource) {
+        match self.ids.add_resource(resource.tree()) {
             Ok(()) => Ok(()),
             Err(AddResourceError::Overriding(mut notices)) => self.told.append(&mut notices),
             Err(AddResourceError::Memory) => Err(AllocError),

@@ -1,5 +1,6 @@
-pub mod Errors
-pub mod Messages
-pub mod Sources
-pub mod Trees
-pub mod DeskLaws
+-- The definitions that the contracts of the calls that tidy are told in, from the crate below.
+pub use Rattle.fluent_tidy.specs.Errors
+pub use Rattle.fluent_tidy.specs.Messages
+pub use Rattle.fluent_tidy.specs.Sources
+pub use Rattle.fluent_tidy.specs.Trees
+pub use Rattle.fluent_tidy.specs.DeskLaws

@@ -25,21 +25,11 @@
 //!
 //! The calls that tidy refuse sources with a carriage return, since written text ends its lines in a line feed alone. No call changes
 //! what it was handed. [`laws`] says what stays when sources are tidied, over plain data.
+//!
+//! The calls stand in three crates: `fluent_run` answers, `fluent_check` checks, and `fluent_tidy` tidies.
 
-mod cleaning;
-mod cutting;
-mod error;
-mod joining;
-pub mod laws;
-mod normalizing;
-mod reading;
-mod returns;
-mod trees;
-
-pub use cleaning::clean;
-pub use error::{CleanError, ImportError, NormalizeError};
 pub use fluent_check::{Report, check};
 pub use fluent_run::{FromRead, FromWrite, RunError, Settings, Sink, Source, answers, run};
-pub use joining::join;
-pub use normalizing::normalize;
-pub use trees::{export, import};
+pub use fluent_tidy::{
+    CleanError, ImportError, NormalizeError, clean, export, import, join, laws, normalize,
+};

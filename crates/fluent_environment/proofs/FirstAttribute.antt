@@ -5,7 +5,7 @@ use Rattle.std.specs.Str.{bytes_eq}
 use Rattle.fluent_grammar.specs.Words.{Text}
 use Rattle.fluent_grammar.specs.Tree.{Attribute, Elements}
 use Rattle.fluent_meaning.specs.Ids.{attribute_named}
-use Rattle.fluent_resource.specs.Attributes.{first_named}
+use Rattle.fluent_ids.specs.Attributes.{first_named}
 
 abbrev value_of : Option Attribute → Option Elements
 value_of = option_map (λ a. a.value)

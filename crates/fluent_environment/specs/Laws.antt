@@ -3,7 +3,7 @@ use Rattle.std.specs.Prelude.{◌≡◌, List, option_map}
 use Rattle.fluent_grammar.specs.Words.{Text}
 use Rattle.fluent_grammar.specs.Tree.{Attribute}
 use Rattle.fluent_meaning.specs.Ids.{attribute_named}
-use Rattle.fluent_resource.specs.Attributes.{first_named}
+use Rattle.fluent_ids.specs.Attributes.{first_named}
 
 -- the value of the first attribute of a name
 abbrev pub AttributesAgree : Type 0

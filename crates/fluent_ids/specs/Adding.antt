@@ -3,8 +3,9 @@ use Rattle.std.specs.Prelude.{◌≡◌, ◌≢◌, ℕ, false, List, [], None, 
 use Rattle.fluent_errors.specs.Errors as e
 use Rattle.fluent_errors.specs.View.{bundle_view}
 use Rattle.fluent_meaning.specs.Ids.{Meaning, find, kind_of, with_id, with_ids, entries_by_id}
-use Rattle.fluent_resource.specs.ResourceView.{entries_view}
-use Rattle.fluent_resource.specs.declared.resource.FluentResource.{FluentResource}
+use denote.Ref.{Bor}
+use Rattle.fluent_ast.specs.declared.Resource.{Resource}
+use Rattle.fluent_ids.specs.ResourceEntries.{entries_in}
 use Rattle.fluent_ids.specs.IdsView.{ids_view}
 use Rattle.fluent_ids.specs.declared.ids.FluentIds.{FluentIds}
 use Rattle.fluent_ids.specs.declared.error.AddResourceError.{AddResourceError}
@@ -20,10 +21,10 @@ TellsNotices (Err resource.Memory) told = Unit {0}
 
 module _ (F : Type 0) where
   -- unless memory ran out, the entries of a resource were put in, the first of an id staying
-  abbrev pub AddsFirst : Result (Unit {0}) AddResourceError → FluentIds F → FluentIds F → FluentResource → Type 0
+  abbrev pub AddsFirst : Result (Unit {0}) AddResourceError → FluentIds F → FluentIds F → Resource (Bor (List ℕ)) → Type 0
   AddsFirst (Err resource.Memory) old new r = Unit {0}
-  AddsFirst (Err (resource.Overriding notices)) old new r = ids_view F new ≡ with_ids false (ids_view F old) (entries_by_id (entries_view r))
-  AddsFirst (Ok u) old new r = ids_view F new ≡ with_ids false (ids_view F old) (entries_by_id (entries_view r))
+  AddsFirst (Err (resource.Overriding notices)) old new r = ids_view F new ≡ with_ids false (ids_view F old) (entries_by_id (entries_in r))
+  AddsFirst (Ok u) old new r = ids_view F new ≡ with_ids false (ids_view F old) (entries_by_id (entries_in r))
 
   -- where memory ran out, nothing changed
   abbrev pub KeepsAtMemory : Result (Unit {0}) AddResourceError → FluentIds F → FluentIds F → Type 0

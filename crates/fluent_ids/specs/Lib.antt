@@ -1,3 +1,8 @@
+pub mod AttributeView
+pub mod AttributesLeft
+pub mod Attributes
+pub mod MessageView
+pub mod ResourceEntries
 pub mod EntryView
 pub mod IdsView
 pub mod Found

@@ -5,29 +5,29 @@ ghost use Rattle.std.specs.HashMap.{spare};
 ghost use Rattle.fluent_ids.specs.Adding.{AddsFirst, KeepsAtMemory, TellsNotices};
 ghost use Rattle.fluent_ids.specs.EntryView.{meaning_of};
 ghost use Rattle.fluent_ids.specs.IdsView.{ids_view};
+ghost use Rattle.fluent_ids.specs.ResourceEntries.{entries_in};
 ghost use Rattle.fluent_meaning.specs.Ids.{entries_by_id, with_id, with_ids, notices};
-ghost use Rattle.fluent_resource.specs.ResourceView.{entries_view};
 
 use crate::entry::Entry;
 use crate::error::AddResourceError;
 use crate::ids::FluentIds;
-use fluent_resource::FluentResource;
+use fluent_ast::Resource;
 use std::alloc::AllocError;
 use std::borrow::CowStr;
 
 impl<'r, 's, F: Drop> FluentIds<'r, 's, F> {
-    /// Adds the messages and terms of a resource. Where two entries have one id, the first stays, whatever it is and wherever it
+    /// Adds the messages and terms of a resource, by its tree. Where two entries have one id, the first stays, whatever it is and wherever it
     /// comes from.
     ///
     /// # Errors
     /// - [`AddResourceError::Overriding`] has a notice for each entry whose id stood for another one, in the order of the
     ///   entries. All other entries were added.
     /// - [`AddResourceError::Memory`] where memory runs out. Nothing is added then.
-    pub fn add_resource(&mut self, resource: &'r FluentResource<'s>) -> Result<(), AddResourceError>
+    pub fn add_resource(&mut self, resource: &'r Resource<&'s str>) -> Result<(), AddResourceError>
         ensures added { AddsFirst F result self.old self.new resource.now }
         ensures refused { KeepsAtMemory F result self.old self.new }
         ensures told { TellsNotices result (notices (ids_view F self.old)
-            (entries_by_id (entries_view resource.now))) }
+            (entries_by_id (entries_in resource.now))) }
     {
         let notices = self.notices(resource)?;
         self.make_room(resource)?;
@@ -39,16 +39,16 @@ impl<'r, 's, F: Drop> FluentIds<'r, 's, F> {
         }
     }
 
-    /// Adds the messages and terms of a resource. Where two entries have one id, the last stays.
+    /// Adds the messages and terms of a resource, by its tree. Where two entries have one id, the last stays.
     ///
     /// # Errors
     /// Memory ran out. Nothing is added then.
     pub fn add_resource_overriding(
         &mut self,
-        resource: &'r FluentResource<'s>,
+        resource: &'r Resource<&'s str>,
     ) -> Result<(), AllocError>
         ensures added { OnOk result (ids_view F self.new
-            ≡ with_ids true (ids_view F self.old) (entries_by_id (entries_view resource.now))) }
+            ≡ with_ids true (ids_view F self.old) (entries_by_id (entries_in resource.now))) }
         ensures refused { OnErr result (ids_view F self.new ≡ ids_view F self.old) }
     {
         self.make_room(resource)?;
@@ -57,20 +57,20 @@ impl<'r, 's, F: Drop> FluentIds<'r, 's, F> {
     }
 
     /// Makes room for the entries of a resource.
-    fn make_room(&mut self, resource: &'r FluentResource<'s>) -> Result<(), AllocError>
+    fn make_room(&mut self, resource: &'r Resource<&'s str>) -> Result<(), AllocError>
         ensures same { ids_view F self.new ≡ ids_view F self.old }
-        ensures room { OnOk result (length (entries_view resource.now) ≤ spare self.new.entries) }
+        ensures room { OnOk result (length (entries_in resource.now) ≤ spare self.new.entries) }
     {
-        self.entries.reserve(resource.body().len())
+        self.entries.reserve(resource.body.len())
     }
 
     /// Puts in the messages and terms of a resource, for which there is room.
-    fn put_all(&mut self, resource: &'r FluentResource<'s>, overriding: bool)
-        requires { length (entries_view resource.now) ≤ spare self.old.entries }
+    fn put_all(&mut self, resource: &'r Resource<&'s str>, overriding: bool)
+        requires { length (entries_in resource.now) ≤ spare self.old.entries }
         ensures { ids_view F self.new ≡ with_ids overriding (ids_view F self.old)
-            (entries_by_id (entries_view resource.now)) }
+            (entries_by_id (entries_in resource.now)) }
     {
-        for plain in resource.body() {
+        for plain in &resource.body {
             if let Some((id, entry)) = Entry::of(resource, plain) {
                 self.put(id, entry, overriding);
             }

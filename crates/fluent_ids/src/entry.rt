@@ -6,15 +6,14 @@ ghost use Rattle.fluent_errors.specs.View as e;
 ghost use Rattle.fluent_ids.specs.EntryView.{meaning_of, pair_of};
 ghost use Rattle.fluent_meaning.specs.Ids.{entries_by_id, kind_of};
 
-use fluent_ast::{self as ast, Message, Term};
+use fluent_ast::{self as ast, Message, Resource, Term};
 use fluent_errors::EntryKind;
-use fluent_resource::FluentResource;
 
-/// What an id stands for. A message and a term stand beside the resource that they come from.
+/// What an id stands for. A message and a term stand beside the tree of the resource that they come from.
 #[derive(Drop)]
 pub enum Entry<'r, 's, F> {
-    Message((&'r FluentResource<'s>, &'r Message<&'s str>)),
-    Term((&'r FluentResource<'s>, &'r Term<&'s str>)),
+    Message((&'r Resource<&'s str>, &'r Message<&'s str>)),
+    Term((&'r Resource<&'s str>, &'r Term<&'s str>)),
     /// A function of the program's own.
     Function(F),
     /// The function `NUMBER`.
@@ -33,7 +32,7 @@ pub enum FunctionRef<'b, F> {
 impl<'r, 's, F> Entry<'r, 's, F> {
     /// The id of a message or term of a resource, and the entry that it becomes. Other entries have none.
     pub(crate) fn of(
-        resource: &'r FluentResource<'s>,
+        resource: &'r Resource<&'s str>,
         entry: &'r ast::Entry<&'s str>,
     ) -> Option<(&'s str, Self)>
         ensures { option_to_list (option_map (pair_of F) result)

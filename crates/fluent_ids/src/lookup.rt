@@ -6,12 +6,12 @@ ghost use Rattle.fluent_ids.specs.EntryView.{function_meaning};
 ghost use Rattle.fluent_ids.specs.Found.{message_in, term_in, function_in};
 ghost use Rattle.fluent_ids.specs.IdsView.{ids_view};
 ghost use Rattle.fluent_meaning.specs.Ids.{Ids, find};
-ghost use Rattle.fluent_resource.specs.MessageView.{message_of};
+ghost use Rattle.fluent_ids.specs.MessageView.{message_of};
 
 use crate::entry::{Entry, FunctionRef};
 use crate::ids::FluentIds;
+use crate::message::FluentMessage;
 use fluent_ast::{Message, Term};
-use fluent_resource::FluentMessage;
 
 /// What has messages, terms and functions by their ids. No call takes memory.
 pub trait GetEntry<'s, F> {

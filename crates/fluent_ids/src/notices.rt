@@ -8,13 +8,13 @@ ghost use Rattle.fluent_errors.specs.View.{bundle_view};
 ghost use Rattle.fluent_ids.specs.EntryView.{meaning_of};
 ghost use Rattle.fluent_ids.specs.IdsView.{ids_view};
 ghost use Rattle.fluent_ids.specs.Known.{is_known, told};
+ghost use Rattle.fluent_ids.specs.ResourceEntries.{entries_in};
 ghost use Rattle.fluent_meaning.specs.Ids.{entries_by_id, kind_of, notices};
-ghost use Rattle.fluent_resource.specs.ResourceView.{entries_view};
 
 use crate::entry::Entry;
 use crate::ids::FluentIds;
+use fluent_ast::Resource;
 use fluent_errors::{EntryKind, FluentError};
-use fluent_resource::FluentResource;
 use std::alloc::{AllocError, Global};
 use std::collections::HashSet;
 
@@ -78,13 +78,13 @@ impl<'r, 's, F: Drop> FluentIds<'r, 's, F> {
     /// The notices that adding a resource gives, where the first entry of an id stays.
     pub(crate) fn notices(
         &self,
-        resource: &'r FluentResource<'s>,
+        resource: &'r Resource<&'s str>,
     ) -> Result<Vec<FluentError>, AllocError>
         ensures { IfOk result (λ all. map bundle_view all.items
-            ≡ notices (ids_view F self.now) (entries_by_id (entries_view resource.now))) }
+            ≡ notices (ids_view F self.now) (entries_by_id (entries_in resource.now))) }
     {
         let mut notices = Notices::new(self.alloc);
-        for entry in resource.body() {
+        for entry in &resource.body {
             let Some((id, entry)) = Entry::<F>::of(resource, entry) else {
                 continue;
             };

@@ -1,7 +1,7 @@
 //! Reading a source, and going over what it holds.
 
 ghost use Rattle.std.specs.Prelude.{◌≡◌, length, option_map, option_copied, map, slice_get};
-ghost use Rattle.fluent_ast.specs.View.{entry_view};
+ghost use Rattle.fluent_ast.specs.View.{entry_view, resource_view};
 ghost use Rattle.fluent_grammar.specs.Tiling.{list, runtime_tree, runtime_errors};
 ghost use Rattle.fluent_parsed.specs.ErrorView.{error_told};
 ghost use Rattle.fluent_resource.specs.ResourceView.{entries_view};
@@ -64,11 +64,11 @@ impl<'s> FluentResource<'s> {
         Entries::new(&self.tree.body)
     }
 
-    /// The entries, in the order of their places, as a slice.
-    pub fn body(&self) -> &[Entry<&'s str>]
-        ensures { map (entry_view _ (λ s. s.now)) result.now ≡ entries_view self.now }
+    /// The tree: the entries, in the order of their places.
+    pub fn tree(&self) -> &Resource<&'s str>
+        ensures { resource_view _ (λ s. s.now) result.now ≡ entries_view self.now }
     {
-        self.tree.body.as_slice()
+        &self.tree
     }
 
     /// The entry of this index, from 0 on.

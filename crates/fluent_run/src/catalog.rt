@@ -54,9 +54,9 @@ fn add<'r, 's>(
         with_ids overriding (ids_view Function ids.old) (by_id resource.now)) }
 {
     if overriding {
-        return ids.add_resource_overriding(resource);
+        return ids.add_resource_overriding(resource.tree());
     }
-    match ids.add_resource(resource) {
+    match ids.add_resource(resource.tree()) {
         Ok(()) => Ok(()),
         Err(AddResourceError::Overriding(_)) => Ok(()),
         Err(AddResourceError::Memory) => Err(AllocError),

@@ -6,8 +6,8 @@ use Rattle.std.proofs.lemmas.List.{length-map}
 use Rattle.std.proofs.Math.ListN.{get_or-map}
 use Rattle.fluent_requests.specs.Text.{Text}
 use Rattle.fluent_serve.specs.Texts.{texts}
-use Rattle.fluent_desk.specs.declared.error.ImportError.{ImportError}
-use Rattle.fluent_desk.specs.declared.error.ImportError.TheVariants as import
+use Rattle.fluent_tidy.specs.declared.error.ImportError.{ImportError}
+use Rattle.fluent_tidy.specs.declared.error.ImportError.TheVariants as import
 use Rattle.ftl_command.specs.Faults.{NamesOneOf, end_status, status_of, import_fault}
 use Rattle.ftl_command.specs.declared.ended.Ended.{Ended}
 use Rattle.ftl_command.specs.declared.ended.Ended.TheVariants.{Done, Found}

@@ -3,12 +3,12 @@ use Rattle.std.specs.Prelude.{ℕ, List, Contains, Option, IfSome, IsUtf8}
 use Rattle.fluent_requests.specs.Text.{Text}
 use Rattle.ftl_command.specs.declared.fault.Fault.{Fault}
 use Rattle.ftl_command.specs.declared.fault.Fault.TheVariants.{CarriageReturn, NotNormal, NotTree, NotJson, CommandLine, FileUnreadable, FileNotUtf8, Input, Output, Memory}
-use Rattle.fluent_desk.specs.declared.error.CleanError.{CleanError}
-use Rattle.fluent_desk.specs.declared.error.CleanError.TheVariants as clean
-use Rattle.fluent_desk.specs.declared.error.NormalizeError.{NormalizeError}
-use Rattle.fluent_desk.specs.declared.error.NormalizeError.TheVariants as normalize
-use Rattle.fluent_desk.specs.declared.error.ImportError.{ImportError}
-use Rattle.fluent_desk.specs.declared.error.ImportError.TheVariants as import
+use Rattle.fluent_tidy.specs.declared.error.CleanError.{CleanError}
+use Rattle.fluent_tidy.specs.declared.error.CleanError.TheVariants as clean
+use Rattle.fluent_tidy.specs.declared.error.NormalizeError.{NormalizeError}
+use Rattle.fluent_tidy.specs.declared.error.NormalizeError.TheVariants as normalize
+use Rattle.fluent_tidy.specs.declared.error.ImportError.{ImportError}
+use Rattle.fluent_tidy.specs.declared.error.ImportError.TheVariants as import
 use Rattle.fluent_serve.specs.declared.serve.RunError.{RunError}
 use Rattle.fluent_serve.specs.declared.serve.RunError.TheVariants.{Memory as RunMemory, Read as RunRead, Write as RunWrite}
 use Rattle.ftl_command.specs.declared.ended.Ended.{Ended}

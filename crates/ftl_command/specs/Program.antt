@@ -19,7 +19,7 @@ use Rattle.fluent_cut.specs.Cut.{cut}
 use Rattle.fluent_cut.specs.Joined.{joined}
 use Rattle.fluent_normal.specs.Normal.{IsNormalText}
 use Rattle.fluent_json.specs.Json.{json}
-use Rattle.fluent_desk.specs.Trees.{IsImported}
+use Rattle.fluent_tidy.specs.Trees.{IsImported}
 use Rattle.ftl_report.specs.Report.{report_text}
 use Rattle.ftl_words.specs.Meaning.{Asked, Run, Tidy, run, check, tidy, clean, normalize, join, export, import}
 use Rattle.ftl_command.specs.Files.{OnFile, OnTexts}

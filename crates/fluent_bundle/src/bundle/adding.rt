@@ -25,7 +25,7 @@ impl<'r, 's, M, C, F: Drop, G> FluentBundle<'r, 's, M, C, F, G> {
             (entries_view resource.now) }
         ensures told { TellsNotices result (bundle_of self.old) (entries_view resource.now) }
     {
-        self.environment.ids.add_resource(resource)
+        self.environment.ids.add_resource(resource.tree())
     }
 
     /// Adds the messages and terms of a resource. Where two entries have one id, the last stays: it replaces a function too.
@@ -40,7 +40,8 @@ impl<'r, 's, M, C, F: Drop, G> FluentBundle<'r, 's, M, C, F, G> {
             ≡ with_entries true (bundle_of self.old) (entries_view resource.now)) }
         ensures refused { OnErr result (bundle_of self.new ≡ bundle_of self.old) }
     {
-        self.environment.ids.add_resource_overriding(resource)
+        let ids = &mut self.environment.ids;
+        ids.add_resource_overriding(resource.tree())
     }
 
     /// Adds a function under an id that stands for nothing yet.

@@ -4,12 +4,11 @@ ghost use Rattle.std.specs.Prelude.{◌≡◌, is_some, option_map};
 ghost use Rattle.fluent_bundle.specs.BundleView.{bundle_of};
 ghost use Rattle.fluent_ids.specs.Found.{message_in};
 ghost use Rattle.fluent_meaning.specs.Ids.{find};
-ghost use Rattle.fluent_resource.specs.MessageView.{message_of};
+ghost use Rattle.fluent_ids.specs.MessageView.{message_of};
 
 use super::FluentBundle;
 use fluent_ast::{Message, Term};
-use fluent_ids::{FunctionRef, GetEntry};
-use fluent_resource::FluentMessage;
+use fluent_ids::{FluentMessage, FunctionRef, GetEntry};
 
 impl<'r, 's, M, C, F, G> GetEntry<'s, F> for FluentBundle<'r, 's, M, C, F, G> {
     ghost ids = { λ bundle. (bundle_of bundle).ids };

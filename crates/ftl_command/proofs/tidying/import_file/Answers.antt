@@ -1,7 +1,7 @@
 use Rattle.std.proofs.Common.{rules, ◌≡◌, ap, sym, ◌∙◌, string_bytes, Err, Some}
 use Rattle.serde_json.specs.View.{view}
 use Rattle.serde_json.specs.Read.{read as read_text}
-use Rattle.fluent_desk.specs.declared.error.ImportError.TheVariants.{Shape}
+use Rattle.fluent_tidy.specs.declared.error.ImportError.TheVariants.{Shape}
 use Rattle.ftl_command.specs.Faults.{import_fault}
 use Rattle.ftl_command.specs.declared.fault.Fault.TheVariants.{NotTree}
 use Rattle.ftl_command.proofs.FaultLemmas.{shape_told}

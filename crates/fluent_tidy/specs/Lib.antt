@@ -1,0 +1,5 @@
+pub mod Errors
+pub mod Messages
+pub mod Sources
+pub mod Trees
+pub mod DeskLaws

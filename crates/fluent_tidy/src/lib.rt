@@ -1,0 +1,33 @@
+#![tactic(auto)]
+
+//! Tidying Fluent sources, which changes no text that they show.
+//!
+//! A translation file gets damaged, is put together from others, or has been written by another tool. These calls give it back
+//! in order: with the messages and terms that it had, or not at all.
+//!
+//! | Call | Gives |
+//! |---|---|
+//! | [`clean`] | the source without the stretches that can't be read |
+//! | [`join`] | several sources as one, each cleaned |
+//! | [`normalize`] | the source as the serializer writes it, where that is read back as the same tree |
+//! | [`export`] | the JSON tree of the cleaned source |
+//! | [`import`] | the text of a JSON tree, where that is read back as the same tree |
+//!
+//! They refuse sources with a carriage return, since written text ends its lines in a line feed alone. No call changes what it
+//! was handed. [`laws`] says what stays when sources are tidied, over plain data.
+
+mod cleaning;
+mod cutting;
+mod error;
+mod joining;
+pub mod laws;
+mod normalizing;
+mod reading;
+mod returns;
+mod trees;
+
+pub use cleaning::clean;
+pub use error::{CleanError, ImportError, NormalizeError};
+pub use joining::join;
+pub use normalizing::normalize;
+pub use trees::{export, import};

@@ -1,0 +1,71 @@
+//! The normal text of a source.
+
+ghost use Rattle.std.specs.Prelude.{◌≡◌, ◌≢◌, ◌↔◌, [], IsTrue, List, ℕ, IfOk, IfErr, IsErrOf, string_bytes};
+ghost use Rattle.fluent_grammar.specs.Tiling.{tree, list};
+ghost use Rattle.fluent_grammar.specs.Written.{written};
+ghost use Rattle.fluent_cut.specs.Cut.{cut};
+ghost use Rattle.fluent_normal.specs.Normal.{IsCanonical, IsNormalText, HasNoNormalText};
+ghost use Rattle.fluent_normal.specs.Shapes.{IsShaped};
+ghost use Rattle.fluent_tidy.specs.Sources.{holds_return};
+ghost use Rattle.fluent_tidy.specs.Trees.{IsReadAs};
+ghost use Rattle.fluent_tidy.specs.declared.error.NormalizeError.TheVariants.{CarriageReturn, NotNormal};
+
+use crate::cleaning::clean;
+use crate::error::NormalizeError;
+use crate::reading::{is_read_as, read_tree};
+use fluent_serializer::serialize;
+use std::alloc::{AllocError, Global};
+
+/// The normal text of a source: its cleaned text's tree as the serializer writes it, where that is read back as that
+/// very tree.
+///
+/// It has the messages and terms of the source, in their order, and is its own normal text.
+///
+/// # Errors
+/// `CarriageReturn` exactly where the source holds one, before any memory is taken. `NotNormal` where the written text
+/// isn't read back as the tree; this takes one of the five shapes of `docs/normal-text.md`. `Memory` where memory ran
+/// out.
+pub fn normalize(alloc: Global, source: &str) -> Result<String, NormalizeError>
+    ensures text { IfOk result (λ text. IsNormalText source.now (string_bytes text)) }
+    ensures same_list { IfOk result (λ text. list (string_bytes text) ≡ list source.now) }
+    ensures not_normal { IsErrOf result NotNormal → HasNoNormalText source.now }
+    ensures shaped { IsErrOf result NotNormal → IsShaped (cut source.now) }
+    ensures own_text { (other : List ℕ) → IsNormalText other source.now
+        → IfOk result (λ text. string_bytes text ≡ source.now) }
+    ensures carriage_return { IsErrOf result CarriageReturn ↔ IsTrue (holds_return source.now) }
+{
+    let text = clean(alloc, source)?;
+    normalize_clean(alloc, text.as_str())
+}
+
+/// The written text of the tree of a text, where it is read back as that tree.
+fn normalize_clean(alloc: Global, text: &str) -> Result<String, NormalizeError>
+    ensures text { IfOk result (λ new. IsCanonical (tree text.now)
+        × (string_bytes new ≡ written (tree text.now))) }
+    ensures not_normal { IfErr result (λ e. e ≡ NotNormal → IsCanonical (tree text.now) → ⊥) }
+    ensures no_return { IfErr result (λ e. e ≢ CarriageReturn) }
+{
+    let new = rewrite(alloc, text)?;
+    if are_read_alike(alloc, text, new.as_str())? {
+        Ok(new)
+    } else {
+        Err(NormalizeError::NotNormal)
+    }
+}
+
+/// The written text of the tree of a text.
+fn rewrite(alloc: Global, text: &str) -> Result<String, AllocError>
+    ensures { IfOk result (λ new. string_bytes new ≡ written (tree text.now)) }
+{
+    let tree = read_tree(alloc, text)?;
+    serialize(alloc, &tree)
+}
+
+/// Whether a new text is read whole, and as the tree of a text. The two stand for one lifetime, so that their trees can
+/// be compared: the tree that was written has lived by then.
+fn are_read_alike<'s>(alloc: Global, text: &'s str, new: &'s str) -> Result<bool, AllocError>
+    ensures { IfOk result (λ is. IsTrue is ↔ IsReadAs new.now (tree text.now)) }
+{
+    let tree = read_tree(alloc, text)?;
+    is_read_as(alloc, new, &tree)
+}
