@@ -1,14 +1,12 @@
 -- Faults of files, and statuses.
-use Rattle.std.proofs.Common.{◌≡◌, ◌<◌, ℕ, zero, suc, List, [], ◌∷◌, Bor, length, get_or, arith, subst, refl, lit<}
+use Rattle.std.proofs.Common.{◌≡◌, ◌<◌, ℕ, zero, suc, List, [], ◌∷◌, Bor, length, get_or, arith, subst, lit<}
 use Rattle.std.specs.List.{Contains}
 use Rattle.std.proofs.lemmas.List.Elements.{Contains-get_or}
 use Rattle.std.proofs.lemmas.List.{length-map}
 use Rattle.std.proofs.Math.ListN.{get_or-map}
 use Rattle.fluent_requests.specs.Text.{Text}
 use Rattle.fluent_serve.specs.Texts.{texts}
-use Rattle.fluent_tidy.specs.declared.error.ImportError.{ImportError}
-use Rattle.fluent_tidy.specs.declared.error.ImportError.TheVariants as import
-use Rattle.ftl_command.specs.Faults.{NamesOneOf, end_status, status_of, import_fault}
+use Rattle.ftl_command.specs.Faults.{NamesOneOf, end_status, status_of}
 use Rattle.ftl_command.specs.declared.ended.Ended.{Ended}
 use Rattle.ftl_command.specs.declared.ended.Ended.TheVariants.{Done, Found}
 use Rattle.ftl_command.specs.declared.fault.Fault.{Fault}
@@ -53,9 +51,3 @@ status_of-among Memory = Contains-get_or (0 ∷ 1 ∷ 2 ∷ 3 ∷ 4 ∷ []) 4 0 
 pub end_status-among : (end : Ended) → Contains (0 ∷ 1 ∷ 2 ∷ 3 ∷ 4 ∷ []) (end_status end)
 end_status-among Done = Contains-get_or (0 ∷ 1 ∷ 2 ∷ 3 ∷ 4 ∷ []) 0 0 (lit< tt)
 end_status-among Found = Contains-get_or (0 ∷ 1 ∷ 2 ∷ 3 ∷ 4 ∷ []) 1 0 (lit< tt)
-
--- what is told as no tree
-pub shape_told : (error : ImportError) → import_fault error ≡ NotTree → error ≡ import.Shape
-shape_told import.Memory e = absurd cc
-shape_told import.NotNormal e = absurd cc
-shape_told import.Shape e = refl

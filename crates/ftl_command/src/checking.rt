@@ -5,6 +5,7 @@ ghost use Rattle.fluent_serve.specs.Texts.{texts};
 ghost use Rattle.fluent_serve.specs.Devices.{HasFailed};
 ghost use Rattle.ftl_command.specs.Faults.{NamesOneOf, SaysNoUtf8, IsOfFiles};
 ghost use Rattle.ftl_command.specs.Program.{OnReport, WritesFront, end_by};
+ghost use Rattle.ftl_command.specs.Refusals.{RefusesNothing};
 
 use crate::borrowed::borrow_texts;
 use crate::ended::Ended;
@@ -27,6 +28,7 @@ pub fn check_files<'words, F: Folder, O: Sink>(
         OnReport (F.contents folder.now) (texts files.now) (λ text.
         Appends (O.contents writer.old) (O.contents writer.new) text × (end ≡ end_by text))) }
     ensures writes { OnOk result (O.failures writer.new ≡ O.failures writer.old) }
+    ensures refuses { IfErr result RefusesNothing }
     ensures not_words { IfErr result (λ fault. fault ≢ Fault.CommandLine) }
     ensures not_input { IfErr result (λ fault. fault ≢ Fault.Input) }
     ensures named { IfErr result (NamesOneOf (texts files.now)) }

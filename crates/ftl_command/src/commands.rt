@@ -5,6 +5,7 @@ ghost use Rattle.fluent_serve.specs.Exchange.{devices};
 ghost use Rattle.ftl_words.specs.Meaning.{AskForHelp, AskForHelpAlone, command_of, texts};
 ghost use Rattle.ftl_command.specs.Faults.{status_of, NamesOneOf, SaysNoUtf8, IsBeforeInput};
 ghost use Rattle.ftl_command.specs.Program.{IsDone, AfterMemory, AfterInput, AfterOutput, WithoutInput, files_named};
+ghost use Rattle.ftl_command.specs.Refusals.{IsRight};
 
 use crate::checking::check_files;
 use crate::ended::Ended;
@@ -79,6 +80,8 @@ pub fn run_command<'words, F: Folder, I: Source, O: Sink>(
     ensures not_help { IsErrOf result Fault.CommandLine → ¬ AskForHelpAlone (texts words.now) }
     ensures named { IfErr result (NamesOneOf (files_named (command_of (texts words.now)))) }
     ensures not_utf8 { IfErr result (SaysNoUtf8 (F.contents folder.now)) }
+    ensures right { IfErr result (IsRight (F.contents folder.now)
+        (command_of (texts words.now))) }
     ensures unread { IfErr result (λ fault. IsBeforeInput fault → reader.new ≡ reader.old) }
     ensures unwritten { IfErr result (λ fault. IsBeforeInput fault → writer.new ≡ writer.old) }
 

@@ -3,8 +3,8 @@ ghost use Rattle.std.specs.Prelude.{◌≡◌};
 ghost use Rattle.ftl_command.specs.Faults.{status_of, run_fault, clean_fault, normalize_fault, import_fault};
 ghost use Rattle.ftl_command.specs.declared.fault.Fault.TheVariants.{Memory};
 
-use fluent_tidy::{CleanError, ImportError, NormalizeError};
 use fluent_serve::serve::RunError;
+use fluent_tidy::{CleanError, ImportError, NormalizeError};
 use std::alloc::{AllocError, AllocFailed};
 use thiserror::Error;
 

@@ -5,6 +5,7 @@ ghost use Rattle.fluent_serve.specs.Devices.{HasFailed};
 ghost use Rattle.fluent_serve.specs.Exchange.{devices, AnswersFirst, AnswersWhole, AnswersFront};
 ghost use Rattle.ftl_command.specs.Faults.{NamesOneOf, SaysNoUtf8, IsBeforeInput};
 ghost use Rattle.ftl_command.specs.Program.{OnRun, Answered, run_of};
+ghost use Rattle.ftl_command.specs.Refusals.{RefusesNothing};
 
 use crate::borrowed::borrow_texts;
 use crate::ended::Ended;
@@ -31,6 +32,7 @@ pub fn run_files<'words, F: Folder, I: Source, O: Sink>(
     ensures writes { OnOk result (O.failures writer.new ≡ O.failures writer.old) }
 
     // Before all files are read nothing else is read, and nothing is written.
+    ensures refuses { IfErr result RefusesNothing }
     ensures not_words { IfErr result (λ fault. fault ≢ Fault.CommandLine) }
     ensures named { IfErr result (NamesOneOf (texts files.now)) }
     ensures not_utf8 { IfErr result (SaysNoUtf8 (F.contents folder.now)) }

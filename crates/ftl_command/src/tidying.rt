@@ -1,23 +1,21 @@
 //! What the sources' files are tidied into.
-ghost use Rattle.std.specs.Prelude.{◌≡◌, ◌≢◌, ◌⊎◌, ◌∷◌, ◌++◌, [], Some, None, false, IfOk, OnOk, IfErr, IsErrOf, IsTrue, string_bytes};
+ghost use Rattle.std.specs.Prelude.{◌≡◌, ◌≢◌, ◌⊎◌, ◌∷◌, ◌++◌, [], Some, None, false, IfOk, OnOk, IfErr, IsErrOf, string_bytes};
 ghost use Rattle.std.specs.Io.KnownBytes.{Appends};
 ghost use Rattle.fluent_serve.specs.Devices.{HasFailed};
-ghost use Rattle.std.specs.List.{list_any};
 ghost use Rattle.serde_json.specs.Read.{read as read_text};
 ghost use Rattle.serde_json.specs.View.{view};
 ghost use Rattle.serde_json.specs.Written.{compact_text, has_float};
 ghost use Rattle.fluent_cut.specs.Cut.{cut};
 ghost use Rattle.fluent_cut.specs.Joined.{joined};
-ghost use Rattle.fluent_normal.specs.Normal.{IsNormalText, HasNoNormalText};
-ghost use Rattle.fluent_json.specs.Json.{json, HasNone};
-ghost use Rattle.fluent_tidy.specs.Sources.{holds_return};
-ghost use Rattle.fluent_tidy.specs.Trees.{IsNotImported};
+ghost use Rattle.fluent_normal.specs.Normal.{IsNormalText};
 ghost use Rattle.fluent_requests.specs.Text.{line_feed};
 ghost use Rattle.fluent_serve.specs.Texts.{texts};
 ghost use Rattle.ftl_words.specs.CommandView.{tidy_view};
+ghost use Rattle.ftl_words.specs.Meaning as asked;
 ghost use Rattle.ftl_command.specs.Faults.{NamesOneOf, SaysNoUtf8, IsOfTidying};
 ghost use Rattle.ftl_command.specs.Files.{OnFile, OnTexts};
-ghost use Rattle.ftl_command.specs.Program.{OnValue, Imports, Tidies, Tidied, WritesFront, json_line, files_of};
+ghost use Rattle.ftl_command.specs.Program.{Imports, Tidies, Tidied, WritesFront, json_line, files_of};
+ghost use Rattle.ftl_command.specs.Refusals.{IsRightOf};
 
 use crate::borrowed::borrow_texts;
 use crate::ended::Ended;
@@ -25,8 +23,8 @@ use crate::fault::Fault;
 use crate::files::{read_source, read_sources};
 use crate::folder::Folder;
 use crate::output::write_text;
-use fluent_tidy::{clean, export, import, join, normalize};
 use fluent_serve::stream::Sink;
+use fluent_tidy::{clean, export, import, join, normalize};
 use ftl_words::Tidy;
 use serde_json::Value;
 use std::alloc::{AllocError, Global};
@@ -44,6 +42,7 @@ pub fn write_tidied<'words, F: Folder, O: Sink>(
     ensures writes { OnOk result (O.failures writer.new ≡ O.failures writer.old) }
     ensures named { IfErr result (NamesOneOf (files_of (tidy_view tidy.now))) }
     ensures not_utf8 { IfErr result (SaysNoUtf8 (F.contents folder.now)) }
+    ensures right { IfErr result (IsRightOf (F.contents folder.now) (tidy_view tidy.now)) }
     ensures not_words { IfErr result (λ fault. fault ≢ Fault.CommandLine) }
     ensures not_input { IfErr result (λ fault. fault ≢ Fault.Input) }
     ensures unwritten { IfErr result (λ fault. fault ≢ Fault.Output → writer.new ≡ writer.old) }
@@ -65,6 +64,7 @@ pub fn tidied_text<'words, F: Folder>(
 ) -> Result<String, Fault<'words>>
     ensures text { IfOk result (λ text. Tidies
         (F.contents folder.now) (tidy_view tidy.now) (string_bytes text)) }
+    ensures right { IfErr result (IsRightOf (F.contents folder.now) (tidy_view tidy.now)) }
     ensures fault { IfErr result IsOfTidying }
     ensures named { IfErr result (NamesOneOf (files_of (tidy_view tidy.now))) }
     ensures not_utf8 { IfErr result (SaysNoUtf8 (F.contents folder.now)) }
@@ -86,8 +86,7 @@ fn clean_file<'words, F: Folder>(
 ) -> Result<String, Fault<'words>>
     ensures text { IfOk result (λ text. OnFile (F.contents folder.now) file.now
         (λ source. string_bytes text ≡ cut source)) }
-    ensures carriage_return { IsErrOf result Fault.CarriageReturn → OnFile
-        (F.contents folder.now) file.now (λ source. IsTrue (holds_return source)) }
+    ensures right { IfErr result (IsRightOf (F.contents folder.now) (asked.clean file.now)) }
     ensures fault { IfErr result IsOfTidying }
     ensures named { IfErr result (NamesOneOf (file.now ∷ [])) }
     ensures not_utf8 { IfErr result (SaysNoUtf8 (F.contents folder.now)) }
@@ -104,10 +103,7 @@ fn normalize_file<'words, F: Folder>(
 ) -> Result<String, Fault<'words>>
     ensures text { IfOk result (λ text. OnFile (F.contents folder.now) file.now
         (λ source. IsNormalText source (string_bytes text))) }
-    ensures carriage_return { IsErrOf result Fault.CarriageReturn → OnFile
-        (F.contents folder.now) file.now (λ source. IsTrue (holds_return source)) }
-    ensures not_normal { IsErrOf result Fault.NotNormal → OnFile
-        (F.contents folder.now) file.now HasNoNormalText }
+    ensures right { IfErr result (IsRightOf (F.contents folder.now) (asked.normalize file.now)) }
     ensures fault { IfErr result IsOfTidying }
     ensures named { IfErr result (NamesOneOf (file.now ∷ [])) }
     ensures not_utf8 { IfErr result (SaysNoUtf8 (F.contents folder.now)) }
@@ -124,9 +120,8 @@ fn join_files<'words, F: Folder>(
 ) -> Result<String, Fault<'words>>
     ensures text { IfOk result (λ text. OnTexts (F.contents folder.now) (texts files.now)
         (λ sources. string_bytes text ≡ joined sources)) }
-    ensures carriage_return { IsErrOf result Fault.CarriageReturn
-        → OnTexts (F.contents folder.now) (texts files.now)
-        (λ sources. IsTrue (list_any holds_return sources)) }
+    ensures right { IfErr result (IsRightOf (F.contents folder.now)
+        (asked.join (texts files.now))) }
     ensures fault { IfErr result IsOfTidying }
     ensures named { IfErr result (NamesOneOf (texts files.now)) }
     ensures not_utf8 { IfErr result (SaysNoUtf8 (F.contents folder.now)) }
@@ -144,8 +139,7 @@ fn export_file<'words, F: Folder>(
 ) -> Result<String, Fault<'words>>
     ensures text { IfOk result (λ text. OnFile (F.contents folder.now) file.now
         (λ source. string_bytes text ≡ json_line source)) }
-    ensures carriage_return { IsErrOf result Fault.CarriageReturn → OnFile
-        (F.contents folder.now) file.now (λ source. IsTrue (holds_return source)) }
+    ensures right { IfErr result (IsRightOf (F.contents folder.now) (asked.export file.now)) }
     ensures fault { IfErr result IsOfTidying }
     ensures named { IfErr result (NamesOneOf (file.now ∷ [])) }
     ensures not_utf8 { IfErr result (SaysNoUtf8 (F.contents folder.now)) }
@@ -174,12 +168,7 @@ fn import_file<'words, F: Folder>(
 ) -> Result<String, Fault<'words>>
     ensures text { IfOk result (λ text. OnFile (F.contents folder.now) file.now
         (λ source. Imports source (string_bytes text))) }
-    ensures not_json { IsErrOf result Fault.NotJson → OnFile (F.contents folder.now) file.now
-        (λ source. read_text source ≡ None) }
-    ensures not_tree { IsErrOf result Fault.NotTree → OnFile (F.contents folder.now) file.now
-        (λ source. OnValue source (HasNone json)) }
-    ensures not_normal { IsErrOf result Fault.NotNormal → OnFile (F.contents folder.now) file.now
-        (λ source. OnValue source IsNotImported) }
+    ensures right { IfErr result (IsRightOf (F.contents folder.now) (asked.import file.now)) }
     ensures fault { IfErr result IsOfTidying }
     ensures named { IfErr result (NamesOneOf (file.now ∷ [])) }
     ensures not_utf8 { IfErr result (SaysNoUtf8 (F.contents folder.now)) }

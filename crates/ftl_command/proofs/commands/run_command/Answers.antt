@@ -1,5 +1,6 @@
 use Rattle.std.proofs.Common.{rules}
 use Rattle.ftl_words.specs.Meaning.{command_of, texts}
+use Rattle.ftl_command.proofs.Refusals.{memory_is_right}
 use Rattle.ftl_command.proofs.RunLemmas.{kept_input, nothing_done}
 use Rattle.ftl_command.proofs.commands.run_command.Goals as goal
 
@@ -30,3 +31,6 @@ pub returns-in-Err-Memory-clause-memory : goal.returns-in-Err-Memory-clause-memo
 returns-in-Err-Memory-clause-memory g c = λ memory.
     nothing_done (g.F.Folder.contents c.args.folder.now) (g.I.Source.remaining c.args.reader.now) (g.O.Sink.contents c.args.writer.now)
     (command_of (texts c.args.words.now))
+
+pub returns-in-Err-Memory-clause-right : goal.returns-in-Err-Memory-clause-right
+returns-in-Err-Memory-clause-right g c = memory_is_right (g.F.Folder.contents c.args.folder.now) (command_of (texts c.args.words.now))

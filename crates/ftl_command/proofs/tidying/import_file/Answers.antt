@@ -1,20 +1,22 @@
 use Rattle.std.proofs.Common.{rules, ◌≡◌, ap, sym, ◌∙◌, string_bytes, Err, Some}
 use Rattle.serde_json.specs.View.{view}
 use Rattle.serde_json.specs.Read.{read as read_text}
-use Rattle.fluent_tidy.specs.declared.error.ImportError.TheVariants.{Shape}
+use Rattle.ftl_words.specs.Meaning.{import}
 use Rattle.ftl_command.specs.Faults.{import_fault}
-use Rattle.ftl_command.specs.declared.fault.Fault.TheVariants.{NotTree}
-use Rattle.ftl_command.proofs.FaultLemmas.{shape_told}
+use Rattle.ftl_command.specs.Refusals.{IsRightOf}
+use Rattle.ftl_command.proofs.Refusals.{import_is_right}
 use Rattle.ftl_command.proofs.tidying.import_file.Goals as goal
 
-pub returns-in_err-import-clause-not_tree : goal.returns-in_err-import-clause-not_tree
-returns-in_err-import-clause-not_tree g c = λ is.
-    let told : import_fault c.in_err-import.field-0.0 ≡ NotTree = search rules in
-    let shape : c.import.result ≡ Err Shape = c.in_err-import.was ∙ ap Err (shape_told c.in_err-import.field-0.0 told) in
+pub returns-in_err-import-clause-right : goal.returns-in_err-import-clause-right
+returns-in_err-import-clause-right g c =
+    let contents = g.F.Folder.contents c.args.folder.now in
     let source = string_bytes c.in_ok-source.source in
-    let read : read_text source ≡ Some (view c.in_ok-value.value) = ap read_text (sym c.as_str.ensures.value) ∙ c.in_ok-value.ensures.value in
-    record {
-      source = source;
-      held = c.in_ok-source.ensures.held;
-      outcome = record { value = view c.in_ok-value.value; read = read; outcome = c.import.ensures.shape shape };
-    }
+    let held = c.in_ok-source.ensures.held in
+    let value = view c.in_ok-value.value in
+    let error = c.in_err-import.field-0.0 in
+    let read : read_text source ≡ Some value = ap read_text (sym c.as_str.ensures.value) ∙ c.in_ok-value.ensures.value in
+    let right : IsRightOf contents (import c.args.file.now) (import_fault error) =
+    import_is_right contents (import c.args.file.now) error
+    (λ is. record { source = source; held = held; outcome = record { value = value; read = read; outcome = c.import.ensures.not_normal (c.in_err-import.was ∙ ap Err is) } })
+    (λ is. record { source = source; held = held; outcome = record { value = value; read = read; outcome = c.import.ensures.shape (c.in_err-import.was ∙ ap Err is) } }) in
+    search rules
