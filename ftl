@@ -16,12 +16,12 @@ is_built() {
 }
 
 # Proves and builds the program, and tries it on the run that is stored beside it. The crates that it stands on are proved side by
-# side: twice as many at a time as there are processors, since those that wait for another one count too, but no more than
-# eight, which have been seen to fit into 24 GB of memory.
+# side: one more at a time than there are processors, since those that wait for another one count too. With more of them each
+# takes longer, and so does the chain of those that stand on one another.
 build() (
     mkdir -p "$crate/out" && : >"$built.new"
-    jobs=$((2 * $(nproc)))
-    [ "$jobs" -le 8 ] || jobs=8
+    jobs=$(($(nproc) + 1))
+    [ "$jobs" -le 8 ] || jobs=8 # which have been seen to fit into 24 GB of memory
     cd "$crate" && rt all check --jobs "$jobs" &&
         rt run -- run data/hello.ftl <stdin &&
         mv -f "$built.new" "$built"
