@@ -85,8 +85,8 @@ fn resolved<'b, 'r, 's, 'a, C: FluentType + Drop, F, E: Context<C, F>>(
 /// Writes what a pattern gives, piece by piece.
 ///
 /// # Errors
-/// [`Writer`](WriteError::Writer) if the writer refuses a piece, [`Memory`](WriteError::Memory) if memory runs out. The writer took
-/// the pieces before, and the first of the pattern's errors are told.
+/// [`Writer`](WriteError::Writer) if the writer refuses a piece, [`Memory`](WriteError::Memory) if memory runs out. The writer
+/// took the pieces before, and the first of the pattern's errors are told.
 pub fn write_answer<'b, 'r, 's, 'a, W, C, F, E>(
     w: &mut W,
     place: &Place<'b, 'r, 's, 'a, C, F, E>,
@@ -125,8 +125,8 @@ fn put_back(errors: &mut Vec<FluentError>, progress: Progress<'_, '_>)
     }
 }
 
-/// Hands a text out as a value is shown: where no formatter is set, as it lies, which takes no memory. The only error is that memory
-/// runs out.
+/// Hands a text out as a value is shown: where no formatter is set, as it lies, which takes no memory. The only error is that
+/// memory runs out.
 pub fn hand_out<'s, C: FluentType + Drop, V: ValueScope<C>>(
     scope: &V,
     text: CowStr<'s>,

@@ -1,5 +1,5 @@
-//! Times bundles on files of messages, and prints a line a file: the least nanoseconds of processor time that it took in some rounds.
-//! `bench/bundle/run.sh` runs it.
+//! Times bundles on files of messages, and prints a line a file: the least nanoseconds of processor time that it took in some
+//! rounds. `bench/bundle/run.sh` runs it.
 //!
 //!     fluent_bundle_bench adding FILE..         adds the messages of the file to a new bundle
 //!     fluent_bundle_bench asking FILE..         does so, and asks for each of them, by its id

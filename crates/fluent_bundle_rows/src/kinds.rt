@@ -6,7 +6,8 @@ use fluent_rows::json::text_in;
 use serde_json::Value as Json;
 use std::alloc::{AllocError, Global};
 
-/// Whether an expression refers to what an object says, or to nothing where there is none. The only error is that memory runs out.
+/// Whether an expression refers to what an object says, or to nothing where there is none. The only error is that memory runs
+/// out.
 pub fn is_kind(
     alloc: Global,
     inline: &InlineExpression<&str>,

@@ -1,8 +1,8 @@
 //! Builds bundles from small resources, step by step, and prints of each kind how many steps there were and how many of them
 //! answered, or left behind, something else than they must.
 //!
-//! A call that is refused memory has to leave its bundle as it was, and is made once more. So the same counts are printed with any
-//! one allocation refused: `rt try --fail-alloc N`.
+//! A call that is refused memory has to leave its bundle as it was, and is made once more. So the same counts are printed with
+//! any one allocation refused: `rt try --fail-alloc N`.
 #![tactic(auto)]
 
 mod attributes;

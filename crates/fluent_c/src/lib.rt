@@ -11,7 +11,7 @@ ghost use Rattle.serde_json.specs.Written.{compact_text};
 ghost use Rattle.fluent_syntax.specs.Tiling.{tree, errors, runtime_tree, runtime_errors};
 ghost use Rattle.fluent_syntax.specs.Written.{written_with};
 ghost use Rattle.fluent_json.specs.Json.{json};
-ghost use Rattle.fluent_calls.specs.Answering.{texts_of, HoldsOther, english_answers};
+ghost use Rattle.fluent_calls.specs.Answering.{texts_of, AreUtf8, HoldsOther, english_answers};
 ghost use Rattle.fluent_calls.specs.Counts.{Counted};
 ghost use Rattle.fluent_calls.specs.Made.{Holds, HoldsNone};
 
@@ -99,6 +99,7 @@ pub extern "C" fn fluent_answer(
 ) -> u32
     ensures answered { result ≡ 0 → Holds made.new (english_answers isolating overriding
         (texts_of sources.now) requests.now) }
+    ensures utf8 { result ≡ 0 → AreUtf8 sources.now }
     ensures not_utf8 { result ≡ 1 → HoldsOther sources.now }
     ensures unchanged { result ≢ 0 → made.new ≡ made.old }
 {

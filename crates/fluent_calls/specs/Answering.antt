@@ -1,5 +1,5 @@
 -- What request lines are answered, from sources that C hands over.
-use Rattle.std.specs.Prelude.{Bool, List, map, IsUtf8, Contains}
+use Rattle.std.specs.Prelude.{Bool, List, map, IsUtf8, All, Contains}
 use Rattle.fluent_answers.specs.Answers.{answers}
 use Rattle.fluent_grammar.specs.Words.{Text}
 use Rattle.fluent_number.specs.Plurals.{english}
@@ -15,6 +15,10 @@ pub record HoldsOther (sources : List FluentSource) : Type 0 where
   pub source : FluentSource
   pub stands : Contains sources source
   pub other : ¬ (IsUtf8 source.text.now)
+
+-- each of them is
+abbrev pub AreUtf8 : List FluentSource → Type 0
+AreUtf8 = All (λ source. IsUtf8 source.text.now)
 
 -- the answers to a stream of request lines, by the plural rules of English
 abbrev pub english_answers : Bool → Bool → List Text → Text → Text

@@ -2,7 +2,7 @@
 
 ghost use Rattle.std.specs.Prelude.{◌≡◌, ◌≢◌, ◌++◌, ◌∷◌, [], IfOk, IfErr, OnOk, IsUtf8};
 ghost use Rattle.fluent_serve.specs.Texts.{texts};
-ghost use Rattle.fluent_calls.specs.Answering.{texts_of, HoldsOther, english_answers};
+ghost use Rattle.fluent_calls.specs.Answering.{texts_of, AreUtf8, HoldsOther, english_answers};
 ghost use Rattle.fluent_calls.specs.Made.{Holds};
 ghost use Rattle.fluent_calls.specs.declared.answering.Refusal.TheVariants.{Memory, NotUtf8};
 
@@ -40,6 +40,7 @@ impl From<AllocError> for Refusal {
 /// The texts of sources, if each is UTF-8.
 fn read_sources<'s>(alloc: Global, sources: &[FluentSource<'s>]) -> Result<Vec<&'s str>, Refusal>
     ensures read { IfOk result (λ read. texts read.items ≡ texts_of sources.now) }
+    ensures utf8 { OnOk result (AreUtf8 sources.now) }
     ensures not_utf8 { IfErr result (λ refusal. refusal ≡ NotUtf8 → HoldsOther sources.now) }
 {
     let mut read = Vec::new(alloc);
@@ -53,6 +54,7 @@ fn read_sources<'s>(alloc: Global, sources: &[FluentSource<'s>]) -> Result<Vec<&
 fn read_source<'s>(source: &FluentSource<'s>, read: &mut Vec<&'s str>) -> Result<(), Refusal>
     ensures read { OnOk result (texts read.new.items
         ≡ texts read.old.items ++ source.now.text.now ∷ []) }
+    ensures utf8 { OnOk result (IsUtf8 source.now.text.now) }
     ensures not_utf8 { IfErr result (λ refusal. refusal ≡ NotUtf8
         → ¬ IsUtf8 source.now.text.now) }
 {
@@ -74,6 +76,7 @@ fn answered(
 ) -> Result<FluentText, Refusal>
     ensures answered { IfOk result (λ made. Holds made (english_answers settings.isolating
         settings.overriding (texts_of sources.now) requests.now)) }
+    ensures utf8 { OnOk result (AreUtf8 sources.now) }
     ensures not_utf8 { IfErr result (λ refusal. refusal ≡ NotUtf8 → HoldsOther sources.now) }
 {
     let sources = read_sources(alloc, sources)?;
@@ -100,6 +103,7 @@ pub fn answer(
 ) -> u32
     ensures answered { result ≡ 0 → Holds made.new (english_answers isolating overriding
         (texts_of sources.now) requests.now) }
+    ensures utf8 { result ≡ 0 → AreUtf8 sources.now }
     ensures not_utf8 { result ≡ 1 → HoldsOther sources.now }
     ensures unchanged { result ≢ 0 → made.new ≡ made.old }
 {

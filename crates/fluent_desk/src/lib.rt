@@ -23,8 +23,8 @@
 //! normalize(alloc, source)?;  // "key1 = Value 1\nkey2 = { $x }\n"
 //! ```
 //!
-//! The calls that tidy refuse sources with a carriage return, since written text ends its lines in a line feed alone. No call changes
-//! what it was handed. [`laws`] says what stays when sources are tidied, over plain data.
+//! The calls that tidy refuse sources with a carriage return, since written text ends its lines in a line feed alone. No call
+//! changes what it was handed. [`laws`] says what stays when sources are tidied, over plain data.
 //!
 //! The calls stand in three crates: `fluent_run` answers, `fluent_check` checks, and `fluent_tidy` tidies.
 

@@ -2,8 +2,8 @@
 //! JSON texts and refusals that stand there. Then it tidies each prefix of the sources of `data/prefixes.jsonl`, of
 //! which nothing is known but laws, and a source of a thousand messages.
 //!
-//! Where memory is refused, a row is tried once more, and any other answer must be right. So the same counts are printed with any one
-//! allocation refused: see `docs/CHECKS.md`.
+//! Where memory is refused, a row is tried once more, and any other answer must be right. So the same counts are printed with
+//! any one allocation refused: see `docs/CHECKS.md`.
 #![tactic(auto)]
 
 mod answering;

@@ -1,8 +1,9 @@
 //! Scopes that are called step by step.
 //!
-//! The `calls` of a row are made on a new scope, in turn. Each is made so many `times`, usually once, each time with `dirty` set first where
-//! the call has `set_dirty`. It tells its `errors`, by their texts, and then so many `placeables` are counted, so many patterns `entered`,
-//! and the scope is `dirty` or not. `errors` of the row are in the list before. With `listed` off there is no list.
+//! The `calls` of a row are made on a new scope, in turn. Each is made so many `times`, usually once, each time with `dirty`
+//! set first where the call has `set_dirty`. It tells its `errors`, by their texts, and then so many `placeables` are counted,
+//! so many patterns `entered`, and the scope is `dirty` or not. `errors` of the row are in the list before. With `listed` off
+//! there is no list.
 
 use fluent_bundle::resolver::Scope;
 use fluent_bundle::{EnglishPlurals, FluentError, FluentResource, TextTransform};
@@ -20,8 +21,8 @@ use fluent_scope_rows::told::count_in;
 use serde_json::Value as Json;
 use std::alloc::{AllocError, Global};
 
-/// Makes a call of a scope, with a page to write to, and answers whether it gives what it must. This is no function, since a bundle may
-/// hold a boxed transform: what changes a scope stands where its bundle is made.
+/// Makes a call of a scope, with a page to write to, and answers whether it gives what it must. This is no function, since a
+/// bundle may hold a boxed transform: what changes a scope stands where its bundle is made.
 macro_rules! answered {
     ($alloc:ident, $scope:ident, $call:ident, $page:ident) => {
         match $call.name {
@@ -45,8 +46,8 @@ macro_rules! answered {
     };
 }
 
-/// Whether the calls of a row give what they must, also where one of them, each in turn, is made with a writer that takes nothing. The only
-/// error is that memory runs out.
+/// Whether the calls of a row give what they must, also where one of them, each in turn, is made with a writer that takes
+/// nothing. The only error is that memory runs out.
 pub fn are_right(
     alloc: Global,
     row: &Json,
@@ -106,8 +107,8 @@ fn are_right_each<'r, 's>(
     Ok(true)
 }
 
-/// The same, with this list of errors, where the writer of the call at an index takes nothing. What follows a refused call is made as well,
-/// but nothing is known of it.
+/// The same, with this list of errors, where the writer of the call at an index takes nothing. What follows a refused call is
+/// made as well, but nothing is known of it.
 fn are_answered<'r, 's>(
     alloc: Global,
     row: &Json,

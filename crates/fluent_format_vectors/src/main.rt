@@ -1,5 +1,5 @@
-//! Asks bundles for what their patterns give, and calls scopes, as the rows of `data` say. It prints of each file how many rows there
-//! were and how many of them gave something else than they must.
+//! Asks bundles for what their patterns give, and calls scopes, as the rows of `data` say. It prints of each file how many rows
+//! there were and how many of them gave something else than they must.
 #![tactic(auto)]
 
 mod calls;

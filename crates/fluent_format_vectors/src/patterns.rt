@@ -1,9 +1,9 @@
 //! Rows of messages that are asked for, and what they must give.
 //!
-//! `source` and `id`, usually `m`, say what is asked for, or `tree` is a pattern made by hand. `args` are the
-//! arguments by name. `text` is what `format_pattern` gives, or `null` where there is no such pattern, `written` what is written where it
-//! differs, and `errors` has the texts of the errors. The settings stand by their names;
-//! placeables are isolated where `isolating` isn't `false`.
+//! `source` and `id`, usually `m`, say what is asked for, or `tree` is a pattern made by hand. `args` are the arguments by
+//! name. `text` is what `format_pattern` gives, or `null` where there is no such pattern, `written` what is written where it
+//! differs, and `errors` has the texts of the errors. The settings stand by their names; placeables are isolated where
+//! `isolating` isn't `false`.
 
 use fluent_ast::Pattern;
 use fluent_bundle::{EnglishPlurals, FluentResource, TextTransform};

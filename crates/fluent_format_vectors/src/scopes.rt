@@ -1,7 +1,7 @@
 //! Rows of scopes.
 //!
-//! A row has a `source`, and `calls`, a `value` or `pairs`. `args` are the arguments by name. The settings of its bundle stand by their
-//! names; placeables are isolated where `isolating` isn't `false`.
+//! A row has a `source`, and `calls`, a `value` or `pairs`. `args` are the arguments by name. The settings of its bundle stand
+//! by their names; placeables are isolated where `isolating` isn't `false`.
 
 use crate::calls::are_right;
 use fluent_bundle_rows::bundle::read;

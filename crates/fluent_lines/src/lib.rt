@@ -4,9 +4,9 @@
 //! front, whether it can begin an entry or ends a pattern, and whether it is plain, with no brace. What a line is, is defined in
 //! `fluent_grammar` (`Words`, `Lines`); `docs/grammar.md` has it in words.
 //!
-//! [`Lines`] looks them up by place: a reader that stands anywhere in the text learns from the rows where its line ends, where the
-//! next entry may begin, and how far a text of a pattern goes. The search begins at the line of the last one, so a reader that goes
-//! forward passes over each row about once.
+//! [`Lines`] looks them up by place: a reader that stands anywhere in the text learns from the rows where its line ends, where
+//! the next entry may begin, and how far a text of a pattern goes. The search begins at the line of the last one, so a reader
+//! that goes forward passes over each row about once.
 #![tactic(auto)]
 
 mod lookup;

@@ -45,7 +45,8 @@ impl<'a> Lines<'a> {
         self.find(place).end.saturating_sub(place)
     }
 
-    /// How many bytes stand before the next line behind this place that may begin an entry: all that are left, where there is none.
+    /// How many bytes stand before the next line behind this place that may begin an entry: all that are left, where there is
+    /// none.
     pub fn entry_start(&mut self, place: usize) -> usize
         requires { place ≤ length self.old.text.now }
         ensures value { drop result (drop place self.old.text.now)
@@ -64,8 +65,9 @@ impl<'a> Lines<'a> {
         self.text.len() - place
     }
 
-    /// The text at this place, as the text of a pattern: up to and with the line feed, or up to an opening brace, a CR LF or the end. An
-    /// `Err` is the offset of a closing brace from here, which no text may have. In a plain line no brace is searched for.
+    /// The text at this place, as the text of a pattern: up to and with the line feed, or up to an opening brace, a CR LF or
+    /// the end. An `Err` is the offset of a closing brace from here, which no text may have. In a plain line no brace is
+    /// searched for.
     #[inline(always)]
     pub fn text_len(&mut self, place: usize) -> Result<usize, usize>
         requires { place ≤ length self.old.text.now }
@@ -92,8 +94,9 @@ impl<'a> Lines<'a> {
         self.find(place)
     }
 
-    /// The length of a text that is all of a pattern: of one line, with its line feed, behind which the pattern ends. It is told by the
-    /// rows; only the first byte is looked at, and the one behind the line. `None` where the text is none, or where it isn't told.
+    /// The length of a text that is all of a pattern: of one line, with its line feed, behind which the pattern ends. It is
+    /// told by the rows; only the first byte is looked at, and the one behind the line. `None` where the text is none, or where
+    /// it isn't told.
     #[inline(always)]
     pub fn one_line_len(&mut self, place: usize) -> Option<usize>
         requires { place ≤ length self.old.text.now }

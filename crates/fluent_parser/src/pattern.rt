@@ -91,8 +91,9 @@ impl<'p, S: Drop, T: Texts<S>> Parser<'p, S, T> {
         begins_line
     }
 
-    /// Reads the next piece of a pattern, puts it behind those that were gathered, and says whether it ends its line. None where the
-    /// pattern ends. A blank line behind most patterns would be a piece of its own, which is dropped again: its line feed is passed over.
+    /// Reads the next piece of a pattern, puts it behind those that were gathered, and says whether it ends its line. None
+    /// where the pattern ends. A blank line behind most patterns would be a piece of its own, which is dropped again: its line
+    /// feed is passed over.
     #[cycle(parser)]
     fn get_piece(
         &mut self,

@@ -15,8 +15,8 @@ use fluent_value::{FluentArgs, FluentType, FluentValue, ValueScope};
 use std::alloc::AllocError;
 use std::borrow::CowStr;
 
-/// What patterns are resolved in but for their messages and terms: what functions give, and what texts and values are shown by. It
-/// stays the same while a pattern is resolved.
+/// What patterns are resolved in but for their messages and terms: what functions give, and what texts and values are shown by.
+/// It stays the same while a pattern is resolved.
 pub trait Context<C: FluentType, F>: ValueScope<C> {
     /// All of it as plain data.
     ghost environment: { Self → Environment C.Meaning F };

@@ -112,8 +112,8 @@ pub fn write_inline_braced(
     out.push_str("}")
 }
 
-/// Tells an error, which isn't that of too many placeables, and writes the fallback of an inline expression in braces. The only error
-/// is that memory runs out.
+/// Tells an error, which isn't that of too many placeables, and writes the fallback of an inline expression in braces. The only
+/// error is that memory runs out.
 pub fn fall_back(
     out: &mut String,
     progress: &mut Progress<'_, '_>,

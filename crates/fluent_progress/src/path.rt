@@ -35,8 +35,8 @@ impl<'r, 's> Progress<'r, 's> {
         Ok(())
     }
 
-    /// Puts a pattern on the path where it is empty, and answers whether it was. The only error is that memory runs out; nothing has
-    /// changed then.
+    /// Puts a pattern on the path where it is empty, and answers whether it was. The only error is that memory runs out;
+    /// nothing has changed then.
     pub fn enter_root(&mut self, whole: &'r Pattern<&'s str>) -> Result<bool, AllocError>
         ensures path { OnOk result (path_of self.new
             ≡ rooted_path (pattern_view _ (λ s. s.now) whole.now) (path_of self.old)) }

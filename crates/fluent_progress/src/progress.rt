@@ -30,8 +30,8 @@ pub struct Progress<'r, 's> {
 }
 
 impl Progress<'_, '_> {
-    /// What an answer starts with: these errors, told before and where they are wanted, and nothing counted or entered. It takes no
-    /// memory.
+    /// What an answer starts with: these errors, told before and where they are wanted, and nothing counted or entered. It
+    /// takes no memory.
     pub fn new(alloc: Global, errors: Option<Vec<FluentError>>) -> Self
         ensures state { state result ≡ fresh (option_map (λ es. map bundle_view es.items) errors) }
         ensures path { path_of result ≡ [] }

@@ -33,8 +33,8 @@ pub fn write_literal(out: &mut String, raw: &str) -> Result<(), AllocError>
     }
 }
 
-/// What the raw text of a string literal stands for, as a value. A text without escapes is borrowed. The only error is that memory
-/// runs out.
+/// What the raw text of a string literal stands for, as a value. A text without escapes is borrowed. The only error is that
+/// memory runs out.
 pub fn literal_value<'s, C: FluentType>(
     alloc: Global,
     raw: &'s str,

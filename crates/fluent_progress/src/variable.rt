@@ -33,8 +33,8 @@ fn write_name(out: &mut String, id: &str) -> Result<(), AllocError>
     out.push_str("}")
 }
 
-/// Writes the value of an argument of this name where there is one, and answers whether there is. The only error is that memory runs
-/// out.
+/// Writes the value of an argument of this name where there is one, and answers whether there is. The only error is that memory
+/// runs out.
 fn write_argument<C: FluentType, F, E: Context<C, F>>(
     out: &mut String,
     context: &E,
@@ -87,8 +87,8 @@ fn owned<'v, C: FluentType>(
 }
 
 impl<'b, 'r, 's, 'a, C: FluentType, F, E: Context<C, F>> Place<'b, 'r, 's, 'a, C, F, E> {
-    /// Writes the value of a variable where it has one, inside a term that of one of its arguments, else that of one of the request's,
-    /// and answers whether it has one. The only error is that memory runs out.
+    /// Writes the value of a variable where it has one, inside a term that of one of its arguments, else that of one of the
+    /// request's, and answers whether it has one. The only error is that memory runs out.
     fn write_given(
         &self,
         out: &mut String,

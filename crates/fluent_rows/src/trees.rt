@@ -1,8 +1,8 @@
 //! Patterns that no source need read as, made by hand.
 //!
-//! A pattern is a list of elements: a text, or an object for a placeable. An object is `string`, `digits`, `variable`, `message`,
-//! `term` or `function` with its text, and maybe an `attribute` or arguments, `positional` and `named`; or a `nested` placeable; or a
-//! `selector` with `variants`. Arguments, and what is nested, hold no arguments themselves.
+//! A pattern is a list of elements: a text, or an object for a placeable. An object is `string`, `digits`, `variable`,
+//! `message`, `term` or `function` with its text, and maybe an `attribute` or arguments, `positional` and `named`; or a
+//! `nested` placeable; or a `selector` with `variants`. Arguments, and what is nested, hold no arguments themselves.
 
 use crate::json::{is_set, list_in, text_in};
 use fluent_ast::{

@@ -29,8 +29,8 @@ fn set<'row>(
     }
 }
 
-/// A value: a text, which is read as a number where it is one, a text in a list, which is not, `true` for the program's own value, `false`
-/// for `Error`, and `null` for none.
+/// A value: a text, which is read as a number where it is one, a text in a list, which is not, `true` for the program's own
+/// value, `false` for `Error`, and `null` for none.
 pub fn value_of(json: &Json) -> Value<'_> {
     match json {
         Json::String(text) => Value::try_number(text.as_str()),
@@ -75,8 +75,8 @@ pub fn are_named(named: &Args<'_>, json: Option<&Json>) -> bool {
     wanted.next().is_none()
 }
 
-/// Whether pairs of a name and a value are these arguments, made of them at once or set one after the other. The only error is that memory
-/// runs out.
+/// Whether pairs of a name and a value are these arguments, made of them at once or set one after the other. The only error is
+/// that memory runs out.
 pub fn are_set(alloc: Global, pairs: &[Json], named: Option<&Json>) -> Result<bool, AllocError> {
     let is_right_in_turn = are_set_in_turn(alloc, pairs, named)?;
     let made = Args::from_pairs(alloc, pairs.iter().filter_map(pair_of))?;

@@ -21,8 +21,8 @@ const READS: u64 = 4_294_967_296;
 /// `docs/protocol.md`. The function `NUMBER` is there before them, and what is no entry is passed over. Variants are chosen by
 /// `plurals`.
 ///
-/// The input is read in blocks of at most 8,192 bytes, and each line is answered as soon as it is whole. An answer is computed whole
-/// before its first byte is written.
+/// The input is read in blocks of at most 8,192 bytes, and each line is answered as soon as it is whole. An answer is computed
+/// whole before its first byte is written.
 ///
 /// # Errors
 /// After each of them but [`RunError::Write`] whole answers were written.

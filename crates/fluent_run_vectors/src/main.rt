@@ -1,6 +1,6 @@
-//! Answers the request lines of `data/rows.jsonl` by `fluent_run::run`, over devices in memory that give and take little at a time
-//! or fail, and prints of each kind how many runs there were and how many of them ended in another way than they must. Readers that
-//! don't end are tried with few calls of `read`, and the calls for C on a few sources.
+//! Answers the request lines of `data/rows.jsonl` by `fluent_run::run`, over devices in memory that give and take little at a
+//! time or fail, and prints of each kind how many runs there were and how many of them ended in another way than they must.
+//! Readers that don't end are tried with few calls of `read`, and the calls for C on a few sources.
 //!
 //! With the word `memory` it tries the rows of `data/memory.jsonl` alone, also where an allocation is refused.
 #![tactic(auto)]

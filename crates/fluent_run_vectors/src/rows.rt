@@ -1,7 +1,7 @@
 //! The rows of the files in `data`.
 //!
-//! A row has its `sources`, its `lines`, and maybe settings: `isolating`, which is usually on, and `overriding`, which is off. It is
-//! `too_large` where memory runs out at its last line.
+//! A row has its `sources`, its `lines`, and maybe settings: `isolating`, which is usually on, and `overriding`, which is off.
+//! It is `too_large` where memory runs out at its last line.
 
 use crate::case::Case;
 use crate::cuts::try_cuts;

@@ -1,8 +1,8 @@
 //! Request lines, and the answer to each.
 //!
-//! A line of a row is a list: the request and its answer, each with its line feed where it has one, and then how often both come, if
-//! more than once. Each of them is a text or a list of pieces: texts, numbers, which are single bytes, and lists of a text and how
-//! often it comes.
+//! A line of a row is a list: the request and its answer, each with its line feed where it has one, and then how often both
+//! come, if more than once. Each of them is a text or a list of pieces: texts, numbers, which are single bytes, and lists of a
+//! text and how often it comes.
 
 use crate::json::{count_of, is_set, list_in};
 use anyhow::{Context, Result};

@@ -72,8 +72,8 @@ fn is_cut(alloc: Global, case: Case<'_, '_>, count: usize, heals: bool) -> bool 
     is_front(&run) && run.written == count
 }
 
-/// Whether runs end as they must whose writer takes all that there is in so many calls, and then fails: until one of them comes to
-/// its end.
+/// Whether runs end as they must whose writer takes all that there is in so many calls, and then fails: until one of them comes
+/// to its end.
 fn fails_at_calls(alloc: Global, case: Case<'_, '_>, reading: Reading) -> bool {
     for calls in 0..CALLS {
         let lasting = case.run(alloc, reading, failing(calls, false));

@@ -1,9 +1,10 @@
 //! Calls of a scope.
 //!
-//! A call is an object with its name, `call`: `track`, `maybe_track`, `write_ref_error`, `get_arguments` or `add_error`, or `kind` for
-//! `ReferenceKind::of`. `of` names the pattern of a message, of a term or of an attribute. The expression is that of the placeable `at` an
-//! index of its elements, usually 0, or of those of the pattern `by`; where it is a select, its selector is what is referred to and what
-//! has arguments. `text` is what is written, `positional` and `named` are the arguments, and `kind` is the reference.
+//! A call is an object with its name, `call`: `track`, `maybe_track`, `write_ref_error`, `get_arguments` or `add_error`, or
+//! `kind` for `ReferenceKind::of`. `of` names the pattern of a message, of a term or of an attribute. The expression is that of
+//! the placeable `at` an index of its elements, usually 0, or of those of the pattern `by`; where it is a select, its selector
+//! is what is referred to and what has arguments. `text` is what is written, `positional` and `named` are the arguments, and
+//! `kind` is the reference.
 
 use crate::parts::{expression_at, inline_in, pattern_in};
 use crate::told::Wanted;

@@ -1,7 +1,7 @@
 //! Rows of scopes: the calls that they make, what each must give, and what must stand once it is made.
 //!
-//! It is for the test crate `fluent_format_vectors` alone. What a function answers is compared with what a row says, so none of them has
-//! a contract.
+//! It is for the test crate `fluent_format_vectors` alone. What a function answers is compared with what a row says, so none of
+//! them has a contract.
 #![tactic(auto)]
 
 pub mod bundle;

@@ -22,8 +22,8 @@ impl Page {
         }
     }
 
-    /// Whether a call that answered so has written what it must: this text, or nothing on a full page. Where memory is refused, it must
-    /// have written the first of the text. The only error is that memory was refused.
+    /// Whether a call that answered so has written what it must: this text, or nothing on a full page. Where memory is refused,
+    /// it must have written the first of the text. The only error is that memory was refused.
     pub fn holds(&self, written: Result<(), WriteError>, text: &str) -> Result<bool, AllocError> {
         match written {
             Ok(()) => Ok(self.text.as_str() == text),

@@ -1,7 +1,7 @@
 //! Values that are shown, matched and compared in a scope.
 //!
-//! A row with a `value` says which `text` it is shown as, or else whether a `key` matches it, `matches`, or whether another value is
-//! equal to it: `other` and `equals`.
+//! A row with a `value` says which `text` it is shown as, or else whether a `key` matches it, `matches`, or whether another
+//! value is equal to it: `other` and `equals`.
 
 use crate::bundle::Called;
 use crate::page::Page;
@@ -11,7 +11,8 @@ use fluent_rows::values::value_of;
 use serde_json::Value as Json;
 use std::alloc::{AllocError, Global};
 
-/// What a row comes to, if that is known before its calls: where its bundle wasn't made since memory ran out, or where it has a value.
+/// What a row comes to, if that is known before its calls: where its bundle wasn't made since memory ran out, or where it has a
+/// value.
 pub fn begins<'r, 's: 'r>(
     alloc: Global,
     scope: &Called<'_, 'r, 's, '_>,

@@ -28,8 +28,8 @@ impl Wanted<'_> {
         }
     }
 
-    /// Whether the list of a scope, if it has one, holds the first of these errors, and so many at least. The only error is that memory
-    /// runs out.
+    /// Whether the list of a scope, if it has one, holds the first of these errors, and so many at least. The only error is
+    /// that memory runs out.
     pub fn are_first(
         self,
         alloc: Global,

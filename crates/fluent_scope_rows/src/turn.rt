@@ -19,8 +19,8 @@ pub struct Turn<'row> {
 }
 
 impl Turn<'_> {
-    /// What the row comes to, if that is known now: where the call gives something else than it must or was refused, or where the scope counts
-    /// or tells something else once it was made for the last time.
+    /// What the row comes to, if that is known now: where the call gives something else than it must or was refused, or where
+    /// the scope counts or tells something else once it was made for the last time.
     pub fn stands(
         self,
         alloc: Global,
@@ -34,8 +34,8 @@ impl Turn<'_> {
         }
     }
 
-    /// What the row comes to, if that is known now: where the call gives something else than it must, or where it was refused. Then the first
-    /// of its errors must be told.
+    /// What the row comes to, if that is known now: where the call gives something else than it must, or where it was refused.
+    /// Then the first of its errors must be told.
     fn ends(
         self,
         alloc: Global,

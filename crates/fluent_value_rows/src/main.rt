@@ -1,8 +1,8 @@
-//! Tries the rows of `data` on numbers, values and arguments. It prints of each file how many rows there are, and those that are wrong.
-//! The rows were written by hand.
+//! Tries the rows of `data` on numbers, values and arguments. It prints of each file how many rows there are, and those that
+//! are wrong. The rows were written by hand.
 //!
-//! A row is what is tried, by what, and what must come of it, with bars between. A row that is refused memory is tried once more, so the
-//! same counts are printed with any one allocation refused.
+//! A row is what is tried, by what, and what must come of it, with bars between. A row that is refused memory is tried once
+//! more, so the same counts are printed with any one allocation refused.
 #![tactic(auto)]
 
 mod numbers;

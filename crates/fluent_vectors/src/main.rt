@@ -7,12 +7,15 @@
 
 mod errors;
 mod escapes;
+mod laws;
+mod places;
+mod prefixes;
 mod trees;
 mod values;
 
 use anyhow::{Context, Result};
-use fluent_prefixes::{count_prefixes, parts};
 use fluent_syntax::parser::{self, ParserError};
+use prefixes::{count_prefixes, parts};
 use serde_json::Value;
 use std::alloc::Global;
 use std::fs;

@@ -1,5 +1,6 @@
 -- What the program does for its words, and how far it came before a fault.
-use Rattle.std.specs.Prelude.{◌≡◌, List, [], ◌∷◌, ◌++◌, ⊤, Option, Some, None, IfSome}
+use Rattle.std.specs.Prelude.{◌≡◌, List, [], ◌∷◌, ◌++◌, ⊤, false, Option, Some, None, IfSome}
+use Rattle.std.specs.List.{list_any}
 use Rattle.std.specs.Io.KnownBytes.{Appends, IsAtEnd}
 use Rattle.fluent_number.specs.Plurals.{english}
 use Rattle.fluent_value.specs.declared.function.NoFunction.{NoFunction}
@@ -19,6 +20,7 @@ use Rattle.fluent_cut.specs.Cut.{cut}
 use Rattle.fluent_cut.specs.Joined.{joined}
 use Rattle.fluent_normal.specs.Normal.{IsNormalText}
 use Rattle.fluent_json.specs.Json.{json}
+use Rattle.fluent_tidy.specs.Sources.{holds_return}
 use Rattle.fluent_tidy.specs.Trees.{IsImported}
 use Rattle.ftl_report.specs.Report.{report_text}
 use Rattle.ftl_words.specs.Meaning.{Asked, Run, Tidy, run, check, tidy, clean, normalize, join, export, import}
@@ -82,12 +84,20 @@ pub record OnValue (source : Text) (Outcome : Data → Type 0) : Type 0 where
   pub read : read_text source ≡ Some value
   pub outcome : Outcome value
 
--- what sources are tidied into
+-- the outcome holds of the source in a file, which has no carriage return
+abbrev pub OnSource : (Text → Option Text) → Text → (Text → Type 0) → Type 0
+OnSource contents file Outcome = OnFile contents file (λ source. (holds_return source ≡ false) × Outcome source)
+
+-- and of the sources in several
+abbrev pub OnSources : (Text → Option Text) → List Text → (List Text → Type 0) → Type 0
+OnSources contents files Outcome = OnTexts contents files (λ sources. (list_any holds_return sources ≡ false) × Outcome sources)
+
+-- what sources are tidied into; a file with a JSON tree is no source
 abbrev pub Tidies : (Text → Option Text) → Tidy → Text → Type 0
-Tidies contents (clean file) text = OnFile contents file (λ source. text ≡ cut source)
-Tidies contents (normalize file) text = OnFile contents file (λ source. IsNormalText source text)
-Tidies contents (join files) text = OnTexts contents files (λ sources. text ≡ joined sources)
-Tidies contents (export file) text = OnFile contents file (λ source. text ≡ json_line source)
+Tidies contents (clean file) text = OnSource contents file (λ source. text ≡ cut source)
+Tidies contents (normalize file) text = OnSource contents file (λ source. IsNormalText source text)
+Tidies contents (join files) text = OnSources contents files (λ sources. text ≡ joined sources)
+Tidies contents (export file) text = OnSource contents file (λ source. text ≡ json_line source)
 Tidies contents (import file) text = OnFile contents file (λ source. Imports source text)
 
 -- the outcome holds of it

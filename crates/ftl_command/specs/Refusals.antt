@@ -1,5 +1,5 @@
 -- Why the program refuses to tidy what its files hold.
-use Rattle.std.specs.Prelude.{◌≡◌, List, Option, None, Some, IsTrue}
+use Rattle.std.specs.Prelude.{◌≡◌, Option, None, Some, IsTrue}
 use Rattle.std.specs.List.{list_any}
 use Rattle.serde_json.specs.Read.{read as read_text}
 use Rattle.fluent_requests.specs.Text.{Text}

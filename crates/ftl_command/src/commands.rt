@@ -21,8 +21,8 @@ use std::alloc::Global;
 use std::io;
 use std::rt::Files;
 
-/// Runs the program on the words behind its name, and gives the status that it ends with: 0, or 1 where a check found something, or
-/// that of the first fault, which is told on one line of `faults`.
+/// Runs the program on the words behind its name, and gives the status that it ends with: 0, or 1 where a check found
+/// something, or that of the first fault, which is told on one line of `faults`.
 pub fn program<R: Files, I: io::Read + Drop, O: io::Write + Drop, F: io::Write + Drop>(
     rt: &R,
     alloc: Global,
@@ -54,8 +54,8 @@ pub fn tell<F: io::Write + Drop>(mut faults: F, fault: Fault<'_>) -> u8
     fault.status()
 }
 
-/// Does what the words behind the program's name ask for. The words are read first, then the files in their order, and for a run then
-/// the request lines that `reader` gives: see `docs/protocol.md`. Where the words ask for help, it is written.
+/// Does what the words behind the program's name ask for. The words are read first, then the files in their order, and for a
+/// run then the request lines that `reader` gives: see `docs/protocol.md`. Where the words ask for help, it is written.
 ///
 /// # Errors
 /// The first fault. What was written before it stays written.

@@ -13,8 +13,8 @@ ghost use Rattle.fluent_serve.specs.Texts.{texts};
 ghost use Rattle.ftl_words.specs.CommandView.{tidy_view};
 ghost use Rattle.ftl_words.specs.Meaning as asked;
 ghost use Rattle.ftl_command.specs.Faults.{NamesOneOf, SaysNoUtf8, IsOfTidying};
-ghost use Rattle.ftl_command.specs.Files.{OnFile, OnTexts};
-ghost use Rattle.ftl_command.specs.Program.{Imports, Tidies, Tidied, WritesFront, json_line, files_of};
+ghost use Rattle.ftl_command.specs.Files.{OnFile};
+ghost use Rattle.ftl_command.specs.Program.{Imports, OnSource, OnSources, Tidies, Tidied, WritesFront, json_line, files_of};
 ghost use Rattle.ftl_command.specs.Refusals.{IsRightOf};
 
 use crate::borrowed::borrow_texts;
@@ -84,7 +84,7 @@ fn clean_file<'words, F: Folder>(
     alloc: Global,
     file: &'words str,
 ) -> Result<String, Fault<'words>>
-    ensures text { IfOk result (λ text. OnFile (F.contents folder.now) file.now
+    ensures text { IfOk result (λ text. OnSource (F.contents folder.now) file.now
         (λ source. string_bytes text ≡ cut source)) }
     ensures right { IfErr result (IsRightOf (F.contents folder.now) (asked.clean file.now)) }
     ensures fault { IfErr result IsOfTidying }
@@ -101,7 +101,7 @@ fn normalize_file<'words, F: Folder>(
     alloc: Global,
     file: &'words str,
 ) -> Result<String, Fault<'words>>
-    ensures text { IfOk result (λ text. OnFile (F.contents folder.now) file.now
+    ensures text { IfOk result (λ text. OnSource (F.contents folder.now) file.now
         (λ source. IsNormalText source (string_bytes text))) }
     ensures right { IfErr result (IsRightOf (F.contents folder.now) (asked.normalize file.now)) }
     ensures fault { IfErr result IsOfTidying }
@@ -118,7 +118,7 @@ fn join_files<'words, F: Folder>(
     alloc: Global,
     files: &[&'words str],
 ) -> Result<String, Fault<'words>>
-    ensures text { IfOk result (λ text. OnTexts (F.contents folder.now) (texts files.now)
+    ensures text { IfOk result (λ text. OnSources (F.contents folder.now) (texts files.now)
         (λ sources. string_bytes text ≡ joined sources)) }
     ensures right { IfErr result (IsRightOf (F.contents folder.now)
         (asked.join (texts files.now))) }
@@ -137,7 +137,7 @@ fn export_file<'words, F: Folder>(
     alloc: Global,
     file: &'words str,
 ) -> Result<String, Fault<'words>>
-    ensures text { IfOk result (λ text. OnFile (F.contents folder.now) file.now
+    ensures text { IfOk result (λ text. OnSource (F.contents folder.now) file.now
         (λ source. string_bytes text ≡ json_line source)) }
     ensures right { IfErr result (IsRightOf (F.contents folder.now) (asked.export file.now)) }
     ensures fault { IfErr result IsOfTidying }

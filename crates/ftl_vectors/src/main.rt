@@ -1,8 +1,8 @@
 //! Runs the command `ftl`, and the call behind its `run`, on the rows of `data/rows.jsonl` and `data/runs.jsonl`, and over
 //! devices that fail or move little at a time, and prints of each kind how many runs there were and how many were wrong.
 //!
-//! A run that is refused memory has to tell so behind whole answers, and is made once more. So the same counts are printed with any one
-//! allocation refused: see `docs/CHECKS.md`.
+//! A run that is refused memory has to tell so behind whole answers, and is made once more. So the same counts are printed with
+//! any one allocation refused: see `docs/CHECKS.md`.
 #![tactic(auto)]
 
 mod devices;

@@ -29,8 +29,8 @@ where
     /// Writes what a pattern gives for these arguments, piece by piece. Its errors are put behind those of the list.
     ///
     /// # Errors
-    /// [`Writer`](WriteError::Writer) if the writer refuses a piece, [`Memory`](WriteError::Memory) if memory runs out. The writer
-    /// then took a beginning of the text, and the list holds the old errors, and behind them the first of the pattern's.
+    /// [`Writer`](WriteError::Writer) if the writer refuses a piece, [`Memory`](WriteError::Memory) if memory runs out. The
+    /// writer then took a beginning of the text, and the list holds the old errors, and behind them the first of the pattern's.
     pub fn write_pattern<W: TextWrite>(
         &self,
         w: &mut W,
@@ -63,8 +63,8 @@ where
     /// What a pattern gives for these arguments. Its errors are put behind those of the list. The formatter, where one is set, is
     /// asked once more, for the whole text.
     ///
-    /// A pattern of one text is borrowed from its source where neither a transform nor a formatter is set. That takes no memory and
-    /// succeeds.
+    /// A pattern of one text is borrowed from its source where neither a transform nor a formatter is set. That takes no memory
+    /// and succeeds.
     ///
     /// # Errors
     /// Memory ran out. The list then holds the old errors, and behind them the first of the pattern's.

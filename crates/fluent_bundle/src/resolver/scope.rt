@@ -44,8 +44,8 @@ pub struct Scope<'b, 'r, 's, 'a, M, C, F, G> {
 }
 
 impl<'b, 'r, 's, 'a, M, C, F, G> Scope<'b, 'r, 's, 'a, M, C, F, G> {
-    /// A scope in which nothing was resolved yet: no placeable is counted, no pattern entered, and the path is empty. Errors are told
-    /// behind those that the list holds. It takes no memory.
+    /// A scope in which nothing was resolved yet: no placeable is counted, no pattern entered, and the path is empty. Errors
+    /// are told behind those that the list holds. It takes no memory.
     pub fn new(
         bundle: &'b FluentBundle<'r, 's, M, C, F, G>,
         args: Option<&'b FluentArgs<'a, C>>,
@@ -108,12 +108,12 @@ where
     F: FluentFunction<C>,
     G: ValueFormatter<C, M>,
 {
-    /// Writes a placeable of a pattern that the caller opened: it isn't counted, and gets no isolation marks. The first pattern that
-    /// is tracked stays on the path from then on, so that a reference to it is one to itself.
+    /// Writes a placeable of a pattern that the caller opened: it isn't counted, and gets no isolation marks. The first pattern
+    /// that is tracked stays on the path from then on, so that a reference to it is one to itself.
     ///
     /// # Errors
-    /// [`Writer`](WriteError::Writer) if the writer refuses the text, [`Memory`](WriteError::Memory) if memory runs out. The writer
-    /// then took nothing of it, the path is as it was, and behind the old errors stand the first of the placeable's.
+    /// [`Writer`](WriteError::Writer) if the writer refuses the text, [`Memory`](WriteError::Memory) if memory runs out. The
+    /// writer then took nothing of it, the path is as it was, and behind the old errors stand the first of the placeable's.
     pub fn maybe_track<W: TextWrite>(
         &mut self,
         w: &mut W,
@@ -146,8 +146,8 @@ where
     /// [`Cyclic`](ResolverError::Cyclic), and the expression's fallback is written in braces.
     ///
     /// # Errors
-    /// [`Writer`](WriteError::Writer) if the writer refuses the text, [`Memory`](WriteError::Memory) if memory runs out. The writer
-    /// then took nothing of it, and behind the old errors stand the first of the pattern's.
+    /// [`Writer`](WriteError::Writer) if the writer refuses the text, [`Memory`](WriteError::Memory) if memory runs out. The
+    /// writer then took nothing of it, and behind the old errors stand the first of the pattern's.
     pub fn track<W: TextWrite>(
         &mut self,
         w: &mut W,
@@ -176,8 +176,8 @@ where
     /// Tells what an expression refers to as unknown, where it refers to anything, and writes its fallback in braces.
     ///
     /// # Errors
-    /// [`Writer`](WriteError::Writer) if the writer refuses the text, [`Memory`](WriteError::Memory) if memory runs out. The writer
-    /// then took nothing of it; the error was told or not.
+    /// [`Writer`](WriteError::Writer) if the writer refuses the text, [`Memory`](WriteError::Memory) if memory runs out. The
+    /// writer then took nothing of it; the error was told or not.
     pub fn write_ref_error<W: TextWrite>(
         &mut self,
         w: &mut W,

@@ -1,4 +1,4 @@
-use Rattle.std.proofs.Common.{◌≡◌, ◌∷◌, ◌++◌, [], ap, ◌∙◌, string_bytes}
+use Rattle.std.proofs.Common.{rules, ◌≡◌, ◌∷◌, ◌++◌, [], ap, ◌∙◌, string_bytes}
 use Rattle.serde_json.specs.View.{view}
 use Rattle.serde_json.specs.Written.{compact_text, has_float}
 use Rattle.fluent_grammar.specs.Tiling.{tree}
@@ -15,5 +15,5 @@ returns-clause-text g c =
     record {
       source = source;
       held = c.in_ok-source.ensures.held;
-      outcome = c.in_ok-line_of.ensures (ap has_float same ∙ has_no_float (tree (cut source))) ∙ ap (λ v. compact_text v ++ line_feed ∷ []) same;
+      outcome = (search rules, c.in_ok-line_of.ensures (ap has_float same ∙ has_no_float (tree (cut source))) ∙ ap (λ v. compact_text v ++ line_feed ∷ []) same);
     }
