@@ -16,9 +16,13 @@ pub record HoldsOther (sources : List FluentSource) : Type 0 where
   pub stands : Contains sources source
   pub other : ¬ (IsUtf8 source.text.now)
 
+-- a source is
+abbrev pub IsUtf8Source : FluentSource → Type 0
+IsUtf8Source source = IsUtf8 source.text.now
+
 -- each of them is
 abbrev pub AreUtf8 : List FluentSource → Type 0
-AreUtf8 = All (λ source. IsUtf8 source.text.now)
+AreUtf8 = All IsUtf8Source
 
 -- the answers to a stream of request lines, by the plural rules of English
 abbrev pub english_answers : Bool → Bool → List Text → Text → Text

@@ -1,25 +1,20 @@
-use Rattle.std.proofs.Common.{All, IsUtf8, arith, subst}
+use Rattle.std.proofs.Common.{All, arith, subst}
 use Rattle.std.proofs.lemmas.Grind.{common_steps}
 use Rattle.std.proofs.lemmas.List.{take_all}
 use Rattle.std.proofs.lemmas.List.Elements.{All-more, Contains-get_or}
-use Rattle.fluent_calls.specs.declared.answering.FluentSource.{FluentSource}
+use Rattle.fluent_calls.specs.Answering.{IsUtf8Source}
 use Rattle.fluent_calls.proofs.Sources.{handed_on}
 use Rattle.fluent_calls.proofs.answering.read_sources.Goals as goal
 
-is_utf8 : FluentSource → Type 0
-is_utf8 source = IsUtf8 source.text.now
-
 pub loop-source-preserved : goal.loop-source-preserved
-unfolding is_utf8
 loop-source-preserved c = record {
   read = grind (arith, common_steps);
-  utf8 = All-more is_utf8 c.args.sources.now c.loop-source.source-index _ c.loop-source-test.true c.loop-source.invariant.utf8 c.in_ok-read_source.ensures.utf8;
+  utf8 = All-more IsUtf8Source c.args.sources.now c.loop-source.source-index _ c.loop-source-test.true c.loop-source.invariant.utf8 c.in_ok-read_source.ensures.utf8;
 }
 
 pub returns-clause-utf8 : goal.returns-clause-utf8
-unfolding is_utf8
 returns-clause-utf8 c =
-    subst (All is_utf8) (take_all c.loop-source.source-index c.args.sources.now c.loop-source-test.false) c.loop-source.invariant.utf8
+    subst (All IsUtf8Source) (take_all c.loop-source.source-index c.args.sources.now c.loop-source-test.false) c.loop-source.invariant.utf8
 
 pub returns-in_err-read_source-clause-not_utf8 : goal.returns-in_err-read_source-clause-not_utf8
 returns-in_err-read_source-clause-not_utf8 c =
