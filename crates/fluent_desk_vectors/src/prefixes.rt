@@ -32,7 +32,7 @@ impl Trial for Prefix<'_> {
 /// Tries the prefixes of each source of `prefixes.jsonl`, each up to the start of a character or the whole, and prints
 /// those that break a law.
 pub fn try_prefixes(rt: &HostRuntime) -> Result<Tally> {
-    let text = fs::read_to_string(rt, "prefixes.jsonl").context("the sources")?;
+    let text = fs::read_to_string(rt, "tidying/prefixes.jsonl").context("the sources")?;
     let mut tally = Tally::new();
     for line in text.as_str().lines() {
         let row = Value::from_str(rt.alloc(), line).context("a line")?;

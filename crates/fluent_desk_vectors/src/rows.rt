@@ -27,7 +27,7 @@ impl Trial for Line<'_> {
 
 /// Tries each line of `rows.jsonl`, and prints those that are wrong.
 pub fn try_rows(rt: &HostRuntime) -> Result<Tally> {
-    let text = fs::read_to_string(rt, "rows.jsonl").context("the rows")?;
+    let text = fs::read_to_string(rt, "tidying/rows.jsonl").context("the rows")?;
     let mut tally = Tally::new();
     for line in text.as_str().lines() {
         let is_right = is_right_again(rt.alloc(), Line(line));

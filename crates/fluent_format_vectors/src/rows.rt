@@ -1,4 +1,4 @@
-//! Rows, as the files of `data` have them: an object a line.
+//! Rows, as the files have them: an object a line.
 
 use crate::{patterns, scopes};
 use anyhow::{Context, Result};

@@ -1,4 +1,4 @@
-//! The rows of the files in `data`.
+//! The rows of the files.
 //!
 //! A row has its `sources`, its `lines`, and maybe settings: `isolating`, which is usually on, and `overriding`, which is off.
 //! It is `too_large` where memory runs out at its last line.
@@ -67,14 +67,14 @@ impl Tallies {
 
 /// Tries the rows of `rows.jsonl` over devices of all kinds.
 pub fn try_rows(rt: &HostRuntime) -> Result<Tallies> {
-    try_file(rt, "rows.jsonl", Trial::Devices)
+    try_file(rt, "requests/rows.jsonl", Trial::Devices)
 }
 
 /// Tries the rows of `memory.jsonl`. Where memory is refused to this crate, they are all tried once more.
 pub fn try_memory(rt: &HostRuntime) -> Result<Tally> {
-    let tallies = try_file(rt, "memory.jsonl", Trial::Memory).or_else(|_| try_file(
+    let tallies = try_file(rt, "requests/memory.jsonl", Trial::Memory).or_else(|_| try_file(
         rt,
-        "memory.jsonl",
+        "requests/memory.jsonl",
         Trial::Memory,
     ))?;
     Ok(tallies.rows)

@@ -63,7 +63,7 @@ impl Trial for Thousand {
 
 /// Tries each line of `rows.jsonl`, a request that is not UTF-8, which no JSON can hold, and a thousand messages.
 pub fn try_rows(rt: &HostRuntime) -> Result<Tally> {
-    let text = fs::read_to_string(rt, "rows.jsonl").context("the rows")?;
+    let text = fs::read_to_string(rt, "ftl/rows.jsonl").context("the rows")?;
     let mut tally = Tally::new();
     for line in text.as_str().lines() {
         tally.add(is_right_again(rt.alloc(), Line(line)));

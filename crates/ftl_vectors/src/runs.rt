@@ -1,4 +1,4 @@
-//! Runs of the program by its words, over the files of `data`.
+//! Runs of the program by its words, over the files of `crates/all_rows/data`.
 use crate::devices::{ALWAYS, ANSWERS, Manner, REQUESTS, Reader, Writer};
 use crate::rows::{text_in, texts_in};
 use anyhow::{Context, Result};
@@ -112,7 +112,7 @@ impl Line<'_> {
 
 /// Tries each line of `runs.jsonl`.
 pub fn try_runs(rt: &HostRuntime) -> Result<Tally> {
-    let text = fs::read_to_string(rt, "runs.jsonl").context("the runs")?;
+    let text = fs::read_to_string(rt, "ftl/runs.jsonl").context("the runs")?;
     let mut tally = Tally::new();
     for text in text.as_str().lines() {
         tally.add(is_right_again(rt.alloc(), Line { rt, text }));

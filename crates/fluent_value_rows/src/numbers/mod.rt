@@ -42,19 +42,19 @@ pub enum Rows {
 }
 
 pub const FILES: [(&str, Rows); 13] = [
-    ("parts.txt", Rows::Parts),
-    ("cut.txt", Rows::Cut),
-    ("back.txt", Rows::Back),
-    ("read.txt", Rows::Read),
-    ("no_numbers.txt", Rows::Refused),
-    ("filled.txt", Rows::Filled),
-    ("too_many.txt", Rows::TooMany),
-    ("operands.txt", Rows::Operands),
-    ("categories.txt", Rows::Categories),
-    ("differing.txt", Rows::Differing),
-    ("merged.txt", Rows::Merged),
-    ("copied.txt", Rows::Copied),
-    ("named.txt", Rows::Named),
+    ("values/parts.txt", Rows::Parts),
+    ("values/cut.txt", Rows::Cut),
+    ("values/back.txt", Rows::Back),
+    ("values/read.txt", Rows::Read),
+    ("values/no_numbers.txt", Rows::Refused),
+    ("values/filled.txt", Rows::Filled),
+    ("values/too_many.txt", Rows::TooMany),
+    ("values/operands.txt", Rows::Operands),
+    ("values/categories.txt", Rows::Categories),
+    ("values/differing.txt", Rows::Differing),
+    ("values/merged.txt", Rows::Merged),
+    ("values/copied.txt", Rows::Copied),
+    ("values/named.txt", Rows::Named),
 ];
 
 impl Rows {

@@ -46,18 +46,18 @@ pub enum Rows {
 }
 
 pub const FILES: [(&str, Rows); 12] = [
-    ("forms.txt", Rows::Forms),
-    ("equal.txt", Rows::Equal),
-    ("copies.txt", Rows::Copies),
-    ("matching.txt", Rows::Matching),
-    ("shown.txt", Rows::Shown),
-    ("formatted.txt", Rows::Formatted),
-    ("refused.txt", Rows::Refused),
-    ("own.txt", Rows::Own),
-    ("texts.txt", Rows::Texts),
-    ("arguments.txt", Rows::Arguments),
-    ("options.txt", Rows::Options),
-    ("builtins.txt", Rows::Builtins),
+    ("values/forms.txt", Rows::Forms),
+    ("values/equal.txt", Rows::Equal),
+    ("values/copies.txt", Rows::Copies),
+    ("values/matching.txt", Rows::Matching),
+    ("values/shown.txt", Rows::Shown),
+    ("values/formatted.txt", Rows::Formatted),
+    ("values/refused.txt", Rows::Refused),
+    ("values/own.txt", Rows::Own),
+    ("values/texts.txt", Rows::Texts),
+    ("values/arguments.txt", Rows::Arguments),
+    ("values/options.txt", Rows::Options),
+    ("values/builtins.txt", Rows::Builtins),
 ];
 
 impl Rows {

@@ -1,12 +1,13 @@
 //! Builds bundles from small resources, step by step, and prints of each kind how many steps there were and how many of them
-//! answered, or left behind, something else than they must.
+//! answered, or left behind, something else than they must. Errors are told, copied and compared.
 //!
 //! A call that is refused memory has to leave its bundle as it was, and is made once more. So the same counts are printed with
-//! any one allocation refused: `rt try --fail-alloc N`.
+//! any one allocation refused: see `docs/CHECKS.md`.
 #![tactic(auto)]
 
 mod attributes;
 mod bundle;
+mod errors;
 mod found;
 mod matching;
 mod reading;
@@ -17,14 +18,15 @@ mod steps;
 use anyhow::Result;
 use fluent_trials::Tally;
 
-fn main(rt: HostRuntime) -> Result<()> {
+/// Takes all steps, and prints how many of them were wrong.
+pub fn try_all(rt: &HostRuntime) -> Result<()> {
     let alloc = rt.alloc();
-    tell(&rt, "reading", reading::try_reading(alloc))?;
-    tell(&rt, "adding", steps::try_rows(alloc))?;
-    tell(&rt, "attributes", attributes::try_attributes(alloc))?;
-    tell(&rt, "matching", matching::try_matching(alloc))?;
-    tell(&rt, "settings", settings::try_settings(alloc))?;
-    Ok(())
+    tell(rt, "reading", reading::try_reading(alloc))?;
+    tell(rt, "adding", steps::try_rows(alloc))?;
+    tell(rt, "attributes", attributes::try_attributes(alloc))?;
+    tell(rt, "matching", matching::try_matching(alloc))?;
+    tell(rt, "settings", settings::try_settings(alloc))?;
+    tell(rt, "errors", errors::try_errors(alloc))
 }
 
 fn tell(rt: &HostRuntime, name: &str, tally: Tally) -> Result<()> {

@@ -1,9 +1,23 @@
 //! What expressions refer to.
 
-use crate::memory::referred;
-use crate::rows::{Named, REFERENCES, reference, words_of};
+use crate::errors::memory::referred;
+use crate::errors::rows::{Named, REFERENCES, reference, words_of};
 use fluent_ast::{CallArguments, Identifier, InlineExpression};
+use fluent_trials::Tally;
 use std::alloc::Global;
+
+/// Tries what the expressions of the rows refer to, and that literals refer to nothing.
+pub fn try_references(alloc: Global) -> Tally {
+    let mut tally = Tally::new();
+    for row in REFERENCES.lines() {
+        tally.add(is_referred(alloc, row));
+    }
+    let string = InlineExpression::StringLiteral { value: "x" };
+    tally.add(refers_to_nothing(alloc, &string));
+    let number = InlineExpression::NumberLiteral { value: "1" };
+    tally.add(refers_to_nothing(alloc, &number));
+    tally
+}
 
 fn attribute<'r>(row: Named<'r>) -> Option<Identifier<&'r str>> {
     match row.attribute {
@@ -45,22 +59,7 @@ fn is_referred(alloc: Global, row: &str) -> bool {
     matches!(referred(alloc, &expression(alloc, row)), Ok(Some(found)) if found == wanted)
 }
 
-#[test]
-fn references(rt: HostRuntime) {
-    for row in REFERENCES.lines() {
-        assert!(rt; is_referred(rt.alloc(), row), "at {row}");
-    }
-}
-
 /// Whether an expression refers to nothing.
 fn refers_to_nothing(alloc: Global, expression: &InlineExpression<&str>) -> bool {
     matches!(referred(alloc, expression), Ok(None))
-}
-
-#[test]
-fn literals_refer_to_nothing(rt: HostRuntime) {
-    let string = InlineExpression::StringLiteral { value: "x" };
-    assert!(rt; refers_to_nothing(rt.alloc(), &string));
-    let number = InlineExpression::NumberLiteral { value: "1" };
-    assert!(rt; refers_to_nothing(rt.alloc(), &number));
 }

@@ -1,9 +1,30 @@
 //! Copies and equality of errors.
 
-use crate::memory::{copy_of, copy_of_unresolved, errors_of};
-use crate::rows::{DIFFERENT, OTHERS, REFERENCES, owned, unresolved};
+use crate::errors::memory::{copy_of, copy_of_unresolved, errors_of};
+use crate::errors::rows::{DIFFERENT, OTHERS, REFERENCES, owned, unresolved};
 use fluent_errors::{EntryKind, FluentError, ResolverError};
+use fluent_trials::Tally;
 use std::alloc::Global;
+
+/// A source with one error.
+const DAMAGED: &str = "\nkey1 = Value 1\n\ng@Rb@ge = #2y ds\n\nkey2 = Value 2\n\n";
+
+/// Tries that copies are equal, and that what tells something else is not.
+pub fn try_copies(alloc: Global) -> Tally {
+    let mut tally = Tally::new();
+    for row in REFERENCES.lines().chain(OTHERS.lines()) {
+        tally.add(is_row_copied(alloc, row));
+    }
+    tally.add(is_only_error_copied(alloc, DAMAGED));
+    for row in DIFFERENT.lines() {
+        tally.add(differ(alloc, row));
+    }
+    let same = are_equal_overriding(alloc, EntryKind::Term, EntryKind::Term);
+    tally.add(matches!(same, Some(true)));
+    let other = are_equal_overriding(alloc, EntryKind::Term, EntryKind::Message);
+    tally.add(matches!(other, Some(false)));
+    tally
+}
 
 /// Whether an error of a bundle equals its copy.
 fn is_copied(alloc: Global, error: &FluentError) -> bool {
@@ -28,20 +49,6 @@ fn is_row_copied(alloc: Global, row: &str) -> bool {
     }
 }
 
-#[test]
-fn copies_of_references_are_equal(rt: HostRuntime) {
-    for row in REFERENCES.lines() {
-        assert!(rt; is_row_copied(rt.alloc(), row), "at {row}");
-    }
-}
-
-#[test]
-fn copies_of_other_errors_are_equal(rt: HostRuntime) {
-    for row in OTHERS.lines() {
-        assert!(rt; is_row_copied(rt.alloc(), row), "at {row}");
-    }
-}
-
 /// Whether the one error of a source equals its copy.
 fn is_only_error_copied(alloc: Global, source: &str) -> bool {
     let Ok(mut errors) = errors_of(alloc, source) else {
@@ -51,12 +58,6 @@ fn is_only_error_copied(alloc: Global, source: &str) -> bool {
         Some(error) => errors.is_empty() && is_copied(alloc, &FluentError::from(error)),
         None => false,
     }
-}
-
-#[test]
-fn a_copy_of_an_error_of_a_source_is_equal(rt: HostRuntime) {
-    let source = "\nkey1 = Value 1\n\ng@Rb@ge = #2y ds\n\nkey2 = Value 2\n\n";
-    assert!(rt; is_only_error_copied(rt.alloc(), source));
 }
 
 /// Whether the errors of a row differ.
@@ -70,26 +71,10 @@ fn differ(alloc: Global, row: &str) -> bool {
     matches!(unresolved(alloc, other), Ok(other) if other != one)
 }
 
-#[test]
-fn errors_that_tell_something_else_are_not_equal(rt: HostRuntime) {
-    for row in DIFFERENT.lines() {
-        assert!(rt; differ(rt.alloc(), row), "at {row}");
-    }
-}
-
 /// Whether that an entry of one kind was to be added under the id `a` equals the same of another kind.
 fn are_equal_overriding(alloc: Global, kind: EntryKind, other: EntryKind) -> Option<bool> {
     let id = owned(alloc, "a").ok()?;
     let error = FluentError::Overriding { kind, id };
     let id = owned(alloc, "a").ok()?;
     Some(error == FluentError::Overriding { kind: other, id })
-}
-
-#[test]
-fn an_overriding_entry_equals_one_of_its_kind(rt: HostRuntime) {
-    let alloc = rt.alloc();
-    let same = are_equal_overriding(alloc, EntryKind::Term, EntryKind::Term);
-    assert!(rt; matches!(same, Some(true)));
-    let other = are_equal_overriding(alloc, EntryKind::Term, EntryKind::Message);
-    assert!(rt; matches!(other, Some(false)));
 }

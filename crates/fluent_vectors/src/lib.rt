@@ -1,8 +1,9 @@
-//! Reads the sources of `data/parse.jsonl`, `data/rows.jsonl` and `data/written.jsonl` by both readers, over both kinds
-//! of text, and compares with the trees, errors and written texts that stand there. A row may leave some of them out.
-//! Then it reads each prefix of the sources of `data/rows.jsonl` and `data/prefixes.jsonl`, writes the trees of
-//! `data/trees.jsonl`, most of which no source reads as, reads the values of `data/values.jsonl`, and resolves the escapes of
-//! `data/escapes.jsonl`.
+//! Reads the sources of `parse.jsonl`, `rows.jsonl` and `written.jsonl` by both readers, over both kinds of text, and compares
+//! with the trees, errors and written texts that stand there. A row may leave some of them out. Then it reads each prefix of the
+//! sources of `rows.jsonl` and `prefixes.jsonl`, writes the trees of `trees.jsonl`, most of which no source reads as, reads the
+//! values of `values.jsonl`, and resolves the escapes of `escapes.jsonl`.
+//!
+//! The files stand in `crates/all_rows/data/syntax`.
 #![tactic(auto)]
 
 mod errors;
@@ -10,6 +11,7 @@ mod escapes;
 mod laws;
 mod places;
 mod prefixes;
+mod refused;
 mod trees;
 mod values;
 
@@ -33,19 +35,20 @@ enum Rows {
     Escapes,
 }
 
-fn main(rt: HostRuntime) -> Result<()> {
+/// Tries all rows, and prints of each file how many there were and which were wrong.
+pub fn try_all(rt: &HostRuntime) -> Result<()> {
     for (file, rows) in [
-        ("parse.jsonl", Rows::Sources),
-        ("rows.jsonl", Rows::Sources),
-        ("written.jsonl", Rows::Sources),
-        ("trees.jsonl", Rows::Trees),
-        ("values.jsonl", Rows::Values),
-        ("escapes.jsonl", Rows::Escapes),
+        ("syntax/parse.jsonl", Rows::Sources),
+        ("syntax/rows.jsonl", Rows::Sources),
+        ("syntax/written.jsonl", Rows::Sources),
+        ("syntax/trees.jsonl", Rows::Trees),
+        ("syntax/values.jsonl", Rows::Values),
+        ("syntax/escapes.jsonl", Rows::Escapes),
     ] {
-        try_file(&rt, file, rows)?;
+        try_file(rt, file, rows)?;
     }
-    for file in ["rows.jsonl", "prefixes.jsonl"] {
-        try_prefixes(&rt, file)?;
+    for file in ["syntax/rows.jsonl", "syntax/prefixes.jsonl"] {
+        try_prefixes(rt, file)?;
     }
     Ok(())
 }
@@ -63,6 +66,13 @@ fn try_file(rt: &HostRuntime, file: &str, rows: Rows) -> Result<()> {
         }
     }
     println!(rt; "{file}: {count} rows, {wrong} wrong")?;
+    Ok(())
+}
+
+/// Reads, copies and writes where memory may be refused, and prints how many trials there were and how many of them were wrong.
+pub fn try_refused(rt: &HostRuntime) -> Result<()> {
+    let tally = refused::try_refused(rt.alloc());
+    println!(rt; "refused: {} trials, {} wrong", tally.tried, tally.wrong)?;
     Ok(())
 }
 

@@ -1,5 +1,5 @@
-//! Tries the rows of `data` on numbers, values and arguments. It prints of each file how many rows there are, and those that
-//! are wrong. The rows were written by hand.
+//! Tries rows on numbers, values and arguments, and prints of each file how many rows there are, and those that are wrong. The
+//! rows were written by hand, and stand in `crates/all_rows/data/values`.
 //!
 //! A row is what is tried, by what, and what must come of it, with bars between. A row that is refused memory is tried once
 //! more, so the same counts are printed with any one allocation refused.
@@ -20,12 +20,13 @@ enum Rows {
     Values(values::Rows),
 }
 
-fn main(rt: HostRuntime) -> Result<()> {
+/// Tries the rows of all files.
+pub fn try_all(rt: &HostRuntime) -> Result<()> {
     for (file, rows) in numbers::FILES {
-        try_file(&rt, file, Rows::Numbers(rows))?;
+        try_file(rt, file, Rows::Numbers(rows))?;
     }
     for (file, rows) in values::FILES {
-        try_file(&rt, file, Rows::Values(rows))?;
+        try_file(rt, file, Rows::Values(rows))?;
     }
     Ok(())
 }
