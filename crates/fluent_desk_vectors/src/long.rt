@@ -7,7 +7,7 @@ use fluent_trials::{Tally, Trial, is_right_again};
 use std::alloc::{AllocError, Global};
 
 /// What a source goes through.
-#[derive(Clone, Copy, Debug)]
+#[derive(Clone, Copy)]
 enum Road {
     Cleaned,
     Normalized,
@@ -16,7 +16,7 @@ enum Road {
 }
 
 /// A source that must come back as it was.
-#[derive(Clone, Copy, Debug)]
+#[derive(Clone, Copy)]
 struct Kept<'a> {
     source: &'a str,
     road: Road,

@@ -11,7 +11,7 @@ use std::alloc::{AllocError, Global};
 use std::fs;
 
 /// A source of which laws must hold.
-#[derive(Clone, Copy, Debug)]
+#[derive(Clone, Copy)]
 struct Prefix<'a>(&'a str);
 
 impl Trial for Prefix<'_> {

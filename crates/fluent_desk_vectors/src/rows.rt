@@ -12,7 +12,7 @@ use std::alloc::{AllocError, Global};
 use std::fs;
 
 /// A line of `rows.jsonl`.
-#[derive(Clone, Copy, Debug)]
+#[derive(Clone, Copy)]
 struct Line<'a>(&'a str);
 
 impl Trial for Line<'_> {

@@ -16,7 +16,7 @@ pub struct Case<'c, 's> {
 }
 
 /// How a run ended.
-#[derive(Clone, Copy, Debug)]
+#[derive(Clone, Copy)]
 pub struct Run {
     pub outcome: Result<(), RunError>,
     /// How many bytes the reader gave, and how many calls of it failed.

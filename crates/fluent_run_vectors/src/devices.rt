@@ -11,7 +11,7 @@ use std::cell::Cell;
 pub const BLOCK: usize = 8_192;
 
 /// How a reader gives its bytes.
-#[derive(Clone, Copy, Debug)]
+#[derive(Clone, Copy)]
 pub struct Reading {
     /// The most bytes that a call gives.
     pub piece: usize,
@@ -31,7 +31,7 @@ impl Reading {
 }
 
 /// How a writer takes its bytes.
-#[derive(Clone, Copy, Debug)]
+#[derive(Clone, Copy)]
 pub struct Writing {
     /// The most bytes that a call takes.
     pub piece: usize,

@@ -11,7 +11,7 @@ use std::alloc::{AllocError, Global};
 const READS: u64 = 3;
 
 /// A reader of single bytes `a`.
-#[derive(Clone, Copy, Debug)]
+#[derive(Clone, Copy)]
 struct Letters {
     /// Which call tells the end, where there is one.
     end: Option<u64>,
@@ -35,7 +35,7 @@ impl Source for Letters {
 }
 
 /// Answers each line with the line itself.
-#[derive(Clone, Copy, Debug)]
+#[derive(Clone, Copy)]
 struct Echo;
 
 impl Engine for Echo {

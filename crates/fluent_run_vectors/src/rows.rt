@@ -28,7 +28,7 @@ enum Trial {
 }
 
 /// What was tried of rows.
-#[derive(Clone, Copy, Debug)]
+#[derive(Clone, Copy)]
 pub struct Tallies {
     /// Devices that give and take all that they can.
     pub rows: Tally,

@@ -157,33 +157,3 @@ impl<'s, S: Slice<'s>> Texts<S> for Slices<'s> {
         original.try_clone(alloc)
     }
 }
-
-#[cfg(test)]
-mod tests {
-    use super::*;
-    use std::test::Fail;
-
-    #[test]
-    fn parts_of_texts(rt: HostRuntime) -> Result<(), Fail> {
-        let alloc = rt.alloc();
-        let borrowed = "naïve ";
-        let owned = String::from_str(alloc, borrowed)?;
-        assert_eq!(rt; Slice::as_str(&borrowed), Slice::as_str(&owned));
-        assert_eq!(rt; Slice::slice(&borrowed, alloc, 2..4)?, "ï");
-        assert_eq!(rt; Slice::slice(&owned, alloc, 2..4)?.as_str(), "ï");
-        assert_eq!(rt; Slice::try_clone(&borrowed, alloc)?, borrowed);
-        assert_eq!(rt; Slice::try_clone(&owned, alloc)?.as_str(), borrowed);
-        Ok(())
-    }
-
-    #[test]
-    fn white_space_is_trimmed_at_the_end(rt: HostRuntime) -> Result<(), Fail> {
-        let mut borrowed = " a \t\n\u{2003}";
-        let mut owned = String::from_str(rt.alloc(), borrowed)?;
-        Slice::trim(&mut borrowed);
-        Slice::trim(&mut owned);
-        assert_eq!(rt; borrowed, " a");
-        assert_eq!(rt; owned.as_str(), " a");
-        Ok(())
-    }
-}

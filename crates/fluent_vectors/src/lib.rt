@@ -12,11 +12,13 @@ mod laws;
 mod places;
 mod prefixes;
 mod refused;
+mod slices;
 mod trees;
 mod values;
 
 use anyhow::{Context, Result};
 use fluent_syntax::parser::{self, ParserError};
+use fluent_trials::Tally;
 use prefixes::{count_prefixes, parts};
 use serde_json::Value;
 use std::alloc::Global;
@@ -50,7 +52,7 @@ pub fn try_all(rt: &HostRuntime) -> Result<()> {
     for file in ["syntax/rows.jsonl", "syntax/prefixes.jsonl"] {
         try_prefixes(rt, file)?;
     }
-    Ok(())
+    tell(rt, "texts", slices::try_slices(rt.alloc()))
 }
 
 /// Tries each line of a file, and prints how many there are and which are wrong.
@@ -71,8 +73,11 @@ fn try_file(rt: &HostRuntime, file: &str, rows: Rows) -> Result<()> {
 
 /// Reads, copies and writes where memory may be refused, and prints how many trials there were and how many of them were wrong.
 pub fn try_refused(rt: &HostRuntime) -> Result<()> {
-    let tally = refused::try_refused(rt.alloc());
-    println!(rt; "refused: {} trials, {} wrong", tally.tried, tally.wrong)?;
+    tell(rt, "refused", refused::try_refused(rt.alloc()))
+}
+
+fn tell(rt: &HostRuntime, name: &str, tally: Tally) -> Result<()> {
+    println!(rt; "{name}: {} trials, {} wrong", tally.tried, tally.wrong)?;
     Ok(())
 }
 

@@ -24,7 +24,7 @@ pub const ANSWERS: [&str; 5] = [
 ];
 
 /// How many calls work, how many bytes each moves at most, and whether all calls but the one behind those work.
-#[derive(Clone, Copy, Debug)]
+#[derive(Clone, Copy)]
 pub struct Manner {
     pub calls: usize,
     pub piece: usize,
