@@ -16,20 +16,16 @@ mod settings;
 mod steps;
 
 use anyhow::Result;
-use fluent_trials::Tally;
+use fluent_trials::tell;
 
 /// Takes all steps, and prints how many of them were wrong.
 pub fn try_all(rt: &HostRuntime) -> Result<()> {
     let alloc = rt.alloc();
-    tell(rt, "reading", reading::try_reading(alloc))?;
-    tell(rt, "adding", steps::try_rows(alloc))?;
-    tell(rt, "attributes", attributes::try_attributes(alloc))?;
-    tell(rt, "matching", matching::try_matching(alloc))?;
-    tell(rt, "settings", settings::try_settings(alloc))?;
-    tell(rt, "errors", errors::try_errors(alloc))
-}
-
-fn tell(rt: &HostRuntime, name: &str, tally: Tally) -> Result<()> {
-    println!(rt; "{name}: {} steps, {} wrong", tally.tried, tally.wrong)?;
+    tell(rt, "reading", "steps", reading::try_reading(alloc))?;
+    tell(rt, "adding", "steps", steps::try_rows(alloc))?;
+    tell(rt, "attributes", "steps", attributes::try_attributes(alloc))?;
+    tell(rt, "matching", "steps", matching::try_matching(alloc))?;
+    tell(rt, "settings", "steps", settings::try_settings(alloc))?;
+    tell(rt, "errors", "steps", errors::try_errors(alloc))?;
     Ok(())
 }

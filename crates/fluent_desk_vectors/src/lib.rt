@@ -14,16 +14,12 @@ mod reports;
 mod rows;
 
 use anyhow::Result;
-use fluent_trials::Tally;
+use fluent_trials::tell;
 
 /// Tries all of that, and prints how much it was and how much of it was wrong.
 pub fn try_all(rt: &HostRuntime) -> Result<()> {
-    tell(rt, "rows", rows::try_rows(rt)?)?;
-    tell(rt, "prefixes", prefixes::try_prefixes(rt)?)?;
-    tell(rt, "long sources", long::try_long(rt.alloc())?)
-}
-
-fn tell(rt: &HostRuntime, name: &str, tally: Tally) -> Result<()> {
-    println!(rt; "{name}: {} tried, {} wrong", tally.tried, tally.wrong)?;
+    tell(rt, "rows", "tried", rows::try_rows(rt)?)?;
+    tell(rt, "prefixes", "tried", prefixes::try_prefixes(rt)?)?;
+    tell(rt, "long sources", "tried", long::try_long(rt.alloc())?)?;
     Ok(())
 }

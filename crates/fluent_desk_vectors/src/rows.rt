@@ -5,38 +5,28 @@ use crate::calls::{
     normalize_source,
 };
 use crate::reports::check_sources;
-use anyhow::{Context, Result};
-use fluent_trials::{Tally, Trial, is_right_again};
+use fluent_trials::{Lines, Tally, try_lines};
 use serde_json::Value;
 use std::alloc::{AllocError, Global};
-use std::fs;
+use std::io;
 
-/// A line of `rows.jsonl`.
+/// The lines of `rows.jsonl`.
 #[derive(Clone, Copy)]
-struct Line<'a>(&'a str);
+struct Rows;
 
-impl Trial for Line<'_> {
+impl Lines for Rows {
     /// Whether a call gives what the row of the line says.
-    fn is_right(self, alloc: Global) -> Result<bool, AllocError> {
-        match Value::from_str(alloc, self.0) {
+    fn is_right(self, alloc: Global, line: &str) -> Result<bool, AllocError> {
+        match Value::from_str(alloc, line) {
             Ok(row) => is_row(alloc, &row),
             Err(_) => Err(AllocError),
         }
     }
 }
 
-/// Tries each line of `rows.jsonl`, and prints those that are wrong.
-pub fn try_rows(rt: &HostRuntime) -> Result<Tally> {
-    let text = fs::read_to_string(rt, "tidying/rows.jsonl").context("the rows")?;
-    let mut tally = Tally::new();
-    for line in text.as_str().lines() {
-        let is_right = is_right_again(rt.alloc(), Line(line));
-        if !is_right {
-            println!(rt; "wrong: {line}")?;
-        }
-        tally.add(is_right);
-    }
-    Ok(tally)
+/// Tries each line of `rows.jsonl`.
+pub fn try_rows(rt: &HostRuntime) -> io::Result<Tally> {
+    try_lines(rt, "tidying/rows.jsonl", Rows)
 }
 
 /// Whether a call gives what its row says.

@@ -9,8 +9,8 @@ mod rows;
 mod scopes;
 
 use anyhow::Result;
-use fluent_trials::Tally;
-use rows::{Rows, try_rows};
+use fluent_trials::{tell, try_lines};
+use rows::Rows;
 
 /// The files of rows, and what these are about.
 const FILES: [(&str, Rows); 9] = [
@@ -28,12 +28,9 @@ const FILES: [(&str, Rows); 9] = [
 /// Tries the rows of all files.
 pub fn try_all(rt: &HostRuntime) -> Result<()> {
     for (file, rows) in FILES {
-        tell(rt, file, try_rows(rt, file, rows)?)?;
+        let tally = try_lines(rt, file, rows)?;
+        tell(rt, file, "rows", tally)?;
     }
-    tell(rt, "plain", plain::try_plain(rt.alloc()))
-}
-
-fn tell(rt: &HostRuntime, name: &str, tally: Tally) -> Result<()> {
-    println!(rt; "{name}: {} rows, {} wrong", tally.tried, tally.wrong)?;
+    tell(rt, "plain", "rows", plain::try_plain(rt.alloc()))?;
     Ok(())
 }

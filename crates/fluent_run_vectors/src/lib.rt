@@ -20,30 +20,33 @@ mod writes;
 use anyhow::Result;
 use calls::try_calls;
 use endless::try_endless;
-use fluent_trials::Tally;
+use fluent_trials::tell;
 use rows::Tallies;
 
 /// Tries the rows of `memory.jsonl`, also where an allocation is refused.
 pub fn try_memory(rt: &HostRuntime) -> Result<()> {
-    tell(rt, "memory", rows::try_memory(rt)?)
+    tell(rt, "memory", "runs", rows::try_memory(rt)?)?;
+    Ok(())
 }
 
 /// Tries all else.
 pub fn try_all(rt: &HostRuntime) -> Result<()> {
     tell_all(rt, rows::try_rows(rt)?)?;
-    tell(rt, "readers without an end", try_endless(rt.alloc()))?;
-    tell(rt, "calls for C", try_calls(rt.alloc()))
+    tell(
+        rt,
+        "readers without an end",
+        "runs",
+        try_endless(rt.alloc()),
+    )?;
+    tell(rt, "calls for C", "runs", try_calls(rt.alloc()))?;
+    Ok(())
 }
 
 fn tell_all(rt: &HostRuntime, tallies: Tallies) -> Result<()> {
-    tell(rt, "rows", tallies.rows)?;
-    tell(rt, "pieces", tallies.pieces)?;
-    tell(rt, "failed reads", tallies.cuts)?;
-    tell(rt, "failed writes", tallies.writes)?;
-    tell(rt, "buffers", tallies.buffers)
-}
-
-fn tell(rt: &HostRuntime, name: &str, tally: Tally) -> Result<()> {
-    println!(rt; "{name}: {} runs, {} wrong", tally.tried, tally.wrong)?;
+    tell(rt, "rows", "runs", tallies.rows)?;
+    tell(rt, "pieces", "runs", tallies.pieces)?;
+    tell(rt, "failed reads", "runs", tallies.cuts)?;
+    tell(rt, "failed writes", "runs", tallies.writes)?;
+    tell(rt, "buffers", "runs", tallies.buffers)?;
     Ok(())
 }

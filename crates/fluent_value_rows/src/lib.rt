@@ -8,16 +8,28 @@
 mod numbers;
 mod values;
 
-use anyhow::{Context, Result};
-use fluent_trials::{Row, Tally};
-use std::alloc::Global;
-use std::fs;
+use anyhow::Result;
+use fluent_trials::{Lines, Row, tell, try_lines};
+use std::alloc::{AllocError, Global};
 
 /// What the rows of a file are about.
 #[derive(Clone, Copy)]
 enum Rows {
     Numbers(numbers::Rows),
     Values(values::Rows),
+}
+
+impl Lines for Rows {
+    fn is_right(self, alloc: Global, line: &str) -> Result<bool, AllocError> {
+        let Some(row) = Row::of(line) else {
+            return Ok(false);
+        };
+        let answer = match self {
+            Rows::Numbers(rows) => rows.is_right(alloc, row),
+            Rows::Values(rows) => rows.is_right(alloc, row),
+        };
+        answer.ok_or(AllocError)
+    }
 }
 
 /// Tries the rows of all files.
@@ -31,36 +43,8 @@ pub fn try_all(rt: &HostRuntime) -> Result<()> {
     Ok(())
 }
 
-/// Tries each line of a file, and prints those that are wrong, and then how many there were of both.
 fn try_file(rt: &HostRuntime, file: &str, rows: Rows) -> Result<()> {
-    let text = fs::read_to_string(rt, file)
-        .or_else(|_| fs::read_to_string(rt, file))
-        .context("the rows")?;
-    let mut tally = Tally::new();
-    for line in text.as_str().lines() {
-        let is_right = is_right_again(rt.alloc(), rows, line);
-        if !is_right {
-            println!(rt; "wrong: {line}")?;
-        }
-        tally.add(is_right);
-    }
-    println!(rt; "{file}: {} rows, {} wrong", tally.tried, tally.wrong)?;
+    let tally = try_lines(rt, file, rows)?;
+    tell(rt, file, "rows", tally)?;
     Ok(())
-}
-
-/// Whether what a line says is so. Where memory is refused, it is tried once more.
-fn is_right_again(alloc: Global, rows: Rows, line: &str) -> bool {
-    match is_right(alloc, rows, line) {
-        Some(is_right) => is_right,
-        None => is_right(alloc, rows, line).unwrap_or(false),
-    }
-}
-
-/// Whether what a line says is so; none where it is no row, or memory ran out.
-fn is_right(alloc: Global, rows: Rows, line: &str) -> Option<bool> {
-    let row = Row::of(line)?;
-    match rows {
-        Rows::Numbers(rows) => rows.is_right(alloc, row),
-        Rows::Values(rows) => rows.is_right(alloc, row),
-    }
 }

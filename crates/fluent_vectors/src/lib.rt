@@ -18,7 +18,7 @@ mod values;
 
 use anyhow::{Context, Result};
 use fluent_syntax::parser::{self, ParserError};
-use fluent_trials::Tally;
+use fluent_trials::tell;
 use prefixes::{count_prefixes, parts};
 use serde_json::Value;
 use std::alloc::Global;
@@ -52,7 +52,8 @@ pub fn try_all(rt: &HostRuntime) -> Result<()> {
     for file in ["syntax/rows.jsonl", "syntax/prefixes.jsonl"] {
         try_prefixes(rt, file)?;
     }
-    tell(rt, "texts", slices::try_slices(rt.alloc()))
+    tell(rt, "texts", "trials", slices::try_slices(rt.alloc()))?;
+    Ok(())
 }
 
 /// Tries each line of a file, and prints how many there are and which are wrong.
@@ -73,11 +74,7 @@ fn try_file(rt: &HostRuntime, file: &str, rows: Rows) -> Result<()> {
 
 /// Reads, copies and writes where memory may be refused, and prints how many trials there were and how many of them were wrong.
 pub fn try_refused(rt: &HostRuntime) -> Result<()> {
-    tell(rt, "refused", refused::try_refused(rt.alloc()))
-}
-
-fn tell(rt: &HostRuntime, name: &str, tally: Tally) -> Result<()> {
-    println!(rt; "{name}: {} trials, {} wrong", tally.tried, tally.wrong)?;
+    tell(rt, "refused", "trials", refused::try_refused(rt.alloc()))?;
     Ok(())
 }
 

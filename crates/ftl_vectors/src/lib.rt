@@ -14,22 +14,28 @@ mod rows;
 mod runs;
 
 use anyhow::Result;
-use fluent_trials::Tally;
+use fluent_trials::tell;
 
 /// Makes all runs, and prints how many of them were wrong.
 pub fn try_all(rt: &HostRuntime) -> Result<()> {
     let alloc = rt.alloc();
-    tell(rt, "memory", memory::try_memory(alloc))?;
-    tell(rt, "rows", rows::try_rows(rt)?)?;
-    tell(rt, "pieces", failing::try_pieces(alloc)?)?;
-    tell(rt, "failed reads", failing::try_failed_reads(alloc)?)?;
-    tell(rt, "failed writes", failing::try_failed_writes(alloc)?)?;
-    tell(rt, "faults", faults::try_faults(alloc))?;
-    tell(rt, "runs", runs::try_runs(rt)?)?;
-    tell(rt, "runs over devices", runs::try_devices(rt))
-}
-
-fn tell(rt: &HostRuntime, name: &str, tally: Tally) -> Result<()> {
-    println!(rt; "{name}: {} runs, {} wrong", tally.tried, tally.wrong)?;
+    tell(rt, "memory", "runs", memory::try_memory(alloc))?;
+    tell(rt, "rows", "runs", rows::try_rows(rt)?)?;
+    tell(rt, "pieces", "runs", failing::try_pieces(alloc)?)?;
+    tell(
+        rt,
+        "failed reads",
+        "runs",
+        failing::try_failed_reads(alloc)?,
+    )?;
+    tell(
+        rt,
+        "failed writes",
+        "runs",
+        failing::try_failed_writes(alloc)?,
+    )?;
+    tell(rt, "faults", "runs", faults::try_faults(alloc))?;
+    tell(rt, "runs", "runs", runs::try_runs(rt)?)?;
+    tell(rt, "runs over devices", "runs", runs::try_devices(rt))?;
     Ok(())
 }

@@ -1,12 +1,11 @@
 //! Sources, requests and answers, by the rules of `docs/protocol.md`.
 use crate::devices::ISOLATING;
-use anyhow::{Context, Result};
 use fluent_run::{FromRead, FromWrite, RunError, Settings, run};
-use fluent_trials::{Tally, Trial, is_right_again};
+use fluent_trials::{Lines, Tally, Trial, is_right_again, try_lines};
 use fluent_value::EnglishPlurals;
 use serde_json::Value;
 use std::alloc::{AllocError, Global};
-use std::fs;
+use std::io;
 
 /// Requests to sources, and their answers.
 #[derive(Clone, Copy)]
@@ -37,13 +36,13 @@ impl Trial for Asked<'_> {
     }
 }
 
-/// A line of `rows.jsonl`.
+/// The lines of `rows.jsonl`.
 #[derive(Clone, Copy)]
-struct Line<'a>(&'a str);
+struct Rows;
 
-impl Trial for Line<'_> {
-    fn is_right(self, alloc: Global) -> Result<bool, AllocError> {
-        match Value::from_str(alloc, self.0) {
+impl Lines for Rows {
+    fn is_right(self, alloc: Global, line: &str) -> Result<bool, AllocError> {
+        match Value::from_str(alloc, line) {
             Ok(row) => is_answered(alloc, &row),
             Err(_) => Err(AllocError),
         }
@@ -62,12 +61,8 @@ impl Trial for Thousand {
 }
 
 /// Tries each line of `rows.jsonl`, a request that is not UTF-8, which no JSON can hold, and a thousand messages.
-pub fn try_rows(rt: &HostRuntime) -> Result<Tally> {
-    let text = fs::read_to_string(rt, "ftl/rows.jsonl").context("the rows")?;
-    let mut tally = Tally::new();
-    for line in text.as_str().lines() {
-        tally.add(is_right_again(rt.alloc(), Line(line)));
-    }
+pub fn try_rows(rt: &HostRuntime) -> io::Result<Tally> {
+    let mut tally = try_lines(rt, "ftl/rows.jsonl", Rows)?;
     let broken = Asked {
         sources: &["hello-world = Hello, world!\n"],
         settings: ISOLATING,

@@ -1,12 +1,11 @@
 //! Runs of the program by its words, over the files of `crates/all_rows/data`.
 use crate::devices::{ALWAYS, ANSWERS, Manner, REQUESTS, Reader, Writer};
 use crate::rows::{text_in, texts_in};
-use anyhow::{Context, Result};
-use fluent_trials::{Tally, Trial, is_right_again};
+use fluent_trials::{Lines, Tally, Trial, is_right_again, try_lines};
 use ftl_command::program;
 use serde_json::Value;
 use std::alloc::{AllocError, Global};
-use std::{fs, io};
+use std::io;
 
 /// What is told where memory runs out.
 const OUT_OF_MEMORY: &str = "ftl: out of memory\n";
@@ -69,23 +68,20 @@ impl<I: io::Read + Copy> Trial for Words<'_, I> {
     }
 }
 
-/// A line of `runs.jsonl`.
+/// The lines of `runs.jsonl`.
 #[derive(Clone, Copy)]
-struct Line<'a> {
-    rt: &'a HostRuntime,
-    text: &'a str,
-}
+struct Runs<'a>(&'a HostRuntime);
 
-impl Trial for Line<'_> {
-    fn is_right(self, alloc: Global) -> Result<bool, AllocError> {
-        match Value::from_str(alloc, self.text) {
+impl Lines for Runs<'_> {
+    fn is_right(self, alloc: Global, line: &str) -> Result<bool, AllocError> {
+        match Value::from_str(alloc, line) {
             Ok(row) => self.is_row(alloc, &row),
             Err(_) => Err(AllocError),
         }
     }
 }
 
-impl Line<'_> {
+impl Runs<'_> {
     /// Whether the words of a row end as it says.
     fn is_row(self, alloc: Global, row: &Value) -> Result<bool, AllocError> {
         match texts_in(alloc, row, "words")? {
@@ -100,7 +96,7 @@ impl Line<'_> {
             return Ok(false);
         };
         let run = Words {
-            rt: self.rt,
+            rt: self.0,
             words,
             input: requests.as_bytes(),
             writing: ALWAYS,
@@ -111,13 +107,8 @@ impl Line<'_> {
 }
 
 /// Tries each line of `runs.jsonl`.
-pub fn try_runs(rt: &HostRuntime) -> Result<Tally> {
-    let text = fs::read_to_string(rt, "ftl/runs.jsonl").context("the runs")?;
-    let mut tally = Tally::new();
-    for text in text.as_str().lines() {
-        tally.add(is_right_again(rt.alloc(), Line { rt, text }));
-    }
-    Ok(tally)
+pub fn try_runs(rt: &HostRuntime) -> io::Result<Tally> {
+    try_lines(rt, "ftl/runs.jsonl", Runs(rt))
 }
 
 /// Whether the words end so, over these devices.
