@@ -9,7 +9,7 @@ use fluent_syntax::ast::{
 /// The JSON text of a tree.
 pub fn of(resource: &Resource<&str>) -> String {
     let body = list(&resource.body, entry);
-    format!(r#"{{"body":{body},"type":"Resource"}}"#)
+    format!(r#"{{"body":{body},"syntax":"2","type":"Resource"}}"#)
 }
 
 /// The entries in the JSON text of a tree, in their order, but for junk.

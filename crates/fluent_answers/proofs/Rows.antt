@@ -129,3 +129,17 @@ a_fault_is_told_for_a_missing_argument = refl
 damage_is_passed_over : asked plain (codes "\nkey1 = Value 1\n\ng@Rb@ge = #2y ds\n\nkey2 = Value 2\n\n" ∷ []) (codes "key1\nkey2\n") ≡ codes "ok 7 0\nValue 1\nok 7 0\nValue 2\n"
 unfolding answering
 damage_is_passed_over = refl
+
+-- ---- selects by a message's attribute
+
+an_attribute_selects : asked plain (codes "brand = Firefox\n    .gender = masculine\nupd = { brand.gender ->\n    [masculine] He\n   *[other] It\n }\n" ∷ []) (codes "upd\n") ≡ codes "ok 2 0\nHe\n"
+unfolding answering
+an_attribute_selects = refl
+
+an_attribute_that_is_missing_takes_the_default : asked plain (codes "b = v\nx = { b.size ->\n   *[other] It\n }\n" ∷ []) (codes "x\n") ≡ codes "ok 2 1\nIt\nUnknown attribute: b.size\n"
+unfolding answering
+an_attribute_that_is_missing_takes_the_default = refl
+
+an_attribute_that_selects_by_itself_is_a_cycle : asked plain (codes "a = v\n    .t = { a.t ->\n       *[x] y\n    }\n" ∷ []) (codes "a.t\n") ≡ codes "ok 1 1\ny\nCyclical dependency detected\n"
+unfolding answering
+an_attribute_that_selects_by_itself_is_a_cycle = refl

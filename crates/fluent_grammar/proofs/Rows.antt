@@ -21,6 +21,10 @@ one_text s = t.text s t.no_elements
 message_of : Text → t.Elements → t.Entry
 message_of id value = t.message (record { id = id; value = Some value; attributes = []; comment = None })
 
+-- a select alone
+selected : t.Inline → t.Variants → t.Elements
+selected i vs = t.placeable (t.select i vs) t.no_elements
+
 -- the source is one junk, refused at this place
 Refuses : Text → Kind → ℕ → Type 0
 Refuses s kind place = errors s ≡ error_at kind place 0 (length s) ∷ []
@@ -208,9 +212,51 @@ message_reference_as_selector : Refuses (codes "a = { b ->\n   *[x] y\n }\n") r.
 unfolding computing Refuses error_at
 message_reference_as_selector = refl
 
-message_attribute_as_selector : Refuses (codes "a={b.c ->") r.message_attribute_as_selector 7
+-- a message's attribute is a selector
+selected_by_gender : Text
+selected_by_gender = codes "brand = Firefox\n    .gender = masculine\nupd = { brand.gender ->\n    [masculine] He\n   *[other] It\n }\n"
+
+a_messages_attribute_is_read_as_selector :
+    tree selected_by_gender ≡
+    t.message (record {
+      id = codes "brand";
+      value = Some (one_text (codes "Firefox"));
+      attributes = record { id = codes "gender"; value = one_text (codes "masculine") } ∷ [];
+      comment = None;
+    }) ∷ message_of (codes "upd") (selected (t.message_reference (codes "brand") (Some (codes "gender")))
+    (t.variant (t.identifier_key (codes "masculine")) (one_text (codes "He")) false (t.variant (t.identifier_key (codes "other")) (one_text (codes "It")) true t.no_variants))) ∷ []
+unfolding computing message_of one_text selected selected_by_gender
+a_messages_attribute_is_read_as_selector = refl
+
+a_messages_attribute_is_not_refused : errors selected_by_gender ≡ []
+unfolding computing selected_by_gender
+a_messages_attribute_is_not_refused = refl
+
+-- blank may stand before its dot, as in any message reference
+blank_before_the_dot_of_a_selector :
+    tree (codes "a={b .c ->\n*[d]e\n}") ≡
+    message_of (codes "a") (selected (t.message_reference (codes "b") (Some (codes "c"))) (t.variant (t.identifier_key (codes "d")) (one_text (codes "e")) true t.no_variants)) ∷ []
+unfolding computing message_of one_text selected
+blank_before_the_dot_of_a_selector = refl
+
+-- behind it a line end is needed
+line_end_behind_a_messages_attribute : Refuses (codes "a={b.c ->") r.expected_line_end 9
 unfolding computing Refuses error_at
-message_attribute_as_selector = refl
+line_end_behind_a_messages_attribute = refl
+
+-- a minus directly behind its name is of the name
+minus_behind_a_messages_attribute : Refuses (codes "a={b.c->") (r.expected_token close_brace) 7
+unfolding computing Refuses error_at
+minus_behind_a_messages_attribute = refl
+
+-- it takes no arguments
+called_messages_attribute : Refuses (codes "a={b.c() ->") (r.expected_token close_brace) 6
+unfolding computing Refuses error_at
+called_messages_attribute = refl
+
+nested_messages_attribute_as_selector : Refuses (codes "a={{b.c} ->") r.expected_simple_expression_as_selector 9
+unfolding computing Refuses error_at
+nested_messages_attribute_as_selector = refl
 
 term_reference_as_selector : Refuses (codes "a={-b() ->") r.term_reference_as_selector 8
 unfolding computing Refuses error_at

@@ -1,5 +1,5 @@
 -- The written text of trees that were read, checked by computing. Above each: the source, and what is written.
-use Rattle.std.specs.Prelude.{◌≡◌, [], ◌∷◌, refl, true}
+use Rattle.std.specs.Prelude.{◌≡◌, [], ◌∷◌, refl, true, codes}
 use Rattle.fluent_grammar.specs.Tiling.{tree}
 use Rattle.fluent_grammar.specs.Written.{written, written_with}
 use Rattle.fluent_grammar.proofs.Computing.{computing}
@@ -75,3 +75,9 @@ a_select_as_argument = refl
 a_blank_line_takes_no_indent : written (tree (97 ∷ 32 ∷ 61 ∷ 32 ∷ 98 ∷ 10 ∷ 10 ∷ 32 ∷ 99 ∷ [])) ≡ 97 ∷ 32 ∷ 61 ∷ 10 ∷ 32 ∷ 32 ∷ 32 ∷ 32 ∷ 98 ∷ 10 ∷ 10 ∷ 32 ∷ 32 ∷ 32 ∷ 32 ∷ 99 ∷ 10 ∷ []
 unfolding computing
 a_blank_line_takes_no_indent = refl
+
+-- brand = Firefox\n    .gender = masculine\nupd = { brand.gender ->\n    [masculine] He\n   *[other] It\n }\n
+a_messages_attribute_as_selector : written (tree (codes "brand = Firefox\n    .gender = masculine\nupd = { brand.gender ->\n    [masculine] He\n   *[other] It\n }\n"))
+    ≡ codes "brand = Firefox\n    .gender = masculine\nupd =\n    { brand.gender ->\n        [masculine] He\n       *[other] It\n    }\n"
+unfolding computing
+a_messages_attribute_as_selector = refl

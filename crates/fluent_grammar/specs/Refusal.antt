@@ -17,7 +17,6 @@ pub data Kind : Type 0 where
   multiple_default_variants : Kind
   missing_default_variant : Kind
   message_reference_as_selector : Kind
-  message_attribute_as_selector : Kind
   term_reference_as_selector : Kind
   expected_simple_expression_as_selector : Kind
   term_attribute_as_placeable : Kind

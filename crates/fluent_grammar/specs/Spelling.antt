@@ -13,12 +13,13 @@ abbrev pub may_stand_alone : t.Inline → Bool
 may_stand_alone (t.term_reference id (Some attribute) args) = false
 may_stand_alone _ = true
 
--- Selectors: a string or number literal, a variable, a call, a term's attribute.
+-- Selectors: a string or number literal, a variable, a call, a message's attribute, a term's attribute.
 abbrev pub may_be_selector : t.Inline → Bool
 may_be_selector (t.string_literal raw) = true
 may_be_selector (t.number_literal number) = true
 may_be_selector (t.function_reference id args) = true
-may_be_selector (t.message_reference id attribute) = false
+may_be_selector (t.message_reference id None) = false
+may_be_selector (t.message_reference id (Some attribute)) = true
 may_be_selector (t.term_reference id None args) = false
 may_be_selector (t.term_reference id (Some attribute) args) = true
 may_be_selector (t.variable_reference id) = true

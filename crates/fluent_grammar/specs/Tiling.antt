@@ -40,7 +40,6 @@ is_field_kind r.missing_value = false
 is_field_kind r.multiple_default_variants = false
 is_field_kind r.missing_default_variant = false
 is_field_kind r.message_reference_as_selector = false
-is_field_kind r.message_attribute_as_selector = false
 is_field_kind r.term_reference_as_selector = false
 is_field_kind r.expected_simple_expression_as_selector = false
 is_field_kind r.term_attribute_as_placeable = false

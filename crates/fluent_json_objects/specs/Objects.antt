@@ -16,8 +16,13 @@ members (m ∷ ms) = put m.0 m.1 (members ms)
 abbrev pub node : List ℕ → List Member → Data
 node kind others = object (put (codes "type") (string kind) (members others))
 
+-- with the version of the table
 abbrev pub resource : Items → Data
-resource body = node (codes "Resource") ((codes "body", array body) ∷ [])
+resource body = node (codes "Resource") ((codes "body", array body) ∷ (codes "syntax", string (codes "2")) ∷ [])
+
+-- without a version, as before there were any
+abbrev pub unversioned_resource : Items → Data
+unversioned_resource body = node (codes "Resource") ((codes "body", array body) ∷ [])
 
 abbrev pub message : Data → Data → Items → Data → Data
 message id value attributes comment = node (codes "Message") ((codes "id", id) ∷ (codes "value", value) ∷ (codes "attributes", array attributes) ∷ (codes "comment", comment) ∷ [])

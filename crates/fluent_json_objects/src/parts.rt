@@ -11,10 +11,23 @@ ghost use Rattle.fluent_json_objects.specs.Objects as object;
 use crate::members::{five, four, is_text, three, two};
 use serde_json::Value;
 
-/// The body of a `Resource`.
+/// The body of a `Resource` with its version.
 pub fn resource(value: &Value) -> Option<&[Value]>
     ensures some { IfSome result (λ part. view value.now ≡ object.resource (items_view part.now)) }
     ensures none { IfNone result ((body : Items) → view value.now ≢ object.resource body) }
+{
+    let (body, syntax, kind) = three(value, "body", "syntax", "type")?;
+    is_text(kind, "Resource")?;
+    is_text(syntax, "2")?;
+    Some(body.as_array()?.as_slice())
+}
+
+/// The body of a `Resource` without a version.
+pub fn unversioned_resource(value: &Value) -> Option<&[Value]>
+    ensures some { IfSome result (λ part. view value.now
+        ≡ object.unversioned_resource (items_view part.now)) }
+    ensures none { IfNone result ((body : Items)
+        → view value.now ≢ object.unversioned_resource body) }
 {
     let (body, kind) = two(value, "body", "type")?;
     is_text(kind, "Resource")?;

@@ -1,2 +1,3 @@
 mod NoTree
 mod OneTree
+mod Selected

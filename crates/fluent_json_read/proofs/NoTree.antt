@@ -1,5 +1,5 @@
 -- A value that no part of a tree has: where a part inside it has no tree, or no object of the table has it.
-use Rattle.std.proofs.Common.{◌≡◌, ◌≢◌, ℕ, zero, suc, ◌<◌, ◌≤◌, false, true≢false, List, [], ◌∷◌, length, get_or, map, Some, None, Result, Ok, Err, refl, sym, ap, ◌∙◌, arith}
+use Rattle.std.proofs.Common.{◌≡◌, ◌≢◌, ℕ, zero, suc, ◌<◌, ◌≤◌, true, false, true≢false, List, [], ◌∷◌, length, get_or, map, Some, None, Result, Ok, Err, refl, sym, ap, ◌∙◌, arith}
 use Rattle.std.specs.Prelude.{IfErr, is_some}
 use Rattle.std.specs.Result.{IsErrAnd}
 use Rattle.serde_json.specs.Data.{Data, string, Items, item, depth, items_depth}
@@ -10,10 +10,12 @@ use Rattle.fluent_grammar.specs.Tree as t
 use Rattle.fluent_ast.specs.View as v
 use Rattle.fluent_json_read.specs.declared.error.FromValueError.{FromValueError}
 use Rattle.fluent_json_read.specs.declared.error.FromValueError.TheVariants.{Shape}
-use Rattle.fluent_json_objects.specs.Objects.{resource, message, term, comment, group_comment, resource_comment, junk, identifier, text_element, placeable, select, string_literal, number_literal, function_reference, message_reference, term_reference, variable_reference, call_arguments}
-use Rattle.fluent_json_values.specs.Json.{HasNone, json, json_entry, each, or_null, json_key, json_elements, json_expression, json_variants, json_inline, json_arguments, json_maybe_arguments, json_positional, json_named}
+use Rattle.fluent_json_objects.specs.Objects.{resource, unversioned_resource, message, term, comment, group_comment, resource_comment, junk, identifier, text_element, placeable, select, string_literal, number_literal, function_reference, message_reference, term_reference, variable_reference, call_arguments}
+use Rattle.fluent_json_values.specs.Json.{HasNone, HasNoTree, with_version, without_version, json_entry, each, or_null, json_key, json_elements, json_expression, json_variants, json_inline, json_arguments, json_maybe_arguments, json_positional, json_named}
 use Rattle.fluent_json_values.specs.Parts.{json_element, json_variant, json_one_named}
+use Rattle.fluent_json_values.specs.Selectors.{selects_by_attribute}
 use Rattle.fluent_json_values.proofs.Lists.{each-items}
+use Rattle.fluent_json_values.proofs.Injective.{unversioned_json_injective, versions_differ}
 
 -- a `?` hands a callee's error on
 pub passed_on : {T : Type 0} {e : FromValueError} {P Q : Type 0} (r : Result T FromValueError) → IsErrAnd r (λ y. y ≡ e) → (e ≡ Shape → P) → (P → Q) → IfErr r (λ y. y ≡ Shape → Q)
@@ -174,5 +176,21 @@ no_entry d f1 f2 f3 f4 f5 f6 (t.group_comment ls) h = f4 _ (sym h)
 no_entry d f1 f2 f3 f4 f5 f6 (t.resource_comment ls) h = f5 _ (sym h)
 no_entry d f1 f2 f3 f4 f5 f6 (t.junk s) h = f6 _ (sym h)
 
-pub no_resource : (d : Data) (body : Items) → d ≡ resource body → HasNone (each json_entry) body → HasNone json d
-no_resource d body is none es h = let same : each json_entry es ≡ body = cc in none es same
+pub no_resource : (d : Data) (body : Items) → d ≡ resource body → HasNone (each json_entry) body → HasNoTree d
+no_resource d body is none es (with_version h) = let same : each json_entry es ≡ body = cc in none es same
+no_resource d body is none es (without_version _ h) = absurd (versions_differ body (each json_entry es) (sym is ∙ sym h))
+
+pub no_unversioned_resource : (d : Data) (body : Items) → d ≡ unversioned_resource body → HasNone (each json_entry) body → HasNoTree d
+no_unversioned_resource d body is none es (with_version h) = absurd (versions_differ (each json_entry es) body (h ∙ is))
+no_unversioned_resource d body is none es (without_version _ h) = let same : each json_entry es ≡ body = cc in none es same
+
+pub no_resource_at_all : (d : Data) → ((body : Items) → d ≢ resource body) → ((body : Items) → d ≢ unversioned_resource body) → HasNoTree d
+no_resource_at_all d f g es (with_version h) = f _ (sym h)
+no_resource_at_all d f g es (without_version _ h) = g _ (sym h)
+
+-- a tree that needs a version
+pub no_version_needed : (d : Data) (body : Items) (tree : List t.Entry) → d ≡ unversioned_resource body → each json_entry tree ≡ body → selects_by_attribute tree ≡ true → HasNoTree d
+no_version_needed d body tree is same selects es (with_version h) = absurd (versions_differ (each json_entry es) body (h ∙ is))
+no_version_needed d body tree is same selects es (without_version none h) =
+    let one : es ≡ tree = unversioned_json_injective es tree (h ∙ is ∙ ap unversioned_resource (sym same)) in
+    absurd (true≢false (sym selects ∙ ap selects_by_attribute (sym one) ∙ none))

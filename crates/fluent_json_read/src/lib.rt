@@ -3,6 +3,7 @@
 
 mod error;
 mod read;
+mod selects;
 
 pub use error::FromValueError;
 pub use read::from_value;

@@ -5,8 +5,8 @@ use Rattle.std.proofs.lemmas.Slice.Eq.{bytes_eq-Decides}
 use Rattle.serde_json.specs.Find.{get, as_str}
 use Rattle.serde_json.specs.Data.{Data, null, string, Items, item}
 use Rattle.fluent_grammar.specs.Tree as t
-use Rattle.fluent_json_objects.specs.Objects.{pattern, variant, identifier}
-use Rattle.fluent_json_values.specs.Json.{json, each, or_null, json_key, json_elements, json_expression, json_variants, json_inline, json_maybe_arguments, json_arguments, json_positional, json_named, json_pattern, json_attribute, json_comment, json_entry}
+use Rattle.fluent_json_objects.specs.Objects.{resource, unversioned_resource, pattern, variant, identifier}
+use Rattle.fluent_json_values.specs.Json.{json, unversioned_json, HasValue, with_version, without_version, ValueDecides, each, or_null, json_key, json_elements, json_expression, json_variants, json_inline, json_maybe_arguments, json_arguments, json_positional, json_named, json_pattern, json_attribute, json_comment, json_entry}
 
 -- the text of an object's `type`
 abbrev type_text : Data → List ℕ
@@ -227,3 +227,16 @@ json_entry_injective (t.junk s) _ h = absurd (types_differ (json_entry (t.junk s
 
 pub json_injective : (x y : List t.Entry) → json x ≡ json y → x ≡ y
 json_injective x y h = let entries : each json_entry x ≡ each json_entry y = cc in each_injective json_entry json_entry_injective x y entries
+
+pub unversioned_json_injective : (x y : List t.Entry) → unversioned_json x ≡ unversioned_json y → x ≡ y
+unversioned_json_injective x y h = let entries : each json_entry x ≡ each json_entry y = cc in each_injective json_entry json_entry_injective x y entries
+
+-- a value with a version is none without
+pub versions_differ : (body other : Items) → resource body ≢ unversioned_resource other
+versions_differ body other h = cc
+
+pub value_decides : ValueDecides
+value_decides x y d (with_version a) (with_version b) = json_injective x y (a ∙ sym b)
+value_decides x y d (with_version a) (without_version _ b) = absurd (versions_differ (each json_entry x) (each json_entry y) (a ∙ sym b))
+value_decides x y d (without_version _ a) (with_version b) = absurd (versions_differ (each json_entry y) (each json_entry x) (b ∙ sym a))
+value_decides x y d (without_version _ a) (without_version _ b) = unversioned_json_injective x y (a ∙ sym b)

@@ -1,9 +1,10 @@
 -- The JSON value of a tree, as `docs/json.md` has it: which object of the table each part is.
-use Rattle.std.specs.Prelude.{◌≡◌, ◌≢◌, ℕ, List, [], ◌∷◌, Option, Some, None}
+use Rattle.std.specs.Prelude.{◌≡◌, ◌≢◌, ℕ, false, List, [], ◌∷◌, Option, Some, None}
 use Rattle.serde_json.specs.Data.{Data, null, string, Items, no_items, item}
 use Rattle.fluent_grammar.specs.Tree as t
 use Rattle.fluent_grammar.specs.Tree.{VariantKey, Elements, Expression, Variants, Inline, MaybeArguments, Arguments, Inlines, Nameds, Attribute, Entry}
-use Rattle.fluent_json_objects.specs.Objects.{resource, message, term, comment, group_comment, resource_comment, junk, identifier, attribute, pattern, text_element, placeable, select, variant, string_literal, number_literal, function_reference, message_reference, term_reference, variable_reference, call_arguments, named_argument}
+use Rattle.fluent_json_objects.specs.Objects.{resource, unversioned_resource, message, term, comment, group_comment, resource_comment, junk, identifier, attribute, pattern, text_element, placeable, select, variant, string_literal, number_literal, function_reference, message_reference, term_reference, variable_reference, call_arguments, named_argument}
+use Rattle.fluent_json_values.specs.Selectors.{selects_by_attribute}
 
 -- what may be absent: null, or its value
 abbrev pub or_null : {A : Type 0} → (A → Data) → Option A → Data
@@ -85,6 +86,19 @@ json entries = resource (each json_entry entries)
 abbrev pub HasNone : {A D : Type 0} → (A → D) → D → Type 0
 HasNone {A} json d = (x : A) → json x ≢ d
 
+-- the value without a version, as it was before there were any
+abbrev pub unversioned_json : List Entry → Data
+unversioned_json entries = unversioned_resource (each json_entry entries)
+
+-- A tree has its value, and where none of its selects is by a message's attribute the one without a version, too.
+pub data HasValue (entries : List Entry) (value : Data) : Type 0 where
+  with_version : json entries ≡ value → HasValue entries value
+  without_version : selects_by_attribute entries ≡ false → unversioned_json entries ≡ value → HasValue entries value
+
+-- no tree has this value
+abbrev pub HasNoTree : Data → Type 0
+HasNoTree value = (entries : List Entry) → HasValue entries value → ⊥
+
 -- two trees with one value are equal
 abbrev pub ValueDecides : Type 0
-ValueDecides = (x y : List Entry) → json x ≡ json y → x ≡ y
+ValueDecides = (x y : List Entry) (value : Data) → HasValue x value → HasValue y value → x ≡ y

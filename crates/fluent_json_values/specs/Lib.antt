@@ -1,2 +1,3 @@
+pub mod Selectors
 pub mod Json
 pub mod Parts

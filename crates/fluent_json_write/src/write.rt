@@ -26,7 +26,8 @@ pub fn to_value(alloc: Global, resource: &Resource<String>) -> Result<Value, All
     ensures { IfOk result (λ value. view value ≡ json (plain resource.now)) }
 {
     let body = entry_values(alloc, &resource.body)?;
-    Object::of_type(alloc, "Resource")?.finish("body", Value::Array(body))
+    let object = Object::of_type(alloc, "Resource")?.with("body", Value::Array(body))?;
+    object.finish_text("syntax", "2")
 }
 
 fn entry_values(alloc: Global, entries: &[Entry<String>]) -> Result<Vec<Value>, AllocError>

@@ -20,7 +20,7 @@ use Rattle.fluent_number.specs.Text.{number_text}
 use Rattle.fluent_number.specs.Reading.{read_number}
 use Rattle.fluent_number.specs.Operands.{operands_of}
 use Rattle.fluent_meaning.specs.Substitution.{answer_written, answer_handed, arguments_found, missed_written, reference_written, unmarked_written, outset, most_placeables}
-use Rattle.fluent_meaning.specs.Work.{placeables_of}
+use Rattle.fluent_meaning.specs.Work.{placeables_of, most_references}
 
 -- opens the definitions of reading, of numbers and of resolving
 unfoldable resolving : ⊤
@@ -263,6 +263,68 @@ nowhere = environment plain []
 no_variants_give_no_text : told (answer_written nowhere [] (t.placeable (t.select (t.string_literal (codes "k")) t.no_variants) t.no_elements)) ≡ ([], codes "No default" ∷ [])
 unfolding resolving
 no_variants_give_no_text = refl
+
+-- ---- selects by a message's attribute
+
+abbrev by_gender : Text
+by_gender = codes "brand = Firefox\n    .gender = masculine\nupd = { brand.gender ->\n    [masculine] He\n   *[other] It\n }\n"
+
+a_messages_attribute_selects : asked plain by_gender (codes "upd") None [] ≡ Some (codes "He", [])
+unfolding resolving
+a_messages_attribute_selects = refl
+
+abbrev updated : Option (Done Text)
+updated = let env = environment plain by_gender in option_map (answer_written env []) (pattern_of None (env.find (codes "upd")))
+
+-- the asked pattern, the attribute's and the variant's: 1 + 1 * 2, the select being one reference and its selector another
+a_messages_attribute_is_entered : option_map (λ (a : Done Text). a.entered) updated ≡ Some 3
+unfolding resolving
+a_messages_attribute_is_entered = refl
+
+and_counts_as_a_reference : most_references (t.placeable (t.select (t.message_reference (codes "b") (Some (codes "c"))) t.no_variants) t.no_elements) ≡ 2
+unfolding resolving
+and_counts_as_a_reference = refl
+
+a_missing_attribute_takes_the_default : asked plain (codes "b = v\nx = { b.size ->\n   *[other] It\n }\n") (codes "x") None [] ≡ Some (codes "It", codes "Unknown attribute: b.size" ∷ [])
+unfolding resolving
+a_missing_attribute_takes_the_default = refl
+
+an_attribute_by_itself_is_a_cycle : asked plain (codes "a = v\n    .t = { a.t ->\n       *[x] y\n    }\n") (codes "a") (Some (codes "t")) [] ≡ Some (codes "y", codes "Cyclical dependency detected" ∷ [])
+unfolding resolving
+an_attribute_by_itself_is_a_cycle = refl
+
+abbrev by_size : Text
+by_size = codes "b = v\n    .size = 1\nx = { b.size ->\n    [1] number\n    [one] category\n   *[other] text\n }\n"
+
+-- it is a text, which no number and no category matches
+an_attribute_of_digits_is_a_text : asked plain by_size (codes "x") None [] ≡ Some (codes "text", [])
+unfolding resolving
+an_attribute_of_digits_is_a_text = refl
+
+an_attribute_is_transformed_before_it_selects :
+    asked in_capitals (codes "b = v\n    .c = d\nx = { b.c ->\n    [d] as it stands\n    [D] in capitals\n   *[other] neither\n }\n") (codes "x") None [] ≡ Some (codes "IN CAPITALS", [])
+unfolding resolving
+an_attribute_is_transformed_before_it_selects = refl
+
+an_attribute_of_a_term_is_none_of_a_message : asked plain (codes "-b = v\n    .c = d\nx = { b.c ->\n    [d] y\n   *[other] z\n }\n") (codes "x") None [] ≡ Some (codes "z", codes "Unknown attribute: b.c" ∷ [])
+unfolding resolving
+an_attribute_of_a_term_is_none_of_a_message = refl
+
+an_attribute_without_default : asked plain (codes "b = v\n    .c = d\nx = { b.c ->\n    [a] y\n  * }\n") (codes "x") None [] ≡ Some ([], codes "No default" ∷ [])
+unfolding resolving
+an_attribute_without_default = refl
+
+-- two placeables are opened before those of `t`: that of `m` and that of the variant
+a_select_falls_back_to_an_attribute :
+    asked bare (codes "b = v\n    .c = d\nm = { b.c ->\n   *[k] { t }\n }x\n" ++ many 100 (codes "t")) (codes "m") None [] ≡ Some (times 98 (codes "a") ++ codes "{t}{b.c}", codes "Too many placeables" ∷ [])
+unfolding resolving
+a_select_falls_back_to_an_attribute = refl
+
+-- once too many are opened by the attribute, the select's text is empty, behind which its fallback stands
+an_attribute_opens_too_many :
+    asked bare (codes "b = v\n    .c = " ++ (times 100 (codes "{ \"a\" }") ++ codes "\nm = { b.c ->\n   *[k] l\n }x\n")) (codes "m") None [] ≡ Some (codes "{b.c}", codes "Too many placeables" ∷ [])
+unfolding resolving
+an_attribute_opens_too_many = refl
 
 -- ---- calls that begin inside a pattern
 

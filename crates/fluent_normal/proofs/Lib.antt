@@ -22,3 +22,4 @@ pub mod TidiedSources
 mod ShapeRows
 mod TreeShapeRows
 mod WellFormedRows
+mod NormalRows

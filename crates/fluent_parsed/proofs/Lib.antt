@@ -1,1 +1,2 @@
 pub mod CollectedEntries
+pub mod NeverTold

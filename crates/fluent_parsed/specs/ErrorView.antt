@@ -97,7 +97,6 @@ told r.missing_value = missing_value
 told r.multiple_default_variants = multiple_default_variants
 told r.missing_default_variant = missing_default_variant
 told r.message_reference_as_selector = message_reference_as_selector
-told r.message_attribute_as_selector = message_attribute_as_selector
 told r.term_reference_as_selector = term_reference_as_selector
 told r.expected_simple_expression_as_selector = expected_simple_expression_as_selector
 told r.term_attribute_as_placeable = term_attribute_as_placeable

@@ -1,3 +1,4 @@
 pub mod ErrorView
 pub mod ErrorText
+pub mod ErrorLaws
 pub mod Collected

@@ -3,6 +3,7 @@
 ghost use Rattle.std.specs.Prelude.{◌≡◌, ◌↔◌, IsTrue};
 ghost use Rattle.std.specs.Cmp.{IsEquivalence};
 ghost use Rattle.fluent_parsed.specs.ErrorView.{error_view, kind_view};
+ghost use Rattle.fluent_parsed.specs.ErrorLaws.{MessageAttributesMaySelect};
 ghost use Rattle.fluent_parsed.specs.declared.errors.ErrorKind.{ErrorKind as Kind};
 ghost use Rattle.fluent_parsed.specs.declared.errors.ParserError.{ParserError as Error};
 
@@ -35,3 +36,8 @@ pub fn equal_errors()
 {
     equal_error_kinds();
 }
+
+/// A message's attribute may be a selector: no source has the error that is named after it.
+pub fn message_attributes_may_select()
+    ensures { MessageAttributesMaySelect }
+{}

@@ -32,7 +32,6 @@ same_kinds r.missing_value = refl
 same_kinds r.multiple_default_variants = refl
 same_kinds r.missing_default_variant = refl
 same_kinds r.message_reference_as_selector = refl
-same_kinds r.message_attribute_as_selector = refl
 same_kinds r.term_reference_as_selector = refl
 same_kinds r.expected_simple_expression_as_selector = refl
 same_kinds r.term_attribute_as_placeable = refl

@@ -28,9 +28,6 @@ impl<'p, S: Drop, T: Texts<S>> Parser<'p, S, T> {
                 attribute: None,
                 ..
             } => Some(ErrorKind::MessageReferenceAsSelector),
-            InlineExpression::MessageReference { .. } => Some(
-                ErrorKind::MessageAttributeAsSelector,
-            ),
             InlineExpression::TermReference {
                 attribute: None,
                 ..

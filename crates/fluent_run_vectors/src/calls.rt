@@ -100,9 +100,9 @@ fn try_written(alloc: Global) -> Tally {
 fn try_json(alloc: Global) -> Tally {
     let mut tally = Tally::new();
     let expected =
-        br#"{"body":[{"attributes":[],"comment":null,"id":{"name":"a","type":"Identifier"},"type":"Message","value":{"elements":[{"type":"TextElement","value":"b"}],"type":"Pattern"}}],"type":"Resource"}"#;
+        br#"{"body":[{"attributes":[],"comment":null,"id":{"name":"a","type":"Identifier"},"type":"Message","value":{"elements":[{"type":"TextElement","value":"b"}],"type":"Pattern"}}],"syntax":"2","type":"Resource"}"#;
     tally.add(hands_out(alloc, &[read(b"a = b\n", Form::Json)], expected));
-    let expected = br#"{"body":[{"content":"!\n","type":"Junk"}],"type":"Resource"}"#;
+    let expected = br#"{"body":[{"content":"!\n","type":"Junk"}],"syntax":"2","type":"Resource"}"#;
     tally.add(hands_out(alloc, &[read(b"!\n", Form::Json)], expected));
     tally
 }

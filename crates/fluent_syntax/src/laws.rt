@@ -16,5 +16,7 @@ pub use fluent_grammar::laws::tiling::{
 pub use fluent_grammar::laws::tiling::{
     runtime_adds_no_junk, runtime_has_no_comments, runtime_has_the_same_list,
 };
-pub use fluent_parser::laws::{equal_error_kinds, equal_errors, equality_is_an_equivalence};
+pub use fluent_parser::laws::{
+    equal_error_kinds, equal_errors, equality_is_an_equivalence, message_attributes_may_select,
+};
 pub use fluent_serializer::laws::options_are_about_junk;

@@ -5,7 +5,7 @@ use Rattle.fluent_grammar.specs.Words.{Text}
 use Rattle.fluent_grammar.specs.Tree as t
 use Rattle.fluent_grammar.specs.Tiling.{tree, errors}
 use Rattle.fluent_grammar.specs.Written.{written}
-use Rattle.fluent_json.specs.Json.{json}
+use Rattle.fluent_json.specs.Json.{HasValue}
 use Rattle.fluent_normal.specs.Normal.{IsCanonical}
 
 -- A text is read whole, and as these entries.
@@ -13,15 +13,15 @@ pub record IsReadAs (text : Text) (entries : List t.Entry) : Type 0 where
   pub no_junk : errors text ≡ []
   pub read_back : tree text ≡ entries
 
--- The text of a JSON value: what is written of its tree, which is canonical.
+-- The text of a JSON value, with a version or without: what is written of its tree, which is canonical.
 pub record IsImported (value : Data) (text : Text) : Type 0 where
   pub entries : List t.Entry
-  pub has_value : json entries ≡ value
+  pub has_value : HasValue entries value
   pub canonical : IsCanonical entries
   pub is : text ≡ written entries
 
 -- The value of a tree that isn't canonical.
 pub record IsNotImported (value : Data) : Type 0 where
   pub entries : List t.Entry
-  pub has_value : json entries ≡ value
+  pub has_value : HasValue entries value
   pub not_canonical : IsCanonical entries → ⊥

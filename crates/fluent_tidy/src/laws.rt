@@ -1,6 +1,6 @@
 //! Laws of tidying and of answers: each function only carries a law, as its contract.
 
-ghost use Rattle.fluent_tidy.specs.DeskLaws.{ExportsAreImported};
+ghost use Rattle.fluent_tidy.specs.DeskLaws.{ExportsAreImported, VersionsAreImportedAlike};
 
 pub use fluent_answers::laws::{
     joined_sources_keep_notices, lists_decide, tidied_sources_keep_answers,
@@ -17,6 +17,13 @@ pub use fluent_requests::laws::streams_join;
 /// none. It is never refused as a value that no tree has.
 pub fn exports_are_imported()
     ensures { ExportsAreImported }
+{
+    value_decides_tree();
+}
+
+/// A tree's value without a version is imported as its value with one is. It is never refused as a value that no tree has.
+pub fn versions_are_imported_alike()
+    ensures { VersionsAreImportedAlike }
 {
     value_decides_tree();
 }

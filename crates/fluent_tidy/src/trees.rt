@@ -5,7 +5,7 @@ ghost use Rattle.serde_json.specs.View.{view};
 ghost use Rattle.fluent_grammar.specs.Tiling.{tree};
 ghost use Rattle.fluent_grammar.specs.Written.{written};
 ghost use Rattle.fluent_cut.specs.Cut.{cut};
-ghost use Rattle.fluent_json.specs.Json.{json, HasNone};
+ghost use Rattle.fluent_json.specs.Json.{json, HasNoTree};
 ghost use Rattle.fluent_json.specs.Parts.{plain};
 ghost use Rattle.fluent_normal.specs.Normal.{IsCanonical};
 ghost use Rattle.fluent_tidy.specs.Sources.{holds_return};
@@ -22,7 +22,7 @@ use fluent_serializer::serialize;
 use serde_json::Value;
 use std::alloc::{AllocError, Global};
 
-/// The JSON tree of the cleaned source, as `docs/json.md` has it.
+/// The JSON tree of the cleaned source, as `docs/json.md` has it, with its version.
 ///
 /// # Errors
 /// `CarriageReturn` exactly where the source holds one, before any memory is taken. `Memory` where memory ran out.
@@ -35,7 +35,8 @@ pub fn export(alloc: Global, source: &str) -> Result<Value, CleanError>
     Ok(to_value(alloc, &tree)?)
 }
 
-/// The text of a JSON tree: what the serializer writes of it, where that is read back as that very tree.
+/// The text of a JSON tree, with a version or without: what the serializer writes of it, where that is read back as that
+/// very tree.
 ///
 /// What [`export`] gives of a source is imported as the source's normal text.
 ///
@@ -45,7 +46,7 @@ pub fn export(alloc: Global, source: &str) -> Result<Value, CleanError>
 pub fn import(alloc: Global, value: &Value) -> Result<String, ImportError>
     ensures text { IfOk result (λ text. IsImported (view value.now) (string_bytes text)) }
     ensures not_normal { IsErrOf result NotNormal → IsNotImported (view value.now) }
-    ensures shape { IsErrOf result Shape → HasNone json (view value.now) }
+    ensures shape { IsErrOf result Shape → HasNoTree (view value.now) }
 {
     let tree = from_value(alloc, value)?;
     write_back(alloc, &tree)

@@ -32,8 +32,8 @@ fn stands_there(kind: &ErrorKind, before: &str, behind: &str) -> bool {
         ErrorKind::ForbiddenCallee => before.ends_with(')'),
         ErrorKind::MultipleDefaultVariants => before.ends_with('*'),
         ErrorKind::MissingDefaultVariant => !behind.starts_with('[') && !behind.starts_with('*'),
+        ErrorKind::MessageAttributeAsSelector => false,
         ErrorKind::MessageReferenceAsSelector
-        | ErrorKind::MessageAttributeAsSelector
         | ErrorKind::TermReferenceAsSelector
         | ErrorKind::ExpectedSimpleExpressionAsSelector => behind.starts_with("->"),
         ErrorKind::TermAttributeAsPlaceable => !behind.starts_with("->"),

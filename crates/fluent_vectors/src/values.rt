@@ -1,6 +1,7 @@
 //! JSON texts, and the trees that have their values.
 //!
-//! A row has a `text`, the tree of its value as `{:?}` shows it, `shown`, and the compact text of that tree's value, `written`.
+//! A row has a `text`, the tree of its value as `{:?}` shows it, `shown`, and the compact text of that tree's value with the
+//! version, `written`.
 //! Where no tree has the value, a row says what the `error` is told as, and its `code`. A row without a text stands for memory
 //! that ran out.
 
@@ -25,14 +26,14 @@ pub fn agrees(alloc: Global, vector: &Value) -> Result<bool> {
 /// Whether a value is read as the row says.
 fn is_read(alloc: Global, vector: &Value, value: &Value) -> Result<bool> {
     match from_value(alloc, value) {
-        Ok(tree) => is_tree(alloc, vector, value, &tree),
+        Ok(tree) => is_tree(alloc, vector, &tree),
         Err(error) => is_told(alloc, vector, error),
     }
 }
 
-/// Whether a tree is the one that a row shows, and has this value.
-fn is_tree(alloc: Global, vector: &Value, value: &Value, tree: &Resource<String>) -> Result<bool> {
-    Ok(is_shown(alloc, vector, tree)? && has_value(alloc, vector, value, tree)?)
+/// Whether a tree is the one that a row shows, and its value is written as the row says.
+fn is_tree(alloc: Global, vector: &Value, tree: &Resource<String>) -> Result<bool> {
+    Ok(is_shown(alloc, vector, tree)? && is_written(alloc, vector, &to_value(alloc, tree)?)?)
 }
 
 /// Whether a tree is shown as a row says.
@@ -40,17 +41,6 @@ fn is_shown(alloc: Global, vector: &Value, tree: &Resource<String>) -> Result<bo
     let wanted = text_of(vector, "shown")?;
     let shown = format!(in alloc; "{tree:?}")?;
     Ok(shown.as_str() == wanted)
-}
-
-/// Whether a tree has this value, which is written as a row says.
-fn has_value(
-    alloc: Global,
-    vector: &Value,
-    value: &Value,
-    tree: &Resource<String>,
-) -> Result<bool> {
-    let found = to_value(alloc, tree)?;
-    Ok(found == *value && is_written(alloc, vector, &found)?)
 }
 
 fn is_written(alloc: Global, vector: &Value, value: &Value) -> Result<bool> {

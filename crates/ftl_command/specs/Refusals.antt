@@ -4,7 +4,7 @@ use Rattle.std.specs.List.{list_any}
 use Rattle.serde_json.specs.Read.{read as read_text}
 use Rattle.fluent_requests.specs.Text.{Text}
 use Rattle.fluent_normal.specs.Normal.{HasNoNormalText}
-use Rattle.fluent_json.specs.Json.{json, HasNone}
+use Rattle.fluent_json.specs.Json.{HasNoTree}
 use Rattle.fluent_tidy.specs.Sources.{holds_return}
 use Rattle.fluent_tidy.specs.Trees.{IsNotImported}
 use Rattle.ftl_words.specs.Meaning.{Asked, Tidy, run, check, tidy, clean, normalize, join, export, import}
@@ -35,7 +35,7 @@ HoldNoTree contents (clean file) = ⊥
 HoldNoTree contents (normalize file) = ⊥
 HoldNoTree contents (join files) = ⊥
 HoldNoTree contents (export file) = ⊥
-HoldNoTree contents (import file) = OnFile contents file (λ source. OnValue source (HasNone json))
+HoldNoTree contents (import file) = OnFile contents file (λ source. OnValue source HasNoTree)
 
 -- the text of the file to be imported is that of no JSON value
 abbrev pub HoldNoJson : (Text → Option Text) → Tidy → Type 0

@@ -5,42 +5,61 @@ ghost use Rattle.serde_json.specs.Data.{string};
 ghost use Rattle.serde_json.specs.View.{view, items_view};
 ghost use Rattle.fluent_grammar.specs.Tree.{Entry as PlainEntry};
 ghost use Rattle.fluent_json_objects.specs.Objects.{message, term};
-ghost use Rattle.fluent_json_values.specs.Json.{json, HasNone, each, or_null, json_pattern, json_attribute, json_comment, json_entry};
-ghost use Rattle.fluent_json_values.specs.Parts.{plain, lines_json, attributes_json, attribute_json, maybe_pattern_json, maybe_comment_json, entry_json};
+ghost use Rattle.fluent_json_values.specs.Json.{HasValue, HasNoTree, HasNone, each, or_null, json_pattern, json_attribute, json_comment, json_entry};
+ghost use Rattle.fluent_json_values.specs.Parts.{plain, lines_json, entries_json, attributes_json, attribute_json, maybe_pattern_json, maybe_comment_json, entry_json};
 
 mod patterns;
 
 use crate::error::FromValueError;
+use crate::selects::selects_by_attribute;
 use fluent_ast::{Attribute, Comment, Entry, Message, Pattern, Resource, Term};
 use fluent_json_objects::parts;
 use patterns::{read_identifier, read_pattern};
 use serde_json::Value;
 use std::alloc::Global;
 
-/// The tree that has a JSON value, as `docs/json.md` says: the one whose value `to_value` of `fluent_json_write` gives.
+/// The tree that has a JSON value, as `docs/json.md` says: the one whose value `to_value` of `fluent_json_write` gives, or
+/// that value without its version.
 ///
 /// Names and literals are not examined, and neither are the texts in them. Nothing changes what `value` holds.
 ///
 /// # Errors
 /// `Shape` exactly where no tree has the value: a key is unknown or missing, or a value is of another kind than the
-/// table has there, so also where there is a number. `Memory` where memory ran out. Nothing of the tree is left after
-/// either.
+/// table has there, so also where there is a number; the version is another one; or there is none, and a select is by
+/// a message's attribute. `Memory` where memory ran out. Nothing of the tree is left after either.
 pub fn from_value(alloc: Global, value: &Value) -> Result<Resource<String>, FromValueError>
-    ensures ok { IfOk result (λ resource. json (plain resource) ≡ view value.now) }
-    ensures inverse { (tree : List PlainEntry) → json tree
-        ≡ view value.now → IfOk result (λ resource. plain resource ≡ tree) }
-    ensures shape { result ≡ Err FromValueError.Shape → HasNone json (view value.now) }
+    ensures ok { IfOk result (λ resource. HasValue (plain resource) (view value.now)) }
+    ensures inverse { (tree : List PlainEntry) → HasValue tree (view value.now)
+        → IfOk result (λ resource. plain resource ≡ tree) }
+    ensures shape { result ≡ Err FromValueError.Shape → HasNoTree (view value.now) }
 {
     read_resource(alloc, value)
 }
 
+/// The tree, of a value with a version or without.
 fn read_resource(alloc: Global, value: &Value) -> Result<Resource<String>, FromValueError>
-    ensures ok { IfOk result (λ resource. json (plain resource) ≡ view value.now) }
-    ensures shape { IfErr result (λ e. e ≡ FromValueError.Shape → HasNone json (view value.now)) }
+    ensures ok { IfOk result (λ resource. HasValue (plain resource) (view value.now)) }
+    ensures shape { IfErr result (λ e. e ≡ FromValueError.Shape → HasNoTree (view value.now)) }
 {
-    let Some(values) = parts::resource(value) else {
+    if let Some(values) = parts::resource(value) {
+        return read_body(alloc, values);
+    }
+    let Some(values) = parts::unversioned_resource(value) else {
         return Err(FromValueError::Shape);
     };
+    let resource = read_body(alloc, values)?;
+    if selects_by_attribute(&resource) {
+        return Err(FromValueError::Shape);
+    }
+    Ok(resource)
+}
+
+fn read_body(alloc: Global, values: &[Value]) -> Result<Resource<String>, FromValueError>
+    ensures ok { IfOk result (λ resource. entries_json resource.body.items
+        ≡ items_view values.now) }
+    ensures shape { IfErr result (λ e. e ≡ FromValueError.Shape
+        → HasNone (each json_entry) (items_view values.now)) }
+{
     let mut body = Vec::new(alloc);
     for value in values {
         body.push(read_entry(alloc, value)?)?;

@@ -1,0 +1,6 @@
+brand = Firefox
+    .gender = masculine
+upd = { brand.gender ->
+    [masculine] He
+   *[other] It
+ }
