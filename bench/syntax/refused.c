@@ -44,7 +44,8 @@ static uint32_t json(struct FluentSource source, struct FluentText *made) {
 static uint32_t answered(struct FluentSource source, struct FluentText *made) {
     static const char requests[] =
         "hello-world\nwelcome\tname=Jane\nwelcome\ninbox\tname=Jane\tcount=3\nunread\tcount=1\nfarewell\nbad\tbad\n";
-    return fluent_answer(&source, 1, true, false, (const uint8_t *)requests, sizeof requests - 1, made);
+    return fluent_answer(
+        &source, 1, (const uint8_t *)"", 0, true, false, (const uint8_t *)requests, sizeof requests - 1, made);
 }
 
 static bool equal(const struct FluentText *a, const struct FluentText *b) {

@@ -2,7 +2,7 @@
  *
  * Link libfluent_c.a with a program that has malloc, realloc and free. A text is its first byte and its length in
  * bytes; it needs no byte 0 at its end, and it is only read. A text of length 0 still needs a pointer that isn't null.
- * Each call that answers a number answers one of the three below, and where it isn't FLUENT_READ it leaves what it was
+ * Each call that answers a number answers one of those below, and where it isn't FLUENT_READ it leaves what it was
  * given to write to unchanged. All memory that a call takes is free when it returns, but for a text that it hands out.
  */
 #ifndef FLUENT_C_H
@@ -22,6 +22,8 @@ extern "C" {
 #define FLUENT_NOT_UTF8 1
 /* Memory was refused. */
 #define FLUENT_NO_MEMORY 2
+/* The locale has no plural rules. */
+#define FLUENT_UNKNOWN_LOCALE 3
 
 struct FluentCounts {
     size_t messages;
@@ -71,16 +73,19 @@ struct FluentSource {
  * `name=value` behind tabs. The answer to it is a line `ok B E`, the text of B bytes, and E lines of errors; or a line
  * `none` or `bad`. docs/protocol.md has the rules.
  *
- * The function NUMBER is there, and variants are chosen by the plural rules of English. Placeables stand between the
- * marks U+2068 and U+2069 where `isolating` is true. Of an id that stands twice the last entry counts where `overriding`
- * is true, and the first where it is false. A source that has errors is answered from all the same, without its junk.
+ * The function NUMBER is there. Variants are chosen by the plural rules of `locale`, a tag such as "pl" or "pt-PT"; the
+ * empty tag has those of English. docs/plurals.md says which locales have rules. Placeables stand between the marks
+ * U+2068 and U+2069 where `isolating` is true. Of an id that stands twice the last entry counts where `overriding` is
+ * true, and the first where it is false. A source that has errors is answered from all the same, without its junk.
  *
- * The sources are read at each call: put as many request lines into one call as there are. `sources` needs a pointer
- * that isn't null, also where `count` is 0.
+ * The sources are read at each call: put as many request lines into one call as there are. `sources` and `locale` need
+ * pointers that aren't null, also where `count` or `locale_len` is 0.
  */
 uint32_t fluent_answer(
     const struct FluentSource *sources,
     size_t count,
+    const uint8_t *locale,
+    size_t locale_len,
     bool isolating,
     bool overriding,
     const uint8_t *requests,

@@ -23,6 +23,9 @@ static const char REQUESTS[] =
     "unread\tcount=3\n"
     "welcome\n";
 
+/* Whose plural rules choose the variants. */
+static const char LOCALE[] = "en-GB";
+
 /* The line that begins at `at`, with its line feed. */
 static size_t line_at(const char *at, const char *end) {
     const char *feed = memchr(at, '\n', (size_t)(end - at));
@@ -56,13 +59,26 @@ static unsigned print_answers(const char *at, const char *end) {
     return answers;
 }
 
+/* Why there are no answers. */
+static const char *refusal(uint32_t answered) {
+    switch (answered) {
+    case FLUENT_NOT_UTF8:
+        return "a source isn't UTF-8";
+    case FLUENT_UNKNOWN_LOCALE:
+        return "the locale has no plural rules";
+    default:
+        return "out of memory";
+    }
+}
+
 int main(void) {
     const struct FluentSource sources[] = {{(const uint8_t *)SOURCE, sizeof SOURCE - 1}};
     struct FluentText answers = {0};
     uint32_t answered = fluent_answer(
-        sources, 1, false, false, (const uint8_t *)REQUESTS, sizeof REQUESTS - 1, &answers);
+        sources, 1, (const uint8_t *)LOCALE, sizeof LOCALE - 1, false, false,
+        (const uint8_t *)REQUESTS, sizeof REQUESTS - 1, &answers);
     if (answered != FLUENT_READ) {
-        fprintf(stderr, "%s\n", answered == FLUENT_NOT_UTF8 ? "a source isn't UTF-8" : "out of memory");
+        fprintf(stderr, "%s\n", refusal(answered));
         return 1;
     }
     const char *first = (const char *)answers.bytes;

@@ -16,8 +16,14 @@ unread = { $count ->
 /// An id a line, and its arguments behind tabs.
 const REQUESTS: &str = "hello-world\nwelcome\tname=Jane\nunread\tcount=3\nwelcome\n";
 
+/// Whose plural rules choose the variants.
+const LOCALE: &str = "en-GB";
+
 /// What `fluent_c.h` declares.
 mod c {
+    pub const FLUENT_READ: u32 = 0;
+    pub const FLUENT_UNKNOWN_LOCALE: u32 = 3;
+
     #[repr(C)]
     pub struct FluentSource {
         pub text: *const u8,
@@ -36,6 +42,8 @@ mod c {
         pub fn fluent_answer(
             sources: *const FluentSource,
             count: usize,
+            locale: *const u8,
+            locale_len: usize,
             isolating: bool,
             overriding: bool,
             requests: *const u8,
@@ -46,24 +54,30 @@ mod c {
     }
 }
 
-/// Memory ran out: Rust's texts are UTF-8, so there is no other refusal.
+/// Why there are no answers. Rust's texts are UTF-8, so there is no third reason.
 #[derive(Debug)]
-struct OutOfMemory;
+enum Refusal {
+    UnknownLocale,
+    OutOfMemory,
+}
 
-impl fmt::Display for OutOfMemory {
+impl fmt::Display for Refusal {
     fn fmt(&self, f: &mut fmt::Formatter<'_>) -> fmt::Result {
-        f.write_str("out of memory")
+        f.write_str(match self {
+            Refusal::UnknownLocale => "the locale has no plural rules",
+            Refusal::OutOfMemory => "out of memory",
+        })
     }
 }
 
-impl std::error::Error for OutOfMemory {}
+impl std::error::Error for Refusal {}
 
 /// The answers to request lines, in memory of the library.
 struct Answers(c::FluentText);
 
 impl Answers {
-    /// Answers request lines from sources, without marks around placeables.
-    fn to(requests: &str, sources: &[&str]) -> Result<Answers, OutOfMemory> {
+    /// Answers request lines from sources by the plural rules of a locale, without marks around placeables.
+    fn to(requests: &str, sources: &[&str], locale: &str) -> Result<Answers, Refusal> {
         let sources: Vec<c::FluentSource> = sources
             .iter()
             .map(|source| c::FluentSource { text: source.as_ptr(), len: source.len() })
@@ -74,6 +88,8 @@ impl Answers {
             c::fluent_answer(
                 sources.as_ptr(),
                 sources.len(),
+                locale.as_ptr(),
+                locale.len(),
                 false,
                 false,
                 requests.as_ptr(),
@@ -82,8 +98,9 @@ impl Answers {
             )
         };
         match answered {
-            0 => Ok(Answers(text)),
-            _ => Err(OutOfMemory),
+            c::FLUENT_READ => Ok(Answers(text)),
+            c::FLUENT_UNKNOWN_LOCALE => Err(Refusal::UnknownLocale),
+            _ => Err(Refusal::OutOfMemory),
         }
     }
 
@@ -135,8 +152,8 @@ fn next_answer<'a>(rest: &mut &'a str) -> Option<Answer<'a>> {
     Some(Answer::Text { text, errors: told })
 }
 
-fn main() -> Result<(), OutOfMemory> {
-    for answer in Answers::to(REQUESTS, &[SOURCE])?.iter() {
+fn main() -> Result<(), Refusal> {
+    for answer in Answers::to(REQUESTS, &[SOURCE], LOCALE)?.iter() {
         match answer {
             Answer::Text { text, errors } => {
                 println!("{text}");

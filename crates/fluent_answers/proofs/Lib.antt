@@ -1,3 +1,4 @@
 pub mod InTurn
 pub mod Tidying
 mod Rows
+pub mod SourcesFit

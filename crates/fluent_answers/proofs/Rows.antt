@@ -9,7 +9,7 @@ use Rattle.fluent_number.specs.Text.{number_text}
 use Rattle.fluent_number.specs.Reading.{read_number}
 use Rattle.fluent_number.specs.Operands.{operands_of}
 use Rattle.fluent_number.specs.Plurals.{english}
-use Rattle.fluent_errors.specs.Errors.{overriding, message}
+use Rattle.fluent_errors.specs.Errors.{overriding, message, term}
 use Rattle.fluent_cut.specs.Joined.{joined}
 use Rattle.fluent_meaning.specs.Same.{same_elements}
 use Rattle.fluent_meaning.specs.Substitution.{expression_with, elements_with, pattern_at, pattern_written}
@@ -129,6 +129,59 @@ a_fault_is_told_for_a_missing_argument = refl
 damage_is_passed_over : asked plain (codes "\nkey1 = Value 1\n\ng@Rb@ge = #2y ds\n\nkey2 = Value 2\n\n" ∷ []) (codes "key1\nkey2\n") ≡ codes "ok 7 0\nValue 1\nok 7 0\nValue 2\n"
 unfolding answering
 damage_is_passed_over = refl
+
+-- ---- how lines are read
+
+abbrev titled : List Text
+titled = codes "m = { $x }\n    .t = T{ $x }\n-a = term\n" ∷ []
+
+an_id_ends_at_its_first_dot : asked plain titled (codes "m.t.u\nm.\n.t\n") ≡ codes "none\nnone\nnone\n"
+unfolding answering
+an_id_ends_at_its_first_dot = refl
+
+a_carriage_return_is_of_its_line : asked plain titled (codes "m\r\nm\tx=1\r\n") ≡ codes "none\nok 2 0\n1\r\n"
+unfolding answering
+a_carriage_return_is_of_its_line = refl
+
+an_empty_argument_is_bad_and_an_empty_id_is_none : asked plain titled (codes "m\t\n\tx=1\nm\t=5\n") ≡ codes "bad\nnone\nok 4 1\n{$x}\nUnknown variable: $x\n"
+unfolding answering
+an_empty_argument_is_bad_and_an_empty_id_is_none = refl
+
+a_bad_line_is_bad_whatever_its_id : asked plain titled (codes "nope\tz\na\n-a\n") ≡ codes "bad\nnone\nnone\n"
+unfolding answering
+a_bad_line_is_bad_whatever_its_id = refl
+
+-- a name ends at its first equals sign, and the last line needs no line feed
+a_value_holds_an_equals_sign : asked plain titled (codes "m.t\tx=1=2\nm\tx=+07.50") ≡ codes "ok 10 0\nT" ++ (encode_utf8 0x2068 ++ (codes "1=2" ++ (encode_utf8 0x2069 ++ codes "\nok 4 0\n7.50\n")))
+unfolding answering
+a_value_holds_an_equals_sign = refl
+
+one_line_that_is_no_utf8_is_bad : asked plain titled (codes "m\tx=" ++ (200 ∷ codes "\nm\tx=1\n")) ≡ codes "bad\nok 1 0\n1\n"
+unfolding answering
+one_line_that_is_no_utf8_is_bad = refl
+
+-- ---- what stands for an id
+
+abbrev number_taken : List Text
+number_taken = codes "NUMBER = x\nn = { NUMBER(1) }\n" ∷ []
+
+number_is_called : asked plain number_taken (codes "n\n") ≡ codes "ok 1 0\n1\n"
+unfolding answering
+number_is_called = refl
+
+an_overridden_number_is_unknown : asked last_counts number_taken (codes "n\n") ≡ codes "ok 10 1\n{NUMBER()}\nUnknown function: NUMBER()\n"
+unfolding answering
+an_overridden_number_is_unknown = refl
+
+-- a notice has the kind of the entry that is told; entries of one source are told too, and junk is not
+notices_have_kinds : notices_of ⊤ (codes "a = 1\n-a = 2\n}\na = 3\n" ∷ codes "-NUMBER = n\n" ∷ []) ≡ overriding term (codes "a") ∷ overriding message (codes "a") ∷ overriding term (codes "NUMBER") ∷ []
+unfolding answering
+notices_have_kinds = refl
+
+-- a cut text that does not end in a line feed gets one, and an empty one none
+sources_without_a_last_line_feed_are_joined : joined (codes "a = 1\n}" ∷ codes "b = 2" ∷ codes "}x" ∷ codes "c = 3\n" ∷ []) ≡ codes "a = 1\nb = 2\nc = 3\n"
+unfolding answering
+sources_without_a_last_line_feed_are_joined = refl
 
 -- ---- selects by a message's attribute
 

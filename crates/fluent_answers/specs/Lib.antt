@@ -1,3 +1,4 @@
 pub mod Sources
 pub mod Answers
 pub mod AnswersLaws
+pub mod FitLaws

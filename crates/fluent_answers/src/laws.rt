@@ -1,6 +1,7 @@
 //! Laws of answers: each function only carries a law, as its contract.
 
 ghost use Rattle.fluent_answers.specs.AnswersLaws.{IdsGoOn, JoinedSourcesKeepNotices, ListsDecide, NoticesGoOn, RuntimeHasTheSameIds, TidiedSourcesKeepAnswers};
+ghost use Rattle.fluent_answers.specs.FitLaws.{ReferencesFit, RequestsFit};
 
 use fluent_value::FluentType;
 
@@ -26,4 +27,11 @@ pub fn sources_in_turn<F>()
     ensures same { RuntimeHasTheSameIds F }
     ensures ids { IdsGoOn F }
     ensures notices { NoticesGoOn F }
+{}
+
+/// No placeable of the messages and terms of sources has more references and selects than the longest source has bytes. So a
+/// request for a pattern of theirs enters at most 1 + 100 * n patterns, where that source has n bytes.
+pub fn references_fit<C: FluentType, F>()
+    ensures references { ReferencesFit F }
+    ensures entered { RequestsFit C.Meaning F }
 {}

@@ -10,6 +10,7 @@
 //! - So tidying changes no shown text: a source may be replaced by its cut text or by its normal text, and neighbours by
 //!   their joined text, as often as one likes (`laws::tidied_sources_keep_answers`).
 //! - A joined text has the notices of its sources (`laws::joined_sources_keep_notices`).
+//! - How many patterns a request enters is bounded by the bytes of the longest source (`laws::references_fit`).
 #![tactic(auto)]
 
 pub mod laws;

@@ -3,7 +3,7 @@ use Rattle.std.proofs.Common.{◌≡◌, List, [], ◌∷◌, ◌++◌, map, dro
 use Rattle.fluent_ast.specs.View.{Element, text, placeable, elements_of}
 use Rattle.fluent_grammar.specs.Tree.{Elements, Expression}
 use Rattle.fluent_grammar.specs.Words.{Text}
-use Rattle.fluent_meaning.proofs.Refusals.{begins-all, begins-none, tells-none, some-as, some-first, some-none, some-then}
+use Rattle.fluent_meaning.proofs.Refusals.{begins-all, begins-none, tells-all, tells-none, some-as, some-first, some-none, some-then}
 use Rattle.fluent_meaning.proofs.Writing.{elements-append}
 use Rattle.fluent_meaning.specs.Environment.{Environment}
 use Rattle.fluent_meaning.specs.Refused.{TellsSome, WritesSome}
@@ -11,7 +11,6 @@ use Rattle.fluent_meaning.specs.Steps.{Budget, Done, beside}
 use Rattle.fluent_meaning.specs.Substitution as s
 use Rattle.fluent_meaning.specs.Substitution.{Place, Writer}
 use Rattle.fluent_meaning.specs.Told.{State, Writes}
-use Rattle.fluent_progress.proofs.Telling.{tells-all}
 
 -- a piece that was made was written
 pub piece-written : {x y empty piece : Text} {s t : State} (f : Budget → Done Text) → empty ≡ [] → Writes empty piece s t f → y ≡ x ++ piece → Writes x y s t f

@@ -1,2 +1,3 @@
 pub mod LentBundle
 pub mod Scopes
+pub mod Within

@@ -1,5 +1,5 @@
 -- What a scope hands on and takes back.
-use Rattle.std.proofs.Common.{◌≡◌, ◌∙◌, ◌++◌, ℕ, List, Option, None, Some, Bor, map, option_map, refl, ap, sym, arith}
+use Rattle.std.proofs.Common.{◌≡◌, ◌∙◌, ◌++◌, ℕ, List, Option, None, Some, Bor, map, option_map, refl, ap, sym, subst, arith}
 use Rattle.std.specs.Prelude.{is_some}
 use Rattle.std.specs.Borrow.{MutBor}
 use Rattle.std.specs.Global.{Global, Vec}
@@ -12,7 +12,7 @@ use Rattle.fluent_grammar.specs.Words.{Text}
 use Rattle.fluent_meaning.proofs.Refusals.{begins-as}
 use Rattle.fluent_meaning.proofs.States.{IsWithin}
 use Rattle.fluent_meaning.specs.Environment.{Environment}
-use Rattle.fluent_meaning.specs.Refused.{TellsSome}
+use Rattle.fluent_meaning.specs.Refused.{CountsSome, TellsSome}
 use Rattle.fluent_meaning.specs.Steps.{Budget, Done}
 use Rattle.fluent_meaning.specs.Substitution as s
 use Rattle.fluent_meaning.specs.Told.{Finds, State, Writes, after, capped, in_byte}
@@ -56,10 +56,11 @@ finds-same : {A : Type 0} {a : A} {s s' t t' : State} {f g : Budget → Done A} 
 finds-same h e same p = record { value = p.value ∙ (λ i. (same i (h i).budget).value); state = e ∙ p.state ∙ (λ i. after (h i) (same i (h i).budget)) }
 
 tells-same : {A : Type 0} {s s' t t' : State} {f g : Budget → Done A} → s ≡ s' → t' ≡ t → f ≡ g → TellsSome s t (f s.budget) → TellsSome s' t' (g s'.budget)
-tells-same h e same p = record {
+tells-same {A = A} h e same p = record {
   told = p.told;
   first = begins-as (λ i. (same i (h i).budget).errors) p.first;
   errors = ap (λ (r : State). r.errors) e ∙ p.errors ∙ (λ i. option_map (λ es. es ++ map unresolved p.told) (h i).errors);
+  counts = subst (λ (x : State × State × Done A). CountsSome x.0 x.1 x.2) (λ i. (h i, sym e i, same i (h i).budget)) p.counts;
 }
 
 module _ {M C F G X : Type 0} {V : X → Type 0} where

@@ -2,3 +2,4 @@ pub mod Contents
 pub mod BundleView
 pub mod Adding
 pub mod ScopeView
+pub mod Bounds

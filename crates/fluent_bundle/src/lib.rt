@@ -30,6 +30,7 @@ pub use fluent_ids::{
     AddFunctionError, AddResourceError, Attributes, Entry, FluentAttribute, FluentMessage,
     FunctionRef, GetEntry,
 };
+pub use fluent_plurals::LanguagePlurals;
 pub use fluent_resource::{Entries, FluentResource, ResourceError};
 pub use fluent_value::{
     EnglishPlurals, FluentArgs, FluentFunction, FluentValue, IntoIter, Iter, NoCustom, NoFormatter,

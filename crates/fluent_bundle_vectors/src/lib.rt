@@ -9,6 +9,7 @@ mod attributes;
 mod bundle;
 mod errors;
 mod found;
+mod locales;
 mod matching;
 mod reading;
 mod rows;
@@ -25,6 +26,7 @@ pub fn try_all(rt: &HostRuntime) -> Result<()> {
     tell(rt, "adding", "steps", steps::try_rows(alloc))?;
     tell(rt, "attributes", "steps", attributes::try_attributes(alloc))?;
     tell(rt, "matching", "steps", matching::try_matching(alloc))?;
+    tell(rt, "locales", "steps", locales::try_locales(alloc))?;
     tell(rt, "settings", "steps", settings::try_settings(alloc))?;
     tell(rt, "errors", "steps", errors::try_errors(alloc))?;
     Ok(())

@@ -6,12 +6,12 @@
 //! this crate's folder `src` declares the calls for C.
 #![tactic(auto)]
 
-ghost use Rattle.std.specs.Prelude.{◌≡◌, ◌≢◌, IsUtf8};
+ghost use Rattle.std.specs.Prelude.{◌≡◌, ◌≢◌, IsSomeAnd, IsUtf8, None};
 ghost use Rattle.serde_json.specs.Written.{compact_text};
 ghost use Rattle.fluent_syntax.specs.Tiling.{tree, errors, runtime_tree, runtime_errors};
 ghost use Rattle.fluent_syntax.specs.Written.{written_with};
 ghost use Rattle.fluent_json.specs.Json.{json};
-ghost use Rattle.fluent_calls.specs.Answering.{texts_of, AreUtf8, HoldsOther, english_answers};
+ghost use Rattle.fluent_calls.specs.Answering.{texts_of, AreUtf8, HoldsOther, answers_in, plurals_in};
 ghost use Rattle.fluent_calls.specs.Counts.{Counted};
 ghost use Rattle.fluent_calls.specs.Made.{Holds, HoldsNone};
 
@@ -83,27 +83,33 @@ pub extern "C" fn fluent_write_json(alloc: Global, text: &[u8], made: &mut Fluen
 
 /// Answers request lines from the messages and terms of sources, as the command `ftl run` does.
 ///
-/// The function `NUMBER` is there, and variants are chosen by the plural rules of English. Placeables stand between marks
-/// where `isolating` is true. Of an id that stands twice the last entry counts where `overriding` is true, and the first
-/// where it is false. `docs/protocol.md` says what a request line and its answer are.
+/// The function `NUMBER` is there, and variants are chosen by the plural rules of the locale, a tag such as `pl` or `pt-PT`, and by
+/// those of English if it is empty. Placeables stand between marks where `isolating` is true. Of an id that stands twice the last
+/// entry counts where `overriding` is true, and the first where it is false. `docs/protocol.md` says what a request line and its
+/// answer are, and `docs/plurals.md` which locales have plural rules.
 ///
-/// The answers are those of [`fluent_write`], also where a request is bad.
+/// The answers are those of [`fluent_write`], also where a request is bad; and
+/// [`FLUENT_UNKNOWN_LOCALE`](fluent_calls::FLUENT_UNKNOWN_LOCALE) if the locale has no plural rules.
 #[unsafe(no_mangle)]
 pub extern "C" fn fluent_answer(
     alloc: Global,
     sources: &[FluentSource<'_>],
+    locale: &[u8],
     isolating: bool,
     overriding: bool,
     requests: &[u8],
     made: &mut FluentText,
 ) -> u32
-    ensures answered { result ≡ 0 → Holds made.new (english_answers isolating overriding
-        (texts_of sources.now) requests.now) }
+    ensures answered { result ≡ 0 → IsSomeAnd (answers_in locale.now isolating overriding
+        (texts_of sources.now) requests.now) (Holds made.new) }
     ensures utf8 { result ≡ 0 → AreUtf8 sources.now }
     ensures not_utf8 { result ≡ 1 → HoldsOther sources.now }
+    ensures unknown { result ≡ 3 → plurals_in locale.now ≡ None }
     ensures unchanged { result ≢ 0 → made.new ≡ made.old }
 {
-    answer(alloc, sources, isolating, overriding, requests, made)
+    answer(
+        alloc, sources, locale, isolating, overriding, requests, made,
+    )
 }
 
 /// Frees the text that `made` holds, if it holds one. It holds none then.

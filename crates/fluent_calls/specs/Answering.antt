@@ -1,8 +1,9 @@
 -- What request lines are answered, from sources that C hands over.
-use Rattle.std.specs.Prelude.{Bool, List, map, IsUtf8, All, Contains}
+use Rattle.std.specs.Prelude.{Bool, List, [], ◌∷◌, Option, Some, option_map, map, IsUtf8, All, Contains}
 use Rattle.fluent_answers.specs.Answers.{answers}
 use Rattle.fluent_grammar.specs.Words.{Text}
-use Rattle.fluent_number.specs.Plurals.{english}
+use Rattle.fluent_plurals.specs.Plurals.{english_rules, plurals_by, plurals_for}
+use Rattle.fluent_plurals.specs.declared.plurals.LanguagePlurals.{LanguagePlurals}
 use Rattle.fluent_run.specs.RunView.{no_text}
 use Rattle.fluent_value.specs.declared.function.NoFunction.{NoFunction}
 use Rattle.fluent_calls.specs.declared.answering.FluentSource.{FluentSource}
@@ -24,7 +25,17 @@ IsUtf8Source source = IsUtf8 source.text.now
 abbrev pub AreUtf8 : List FluentSource → Type 0
 AreUtf8 = All IsUtf8Source
 
--- the answers to a stream of request lines, by the plural rules of English
-abbrev pub english_answers : Bool → Bool → List Text → Text → Text
-english_answers isolating overriding sources =
-    answers NoFunction english no_text (record { isolating = isolating; overriding = overriding }) sources
+-- the plural rules that the tag of a locale names, and those of English for the empty tag
+abbrev pub plurals_in : Text → Option LanguagePlurals
+plurals_in [] = Some english_rules
+plurals_in (byte ∷ tag) = plurals_for (byte ∷ tag)
+
+-- the answers to a stream of request lines by plural rules
+abbrev pub answers_by : LanguagePlurals → Bool → Bool → List Text → Text → Text
+answers_by plurals isolating overriding sources =
+    answers NoFunction (plurals_by plurals) no_text (record { isolating = isolating; overriding = overriding }) sources
+
+-- the answers by the plural rules of a locale, if it has any
+abbrev pub answers_in : Text → Bool → Bool → List Text → Text → Option Text
+answers_in locale isolating overriding sources requests =
+    option_map (λ plurals. answers_by plurals isolating overriding sources requests) (plurals_in locale)

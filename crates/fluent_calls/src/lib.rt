@@ -20,3 +20,5 @@ pub const FLUENT_READ: u32 = 0;
 pub const FLUENT_NOT_UTF8: u32 = 1;
 /// What a call gives that was refused memory.
 pub const FLUENT_NO_MEMORY: u32 = 2;
+/// What a call gives whose locale has no plural rules.
+pub const FLUENT_UNKNOWN_LOCALE: u32 = 3;

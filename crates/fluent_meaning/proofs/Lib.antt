@@ -15,6 +15,7 @@ pub mod SameDecides
 pub mod Reached
 pub mod UnlimitedStays
 pub mod Bounded
+pub mod Fitting
 pub mod ToldOnce
 pub mod EqualEnvironments
 pub mod UnlimitedOpen

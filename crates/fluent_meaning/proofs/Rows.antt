@@ -326,6 +326,103 @@ an_attribute_opens_too_many :
 unfolding resolving
 an_attribute_opens_too_many = refl
 
+-- ---- once one placeable was too many
+
+abbrev on : Text
+on = encode_utf8 0x2068
+
+abbrev off : Text
+off = encode_utf8 0x2069
+
+-- the arguments that are left are resolved, the function is called, and the fallback stands before the closing mark
+arguments_are_resolved_once_shut : asked with_strlen (codes "m = { STRLEN(t, $zz) }x\n" ++ many 100 (codes "t")) (codes "m") None [] ≡ Some (on ++ (codes "99{STRLEN()}" ++ off), codes "Too many placeables" ∷ codes "Unknown variable: $zz" ∷ [])
+unfolding resolving
+arguments_are_resolved_once_shut = refl
+
+an_unknown_function_is_told_once_shut : asked plain (codes "m = { NOPE(t) }\n" ++ many 100 (codes "t")) (codes "m") None [] ≡ Some (codes "{NOPE()}{NOPE()}", codes "Too many placeables" ∷ codes "Unknown function: NOPE()" ∷ [])
+unfolding resolving
+an_unknown_function_is_told_once_shut = refl
+
+a_cycle_is_told_once_shut : asked with_strlen (codes "m = { STRLEN(t, m) }\n" ++ many 100 (codes "t")) (codes "m") None [] ≡ Some (codes "99{STRLEN()}", codes "Too many placeables" ∷ codes "Cyclical dependency detected" ∷ [])
+unfolding resolving
+a_cycle_is_told_once_shut = refl
+
+a_referred_pattern_is_empty_once_shut : asked with_strlen (codes "m = { STRLEN(t, { STRLEN(h) }) }\nh = Hi\n" ++ many 100 (codes "t")) (codes "m") None [] ≡ Some (codes "99{STRLEN()}", codes "Too many placeables" ∷ [])
+unfolding resolving
+a_referred_pattern_is_empty_once_shut = refl
+
+a_nested_select_falls_back_to_its_selector : asked bare (codes "m = {{ $n ->\n   *[a] { t }\n }}x\n" ++ many 100 (codes "t")) (codes "m") None [] ≡ Some (times 98 (codes "a") ++ codes "{t}{$n}", codes "Unknown variable: $n" ∷ codes "Too many placeables" ∷ [])
+unfolding resolving
+a_nested_select_falls_back_to_its_selector = refl
+
+-- ---- what selects
+
+a_terms_attribute_selects : asked plain (codes "-t = v\n    .case = x\nm = { -t.case ->\n    [x] A\n   *[y] B\n}\n") (codes "m") None [] ≡ Some (codes "A", [])
+unfolding resolving
+a_terms_attribute_selects = refl
+
+a_string_literal_selects_unescaped : asked plain (codes "m = { \"\\u0061\" ->\n    [a] yes\n   *[b] no\n}\n") (codes "m") None [] ≡ Some (codes "yes", [])
+unfolding resolving
+a_string_literal_selects_unescaped = refl
+
+-- 1 and 1.0 look different, so they aren't equal
+a_number_literal_selects : asked plain (codes "m = { 1 ->\n    [1.0] A\n    [one] B\n   *[o] C\n}\n") (codes "m") None [] ≡ Some (codes "B", [])
+unfolding resolving
+a_number_literal_selects = refl
+
+a_key_of_too_many_digits_is_a_text : asked plain (codes "m = { $n ->\n    [18446744073709551616] big\n   *[o] other\n}\n") (codes "m") None ((codes "n", number_or_text (codes "18446744073709551616")) ∷ []) ≡ Some (codes "big", [])
+unfolding resolving
+a_key_of_too_many_digits_is_a_text = refl
+
+-- ---- what is meant, and what isn't
+
+arguments_of_an_outer_term_do_not_reach_into_an_inner_one : asked plain (codes "-in = { $v }\n-out = { -in({ $v }) }\nm = { -out(v: \"x\") }\n") (codes "m") None ((codes "v", text (codes "req")) ∷ []) ≡ Some (codes "{$v}", [])
+unfolding resolving
+arguments_of_an_outer_term_do_not_reach_into_an_inner_one = refl
+
+patterns_of_equal_content_are_a_cycle : asked plain (codes "a = x { c }\nc = x { c }\n") (codes "a") None [] ≡ Some (codes "x {c}", codes "Cyclical dependency detected" ∷ [])
+unfolding resolving
+patterns_of_equal_content_are_a_cycle = refl
+
+a_function_is_no_message : asked plain (codes "m = { NUMBER }\n") (codes "m") None [] ≡ Some (codes "{NUMBER}", codes "Unknown message: NUMBER" ∷ [])
+unfolding resolving
+a_function_is_no_message = refl
+
+a_number_that_is_called_keeps_its_options : asked plain (codes "m = { NUMBER(NUMBER(5, minimumFractionDigits: 2), type: \"ordinal\") }\n") (codes "m") None [] ≡ Some (codes "5.00", [])
+unfolding resolving
+a_number_that_is_called_keeps_its_options = refl
+
+a_text_of_digits_is_no_number : asked plain (codes "m = { NUMBER(\"5\") } x\n") (codes "m") None [] ≡ Some (on ++ (codes "NUMBER()" ++ (off ++ codes " x")), [])
+unfolding resolving
+a_text_of_digits_is_no_number = refl
+
+-- a nested placeable stands between marks, and a variable that a term lacks is not told where it selects
+a_nested_placeable_and_a_term_without_its_variable : asked plain (codes "-t = { $q ->\n   *[a] A\n}\nm = {{ \"y\" }} { -t }\n") (codes "m") None [] ≡ Some (on ++ (codes "y" ++ (off ++ codes " A")), [])
+unfolding resolving
+a_nested_placeable_and_a_term_without_its_variable = refl
+
+a_string_literal_is_not_formatted : handed in_brackets (codes "m = { \"y\" }{ $z }\n") (codes "m") None ((codes "z", text (codes "v")) ∷ []) ≡ Some (codes "[y" ++ (on ++ (codes "[v]" ++ (off ++ codes "]"))), [])
+unfolding resolving
+a_string_literal_is_not_formatted = refl
+
+-- ---- references in one placeable
+
+abbrev message_named : Text → t.Inline
+message_named id = t.message_reference id None
+
+-- { F(a, -b({ c }), { d -> *[e] { f } }) }: those of arguments count, and the select, and not those of its variants
+abbrev many_references : t.Elements
+many_references =
+    let term = t.term_reference (codes "b") None (t.with_arguments (t.arguments (t.positional (t.nested (t.inline (message_named (codes "c")))) t.no_inlines) t.no_nameds)) in
+    let variant = t.variant (t.identifier_key (codes "e")) (t.placeable (t.inline (message_named (codes "f"))) t.no_elements) true t.no_variants in
+    let select = t.nested (t.select (message_named (codes "d")) variant) in
+    let args = t.arguments (t.positional (message_named (codes "a")) (t.positional term (t.positional select t.no_inlines))) t.no_nameds in
+    t.placeable (t.inline (t.function_reference (codes "F") args)) t.no_elements
+
+five_references : most_references many_references ≡ 5
+unfolding resolving
+five_references = refl
+
 -- ---- calls that begin inside a pattern
 
 arguments_by_place_and_by_name :

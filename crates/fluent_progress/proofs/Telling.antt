@@ -4,7 +4,7 @@ use Rattle.std.specs.Prelude.{is_some, OnErr, OnOk, Result, Ok, Err}
 use Rattle.std.proofs.lemmas.Bool.{false≢true}
 use Rattle.fluent_errors.specs.Errors.{Unresolved, unknown, to_variable}
 use Rattle.fluent_grammar.specs.Words.{Text, dollar}
-use Rattle.fluent_meaning.proofs.Refusals.{begins-all, tells-like, tells-none}
+use Rattle.fluent_meaning.proofs.Refusals.{begins-all, counts-none, taken, tells-all, tells-like, tells-none}
 use Rattle.fluent_meaning.proofs.States.{IsWithin}
 use Rattle.fluent_meaning.specs.Environment.{Environment}
 use Rattle.fluent_meaning.specs.Fallback.{braced}
@@ -54,25 +54,22 @@ told-after v e s w h = λ i. record {
 
 -- what a refused step tells: nothing, or all of its errors, or those of a step that tells the same
 pub tells-same : {A : Type 0} {s t : State} (a : Done A) → t ≡ s → TellsSome s t a
-tells-same a h = tells-none a (ap (λ (x : State). x.errors) h)
+tells-same a h = tells-none a h
 
-pub tells-all : {A : Type 0} {s t : State} (a : Done A) → t ≡ after s a → TellsSome s t a
-tells-all {s = s} a h = record { told = a.errors; first = begins-all a.errors; errors = ap (λ (x : State). x.errors) h }
-
-pub tells-alike : {A B : Type 0} {s t : State} (a : Done A) (b : Done B) → b.errors ≡ a.errors → t ≡ after s b → TellsSome s t a
+pub tells-alike : {A B : Type 0} {s t : State} (a : Done A) (b : Done B) → taken b ≡ taken a → t ≡ after s b → TellsSome s t a
 tells-alike a b e h = tells-like a e (tells-all b h)
 
--- a missing variable is told the same, whatever stands for it
-pub missing-errors : {S F A : Type 0} (env : Environment S F) (v : A) (id : Text) (place : Place S) (b : Budget) → (missing_variable env true id place b).errors ≡ (missing_variable env v id place b).errors
-missing-errors env v id place b = missing-by (is_some place.locals) v (unknown (to_variable id)) b
+-- a missing variable is told the same and takes the same, whatever stands for it
+pub missing-taken : {S F A : Type 0} (env : Environment S F) (v : A) (id : Text) (place : Place S) (b : Budget) → taken (missing_variable env true id place b) ≡ taken (missing_variable env v id place b)
+missing-taken env v id place b = missing-by (is_some place.locals) v (unknown (to_variable id)) b
   where
-    missing-by : {A : Type 0} (c : Bool) (v : A) (e : Unresolved) (b : Budget) → (cond c (done true b) (faulty true e b)).errors ≡ (cond c (done v b) (faulty v e b)).errors
+    missing-by : {A : Type 0} (c : Bool) (v : A) (e : Unresolved) (b : Budget) → taken (cond c (done true b) (faulty true e b)) ≡ taken (cond c (done v b) (faulty v e b))
     missing-by true v e b = refl
     missing-by false v e b = refl
 
 -- a variable that is missing was told, and its name refused
 pub missed-tells : {S F : Type 0} {s t : State} (env : Environment S F) (id : Text) (o : Option (Value S)) (place : Place S) → o ≡ None → t ≡ after s (missing_variable env true id place s.budget) → TellsSome s t (variable_written env id o place s.budget)
-missed-tells {s = s} env id None place e h = tells-alike (variable_written env id None place s.budget) (missing_variable env true id place s.budget) (missing-errors env (braced (dollar ∷ id)) id place s.budget) h
+missed-tells {s = s} env id None place e h = tells-alike (variable_written env id None place s.budget) (missing_variable env true id place s.budget) (missing-taken env (braced (dollar ∷ id)) id place s.budget) h
 missed-tells env id (Some v) place e h = absurd (some-none v e)
   where
     some-none : {A : Type 0} (v : A) → Some v ≡ None → ⊥
@@ -85,4 +82,9 @@ not-given (Some v) given = absurd (false≢true given)
 
 -- an error was told, and its text refused
 pub faulty-tells : {A : Type 0} {s t : State} (v : A) (e : Unresolved) → t ≡ with_error e s → TellsSome s t (faulty v e s.budget)
-faulty-tells v e h = record { told = e ∷ []; first = begins-all (e ∷ []); errors = ap (λ (x : State). x.errors) h }
+faulty-tells {s = s} v e h = record {
+  told = e ∷ [];
+  first = begins-all (e ∷ []);
+  errors = ap (λ (x : State). x.errors) h;
+  counts = counts-none (faulty v e s.budget) (ap (λ (x : State). x.placeables) h) (ap (λ (x : State). x.entered) h);
+}

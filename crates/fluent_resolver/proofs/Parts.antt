@@ -7,7 +7,7 @@ use Rattle.fluent_errors.specs.Errors.{cyclic}
 use Rattle.fluent_grammar.specs.Tree as t
 use Rattle.fluent_grammar.specs.Tree.{Arguments, Elements, Expression, Inline, Inlines, MaybeArguments, Nameds, Variants}
 use Rattle.fluent_grammar.specs.Words.{Text}
-use Rattle.fluent_meaning.proofs.Refusals.{begins-all, tells-first, tells-like, tells-none, tells-then}
+use Rattle.fluent_meaning.proofs.Refusals.{TakesNoLess, taken, tells-all, tells-fewer, tells-first, tells-like, tells-none, tells-then}
 use Rattle.fluent_meaning.proofs.States.{IsWithin, after-done}
 use Rattle.fluent_meaning.proofs.Writing.{after-then, elements-append}
 use Rattle.fluent_meaning.specs.Environment.{Environment}
@@ -19,7 +19,6 @@ use Rattle.fluent_meaning.specs.Substitution.{Place, Writer, rooted, is_on_path,
 use Rattle.fluent_meaning.specs.Told.{State, Writes, Finds, after}
 use Rattle.fluent_meaning.specs.Weight.{arguments_weight, expression_weight, inline_weight, inlines_weight, maybe_arguments_weight, nameds_weight}
 use Rattle.std.proofs.Math.Nat.{mul-le-mul_right}
-use Rattle.fluent_progress.proofs.Telling.{tells-all}
 
 -- the same step, said otherwise
 pub tells-as : {A : Type 0} {s t : State} {a b : Done A} → a ≡ b → TellsSome s t a → TellsSome s t b
@@ -42,6 +41,9 @@ entering-then v b f = λ i. record { value = (f b).value; errors = (f b).errors;
     plus_suc : (n : ℕ) → suc 0 + n ≡ suc n
     plus_suc n = omega arith
 
+entered-takes : (v : Bool) (b : Budget) (f : Budget → Done Text) → TakesNoLess (and_then (entering (done v b)) (λ x c. f c)) (entering (f b))
+entered-takes v b f = record { errors = refl; opened = omega arith; entered = omega arith }
+
 same_budget : (s u : State) → u ≡ after s (entering (done true s.budget)) → u.budget ≡ s.budget
 same_budget s u counted = ap (λ (x : State). x.budget) counted
 
@@ -53,7 +55,7 @@ module _ {s u t : State} (counted : u ≡ after s (entering (done true s.budget)
   }
 
   pub entered-tells : (f : Budget → Done Text) → TellsSome u t (f u.budget) → TellsSome s t (entering (f s.budget))
-  entered-tells f h = tells-like (entering (f s.budget)) refl (tells-then (entering (done true s.budget)) (λ v c. f c) counted (tells-as (ap f (same_budget s u counted)) h))
+  entered-tells f h = tells-fewer (entering (f s.budget)) (entered-takes true s.budget f) (tells-then (entering (done true s.budget)) (λ v c. f c) counted (tells-as (ap f (same_budget s u counted)) h))
 
 -- elements that are written before others
 module _ {S F : Type 0} (env : Environment S F) (write : Writer env Expression) (whole : Elements) (place : Place S) (xs : List Element) {held now : Text} {r u : State} (p : Writes held now r u (λ b. s.elements_with env write whole (elements_of xs) place b)) where
@@ -65,8 +67,8 @@ module _ {S F : Type 0} (env : Environment S F) (write : Writer env Expression) 
       (tells-then a (λ x c. mapped (λ q. x ++ q) (s.elements_with env write whole (elements_of ys) place c)) p.state
       (tells-like (mapped (λ q. a.value ++ q) (s.elements_with env write whole (elements_of ys) place a.budget)) refl (tells-as same h)))
 
-  -- nothing was told behind them
-  pub rest-refused : (ys : List Element) {v : State} → v.errors ≡ u.errors → TellsSome r v (s.elements_with env write whole (elements_of (xs ++ ys)) place r.budget)
+  -- nothing was told and counted behind them
+  pub rest-refused : (ys : List Element) {v : State} → v ≡ u → TellsSome r v (s.elements_with env write whole (elements_of (xs ++ ys)) place r.budget)
   rest-refused ys h = before-tells ys (tells-none (s.elements_with env write whole (elements_of ys) place u.budget) h)
 
   -- a placeable behind them was refused
@@ -86,9 +88,9 @@ module _ {S F : Type 0} (env : Environment S F) (write : Writer env Expression) 
   same-after true front back r a = refl
   same-after false front back r a = refl
 
-  same-errors : (i : Bool) (front back : Text) (a : Done Text) → a.errors ≡ (opening (cond i (mapped (λ q. front ++ (q ++ back)) a) a)).errors
-  same-errors true front back a = refl
-  same-errors false front back a = refl
+  opened-takes : (v : Bool) (b : Budget) (i : Bool) (front back : Text) (f : Budget → Done Text) → TakesNoLess (and_then (opening (done v b)) (λ x c. f c)) (opening (cond i (mapped (λ q. front ++ (q ++ back)) (f b)) (f b)))
+  opened-takes v b true front back f = record { errors = refl; opened = omega arith; entered = omega arith }
+  opened-takes v b false front back f = record { errors = refl; opened = omega arith; entered = omega arith }
 
   opening-then : (b : Budget) (f : Budget → Done Text) → and_then (opening (done true b)) (λ x c. f c) ≡ opening (f b)
   opening-then b f = λ i. record { value = (f b).value; errors = (f b).errors; budget = (f b).budget; opened = plus_suc (f b).opened i; entered = one_plus (f b).entered i }
@@ -125,21 +127,21 @@ module _ {S F : Type 0} (env : Environment S F) (write : Writer env Expression) 
       let a : Done Text = f (may_open k) in
       let told : TellsSome u v a = tells-as (ap (λ (x : State). f x.budget) found) h in
       tells-as (ap (s.placeable_with env write whole e place) (sym at))
-      (tells-like (s.placeable_with env write whole e place (may_open (suc k))) (same-errors isolates (encode_utf8 0x2068) (encode_utf8 0x2069) a) (tells-then (opening (done true (may_open k))) (λ x c. f c) found told))
+      (tells-fewer (s.placeable_with env write whole e place (may_open (suc k))) (opened-takes true (may_open k) isolates (encode_utf8 0x2068) (encode_utf8 0x2069) f) (tells-then (opening (done true (may_open k))) (λ x c. f c) found told))
 
   -- what was refused inside a placeable that was opened
   pub opened-tells : (r u v : State) → Finds true r u opens → TellsSome u v (s.unmarked_with env write whole e place u.budget) → TellsSome r v (s.placeable_with env write whole e place r.budget)
   opened-tells r u v found = opened-by r r.budget u v refl found.value found.state
 
-  closed-errors : (z : Bool) (a : Done Text) → a.errors ≡ (cond z (mapped (λ q. q ++ braced (fallback e)) a) a).errors
-  closed-errors true a = refl
-  closed-errors false a = refl
+  closed-taken : (z : Bool) (a : Done Text) → taken a ≡ taken (cond z (mapped (λ q. q ++ braced (fallback e)) a) a)
+  closed-taken true a = refl
+  closed-taken false a = refl
 
   -- an expression that was refused, in a placeable that was opened before
   pub unmarked-tells : (r v : State) → TellsSome r v (write e (rooted whole place) r.budget) → TellsSome r v (s.unmarked_with env write whole e place r.budget)
   unmarked-tells r v h =
       let a = write e (rooted whole place) r.budget in
-      tells-like (s.unmarked_with env write whole e place r.budget) (closed-errors (is_shut a.budget) a) h
+      tells-like (s.unmarked_with env write whole e place r.budget) (closed-taken (is_shut a.budget) a) h
 
 -- references
 module _ {S F : Type 0} (env : Environment S F) (enter : Writer env Elements) (i : Inline) (es : Elements) (place : Place S) (b : Budget) where

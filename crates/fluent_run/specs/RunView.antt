@@ -27,3 +27,8 @@ module _ {M : Type 0} (category_of : M → Plurals) (stringified : M → (S : Ty
   abbrev pub answers_by : M → Settings → List (Bor Text) → Text → Text
   answers_by plurals settings sources =
       answers NoFunction (category_of plurals) (stringified plurals (Unit {0}) no_text) (settings_view settings) (texts sources)
+
+  -- the same of plain texts
+  abbrev pub answers_of : M → Settings → List Text → Text → Text
+  answers_of plurals settings sources =
+      answers NoFunction (category_of plurals) (stringified plurals (Unit {0}) no_text) (settings_view settings) sources

@@ -1,17 +1,20 @@
 //! Answers a stream of request lines from sources.
 
-ghost use Rattle.std.specs.Prelude.{◌≡◌, OnOk, IfSome, IsErrOf};
+ghost use Rattle.std.specs.Prelude.{◌≡◌, ℕ, List, OnOk, IfSome, IsErrOf};
+ghost use Rattle.fluent_normal.specs.Tidied.{Tidied};
+ghost use Rattle.fluent_serve.specs.Texts.{texts};
 ghost use Rattle.std.specs.Io.KnownBytes.{Appends, IsAtEnd};
-ghost use Rattle.fluent_run.specs.RunView.{answers_by, line_by};
-ghost use Rattle.fluent_serve.specs.Devices.{HasFailed};
+ghost use Rattle.fluent_run.specs.RunView.{answers_by, answers_of, line_by};
+ghost use Rattle.fluent_serve.specs.Devices.{HasFailed, IsGivenUp};
 ghost use Rattle.fluent_serve.specs.Exchange.{devices, AnswersAll, AnswersFirst, AnswersWhole, AnswersFront};
 
 use crate::desk::Desk;
 use crate::settings::Settings;
+use fluent_answers::laws::tidied_sources_keep_answers;
 use fluent_check::sources::read_sources;
 use fluent_serve::serve::{RunError, serve};
 use fluent_serve::stream::{Sink, Source};
-use fluent_value::MemoizerKind;
+use fluent_value::{MemoizerKind, NoCustom, NoFunction};
 use std::alloc::Global;
 
 /// The calls of `read` within which the input has to end.
@@ -43,6 +46,10 @@ pub fn run<M: MemoizerKind, R: Source, W: Sink>(
     ensures exact { OnOk result (IfSome (R.remaining reader.old) (λ input.
         Appends (W.contents writer.old) (W.contents writer.new)
         (answers_by M.category_of M.stringified plurals.now settings sources.now input))) }
+    // They are also the answers of whatever the sources are tidied into.
+    ensures tidied { OnOk result (IfSome (R.remaining reader.old) (λ input.
+        (others : List (List ℕ)) → Tidied (texts sources.now) others → Appends (W.contents writer.old)
+        (W.contents writer.new) (answers_of M.category_of M.stringified plurals.now settings others input))) }
     ensures given { OnOk result (AnswersAll
         (devices R.remaining reader.old reader.new W.contents writer.old writer.new)
         (line_by M.category_of M.stringified plurals.now settings sources.now)) }
@@ -60,6 +67,9 @@ pub fn run<M: MemoizerKind, R: Source, W: Sink>(
         (devices R.remaining reader.old reader.new W.contents writer.old writer.new)
         (line_by M.category_of M.stringified plurals.now settings sources.now)
         (HasFailed (R.failures reader.old) (R.failures reader.new)) 4294967296 }
+    // So it is of a reader that doesn't tell its bytes, by its counts.
+    ensures given_up { IsErrOf result RunError.Read → IsGivenUp (R.failures reader.old)
+        (R.failures reader.new) (R.given reader.old) (R.given reader.new) 4294967296 }
 
     // A front of the answers is written. The writer failed in this call, or took none of a piece that wasn't empty.
     ensures write { IsErrOf result RunError.Write → AnswersFront
@@ -68,6 +78,7 @@ pub fn run<M: MemoizerKind, R: Source, W: Sink>(
     ensures failed { IsErrOf result RunError.Write
         → HasFailed (W.failures writer.old) (W.failures writer.new) }
 {
+    tidied_sources_keep_answers::<NoCustom, NoFunction>();
     let resources = read_sources(alloc, sources)?;
     let desk = Desk::new(alloc, &resources, settings, plurals)?;
     serve(alloc, &desk, reader, writer, READS)

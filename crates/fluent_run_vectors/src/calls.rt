@@ -1,8 +1,8 @@
 //! The calls that `fluent_c` exports, on sources and requests of which it is known what they give.
 
 use fluent_calls::{
-    FLUENT_NOT_UTF8, FLUENT_READ, FluentCounts, FluentSource, FluentText, Form, Reading, answer,
-    count, hand_out,
+    FLUENT_NOT_UTF8, FLUENT_READ, FLUENT_UNKNOWN_LOCALE, FluentCounts, FluentSource, FluentText,
+    Form, Reading, answer, count, hand_out,
 };
 use fluent_trials::Tally;
 use std::alloc::Global;
@@ -155,37 +155,95 @@ fn holds(alloc: Global, made: FluentText, expected: Option<&[u8]>) -> bool {
     }
 }
 
+const FILES: FluentSource<'_> = FluentSource {
+    text: b"files = { $n ->\n    [one] plik\n    [few] pliki\n   *[other] plik\xc3\xb3w\n}\n",
+};
+
+/// What is asked of sources, without marks around placeables.
+#[derive(Clone, Copy)]
+struct Asked<'a> {
+    sources: &'a [FluentSource<'a>],
+    locale: &'a [u8],
+    overriding: bool,
+    requests: &'a [u8],
+}
+
 fn try_answers(alloc: Global) -> Tally {
     let mut tally = Tally::new();
-    let requests = b"welcome\tname=Jane\nwelcome\nbye";
+    let asked = Asked {
+        sources: &[WELCOME, HELLO],
+        locale: b"",
+        overriding: false,
+        requests: b"welcome\tname=Jane\nwelcome\nbye",
+    };
     let expected =
         b"ok 14 0\nWelcome, Jane.\nok 17 1\nWelcome, {$name}.\nUnknown variable: $name\nok 8 0\nGoodbye!\n";
-    tally.add(answers(alloc, &[WELCOME, HELLO], false, requests, expected));
-    let requests = b"welcome\n";
-    let expected = b"ok 6 0\nHello!\n";
-    tally.add(answers(alloc, &[WELCOME, HELLO], true, requests, expected));
-    tally.add(refuses(alloc, &[WELCOME, FluentSource { text: OTHER }]));
+    tally.add(answers(alloc, asked, expected));
+    let asked = Asked {
+        overriding: true,
+        requests: b"welcome\n",
+        ..asked
+    };
+    tally.add(answers(alloc, asked, b"ok 6 0\nHello!\n"));
+    let sources: &[_] = &[WELCOME, FluentSource { text: OTHER }];
+    tally.add(refuses(alloc, Asked { sources, ..asked }, FLUENT_NOT_UTF8));
+    tally.add_all(try_locales(alloc));
     tally
 }
 
-/// Whether request lines are answered so, without marks around placeables.
-fn answers(
-    alloc: Global,
-    sources: &[FluentSource<'_>],
-    overriding: bool,
-    requests: &[u8],
-    expected: &[u8],
-) -> bool {
+/// Asks for variants by the plural rules of locales.
+fn try_locales(alloc: Global) -> Tally {
+    let mut tally = Tally::new();
+    let asked = Asked {
+        sources: &[FILES],
+        locale: b"pl_PL.UTF-8",
+        overriding: false,
+        requests: b"files\tn=1\nfiles\tn=22\nfiles\tn=1.5\n",
+    };
+    tally.add(answers(
+        alloc,
+        asked,
+        b"ok 4 0\nplik\nok 5 0\npliki\nok 7 0\nplik\xc3\xb3w\n",
+    ));
+    let english = Asked {
+        locale: b"",
+        ..asked
+    };
+    tally.add(answers(
+        alloc,
+        english,
+        b"ok 4 0\nplik\nok 7 0\nplik\xc3\xb3w\nok 7 0\nplik\xc3\xb3w\n",
+    ));
+    for locale in [&b"plx"[..], b"\xff", b"-"] {
+        tally.add(refuses(alloc, Asked { locale, ..asked }, FLUENT_UNKNOWN_LOCALE));
+    }
+    tally
+}
+
+/// Whether request lines are answered so.
+fn answers(alloc: Global, asked: Asked<'_>, expected: &[u8]) -> bool {
     let mut made = FluentText::none();
-    let read = answer(alloc, sources, false, overriding, requests, &mut made) == FLUENT_READ;
+    let read = asked.answer(alloc, &mut made) == FLUENT_READ;
     let answered = holds(alloc, made, Some(expected));
     read && answered
 }
 
-/// Whether sources are refused as no UTF-8, and no text is made.
-fn refuses(alloc: Global, sources: &[FluentSource<'_>]) -> bool {
+/// Whether request lines are refused with this answer, and no text is made.
+fn refuses(alloc: Global, asked: Asked<'_>, refusal: u32) -> bool {
     let mut made = FluentText::none();
-    let refused = answer(alloc, sources, true, false, b"welcome\n", &mut made) == FLUENT_NOT_UTF8;
+    let refused = asked.answer(alloc, &mut made) == refusal;
     let unmade = holds(alloc, made, None);
     refused && unmade
+}
+
+impl Asked<'_> {
+    fn answer(self, alloc: Global, made: &mut FluentText) -> u32 {
+        let Asked {
+            sources,
+            locale,
+            overriding,
+            requests,
+        } = self;
+        answer(alloc, sources, locale, false, overriding, requests, made)
+    }
 }

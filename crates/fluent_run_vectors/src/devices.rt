@@ -55,6 +55,7 @@ impl Writing {
 pub struct Reader<'a> {
     pub requests: Requests<'a>,
     pub failures: u64,
+    pub given: u64,
 }
 
 impl<'a> Reader<'a> {
@@ -72,6 +73,7 @@ impl<'a> Reader<'a> {
                 is_wrong: false,
             },
             failures: 0,
+            given: 0,
         }
     }
 }
@@ -81,9 +83,14 @@ impl Source for Reader<'_> {
 
     ghost failures = { λ reader. reader.failures };
 
+    ghost given = { λ reader. reader.given };
+
     fn read(&mut self, buffer: &mut [u8]) -> Result<usize, ReadFailed> {
         match self.requests.read(buffer) {
-            Some(count) => Ok(count),
+            Some(count) => {
+                self.given = self.given.saturating_add(count as u64);
+                Ok(count)
+            }
             None => {
                 self.failures = self.failures.saturating_add(1);
                 Err(ReadFailed)

@@ -1,5 +1,5 @@
 //! Readers that don't end within the calls of `read` that a run is given.
-ghost use Rattle.std.specs.Prelude.{None};
+ghost use Rattle.std.specs.Prelude.{◌≤◌, None, length};
 
 use fluent_run::RunError;
 use fluent_serve::serve::{Engine, serve};
@@ -17,6 +17,8 @@ struct Letters {
     end: Option<u64>,
     /// How many calls came.
     calls: u64,
+    /// How many bytes were given.
+    given: u64,
 }
 
 impl Source for Letters {
@@ -24,13 +26,26 @@ impl Source for Letters {
 
     ghost failures = { λ _. 0 };
 
+    ghost given = { λ letters. letters.given };
+
     fn read(&mut self, buffer: &mut [u8]) -> Result<usize, ReadFailed> {
         self.calls = self.calls.saturating_add(1);
+        let count = self.fill(buffer);
+        self.given = self.given.saturating_add(count as u64);
+        Ok(count)
+    }
+}
+
+impl Letters {
+    /// Gives a letter to the front of `buffer`, and the count of it: 0 at the end, or if `buffer` is empty.
+    fn fill(&self, buffer: &mut [u8]) -> usize
+        ensures { result ≤ length buffer.new }
+    {
         if buffer.is_empty() || self.end == Some(self.calls) {
-            return Ok(0);
+            return 0;
         }
         buffer[0] = b'a';
-        Ok(1)
+        1
     }
 }
 
@@ -57,7 +72,11 @@ pub fn try_endless(alloc: Global) -> Tally {
 
 /// Whether a run ends so, with these bytes written, once it made all the calls that it was given and no other.
 fn ends_so(alloc: Global, end: Option<u64>, outcome: Result<(), RunError>, written: &[u8]) -> bool {
-    let mut reader = Letters { end, calls: 0 };
+    let mut reader = Letters {
+        end,
+        calls: 0,
+        given: 0,
+    };
     let mut writer = FromWrite::new(Vec::new(alloc));
     let given = serve(alloc, &Echo, &mut reader, &mut writer, READS);
     given == outcome && reader.calls == READS && writer.into_inner().as_slice() == written

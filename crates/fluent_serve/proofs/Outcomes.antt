@@ -1,7 +1,8 @@
 -- What follows from how a call ended.
-use Rattle.std.proofs.Common.{◌≡◌, ℕ, Result, Ok, Err, OnOk, refl, arith, rules, inl, inr}
+use Rattle.std.proofs.Common.{◌≡◌, ℕ, ◌+◌, ◌<◌, ◌≤◌, min, Result, Ok, Err, OnOk, refl, arith, rules, inl, inr}
+use Rattle.std.proofs.Math.Nat.{min-le_left, min-le_right, min-eq_left, min-eq_right, le-min}
 use Rattle.std.proofs.lemmas.Bool.{cases_lt}
-use Rattle.fluent_serve.specs.Devices.{HasFailed, one_more, greatest_count}
+use Rattle.fluent_serve.specs.Devices.{HasFailed, HasGiven, one_more, greatest_count}
 use Rattle.fluent_serve.specs.declared.serve.RunError.{RunError}
 use Rattle.fluent_serve.specs.declared.serve.RunError.TheVariants.{Memory, Read, Write}
 
@@ -19,6 +20,20 @@ failed_now old mid new same more = elim (cases_lt old greatest_count) [
   | inl below ↦ inl (omega (arith, same, more, below))
   | inr full ↦ inr full
 ]
+
+-- before the first call no byte is needed
+pub given_none : (old : ℕ) → HasGiven old old 0
+given_none old = omega (arith, min-le_left (old + 0) greatest_count)
+
+-- a call that gives some bytes gives at least one more
+pub given_more : (old mid new calls n : ℕ) → HasGiven old mid calls → new ≡ min (mid + n) greatest_count → 0 < n → HasGiven old new (calls + 1)
+given_more old mid new calls n so_far is some =
+    let most = min-le_right (old + (calls + 1)) greatest_count in
+    let one_more : min (old + (calls + 1)) greatest_count ≤ mid + n = elim (cases_lt greatest_count (old + calls)) [
+      | inl full ↦ omega (arith, so_far, most, min-eq_right {n = greatest_count} {m = old + calls} (omega (arith, full)))
+      | inr room ↦ omega (arith, so_far, some, min-le_left (old + (calls + 1)) greatest_count, min-eq_left {n = old + calls} {m = greatest_count} room)
+    ] in
+    rw is (le-min one_more most)
 
 -- which refusal it was
 pub by_error : {P : Type 0} (e : RunError) → (e ≡ Memory → P) → (e ≡ Read → P) → (e ≡ Write → P) → P

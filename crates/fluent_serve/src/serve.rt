@@ -4,7 +4,7 @@ ghost use Rattle.std.specs.Io.KnownBytes.{Appends, IsAtEnd};
 ghost use Rattle.fluent_requests.specs.Text.{line_feed};
 ghost use Rattle.fluent_requests.specs.Lines.{whole_lines, unfinished, unless_empty};
 ghost use Rattle.fluent_requests.specs.Frames.{answers_to};
-ghost use Rattle.fluent_serve.specs.Devices.{HasFailed};
+ghost use Rattle.fluent_serve.specs.Devices.{HasFailed, IsGivenUp};
 ghost use Rattle.fluent_serve.specs.Exchange.{devices, AnswersAll, AnswersFirst, AnswersWhole, AnswersFront};
 ghost use Rattle.fluent_serve.specs.declared.serve.RunError.TheVariants.{Memory, Read, Write};
 ghost use Rattle.fluent_requests.specs.Lines.{IsUnfinished};
@@ -237,6 +237,8 @@ fn answer_all<E: Engine, R: Source, W: Sink>(
         (devices R.remaining reader.old reader.new W.contents writer.old writer.new)
         waiting.new.output.items (E.reply engine.now)
         (HasFailed (R.failures reader.old) (R.failures reader.new)) reads }
+    ensures given_up { IsErrOf result RunError.Read → IsGivenUp (R.failures reader.old)
+        (R.failures reader.new) (R.given reader.old) (R.given reader.new) reads }
     ensures write { IsErrOf result RunError.Write → ServesFront
         (devices R.remaining reader.old reader.new W.contents writer.old writer.new)
         (E.reply engine.now) }
@@ -290,6 +292,8 @@ pub fn serve<E: Engine, R: Source, W: Sink>(
     ensures read { IsErrOf result RunError.Read → AnswersWhole
         (devices R.remaining reader.old reader.new W.contents writer.old writer.new)
         (E.reply engine.now) (HasFailed (R.failures reader.old) (R.failures reader.new)) reads }
+    ensures given_up { IsErrOf result RunError.Read → IsGivenUp (R.failures reader.old)
+        (R.failures reader.new) (R.given reader.old) (R.given reader.new) reads }
     ensures write { IsErrOf result RunError.Write → AnswersFront
         (devices R.remaining reader.old reader.new W.contents writer.old writer.new)
         (E.reply engine.now) }

@@ -1,10 +1,11 @@
 //! Where bytes come from and go to.
 //!
-//! A `Source` and a `Sink` tell contracts their bytes, where they are known, and how many of their calls have failed.
+//! A `Source` and a `Sink` tell contracts their bytes, where they are known, and how many of their calls have failed. A `Source`
+//! also tells how many bytes it gave, whether these are known or not.
 //! `FromRead` and `FromWrite` make them of std's readers and writers.
 ghost use Rattle.std.specs.Prelude.{◌≡◌, ◌≤◌, ℕ, List, Option, IfOk, length};
 ghost use Rattle.std.specs.Io.KnownBytes.{ReadConsumes, WriteAppends};
-ghost use Rattle.fluent_serve.specs.Devices.{failures_after_read, failures_after_write};
+ghost use Rattle.fluent_serve.specs.Devices.{failures_after_read, failures_after_write, given_after_read};
 
 use std::io;
 
@@ -24,12 +25,16 @@ pub trait Source {
     /// How many calls have failed. At the greatest `u64` the count stays there.
     ghost failures: { Self → ℕ };
 
+    /// How many bytes reads have given. At the greatest `u64` the count stays there.
+    ghost given: { Self → ℕ };
+
     /// Fills the front of `buffer`, and gives the count of its bytes: 0 at the end of the input, or where `buffer` is
     /// empty. After `ReadFailed` no byte was taken.
     fn read(&mut self, buffer: &mut [u8]) -> Result<usize, ReadFailed>
         ensures bound { IfOk result (λ count. count ≤ length buffer.new) }
         ensures bytes { ReadConsumes (remaining self.old) (remaining self.new) result buffer.new }
-        ensures failed { failures self.new ≡ failures_after_read (failures self.old) result };
+        ensures failed { failures self.new ≡ failures_after_read (failures self.old) result }
+        ensures counted { given self.new ≡ given_after_read (given self.old) result };
 }
 
 /// A writer of bytes.
@@ -54,17 +59,20 @@ pub trait Sink {
 pub struct FromRead<R> {
     reader: R,
     failures: u64,
+    given: u64,
 }
 
 impl<R: io::Read> FromRead<R> {
-    /// A source with no failure yet.
+    /// A source that has neither failed nor given a byte yet.
     pub fn new(reader: R) -> FromRead<R>
         ensures bytes { ⟦<FromRead<R> as Source>⟧.remaining result ≡ R.remaining reader }
         ensures failures { ⟦<FromRead<R> as Source>⟧.failures result ≡ 0 }
+        ensures given { ⟦<FromRead<R> as Source>⟧.given result ≡ 0 }
     {
         FromRead {
             reader,
             failures: 0,
+            given: 0,
         }
     }
 }
@@ -74,9 +82,14 @@ impl<R: io::Read> Source for FromRead<R> {
 
     ghost failures = { λ s. s.failures };
 
+    ghost given = { λ s. s.given };
+
     fn read(&mut self, buffer: &mut [u8]) -> Result<usize, ReadFailed> {
         match self.reader.read(buffer) {
-            Ok(count) => Ok(count),
+            Ok(count) => {
+                self.given = self.given.saturating_add(count as u64);
+                Ok(count)
+            }
             Err(_) => {
                 self.failures = self.failures.saturating_add(1);
                 Err(ReadFailed)

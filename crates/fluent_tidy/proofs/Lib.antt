@@ -3,3 +3,4 @@ mod Kept
 mod LinesEnded
 mod Gathered
 mod Read
+mod Replacing

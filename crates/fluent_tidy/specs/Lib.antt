@@ -3,3 +3,4 @@ pub mod Messages
 pub mod Sources
 pub mod Trees
 pub mod DeskLaws
+pub mod Replaced

@@ -1,9 +1,11 @@
 //! Joining sources.
 
-ghost use Rattle.std.specs.Prelude.{◌≡◌, ◌++◌, ◌↔◌, [], IfOk, IsTrue, OnOk, IsErrOf, string_bytes};
+ghost use Rattle.std.specs.Prelude.{◌≡◌, ◌++◌, ◌∷◌, ◌↔◌, [], IfOk, IsTrue, OnOk, IsErrOf, string_bytes};
 ghost use Rattle.std.specs.List.{list_any};
 ghost use Rattle.fluent_grammar.specs.Tiling.{errors, list};
 ghost use Rattle.fluent_cut.specs.Joined.{joined, lists, line_ended, AreUtf8};
+ghost use Rattle.fluent_answers.specs.Sources.{notices_of};
+ghost use Rattle.fluent_value.specs.declared.function.NoFunction.{NoFunction};
 ghost use Rattle.fluent_tidy.specs.Sources.{texts, holds_return};
 ghost use Rattle.fluent_tidy.specs.declared.error.CleanError.TheVariants.{CarriageReturn};
 
@@ -15,7 +17,8 @@ use std::alloc::{AllocError, Global};
 
 /// Several sources as one: each without the stretches that can't be read, and on lines of its own, in their order.
 ///
-/// The text has the messages and terms of the sources, one source after the other. Of no sources it is empty.
+/// The text has the messages and terms of the sources, one source after the other, and the notices that the sources have if the
+/// first entry of an id counts. Of no sources it is empty.
 ///
 /// # Errors
 /// `CarriageReturn` exactly where a source holds one, before any memory is taken. `Memory` where memory ran out.
@@ -25,6 +28,8 @@ pub fn join(alloc: Global, sources: &[&str]) -> Result<String, CleanError>
     ensures no_errors { IfOk result (λ text. errors (string_bytes text) ≡ []) }
     ensures same_lists { IfOk result (λ text. list (string_bytes text)
         ≡ lists (texts sources.now)) }
+    ensures same_notices { IfOk result (λ text. notices_of NoFunction (string_bytes text ∷ [])
+        ≡ notices_of NoFunction (texts sources.now)) }
     ensures carriage_return { IsErrOf result CarriageReturn ↔ IsTrue
         (list_any holds_return (texts sources.now)) }
 {

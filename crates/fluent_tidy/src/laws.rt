@@ -1,6 +1,7 @@
 //! Laws of tidying and of answers: each function only carries a law, as its contract.
 
 ghost use Rattle.fluent_tidy.specs.DeskLaws.{ExportsAreImported, VersionsAreImportedAlike};
+ghost use Rattle.fluent_tidy.specs.Replaced.{ReplacedSourcesKeepAnswers, UnshapedHasNormalText};
 
 pub use fluent_answers::laws::{
     joined_sources_keep_notices, lists_decide, tidied_sources_keep_answers,
@@ -12,6 +13,20 @@ pub use fluent_normal::laws::{
     tidied_sources_keep_lists, well_formed_trees_are_canonical,
 };
 pub use fluent_requests::laws::streams_join;
+use fluent_value::FluentType;
+
+/// What tidying keeps. Sources answer as they did, to all requests and with all settings and plural sources, whichever of them are
+/// replaced by their cut text, by their normal text, or by what the JSON value of their tree is imported as, and whichever
+/// neighbours are replaced by their joined text. And each source of UTF-8 without carriage returns whose cut text has none of
+/// the five shapes has a normal text.
+pub fn replaced_sources_keep_answers<C: FluentType, F>()
+    ensures answers { ReplacedSourcesKeepAnswers C.Meaning F }
+    ensures normal { UnshapedHasNormalText }
+{
+    exports_are_imported();
+    tidied_sources_keep_answers::<C, F>();
+    reading_is_unique();
+}
 
 /// The JSON tree of a source is imported as the source's normal text, and isn't imported exactly where the source has
 /// none. It is never refused as a value that no tree has.

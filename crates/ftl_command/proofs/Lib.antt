@@ -1,3 +1,5 @@
+pub mod EndLemmas
 pub mod FaultLemmas
 pub mod Refusals
 pub mod RunLemmas
+pub mod TellLemmas

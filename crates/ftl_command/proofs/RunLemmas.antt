@@ -1,14 +1,19 @@
 -- What the program does before it answers.
-use Rattle.std.proofs.Common.{ℕ, ◌+◌, ◌<◌, List, [], ◌∷◌, ◌++◌, length, take, map, get_or, ◌≡◌, Option, Some, None, refl}
+use Rattle.std.proofs.Common.{ℕ, ◌+◌, ◌<◌, List, [], ◌∷◌, ◌++◌, length, take, map, get_or, ◌≡◌, Option, Some, None, IsSomeAnd, Result, Ok, Err, IfOk, OnOk, refl}
 use Rattle.std.proofs.lemmas.List.{take_more, map-append}
 use denote.Ref.{Bor}
 use Rattle.std.specs.Prelude.{IfSome}
 use Rattle.fluent_requests.specs.Text.{Text}
-use Rattle.fluent_serve.specs.Exchange.{devices_of, AnswersFirst}
+use Rattle.fluent_serve.specs.Exchange.{Devices, devices_of, AnswersFirst}
 use Rattle.fluent_serve.specs.Texts.{texts}
 use Rattle.ftl_words.specs.Meaning.{Asked, Run, run, check, tidy}
+use Rattle.ftl_command.specs.declared.ended.Ended.{Ended}
+use Rattle.ftl_command.specs.declared.ended.Ended.TheVariants.{Done}
+use Rattle.ftl_command.specs.declared.fault.Fault.{Fault}
 use Rattle.ftl_command.specs.Files.{AreHeld}
-use Rattle.ftl_command.specs.Program.{OnRun, AfterMemory, WithoutInput, line_for}
+use Rattle.ftl_command.specs.Plurals.{plurals_asked}
+use Rattle.ftl_command.specs.Program.{OnRun, OnRunBy, AfterMemory, AnswersFirstBy, WithoutInput, line_for}
+use Rattle.ftl_command.specs.declared.plurals.RunPlurals.{RunPlurals}
 use Rattle.fluent_serve.proofs.Runs.{nothing_served}
 
 -- what a file holds, or nothing where that is not known
@@ -44,18 +49,40 @@ held_next text contents files i d sources source inside each one =
     rw (take_more files i d inside, map-append (λ (f : Bor Text). f.now) (take i files) (get_or files i d ∷ []), map-append text sources (source ∷ []))
     (held_behind contents (texts (take i files)) (map text sources) (get_or files i d).now (text source) each one)
 
+-- what holds of known bytes for all that fits holds for each of it
+pub known_alike : {O : Type 0} (Fits : O → Type 0) (left : Option Text) (P : Text → O → Type 0) → IfSome left (λ input. (o : O) → Fits o → P input o) → (o : O) → Fits o → IfSome left (λ input. P input o)
+known_alike Fits None P all o fits = tt
+known_alike Fits (Some input) P all o fits = all o fits
+
+-- the outcome holds by plural rules, which are those that are asked for
+pub by_plurals : (asked : Option RunPlurals) (plurals : RunPlurals) (Outcome : RunPlurals → Type 0) → asked ≡ Some plurals → Outcome plurals → IsSomeAnd asked Outcome
+by_plurals asked plurals Outcome known outcome = rw known outcome
+
 -- nothing is read and nothing written: no line is answered
-pub before_answers : (contents : Text → Option Text) (r : Run) (left held : Option Text) → OnRun contents r (AnswersFirst (devices_of left left held held))
-before_answers contents r left held = record {
+nothing_by : (plurals : RunPlurals) (contents : Text → Option Text) (r : Run) (left held : Option Text) → OnRunBy plurals contents r (AnswersFirst (devices_of left left held held))
+nothing_by plurals contents r left held = record {
   sources = texts_of contents r.files;
   held = are_held contents r.files;
-  outcome = nothing_served left held (line_for r (texts_of contents r.files));
+  outcome = nothing_served left held (line_for plurals r (texts_of contents r.files));
 }
+
+pub before_answers : (plurals : RunPlurals) (contents : Text → Option Text) (r : Run) (left held : Option Text) → plurals_asked r.locale ≡ Some plurals → OnRun contents r (AnswersFirst (devices_of left left held held))
+before_answers plurals contents r left held known = by_plurals (plurals_asked r.locale) plurals _ known (nothing_by plurals contents r left held)
+
+-- the same where it is not known whether the locale has plural rules
+first_none : (asked : Option RunPlurals) (contents : Text → Option Text) (r : Run) (left held : Option Text) → AnswersFirstBy asked contents (devices_of left left held held) r
+first_none None contents r left held = refl
+first_none (Some plurals) contents r left held = nothing_by plurals contents r left held
+
+-- the first lines are answered by the plural rules that are asked for
+pub first_by : (asked : Option RunPlurals) (contents : Text → Option Text) (d : Devices) (r : Run) → IsSomeAnd asked (λ plurals. OnRunBy plurals contents r (AnswersFirst d)) → AnswersFirstBy asked contents d r
+first_by None contents d r outcome = absurd outcome
+first_by (Some plurals) contents d r outcome = outcome
 
 -- the same of every command: nothing is done
 pub nothing_done : (contents : Text → Option Text) (left held : Option Text) (asked : Option Asked) → AfterMemory contents (devices_of left left held held) asked
 nothing_done contents left held None = refl
-nothing_done contents left held (Some (run r)) = before_answers contents r left held
+nothing_done contents left held (Some (run r)) = first_none (plurals_asked r.locale) contents r left held
 nothing_done contents left held (Some (check files)) = refl
 nothing_done contents left held (Some (tidy t)) = refl
 
@@ -64,3 +91,8 @@ kept_input None reader = refl
 kept_input (Some (run r)) reader = tt
 kept_input (Some (check files)) reader = refl
 kept_input (Some (tidy t)) reader = refl
+
+-- a run that is answered is done
+pub done_by : (r : Result Ended Fault) (P : Type 0) → IfOk r (λ end. end ≡ Done) → OnOk r P → IfOk r (λ end. (end ≡ Done) × P)
+done_by (Ok end) P is answered = (is, answered)
+done_by (Err fault) P is answered = tt

@@ -1,8 +1,12 @@
 -- The program's faults, and the status that it ends with.
-use Rattle.std.specs.Prelude.{ℕ, List, Contains, Option, IfSome, IsUtf8}
+use Rattle.std.specs.Prelude.{◌≡◌, ℕ, List, ◌++◌, Contains, Option, Some, None, IfSome, IsUtf8, Result, Ok, Err, codes}
 use Rattle.fluent_requests.specs.Text.{Text}
+use Rattle.fluent_requests.specs.Frames.{ended}
+use Rattle.fluent_serve.specs.Devices.{HasFailed}
+use Rattle.fluent_plurals.specs.Plurals.{plurals_for}
+use Rattle.ftl_command.specs.Files.{Reaches}
 use Rattle.ftl_command.specs.declared.fault.Fault.{Fault}
-use Rattle.ftl_command.specs.declared.fault.Fault.TheVariants.{CarriageReturn, NotNormal, NotTree, NotJson, CommandLine, FileUnreadable, FileNotUtf8, Input, Output, Memory}
+use Rattle.ftl_command.specs.declared.fault.Fault.TheVariants.{CarriageReturn, NotNormal, NotTree, NotJson, CommandLine, UnknownLocale, FileUnreadable, FileNotUtf8, Input, Output, Memory}
 use Rattle.fluent_tidy.specs.declared.error.CleanError.{CleanError}
 use Rattle.fluent_tidy.specs.declared.error.CleanError.TheVariants as clean
 use Rattle.fluent_tidy.specs.declared.error.NormalizeError.{NormalizeError}
@@ -19,18 +23,42 @@ abbrev pub end_status : Ended → ℕ
 end_status Done = 0
 end_status Found = 1
 
--- what can't be tidied is 1, bad words are 2, what cannot be read or written is 3, and where memory runs out it is 4
+-- what can't be tidied is 1, bad words and an unknown locale are 2, what cannot be read or written is 3, and where memory runs out it is 4
 abbrev pub status_of : Fault → ℕ
 status_of CarriageReturn = 1
 status_of NotNormal = 1
 status_of NotTree = 1
 status_of NotJson = 1
 status_of CommandLine = 2
+status_of (UnknownLocale tag) = 2
 status_of (FileUnreadable file) = 3
 status_of (FileNotUtf8 file) = 3
 status_of Input = 3
 status_of Output = 3
 status_of Memory = 4
+
+-- the status of what a command came to
+abbrev pub outcome_status : Result Ended Fault → ℕ
+outcome_status (Ok end) = end_status end
+outcome_status (Err fault) = status_of fault
+
+-- what is reported of a fault
+abbrev pub fault_text : Fault → Text
+fault_text CarriageReturn = codes "carriage return"
+fault_text NotNormal = codes "not normal"
+fault_text NotTree = codes "not a tree"
+fault_text NotJson = codes "not JSON"
+fault_text CommandLine = codes "bad command line"
+fault_text (UnknownLocale tag) = tag.now ++ codes ": unknown locale"
+fault_text (FileUnreadable file) = file.now ++ codes ": cannot read"
+fault_text (FileNotUtf8 file) = file.now ++ codes ": not UTF-8"
+fault_text Input = codes "standard input: cannot read"
+fault_text Output = codes "standard output: cannot write"
+fault_text Memory = codes "out of memory"
+
+-- the line of it
+abbrev pub fault_line : Fault → Text
+fault_line fault = ended (codes "ftl: " ++ fault_text fault)
 
 -- a file that the fault names is one of these
 abbrev pub NamesOneOf : List Text → Fault → Type 0
@@ -39,6 +67,7 @@ NamesOneOf names NotNormal = Unit {0}
 NamesOneOf names NotTree = Unit {0}
 NamesOneOf names NotJson = Unit {0}
 NamesOneOf names CommandLine = Unit {0}
+NamesOneOf names (UnknownLocale tag) = Unit {0}
 NamesOneOf names (FileUnreadable file) = Contains names file.now
 NamesOneOf names (FileNotUtf8 file) = Contains names file.now
 NamesOneOf names Input = Unit {0}
@@ -52,11 +81,68 @@ SaysNoUtf8 contents NotNormal = Unit {0}
 SaysNoUtf8 contents NotTree = Unit {0}
 SaysNoUtf8 contents NotJson = Unit {0}
 SaysNoUtf8 contents CommandLine = Unit {0}
+SaysNoUtf8 contents (UnknownLocale tag) = Unit {0}
 SaysNoUtf8 contents (FileUnreadable file) = Unit {0}
 SaysNoUtf8 contents (FileNotUtf8 file) = IfSome (contents file.now) (λ held. IsUtf8 held → ⊥)
 SaysNoUtf8 contents Input = Unit {0}
 SaysNoUtf8 contents Output = Unit {0}
 SaysNoUtf8 contents Memory = Unit {0}
+
+-- where the fault calls a locale unknown, it is this one, which has no plural rules
+abbrev pub SaysUnknown : Option Text → Fault → Type 0
+SaysUnknown locale CarriageReturn = Unit {0}
+SaysUnknown locale NotNormal = Unit {0}
+SaysUnknown locale NotTree = Unit {0}
+SaysUnknown locale NotJson = Unit {0}
+SaysUnknown locale CommandLine = Unit {0}
+SaysUnknown locale (UnknownLocale tag) = (locale ≡ Some tag.now) × (plurals_for tag.now ≡ None)
+SaysUnknown locale (FileUnreadable file) = Unit {0}
+SaysUnknown locale (FileNotUtf8 file) = Unit {0}
+SaysUnknown locale Input = Unit {0}
+SaysUnknown locale Output = Unit {0}
+SaysUnknown locale Memory = Unit {0}
+
+-- a fault that comes while the locale is looked up
+abbrev pub IsOfLocale : Fault → Type 0
+IsOfLocale CarriageReturn = ⊥
+IsOfLocale NotNormal = ⊥
+IsOfLocale NotTree = ⊥
+IsOfLocale NotJson = ⊥
+IsOfLocale CommandLine = ⊥
+IsOfLocale (UnknownLocale tag) = Unit {0}
+IsOfLocale (FileUnreadable file) = ⊥
+IsOfLocale (FileNotUtf8 file) = ⊥
+IsOfLocale Input = ⊥
+IsOfLocale Output = ⊥
+IsOfLocale Memory = ⊥
+
+-- the files in front of the one that the fault names are held, as texts
+abbrev pub ReachesFile : (Text → Option Text) → List Text → Fault → Type 0
+ReachesFile contents files CarriageReturn = Unit {0}
+ReachesFile contents files NotNormal = Unit {0}
+ReachesFile contents files NotTree = Unit {0}
+ReachesFile contents files NotJson = Unit {0}
+ReachesFile contents files CommandLine = Unit {0}
+ReachesFile contents files (UnknownLocale tag) = Unit {0}
+ReachesFile contents files (FileUnreadable file) = Reaches contents files file.now
+ReachesFile contents files (FileNotUtf8 file) = Reaches contents files file.now
+ReachesFile contents files Input = Unit {0}
+ReachesFile contents files Output = Unit {0}
+ReachesFile contents files Memory = Unit {0}
+
+-- the folder's counts of failures before and after: a read has failed exactly where the fault says so
+abbrev pub FailsAsTold : ℕ → ℕ → Fault → Type 0
+FailsAsTold before after CarriageReturn = after ≡ before
+FailsAsTold before after NotNormal = after ≡ before
+FailsAsTold before after NotTree = after ≡ before
+FailsAsTold before after NotJson = after ≡ before
+FailsAsTold before after CommandLine = after ≡ before
+FailsAsTold before after (UnknownLocale tag) = after ≡ before
+FailsAsTold before after (FileUnreadable file) = HasFailed before after
+FailsAsTold before after (FileNotUtf8 file) = after ≡ before
+FailsAsTold before after Input = after ≡ before
+FailsAsTold before after Output = after ≡ before
+FailsAsTold before after Memory = after ≡ before
 
 -- a fault that comes while files are read
 abbrev pub IsOfFiles : Fault → Type 0
@@ -65,6 +151,7 @@ IsOfFiles NotNormal = ⊥
 IsOfFiles NotTree = ⊥
 IsOfFiles NotJson = ⊥
 IsOfFiles CommandLine = ⊥
+IsOfFiles (UnknownLocale tag) = ⊥
 IsOfFiles (FileUnreadable file) = Unit {0}
 IsOfFiles (FileNotUtf8 file) = Unit {0}
 IsOfFiles Input = ⊥
@@ -78,6 +165,7 @@ IsBeforeInput NotNormal = Unit {0}
 IsBeforeInput NotTree = Unit {0}
 IsBeforeInput NotJson = Unit {0}
 IsBeforeInput CommandLine = Unit {0}
+IsBeforeInput (UnknownLocale tag) = Unit {0}
 IsBeforeInput (FileUnreadable file) = Unit {0}
 IsBeforeInput (FileNotUtf8 file) = Unit {0}
 IsBeforeInput Input = ⊥
@@ -97,6 +185,7 @@ IsOfTidying NotNormal = Unit {0}
 IsOfTidying NotTree = Unit {0}
 IsOfTidying NotJson = Unit {0}
 IsOfTidying CommandLine = ⊥
+IsOfTidying (UnknownLocale tag) = ⊥
 IsOfTidying (FileUnreadable file) = Unit {0}
 IsOfTidying (FileNotUtf8 file) = Unit {0}
 IsOfTidying Input = ⊥

@@ -1,6 +1,10 @@
 -- What files hold. `contents` is what a file of a name holds, where that is known.
-use Rattle.std.specs.Prelude.{◌≡◌, List, [], ◌∷◌, ⊤, Option, IfSome}
+use Rattle.std.specs.Prelude.{◌≡◌, ℕ, List, [], ◌∷◌, ◌++◌, ⊤, Option, IfSome, Result, Ok, Err}
 use Rattle.fluent_requests.specs.Text.{Text}
+use Rattle.fluent_cut.specs.Joined.{AreUtf8}
+use Rattle.fluent_serve.specs.Devices.{one_more}
+use Rattle.ftl_command.specs.declared.folder.FileError.{FileError}
+use Rattle.ftl_command.specs.declared.folder.FileError.TheVariants.{Memory, Unreadable}
 
 -- a text for each file: what the file holds, where that is known
 abbrev pub AreHeld : (Text → Option Text) → List Text → List Text → Type 0
@@ -20,3 +24,18 @@ pub record OnTexts (contents : Text → Option Text) (files : List Text) (Outcom
   pub sources : List Text
   pub held : AreHeld contents files sources
   pub outcome : Outcome sources
+
+-- the file of a name is one of these, and those in front of it are held, as texts
+pub record Reaches (contents : Text → Option Text) (files : List Text) (file : Text) : Type 0 where
+  pub front : List Text
+  pub behind : List Text
+  pub split : files ≡ front ++ file ∷ behind
+  pub sources : List Text
+  pub held : AreHeld contents front sources
+  pub utf8 : AreUtf8 sources
+
+-- the count of failures after a read: want of memory is none
+abbrev pub failures_after_file : {A : Type 0} → ℕ → Result A FileError → ℕ
+failures_after_file old (Ok bytes) = old
+failures_after_file old (Err Memory) = old
+failures_after_file old (Err Unreadable) = one_more old

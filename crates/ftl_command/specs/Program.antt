@@ -1,8 +1,7 @@
 -- What the program does for its words, and how far it came before a fault.
-use Rattle.std.specs.Prelude.{◌≡◌, List, [], ◌∷◌, ◌++◌, ⊤, false, Option, Some, None, IfSome}
+use Rattle.std.specs.Prelude.{◌≡◌, List, [], ◌∷◌, ◌++◌, ⊤, false, Option, Some, None, IfSome, IsSomeAnd, option_map}
 use Rattle.std.specs.List.{list_any}
 use Rattle.std.specs.Io.KnownBytes.{Appends, IsAtEnd}
-use Rattle.fluent_number.specs.Plurals.{english}
 use Rattle.fluent_value.specs.declared.function.NoFunction.{NoFunction}
 use Rattle.fluent_requests.specs.Text.{Text, line_feed}
 use Rattle.fluent_requests.specs.Frames.{answers}
@@ -18,6 +17,7 @@ use Rattle.serde_json.specs.Written.{compact_text}
 use Rattle.fluent_grammar.specs.Tiling.{tree}
 use Rattle.fluent_cut.specs.Cut.{cut}
 use Rattle.fluent_cut.specs.Joined.{joined}
+use Rattle.fluent_normal.specs.Tidied as tidying
 use Rattle.fluent_normal.specs.Normal.{IsNormalText}
 use Rattle.fluent_json.specs.Json.{json}
 use Rattle.fluent_tidy.specs.Sources.{holds_return}
@@ -25,28 +25,43 @@ use Rattle.fluent_tidy.specs.Trees.{IsImported}
 use Rattle.ftl_report.specs.Report.{report_text}
 use Rattle.ftl_words.specs.Meaning.{Asked, Run, Tidy, run, check, tidy, clean, normalize, join, export, import}
 use Rattle.ftl_command.specs.Files.{OnFile, OnTexts}
+use Rattle.ftl_command.specs.Plurals.{category_in, plurals_asked}
+use Rattle.ftl_command.specs.declared.plurals.RunPlurals.{RunPlurals}
 use Rattle.ftl_command.specs.declared.ended.Ended.{Ended}
 use Rattle.ftl_command.specs.declared.ended.Ended.TheVariants.{Done, Found}
 
 -- ---- a run
 
--- a run with these settings, on these files
-abbrev pub run_of : Settings → List (Bor Text) → Run
-run_of settings files = record { isolating = settings.isolating; overriding = settings.overriding; files = texts files }
+-- a run with these settings, by the plural rules of this locale, on these files
+abbrev pub run_of : Settings → Option (Bor Text) → List (Bor Text) → Run
+run_of settings locale files =
+    record { isolating = settings.isolating; overriding = settings.overriding; locale = option_map (λ l. l.now) locale; files = texts files }
 
--- what is written for a line, from sources, by the plural rules of English
-abbrev pub line_for : Run → List Text → Text → Text
-line_for r sources = line_answered NoFunction english no_text (record { isolating = r.isolating; overriding = r.overriding }) sources
+-- what is written for a line, from sources, by these plural rules
+abbrev pub line_for : RunPlurals → Run → List Text → Text → Text
+line_for plurals r sources = line_answered NoFunction (category_in plurals) no_text (record { isolating = r.isolating; overriding = r.overriding }) sources
 
--- the outcome holds of the answers from the files' texts: of what is written for a line
+-- the outcome holds of the answers from the files' texts by plural rules: of what is written for a line
+abbrev pub OnRunBy : RunPlurals → (Text → Option Text) → Run → ((Text → Text) → Type 0) → Type 0
+OnRunBy plurals contents r Outcome = OnTexts contents r.files (λ sources. Outcome (line_for plurals r sources))
+
+-- the locale that is asked for has plural rules, or none is, and the outcome holds of the answers by those
 abbrev pub OnRun : (Text → Option Text) → Run → ((Text → Text) → Type 0) → Type 0
-OnRun contents r Outcome = OnTexts contents r.files (λ sources. Outcome (line_for r sources))
+OnRun contents r Outcome = IsSomeAnd (plurals_asked r.locale) (λ plurals. OnRunBy plurals contents r Outcome)
 
 -- The answers to all of the input are written, and nothing else. Of a reader that doesn't tell its bytes: to those that it gave.
 pub record Answered (d : Devices) (line : Text → Text) : Type 0 where
   pub exact : IfSome d.left_before (λ input. Appends d.held_before d.held_after (answers line input))
   pub given : AnswersAll d line
   pub end : IsAtEnd d.left_after
+
+-- Of whatever the sources are tidied into, what is written is the answers too.
+abbrev pub AnsweredAlike : Devices → RunPlurals → Run → List Text → Type 0
+AnsweredAlike d plurals r sources = (others : List Text) → tidying.Tidied sources others → IfSome d.left_before (λ input. Appends d.held_before d.held_after (answers (line_for plurals r others) input))
+
+-- so it is of the files' texts, by the plural rules that are asked for
+abbrev pub OnRunAlike : (Text → Option Text) → Devices → Run → Type 0
+OnRunAlike contents d r = IsSomeAnd (plurals_asked r.locale) (λ plurals. OnTexts contents r.files (AnsweredAlike d plurals r))
 
 -- ---- a text that is written
 
@@ -115,10 +130,22 @@ IsDone contents d (Some (run r)) end = (end ≡ Done) × OnRun contents r (Answe
 IsDone contents d (Some (check files)) end = OnReport contents files (λ text. Writes d text × (end ≡ end_by text))
 IsDone contents d (Some (tidy t)) end = (end ≡ Done) × Tidied contents t (Writes d)
 
+-- a run is answered alike from tidied sources
+abbrev pub IsDoneAlike : (Text → Option Text) → Devices → Option Asked → Type 0
+IsDoneAlike contents d None = ⊤
+IsDoneAlike contents d (Some (run r)) = OnRunAlike contents d r
+IsDoneAlike contents d (Some (check files)) = ⊤
+IsDoneAlike contents d (Some (tidy t)) = ⊤
+
+-- the first lines of a run are answered by these plural rules; where the locale has none, nothing is written
+abbrev pub AnswersFirstBy : Option RunPlurals → (Text → Option Text) → Devices → Run → Type 0
+AnswersFirstBy None contents d r = d.held_after ≡ d.held_before
+AnswersFirstBy (Some plurals) contents d r = OnRunBy plurals contents r (AnswersFirst d)
+
 -- memory ran out: the first lines of a run are answered, and of another command nothing is written
 abbrev pub AfterMemory : (Text → Option Text) → Devices → Option Asked → Type 0
 AfterMemory contents d None = d.held_after ≡ d.held_before
-AfterMemory contents d (Some (run r)) = OnRun contents r (AnswersFirst d)
+AfterMemory contents d (Some (run r)) = AnswersFirstBy (plurals_asked r.locale) contents d r
 AfterMemory contents d (Some (check files)) = d.held_after ≡ d.held_before
 AfterMemory contents d (Some (tidy t)) = d.held_after ≡ d.held_before
 
@@ -157,3 +184,18 @@ files_named None = []
 files_named (Some (run r)) = r.files
 files_named (Some (check files)) = files
 files_named (Some (tidy t)) = files_of t
+
+-- ---- the locale that they name
+
+abbrev pub locale_named : Option Asked → Option Text
+locale_named None = None
+locale_named (Some (run r)) = r.locale
+locale_named (Some (check files)) = None
+locale_named (Some (tidy t)) = None
+
+-- nothing is asked for, or a run by a locale without plural rules
+abbrev pub IsRefused : Option Asked → Type 0
+IsRefused None = ⊤
+IsRefused (Some (run r)) = plurals_asked r.locale ≡ None
+IsRefused (Some (check files)) = ⊥
+IsRefused (Some (tidy t)) = ⊥

@@ -11,7 +11,7 @@ use Rattle.ftl_words.specs.Meaning.{Asked, Tidy, run, check, tidy, clean, normal
 use Rattle.ftl_command.specs.Files.{OnFile, OnTexts}
 use Rattle.ftl_command.specs.Program.{OnValue}
 use Rattle.ftl_command.specs.declared.fault.Fault.{Fault}
-use Rattle.ftl_command.specs.declared.fault.Fault.TheVariants.{CarriageReturn, NotNormal, NotTree, NotJson, CommandLine, FileUnreadable, FileNotUtf8, Input, Output, Memory}
+use Rattle.ftl_command.specs.declared.fault.Fault.TheVariants.{CarriageReturn, NotNormal, NotTree, NotJson, CommandLine, UnknownLocale, FileUnreadable, FileNotUtf8, Input, Output, Memory}
 
 -- A source to be tidied holds a carriage return. A file with a JSON tree is no source.
 abbrev pub HoldReturn : (Text → Option Text) → Tidy → Type 0
@@ -52,6 +52,7 @@ IsRightOf contents t NotNormal = HaveNoNormalText contents t
 IsRightOf contents t NotTree = HoldNoTree contents t
 IsRightOf contents t NotJson = HoldNoJson contents t
 IsRightOf contents t CommandLine = Unit {0}
+IsRightOf contents t (UnknownLocale tag) = Unit {0}
 IsRightOf contents t (FileUnreadable file) = Unit {0}
 IsRightOf contents t (FileNotUtf8 file) = Unit {0}
 IsRightOf contents t Input = Unit {0}
@@ -65,6 +66,7 @@ RefusesNothing NotNormal = ⊥
 RefusesNothing NotTree = ⊥
 RefusesNothing NotJson = ⊥
 RefusesNothing CommandLine = Unit {0}
+RefusesNothing (UnknownLocale tag) = Unit {0}
 RefusesNothing (FileUnreadable file) = Unit {0}
 RefusesNothing (FileNotUtf8 file) = Unit {0}
 RefusesNothing Input = Unit {0}

@@ -1,9 +1,9 @@
 //! The report on the sources in files.
-ghost use Rattle.std.specs.Prelude.{◌≡◌, ◌≢◌, IfOk, IfErr, OnOk, IsErrOf, string_bytes};
+ghost use Rattle.std.specs.Prelude.{◌≡◌, ◌≢◌, None, IfOk, IfErr, OnOk, IsErrOf, string_bytes};
 ghost use Rattle.std.specs.Io.KnownBytes.{Appends};
 ghost use Rattle.fluent_serve.specs.Texts.{texts};
 ghost use Rattle.fluent_serve.specs.Devices.{HasFailed};
-ghost use Rattle.ftl_command.specs.Faults.{NamesOneOf, SaysNoUtf8, IsOfFiles};
+ghost use Rattle.ftl_command.specs.Faults.{FailsAsTold, NamesOneOf, ReachesFile, SaysNoUtf8, SaysUnknown, IsOfFiles};
 ghost use Rattle.ftl_command.specs.Program.{OnReport, WritesFront, end_by};
 ghost use Rattle.ftl_command.specs.Refusals.{RefusesNothing};
 
@@ -19,23 +19,28 @@ use std::alloc::Global;
 
 /// Writes a line for each error of the sources in `files`, and then one for each entry whose id was there.
 pub fn check_files<'words, F: Folder, O: Sink>(
-    folder: &F,
+    folder: &mut F,
     alloc: Global,
     files: &[&'words str],
     writer: &mut O,
 ) -> Result<Ended, Fault<'words>>
     ensures checked { IfOk result (λ end.
-        OnReport (F.contents folder.now) (texts files.now) (λ text.
+        OnReport (F.contents folder.old) (texts files.now) (λ text.
         Appends (O.contents writer.old) (O.contents writer.new) text × (end ≡ end_by text))) }
     ensures writes { OnOk result (O.failures writer.new ≡ O.failures writer.old) }
     ensures refuses { IfErr result RefusesNothing }
     ensures not_words { IfErr result (λ fault. fault ≢ Fault.CommandLine) }
+    ensures no_locale { IfErr result (SaysUnknown None) }
     ensures not_input { IfErr result (λ fault. fault ≢ Fault.Input) }
     ensures named { IfErr result (NamesOneOf (texts files.now)) }
-    ensures not_utf8 { IfErr result (SaysNoUtf8 (F.contents folder.now)) }
+    ensures not_utf8 { IfErr result (SaysNoUtf8 (F.contents folder.old)) }
+    ensures reached { IfErr result (ReachesFile (F.contents folder.old) (texts files.now)) }
+    ensures opens { OnOk result (F.failures folder.new ≡ F.failures folder.old) }
+    ensures unreadable { IfErr result (FailsAsTold (F.failures folder.old)
+        (F.failures folder.new)) }
     ensures unwritten { IfErr result (λ fault. fault ≢ Fault.Output → writer.new ≡ writer.old) }
     ensures output { IsErrOf result Fault.Output
-        → OnReport (F.contents folder.now) (texts files.now)
+        → OnReport (F.contents folder.old) (texts files.now)
         (WritesFront (O.contents writer.old) (O.contents writer.new)) }
     ensures failed { IsErrOf result Fault.Output
         → HasFailed (O.failures writer.old) (O.failures writer.new) }
@@ -51,15 +56,19 @@ pub fn check_files<'words, F: Folder, O: Sink>(
 
 /// The report on the sources in files, as text.
 fn report_on<'words, F: Folder>(
-    folder: &F,
+    folder: &mut F,
     alloc: Global,
     files: &[&'words str],
 ) -> Result<String, Fault<'words>>
-    ensures report { IfOk result (λ text. OnReport (F.contents folder.now) (texts files.now)
+    ensures report { IfOk result (λ text. OnReport (F.contents folder.old) (texts files.now)
         (λ report. string_bytes text ≡ report)) }
     ensures fault { IfErr result IsOfFiles }
     ensures named { IfErr result (NamesOneOf (texts files.now)) }
-    ensures not_utf8 { IfErr result (SaysNoUtf8 (F.contents folder.now)) }
+    ensures not_utf8 { IfErr result (SaysNoUtf8 (F.contents folder.old)) }
+    ensures reached { IfErr result (ReachesFile (F.contents folder.old) (texts files.now)) }
+    ensures opens { OnOk result (F.failures folder.new ≡ F.failures folder.old) }
+    ensures unreadable { IfErr result (FailsAsTold (F.failures folder.old)
+        (F.failures folder.new)) }
 {
     let texts = read_sources(folder, alloc, files)?;
     let sources = borrow_texts(alloc, &texts)?;

@@ -1,10 +1,13 @@
 //! The program: its words, its files and its streams.
 ghost use Rattle.std.specs.Prelude.{◌≡◌, ◌≢◌, ◌∷◌, [], None, Contains, IfOk, OnOk, IfErr, IsErrOf};
-ghost use Rattle.fluent_serve.specs.Devices.{HasFailed};
+ghost use Rattle.fluent_serve.specs.Devices.{HasFailed, IsGivenUp};
 ghost use Rattle.fluent_serve.specs.Exchange.{devices};
 ghost use Rattle.ftl_words.specs.Meaning.{AskForHelp, AskForHelpAlone, command_of, texts};
-ghost use Rattle.ftl_command.specs.Faults.{status_of, NamesOneOf, SaysNoUtf8, IsBeforeInput};
-ghost use Rattle.ftl_command.specs.Program.{IsDone, AfterMemory, AfterInput, AfterOutput, WithoutInput, files_named};
+ghost use Rattle.ftl_command.specs.Ends.{seen, Ends, EndsOver};
+ghost use Rattle.ftl_command.specs.Faults.{FailsAsTold, NamesOneOf, ReachesFile, SaysNoUtf8, SaysUnknown};
+ghost use Rattle.ftl_command.specs.Faults.{IsBeforeInput, IsOfLocale};
+ghost use Rattle.ftl_command.specs.Program.{IsDone, IsDoneAlike, AfterMemory, AfterInput, AfterOutput, WithoutInput};
+ghost use Rattle.ftl_command.specs.Program.{IsRefused, files_named, locale_named};
 ghost use Rattle.ftl_command.specs.Refusals.{IsRight};
 
 use crate::checking::check_files;
@@ -13,10 +16,11 @@ use crate::fault::Fault;
 use crate::folder::{Folder, FromFiles};
 use crate::output::write_help;
 use crate::running::run_files;
+use crate::telling::tell_on;
 use crate::tidying::write_tidied;
 use fluent_run::Settings;
 use fluent_serve::stream::{FromRead, FromWrite, Sink, Source};
-use ftl_words::{Command, WordsError, read_command};
+use ftl_words::{Command, WordsError, command};
 use std::alloc::Global;
 use std::io;
 use std::rt::Files;
@@ -32,45 +36,75 @@ pub fn program<R: Files, I: io::Read + Drop, O: io::Write + Drop, F: io::Write +
     faults: F,
 ) -> u8
     ensures statuses { Contains (0 ∷ 1 ∷ 2 ∷ 3 ∷ 4 ∷ []) result }
-    ensures refused { result ≡ 2 → command_of (texts words.now) ≡ None }
+    ensures refused { result ≡ 2 → IsRefused (command_of (texts words.now)) }
     ensures not_help { result ≡ 2 → ¬ AskForHelpAlone (texts words.now) }
     ensures served { result ≡ 0 → command_of (texts words.now) ≡ None
         → AskForHelp (texts words.now) }
+    ensures ended { EndsOver (I.remaining input) (O.contents output) (F.contents faults)
+        (texts words.now) result }
 {
+    let mut folder = FromFiles::new(rt);
     let mut reader = FromRead::new(input);
     let mut writer = FromWrite::new(output);
-    let folder = FromFiles::new(rt);
-    match run_command(&folder, alloc, words, &mut reader, &mut writer) {
+    let mut faults = FromWrite::new(faults);
+    program_on(
+        &mut folder,
+        alloc,
+        words,
+        &mut reader,
+        &mut writer,
+        &mut faults,
+    )
+}
+
+/// The same on a folder, a source and sinks, which tell what became of them: what is read and written, the status and
+/// the line of a fault are exactly those of what the command came to.
+pub fn program_on<F: Folder, I: Source, O: Sink, T: Sink>(
+    folder: &mut F,
+    alloc: Global,
+    words: &[&str],
+    reader: &mut I,
+    writer: &mut O,
+    faults: &mut T,
+) -> u8
+    ensures statuses { Contains (0 ∷ 1 ∷ 2 ∷ 3 ∷ 4 ∷ []) result }
+    ensures refused { result ≡ 2 → IsRefused (command_of (texts words.now)) }
+    ensures not_help { result ≡ 2 → ¬ AskForHelpAlone (texts words.now) }
+    ensures served { result ≡ 0 → command_of (texts words.now) ≡ None
+        → AskForHelp (texts words.now) }
+    ensures ended { Ends (F.contents folder.old) (F.failures folder.old) (F.failures folder.new)
+        (seen I.remaining I.failures reader.old reader.new)
+        (seen O.contents O.failures writer.old writer.new)
+        (seen T.contents T.failures faults.old faults.new) (texts words.now) result }
+{
+    match run_command(folder, alloc, words, reader, writer) {
         Ok(end) => end.status(),
-        Err(fault) => tell(faults, fault),
+        Err(fault) => tell_on(faults, fault),
     }
 }
 
-/// Tells a fault on one line, and gives the program's status. Where `faults` fails, the status alone tells it.
-pub fn tell<F: io::Write + Drop>(mut faults: F, fault: Fault<'_>) -> u8
-    ensures { result ≡ status_of fault.entry }
-{
-    let _ = writeln!(faults, "ftl: {fault}");
-    fault.status()
-}
-
-/// Does what the words behind the program's name ask for. The words are read first, then the files in their order, and for a
-/// run then the request lines that `reader` gives: see `docs/protocol.md`. Where the words ask for help, it is written.
+/// Does what the words behind the program's name ask for. The words are read first, then a run's locale is looked up, then the
+/// files are read in their order, and for a run then the request lines that `reader` gives: see `docs/protocol.md`. Where the
+/// words ask for help, it is written.
 ///
 /// # Errors
 /// The first fault. What was written before it stays written.
 pub fn run_command<'words, F: Folder, I: Source, O: Sink>(
-    folder: &F,
+    folder: &mut F,
     alloc: Global,
     words: &'words [&'words str],
     reader: &mut I,
     writer: &mut O,
 ) -> Result<Ended, Fault<'words>>
-    ensures done { IfOk result (λ end. IsDone (F.contents folder.now)
+    ensures done { IfOk result (λ end. IsDone (F.contents folder.old)
         (devices I.remaining reader.old reader.new O.contents writer.old writer.new)
         (command_of (texts words.now)) end) }
+    ensures tidied { OnOk result (IsDoneAlike (F.contents folder.old)
+        (devices I.remaining reader.old reader.new O.contents writer.old writer.new)
+        (command_of (texts words.now))) }
     ensures help { OnOk result (command_of (texts words.now) ≡ None
         → AskForHelp (texts words.now)) }
+    ensures opens { OnOk result (F.failures folder.new ≡ F.failures folder.old) }
     ensures reads { OnOk result (I.failures reader.new ≡ I.failures reader.old) }
     ensures writes { OnOk result (O.failures writer.new ≡ O.failures writer.old) }
     ensures no_input { WithoutInput (command_of (texts words.now)) (reader.new ≡ reader.old) }
@@ -78,31 +112,40 @@ pub fn run_command<'words, F: Folder, I: Source, O: Sink>(
     // Before the words and all files are read, nothing else is read and nothing is written.
     ensures refused { IsErrOf result Fault.CommandLine → command_of (texts words.now) ≡ None }
     ensures not_help { IsErrOf result Fault.CommandLine → ¬ AskForHelpAlone (texts words.now) }
+    ensures unknown { IfErr result (SaysUnknown (locale_named (command_of (texts words.now)))) }
+    ensures unopened { IfErr result (λ fault. IsOfLocale fault → folder.new ≡ folder.old) }
     ensures named { IfErr result (NamesOneOf (files_named (command_of (texts words.now)))) }
-    ensures not_utf8 { IfErr result (SaysNoUtf8 (F.contents folder.now)) }
-    ensures right { IfErr result (IsRight (F.contents folder.now)
+    ensures reached { IfErr result (ReachesFile (F.contents folder.old)
+        (files_named (command_of (texts words.now)))) }
+    ensures unreadable { IfErr result (FailsAsTold (F.failures folder.old)
+        (F.failures folder.new)) }
+    ensures not_utf8 { IfErr result (SaysNoUtf8 (F.contents folder.old)) }
+    ensures right { IfErr result (IsRight (F.contents folder.old)
         (command_of (texts words.now))) }
     ensures unread { IfErr result (λ fault. IsBeforeInput fault → reader.new ≡ reader.old) }
     ensures unwritten { IfErr result (λ fault. IsBeforeInput fault → writer.new ≡ writer.old) }
 
     // What was written before another fault stays written.
-    ensures memory { IsErrOf result Fault.Memory → AfterMemory (F.contents folder.now)
+    ensures memory { IsErrOf result Fault.Memory → AfterMemory (F.contents folder.old)
         (devices I.remaining reader.old reader.new O.contents writer.old writer.new)
         (command_of (texts words.now)) }
-    ensures input { IsErrOf result Fault.Input → AfterInput (F.contents folder.now)
+    ensures input { IsErrOf result Fault.Input → AfterInput (F.contents folder.old)
         (devices I.remaining reader.old reader.new O.contents writer.old writer.new)
         (HasFailed (I.failures reader.old) (I.failures reader.new)) (command_of (texts words.now)) }
-    ensures output { IsErrOf result Fault.Output → AfterOutput (F.contents folder.now)
+    ensures given_up { IsErrOf result Fault.Input → IsGivenUp (I.failures reader.old)
+        (I.failures reader.new) (I.given reader.old) (I.given reader.new) 4294967296 }
+    ensures output { IsErrOf result Fault.Output → AfterOutput (F.contents folder.old)
         (devices I.remaining reader.old reader.new O.contents writer.old writer.new)
         (command_of (texts words.now)) }
     ensures failed { IsErrOf result Fault.Output
         → HasFailed (O.failures writer.old) (O.failures writer.new) }
 {
-    match read_command(alloc, words) {
+    match command(alloc, words) {
         Ok(
             Command::Run {
                 isolating,
                 overriding,
+                locale,
                 files,
             },
         ) => {
@@ -110,7 +153,7 @@ pub fn run_command<'words, F: Folder, I: Source, O: Sink>(
                 isolating,
                 overriding,
             };
-            run_files(folder, alloc, settings, &files, reader, writer)
+            run_files(folder, alloc, settings, locale, &files, reader, writer)
         }
         Ok(Command::Check { files }) => check_files(folder, alloc, &files, writer),
         Ok(Command::Tidy(tidy)) => write_tidied(folder, alloc, &tidy, writer),

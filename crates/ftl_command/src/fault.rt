@@ -1,62 +1,84 @@
 //! What ends the program before the end of its input.
-ghost use Rattle.std.specs.Prelude.{◌≡◌};
-ghost use Rattle.ftl_command.specs.Faults.{status_of, run_fault, clean_fault, normalize_fault, import_fault};
+ghost use Rattle.std.specs.Prelude.{◌≡◌, ◌++◌, Some};
+ghost use Rattle.ftl_command.specs.Faults.{status_of, fault_text, run_fault, clean_fault, normalize_fault, import_fault};
 ghost use Rattle.ftl_command.specs.declared.fault.Fault.TheVariants.{Memory};
 
 use fluent_serve::serve::RunError;
 use fluent_tidy::{CleanError, ImportError, NormalizeError};
 use std::alloc::{AllocError, AllocFailed};
+use std::fmt;
 use thiserror::Error;
 
 /// Why the program stops, as it is told on standard error: see `docs/protocol.md`.
 #[derive(Clone, Copy, Debug, PartialEq, Eq, Error)]
 pub enum Fault<'words> {
     /// The source holds a carriage return.
-    #[error("carriage return")]
     CarriageReturn,
     /// The source has no normal text.
-    #[error("not normal")]
     NotNormal,
     /// No tree has the JSON value.
-    #[error("not a tree")]
     NotTree,
     /// The file's text is no JSON, or nested too deep.
-    #[error("not JSON")]
     NotJson,
     /// The words are no command.
-    #[error("bad command line")]
     CommandLine,
+    /// The locale has no plural rules.
+    UnknownLocale { tag: &'words str },
     /// The file could not be opened, or a read of it failed.
-    #[error("{file}: cannot read")]
     FileUnreadable { file: &'words str },
     /// The file's bytes are no UTF-8.
-    #[error("{file}: not UTF-8")]
     FileNotUtf8 { file: &'words str },
     /// A read of standard input failed, or it did not end.
-    #[error("standard input: cannot read")]
     Input,
     /// A write to standard output failed, or took nothing.
-    #[error("standard output: cannot write")]
     Output,
     /// A growth was refused.
-    #[error("out of memory")]
     Memory,
 }
 
-impl Fault<'_> {
+impl<'words> Fault<'words> {
     /// The status that the program ends with.
     pub fn status(&self) -> u8
         ensures { result ≡ status_of self.now }
     {
         match self {
             Fault::CarriageReturn | Fault::NotNormal | Fault::NotTree | Fault::NotJson => 1,
-            Fault::CommandLine => 2,
+            Fault::CommandLine | Fault::UnknownLocale { .. } => 2,
             Fault::FileUnreadable { .. }
             | Fault::FileNotUtf8 { .. }
             | Fault::Input
             | Fault::Output => 3,
             Fault::Memory => 4,
         }
+    }
+
+    /// The name of the locale or the file that is at fault, or else an empty text; and what stands after it.
+    pub(crate) fn parts(&self) -> (&'words str, &'static str)
+        ensures { result.0.now ++ result.1.now ≡ fault_text self.now }
+    {
+        match *self {
+            Fault::CarriageReturn => ("", "carriage return"),
+            Fault::NotNormal => ("", "not normal"),
+            Fault::NotTree => ("", "not a tree"),
+            Fault::NotJson => ("", "not JSON"),
+            Fault::CommandLine => ("", "bad command line"),
+            Fault::UnknownLocale { tag } => (tag, ": unknown locale"),
+            Fault::FileUnreadable { file } => (file, ": cannot read"),
+            Fault::FileNotUtf8 { file } => (file, ": not UTF-8"),
+            Fault::Input => ("", "standard input: cannot read"),
+            Fault::Output => ("", "standard output: cannot write"),
+            Fault::Memory => ("", "out of memory"),
+        }
+    }
+}
+
+/// The text of `docs/protocol.md`, without `ftl: `.
+impl fmt::Display for Fault<'_> {
+    ghost output = { λ fault. Some (fault_text fault) };
+
+    fn fmt<W: fmt::Write>(&self, f: &mut fmt::Formatter<W>) -> fmt::Result {
+        let (name, text) = self.parts();
+        write!(f, "{name}{text}")
     }
 }
 

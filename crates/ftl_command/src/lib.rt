@@ -1,7 +1,7 @@
 //! The command `ftl`: its commands, its files, its streams and its faults.
 //!
 //! [`program`] does what the words behind the program's name ask for, and gives the status that it ends with. The words are
-//! read by [`read_command`].
+//! read by [`command`].
 #![tactic(auto)]
 
 pub mod borrowed;
@@ -12,8 +12,10 @@ pub mod fault;
 pub mod files;
 pub mod folder;
 pub mod output;
+pub mod plurals;
 pub mod running;
+pub mod telling;
 pub mod tidying;
 
 pub use commands::program;
-pub use ftl_words::read_command;
+pub use ftl_words::{Command, Tidy, WordsError, command};

@@ -1,10 +1,11 @@
 //! Request lines, answered from the sources in files.
-ghost use Rattle.std.specs.Prelude.{◌≡◌, ◌≢◌, IfOk, IfErr, OnOk, IsErrOf};
+ghost use Rattle.std.specs.Prelude.{◌≡◌, ◌≢◌, IfOk, IfErr, OnOk, IsErrOf, option_map};
 ghost use Rattle.fluent_serve.specs.Texts.{texts};
-ghost use Rattle.fluent_serve.specs.Devices.{HasFailed};
+ghost use Rattle.fluent_serve.specs.Devices.{HasFailed, IsGivenUp};
 ghost use Rattle.fluent_serve.specs.Exchange.{devices, AnswersFirst, AnswersWhole, AnswersFront};
-ghost use Rattle.ftl_command.specs.Faults.{NamesOneOf, SaysNoUtf8, IsBeforeInput};
-ghost use Rattle.ftl_command.specs.Program.{OnRun, Answered, run_of};
+ghost use Rattle.ftl_command.specs.Faults.{FailsAsTold, NamesOneOf, ReachesFile, SaysNoUtf8, SaysUnknown};
+ghost use Rattle.ftl_command.specs.Faults.{IsBeforeInput, IsOfLocale};
+ghost use Rattle.ftl_command.specs.Program.{OnRun, OnRunAlike, Answered, run_of};
 ghost use Rattle.ftl_command.specs.Refusals.{RefusesNothing};
 
 use crate::borrowed::borrow_texts;
@@ -12,49 +13,68 @@ use crate::ended::Ended;
 use crate::fault::Fault;
 use crate::files::read_sources;
 use crate::folder::Folder;
+use crate::plurals::RunPlurals;
 use fluent_run::{Settings, Sink, Source, run};
-use fluent_value::EnglishPlurals;
 use std::alloc::Global;
 
-/// Answers what `reader` gives from the sources in `files`, by the plural rules of English.
+/// Answers what `reader` gives from the sources in `files`, by the plural rules of `locale`, and by those of English without
+/// one.
+///
+/// # Errors
+/// The first fault: an unknown locale is found before any file is read. What was written before it stays written.
 pub fn run_files<'words, F: Folder, I: Source, O: Sink>(
-    folder: &F,
+    folder: &mut F,
     alloc: Global,
     settings: Settings,
+    locale: Option<&'words str>,
     files: &[&'words str],
     reader: &mut I,
     writer: &mut O,
 ) -> Result<Ended, Fault<'words>>
     ensures ended { IfOk result (λ end. end ≡ Ended.Done) }
-    ensures answered { OnOk result (OnRun (F.contents folder.now) (run_of settings files.now)
+    ensures answered { OnOk result (OnRun (F.contents folder.old) (run_of settings locale.entry files.now)
         (Answered (devices I.remaining reader.old reader.new O.contents writer.old writer.new))) }
+    ensures tidied { OnOk result (OnRunAlike (F.contents folder.old)
+        (devices I.remaining reader.old reader.new O.contents writer.old writer.new)
+        (run_of settings locale.entry files.now)) }
     ensures reads { OnOk result (I.failures reader.new ≡ I.failures reader.old) }
     ensures writes { OnOk result (O.failures writer.new ≡ O.failures writer.old) }
+
+    // Before the locale is found no file is read.
+    ensures unknown { IfErr result (SaysUnknown (option_map (λ tag. tag.now) locale.entry)) }
+    ensures unopened { IfErr result (λ fault. IsOfLocale fault → folder.new ≡ folder.old) }
 
     // Before all files are read nothing else is read, and nothing is written.
     ensures refuses { IfErr result RefusesNothing }
     ensures not_words { IfErr result (λ fault. fault ≢ Fault.CommandLine) }
     ensures named { IfErr result (NamesOneOf (texts files.now)) }
-    ensures not_utf8 { IfErr result (SaysNoUtf8 (F.contents folder.now)) }
+    ensures not_utf8 { IfErr result (SaysNoUtf8 (F.contents folder.old)) }
+    ensures reached { IfErr result (ReachesFile (F.contents folder.old) (texts files.now)) }
+    ensures opens { OnOk result (F.failures folder.new ≡ F.failures folder.old) }
+    ensures unreadable { IfErr result (FailsAsTold (F.failures folder.old)
+        (F.failures folder.new)) }
     ensures unread { IfErr result (λ fault. IsBeforeInput fault → reader.new ≡ reader.old) }
     ensures unwritten { IfErr result (λ fault. IsBeforeInput fault → writer.new ≡ writer.old) }
 
     // What was answered before another fault stays written.
     ensures memory { IsErrOf result Fault.Memory
-        → OnRun (F.contents folder.now) (run_of settings files.now) (AnswersFirst
+        → OnRun (F.contents folder.old) (run_of settings locale.entry files.now) (AnswersFirst
         (devices I.remaining reader.old reader.new O.contents writer.old writer.new)) }
     ensures input { IsErrOf result Fault.Input
-        → OnRun (F.contents folder.now) (run_of settings files.now) (λ line. AnswersWhole
+        → OnRun (F.contents folder.old) (run_of settings locale.entry files.now) (λ line. AnswersWhole
         (devices I.remaining reader.old reader.new O.contents writer.old writer.new) line
         (HasFailed (I.failures reader.old) (I.failures reader.new)) 4294967296) }
+    ensures given_up { IsErrOf result Fault.Input → IsGivenUp (I.failures reader.old)
+        (I.failures reader.new) (I.given reader.old) (I.given reader.new) 4294967296 }
     ensures output { IsErrOf result Fault.Output
-        → OnRun (F.contents folder.now) (run_of settings files.now) (AnswersFront
+        → OnRun (F.contents folder.old) (run_of settings locale.entry files.now) (AnswersFront
         (devices I.remaining reader.old reader.new O.contents writer.old writer.new)) }
     ensures failed { IsErrOf result Fault.Output
         → HasFailed (O.failures writer.old) (O.failures writer.new) }
 {
+    let plurals = RunPlurals::of_locale(locale)?;
     let texts = read_sources(folder, alloc, files)?;
     let sources = borrow_texts(alloc, &texts)?;
-    run(alloc, &sources, settings, &EnglishPlurals, reader, writer)?;
+    run(alloc, &sources, settings, &plurals, reader, writer)?;
     Ok(Ended::Done)
 }

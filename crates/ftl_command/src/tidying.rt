@@ -12,7 +12,7 @@ ghost use Rattle.fluent_requests.specs.Text.{line_feed};
 ghost use Rattle.fluent_serve.specs.Texts.{texts};
 ghost use Rattle.ftl_words.specs.CommandView.{tidy_view};
 ghost use Rattle.ftl_words.specs.Meaning as asked;
-ghost use Rattle.ftl_command.specs.Faults.{NamesOneOf, SaysNoUtf8, IsOfTidying};
+ghost use Rattle.ftl_command.specs.Faults.{FailsAsTold, NamesOneOf, ReachesFile, SaysNoUtf8, SaysUnknown, IsOfTidying};
 ghost use Rattle.ftl_command.specs.Files.{OnFile};
 ghost use Rattle.ftl_command.specs.Program.{Imports, OnSource, OnSources, Tidies, Tidied, WritesFront, json_line, files_of};
 ghost use Rattle.ftl_command.specs.Refusals.{IsRightOf};
@@ -31,22 +31,27 @@ use std::alloc::{AllocError, Global};
 
 /// Writes what the sources' files are tidied into.
 pub fn write_tidied<'words, F: Folder, O: Sink>(
-    folder: &F,
+    folder: &mut F,
     alloc: Global,
     tidy: &Tidy<'words>,
     writer: &mut O,
 ) -> Result<Ended, Fault<'words>>
     ensures ended { IfOk result (λ end. end ≡ Ended.Done) }
-    ensures tidied { OnOk result (Tidied (F.contents folder.now) (tidy_view tidy.now)
+    ensures tidied { OnOk result (Tidied (F.contents folder.old) (tidy_view tidy.now)
         (Appends (O.contents writer.old) (O.contents writer.new))) }
     ensures writes { OnOk result (O.failures writer.new ≡ O.failures writer.old) }
     ensures named { IfErr result (NamesOneOf (files_of (tidy_view tidy.now))) }
-    ensures not_utf8 { IfErr result (SaysNoUtf8 (F.contents folder.now)) }
-    ensures right { IfErr result (IsRightOf (F.contents folder.now) (tidy_view tidy.now)) }
+    ensures not_utf8 { IfErr result (SaysNoUtf8 (F.contents folder.old)) }
+    ensures reached { IfErr result (ReachesFile (F.contents folder.old) (files_of (tidy_view tidy.now))) }
+    ensures opens { OnOk result (F.failures folder.new ≡ F.failures folder.old) }
+    ensures unreadable { IfErr result (FailsAsTold (F.failures folder.old)
+        (F.failures folder.new)) }
+    ensures right { IfErr result (IsRightOf (F.contents folder.old) (tidy_view tidy.now)) }
     ensures not_words { IfErr result (λ fault. fault ≢ Fault.CommandLine) }
+    ensures no_locale { IfErr result (SaysUnknown None) }
     ensures not_input { IfErr result (λ fault. fault ≢ Fault.Input) }
     ensures unwritten { IfErr result (λ fault. fault ≢ Fault.Output → writer.new ≡ writer.old) }
-    ensures output { IsErrOf result Fault.Output → Tidied (F.contents folder.now)
+    ensures output { IsErrOf result Fault.Output → Tidied (F.contents folder.old)
         (tidy_view tidy.now) (WritesFront (O.contents writer.old) (O.contents writer.new)) }
     ensures failed { IsErrOf result Fault.Output
         → HasFailed (O.failures writer.old) (O.failures writer.new) }
@@ -58,16 +63,20 @@ pub fn write_tidied<'words, F: Folder, O: Sink>(
 
 /// The text that the sources' files are tidied into.
 pub fn tidied_text<'words, F: Folder>(
-    folder: &F,
+    folder: &mut F,
     alloc: Global,
     tidy: &Tidy<'words>,
 ) -> Result<String, Fault<'words>>
     ensures text { IfOk result (λ text. Tidies
-        (F.contents folder.now) (tidy_view tidy.now) (string_bytes text)) }
-    ensures right { IfErr result (IsRightOf (F.contents folder.now) (tidy_view tidy.now)) }
+        (F.contents folder.old) (tidy_view tidy.now) (string_bytes text)) }
+    ensures right { IfErr result (IsRightOf (F.contents folder.old) (tidy_view tidy.now)) }
     ensures fault { IfErr result IsOfTidying }
     ensures named { IfErr result (NamesOneOf (files_of (tidy_view tidy.now))) }
-    ensures not_utf8 { IfErr result (SaysNoUtf8 (F.contents folder.now)) }
+    ensures not_utf8 { IfErr result (SaysNoUtf8 (F.contents folder.old)) }
+    ensures reached { IfErr result (ReachesFile (F.contents folder.old) (files_of (tidy_view tidy.now))) }
+    ensures opens { OnOk result (F.failures folder.new ≡ F.failures folder.old) }
+    ensures unreadable { IfErr result (FailsAsTold (F.failures folder.old)
+        (F.failures folder.new)) }
 {
     match tidy {
         Tidy::Clean(file) => clean_file(folder, alloc, file),
@@ -80,16 +89,20 @@ pub fn tidied_text<'words, F: Folder>(
 
 /// The cleaned source of a file.
 fn clean_file<'words, F: Folder>(
-    folder: &F,
+    folder: &mut F,
     alloc: Global,
     file: &'words str,
 ) -> Result<String, Fault<'words>>
-    ensures text { IfOk result (λ text. OnSource (F.contents folder.now) file.now
+    ensures text { IfOk result (λ text. OnSource (F.contents folder.old) file.now
         (λ source. string_bytes text ≡ cut source)) }
-    ensures right { IfErr result (IsRightOf (F.contents folder.now) (asked.clean file.now)) }
+    ensures right { IfErr result (IsRightOf (F.contents folder.old) (asked.clean file.now)) }
     ensures fault { IfErr result IsOfTidying }
     ensures named { IfErr result (NamesOneOf (file.now ∷ [])) }
-    ensures not_utf8 { IfErr result (SaysNoUtf8 (F.contents folder.now)) }
+    ensures not_utf8 { IfErr result (SaysNoUtf8 (F.contents folder.old)) }
+    ensures reached { IfErr result (ReachesFile (F.contents folder.old) (file.now ∷ [])) }
+    ensures opens { OnOk result (F.failures folder.new ≡ F.failures folder.old) }
+    ensures unreadable { IfErr result (FailsAsTold (F.failures folder.old)
+        (F.failures folder.new)) }
 {
     let source = read_source(folder, alloc, file)?;
     Ok(clean(alloc, source.as_str())?)
@@ -97,16 +110,20 @@ fn clean_file<'words, F: Folder>(
 
 /// The normal text of a file's source.
 fn normalize_file<'words, F: Folder>(
-    folder: &F,
+    folder: &mut F,
     alloc: Global,
     file: &'words str,
 ) -> Result<String, Fault<'words>>
-    ensures text { IfOk result (λ text. OnSource (F.contents folder.now) file.now
+    ensures text { IfOk result (λ text. OnSource (F.contents folder.old) file.now
         (λ source. IsNormalText source (string_bytes text))) }
-    ensures right { IfErr result (IsRightOf (F.contents folder.now) (asked.normalize file.now)) }
+    ensures right { IfErr result (IsRightOf (F.contents folder.old) (asked.normalize file.now)) }
     ensures fault { IfErr result IsOfTidying }
     ensures named { IfErr result (NamesOneOf (file.now ∷ [])) }
-    ensures not_utf8 { IfErr result (SaysNoUtf8 (F.contents folder.now)) }
+    ensures not_utf8 { IfErr result (SaysNoUtf8 (F.contents folder.old)) }
+    ensures reached { IfErr result (ReachesFile (F.contents folder.old) (file.now ∷ [])) }
+    ensures opens { OnOk result (F.failures folder.new ≡ F.failures folder.old) }
+    ensures unreadable { IfErr result (FailsAsTold (F.failures folder.old)
+        (F.failures folder.new)) }
 {
     let source = read_source(folder, alloc, file)?;
     Ok(normalize(alloc, source.as_str())?)
@@ -114,17 +131,21 @@ fn normalize_file<'words, F: Folder>(
 
 /// The sources of files, joined.
 fn join_files<'words, F: Folder>(
-    folder: &F,
+    folder: &mut F,
     alloc: Global,
     files: &[&'words str],
 ) -> Result<String, Fault<'words>>
-    ensures text { IfOk result (λ text. OnSources (F.contents folder.now) (texts files.now)
+    ensures text { IfOk result (λ text. OnSources (F.contents folder.old) (texts files.now)
         (λ sources. string_bytes text ≡ joined sources)) }
-    ensures right { IfErr result (IsRightOf (F.contents folder.now)
+    ensures right { IfErr result (IsRightOf (F.contents folder.old)
         (asked.join (texts files.now))) }
     ensures fault { IfErr result IsOfTidying }
     ensures named { IfErr result (NamesOneOf (texts files.now)) }
-    ensures not_utf8 { IfErr result (SaysNoUtf8 (F.contents folder.now)) }
+    ensures not_utf8 { IfErr result (SaysNoUtf8 (F.contents folder.old)) }
+    ensures reached { IfErr result (ReachesFile (F.contents folder.old) (texts files.now)) }
+    ensures opens { OnOk result (F.failures folder.new ≡ F.failures folder.old) }
+    ensures unreadable { IfErr result (FailsAsTold (F.failures folder.old)
+        (F.failures folder.new)) }
 {
     let texts = read_sources(folder, alloc, files)?;
     let sources = borrow_texts(alloc, &texts)?;
@@ -133,16 +154,20 @@ fn join_files<'words, F: Folder>(
 
 /// The JSON tree of a file's source, on one line.
 fn export_file<'words, F: Folder>(
-    folder: &F,
+    folder: &mut F,
     alloc: Global,
     file: &'words str,
 ) -> Result<String, Fault<'words>>
-    ensures text { IfOk result (λ text. OnSource (F.contents folder.now) file.now
+    ensures text { IfOk result (λ text. OnSource (F.contents folder.old) file.now
         (λ source. string_bytes text ≡ json_line source)) }
-    ensures right { IfErr result (IsRightOf (F.contents folder.now) (asked.export file.now)) }
+    ensures right { IfErr result (IsRightOf (F.contents folder.old) (asked.export file.now)) }
     ensures fault { IfErr result IsOfTidying }
     ensures named { IfErr result (NamesOneOf (file.now ∷ [])) }
-    ensures not_utf8 { IfErr result (SaysNoUtf8 (F.contents folder.now)) }
+    ensures not_utf8 { IfErr result (SaysNoUtf8 (F.contents folder.old)) }
+    ensures reached { IfErr result (ReachesFile (F.contents folder.old) (file.now ∷ [])) }
+    ensures opens { OnOk result (F.failures folder.new ≡ F.failures folder.old) }
+    ensures unreadable { IfErr result (FailsAsTold (F.failures folder.old)
+        (F.failures folder.new)) }
 {
     let source = read_source(folder, alloc, file)?;
     let value = export(alloc, source.as_str())?;
@@ -162,16 +187,20 @@ fn line_of(alloc: Global, value: &Value) -> Result<String, AllocError>
 
 /// The text of the JSON tree in a file.
 fn import_file<'words, F: Folder>(
-    folder: &F,
+    folder: &mut F,
     alloc: Global,
     file: &'words str,
 ) -> Result<String, Fault<'words>>
-    ensures text { IfOk result (λ text. OnFile (F.contents folder.now) file.now
+    ensures text { IfOk result (λ text. OnFile (F.contents folder.old) file.now
         (λ source. Imports source (string_bytes text))) }
-    ensures right { IfErr result (IsRightOf (F.contents folder.now) (asked.import file.now)) }
+    ensures right { IfErr result (IsRightOf (F.contents folder.old) (asked.import file.now)) }
     ensures fault { IfErr result IsOfTidying }
     ensures named { IfErr result (NamesOneOf (file.now ∷ [])) }
-    ensures not_utf8 { IfErr result (SaysNoUtf8 (F.contents folder.now)) }
+    ensures not_utf8 { IfErr result (SaysNoUtf8 (F.contents folder.old)) }
+    ensures reached { IfErr result (ReachesFile (F.contents folder.old) (file.now ∷ [])) }
+    ensures opens { OnOk result (F.failures folder.new ≡ F.failures folder.old) }
+    ensures unreadable { IfErr result (FailsAsTold (F.failures folder.old)
+        (F.failures folder.new)) }
 {
     let source = read_source(folder, alloc, file)?;
     let value = json_value(alloc, source.as_str())?;

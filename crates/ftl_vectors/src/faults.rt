@@ -1,7 +1,7 @@
 //! The line and the status of each fault.
 use fluent_trials::{Tally, Trial, is_right_again};
-use ftl_command::commands::tell;
 use ftl_command::fault::Fault;
+use ftl_command::telling::tell;
 use std::alloc::{AllocError, Global};
 
 /// A fault, and what it is told as.
@@ -29,6 +29,11 @@ pub fn try_faults(alloc: Global) -> Tally {
         (Fault::NotTree, 1, "ftl: not a tree\n"),
         (Fault::NotJson, 1, "ftl: not JSON\n"),
         (Fault::CommandLine, 2, "ftl: bad command line\n"),
+        (
+            Fault::UnknownLocale { tag: "plx" },
+            2,
+            "ftl: plx: unknown locale\n",
+        ),
         (
             Fault::FileUnreadable { file },
             3,

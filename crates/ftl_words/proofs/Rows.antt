@@ -1,6 +1,6 @@
 -- What some words ask for, by computing.
-use Rattle.std.proofs.Common.{◌≡◌, [], ◌∷◌, true, false, Some, refl, codes}
-use Rattle.clap.specs.declared.error.kind.ErrorKind.TheVariants.{ArgumentConflict, MissingRequiredArgument, MissingSubcommand, UnknownArgument}
+use Rattle.std.proofs.Common.{◌≡◌, [], ◌∷◌, true, false, Some, None, refl, codes}
+use Rattle.clap.specs.declared.error.kind.ErrorKind.TheVariants.{ArgumentConflict, InvalidValue, MissingRequiredArgument, MissingSubcommand, UnknownArgument}
 use Rattle.clap.proofs.OnLiterals.{clap_on_literals}
 use Rattle.ftl_words.specs.Meaning.{AskForHelpAlone, check, clean, command_of, faults_of, join, run, tidy}
 
@@ -29,14 +29,36 @@ unfolding clap_on_literals
 help = refl
 
 two_files : command_of (codes "run" ∷ codes "a" ∷ codes "b-" ∷ [])
-    ≡ Some (run (record { isolating = true; overriding = false; files = codes "a" ∷ codes "b-" ∷ [] }))
+    ≡ Some (run (record { isolating = true; overriding = false; locale = None; files = codes "a" ∷ codes "b-" ∷ [] }))
 unfolding clap_on_literals
 two_files = refl
 
 options_between_files : command_of (codes "run" ∷ codes "a" ∷ codes "--no-isolating" ∷ codes "--overriding" ∷ codes "b" ∷ [])
-    ≡ Some (run (record { isolating = false; overriding = true; files = codes "a" ∷ codes "b" ∷ [] }))
+    ≡ Some (run (record { isolating = false; overriding = true; locale = None; files = codes "a" ∷ codes "b" ∷ [] }))
 unfolding clap_on_literals
 options_between_files = refl
+
+a_locale : command_of (codes "run" ∷ codes "--locale" ∷ codes "pl_PL.UTF-8" ∷ codes "a" ∷ [])
+    ≡ Some (run (record { isolating = true; overriding = false; locale = Some (codes "pl_PL.UTF-8"); files = codes "a" ∷ [] }))
+unfolding clap_on_literals
+a_locale = refl
+
+a_locale_behind_its_sign : command_of (codes "run" ∷ codes "a" ∷ codes "--locale=pl" ∷ [])
+    ≡ Some (run (record { isolating = true; overriding = false; locale = Some (codes "pl"); files = codes "a" ∷ [] }))
+unfolding clap_on_literals
+a_locale_behind_its_sign = refl
+
+no_locale : faults_of (codes "run" ∷ codes "a" ∷ codes "--locale" ∷ []) ≡ InvalidValue ∷ []
+unfolding clap_on_literals
+no_locale = refl
+
+two_locales : faults_of (codes "run" ∷ codes "--locale" ∷ codes "pl" ∷ codes "--locale" ∷ codes "cs" ∷ codes "a" ∷ []) ≡ ArgumentConflict ∷ []
+unfolding clap_on_literals
+two_locales = refl
+
+a_locale_to_clean : faults_of (codes "clean" ∷ codes "--locale" ∷ codes "pl" ∷ codes "a" ∷ []) ≡ UnknownArgument ∷ []
+unfolding clap_on_literals
+a_locale_to_clean = refl
 
 files_behind_two_hyphens : command_of (codes "check" ∷ codes "--" ∷ codes "-a" ∷ codes "--b" ∷ []) ≡ Some (check (codes "-a" ∷ codes "--b" ∷ []))
 unfolding clap_on_literals

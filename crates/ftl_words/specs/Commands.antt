@@ -12,6 +12,10 @@ use Rattle.clap.specs.declared.builder.command.Command.TheViews.{out-Command as 
 abbrev pub flag_rule : Text → Rule
 flag_rule name = record (new_rule name) { long = Some name; action = Some SetTrue }
 
+-- `--name VALUE`
+abbrev pub option_rule : Text → Rule
+option_rule name = record (new_rule name) { long = Some name; value_names = 1 }
+
 -- one file
 abbrev pub file_rule : Rule
 file_rule = record (new_rule (codes "FILE")) { required = true }
@@ -29,7 +33,11 @@ abbrev pub with_command : App → Text → Rule → App
 with_command a name argument = with_subcommand a (shaped name (argument ∷ []))
 
 abbrev pub run_shape : Shape
-run_shape = shaped (codes "run") (flag_rule (codes "no-isolating") ∷ flag_rule (codes "overriding") ∷ files_rule ∷ [])
+run_shape = shaped (codes "run") (flag_rule (codes "no-isolating") ∷ flag_rule (codes "overriding") ∷ option_rule (codes "locale") ∷ files_rule ∷ [])
+
+-- the same before its option and its files
+abbrev pub flagged_run_shape : Shape
+flagged_run_shape = shaped (codes "run") (flag_rule (codes "no-isolating") ∷ flag_rule (codes "overriding") ∷ [])
 
 -- the program, of which a command has to be named, and whose first word is no name of its own
 abbrev pub bare_program : App

@@ -11,6 +11,8 @@ use Rattle.ftl_words.specs.Commands.{program_app}
 pub record Run : Type 0 where
   pub isolating : Bool
   pub overriding : Bool
+  -- the tag of the locale whose plural rules choose variants, if one is given
+  pub locale : Option Text
   pub files : List Text
 
 -- write what a file's source is tidied into, or what several are joined into; or its JSON tree, or the text of one
@@ -33,6 +35,10 @@ pub data Asked : Type 0 where
 abbrev pub is_given : Text → List Row → Bool
 is_given name rows = option_map_or (λ s. bytes_eq s (codes "true")) (first_of name rows) false
 
+-- the value of `--locale`
+abbrev pub locale_in : List Row → Option Text
+locale_in rows = first_of (codes "locale") rows
+
 abbrev pub file_in : List Row → Option Text
 file_in rows = first_of (codes "FILE") rows
 
@@ -43,6 +49,7 @@ abbrev pub run_in : List Row → Run
 run_in rows = record {
   isolating = not (is_given (codes "no-isolating") rows);
   overriding = is_given (codes "overriding") rows;
+  locale = locale_in rows;
   files = files_in rows;
 }
 

@@ -1,11 +1,11 @@
 //! The words behind the name of the program `ftl`, read by `clap`.
 //!
-//! [`read_command`] gives the [`Command`] that the words ask for, or a [`WordsError`]: the words are bad, or ask for help.
+//! [`command`] gives the [`Command`] that the words ask for, or a [`WordsError`]: the words are bad, or ask for help.
 #![tactic(auto)]
 
-mod command;
+mod commands;
 mod program;
 mod reading;
 
-pub use command::{Command, Tidy};
-pub use reading::{WordsError, read_command};
+pub use commands::{Command, Tidy};
+pub use reading::{WordsError, command};

@@ -2,7 +2,8 @@
 ghost use Rattle.std.specs.Prelude.{◌≡◌, ◌∷◌, [], false, codes, IfOk};
 ghost use Rattle.clap.specs.Words.{app_of, rule_of};
 ghost use Rattle.ftl_words.specs.Commands.{IsShaped, IsLocal, shaped, with_command};
-ghost use Rattle.ftl_words.specs.Commands.{flag_rule, file_rule, files_rule, bare_program, program_app, run_shape};
+ghost use Rattle.ftl_words.specs.Commands.{flag_rule, option_rule, file_rule, files_rule, bare_program, program_app};
+ghost use Rattle.ftl_words.specs.Commands.{flagged_run_shape, run_shape};
 
 use clap::{Arg, ArgAction, Command};
 use std::alloc::{AllocError, Global};
@@ -100,6 +101,16 @@ fn command_of<'a>(
 fn run<'a>(alloc: Global) -> Result<Command<'a>, AllocError>
     ensures { IfOk result (IsShaped run_shape) }
 {
+    let locale = option(alloc, "locale", "TAG").help(
+        "Chooses variants by the plural rules of this locale, and not by those of English",
+    );
+    flagged_run(alloc)?.arg(locale)?.arg(files(alloc))
+}
+
+/// The command `run` with its flags alone.
+fn flagged_run<'a>(alloc: Global) -> Result<Command<'a>, AllocError>
+    ensures { IfOk result (IsShaped flagged_run_shape) }
+{
     let isolating = flag(alloc, "no-isolating").help(
         "Sets no marks around the values of placeables",
     );
@@ -109,8 +120,7 @@ fn run<'a>(alloc: Global) -> Result<Command<'a>, AllocError>
     Command::new(alloc, "run")
         .about("Answers the request lines of standard input")
         .arg(isolating)?
-        .arg(overriding)?
-        .arg(files(alloc))
+        .arg(overriding)
 }
 
 /// A flag of this name.
@@ -118,6 +128,13 @@ fn flag<'a>(alloc: Global, name: &'a str) -> Arg<'a>
     ensures { IsLocal (flag_rule name.entry.now) result }
 {
     Arg::new(alloc, name).long(name).action(ArgAction::SetTrue)
+}
+
+/// An option of this name with one value, which help calls so.
+fn option<'a>(alloc: Global, name: &'a str, value: &'a str) -> Arg<'a>
+    ensures { IsLocal (option_rule name.entry.now) result }
+{
+    Arg::new(alloc, name).long(name).value_name(value)
 }
 
 /// The file that a command is on.

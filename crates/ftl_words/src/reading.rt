@@ -1,12 +1,12 @@
 //! From words to what they ask for.
-ghost use Rattle.std.specs.Prelude.{◌≡◌, IfOk, IfErr, IsErrOf, Some, None};
+ghost use Rattle.std.specs.Prelude.{◌≡◌, IfOk, IfErr, IsErrOf, Some, None, option_map};
 ghost use Rattle.clap.specs.Words.{found_of, kind_of, rows_of, subcommand_rows_of};
 ghost use Rattle.ftl_words.specs.Meaning.{AskForHelp, AskForHelpAlone, command_of, texts};
-ghost use Rattle.ftl_words.specs.Meaning.{asked_by, asked_of, file_in, files_in, is_given};
+ghost use Rattle.ftl_words.specs.Meaning.{asked_by, asked_of, file_in, files_in, is_given, locale_in};
 ghost use Rattle.ftl_words.specs.CommandView.{command_view};
 ghost use Rattle.ftl_words.specs.declared.reading.WordsError.TheVariants.{Memory};
 
-use crate::command::{Command, Tidy};
+use crate::commands::{Command, Tidy};
 use crate::program::program;
 use clap::error::ErrorKind;
 use clap::{ArgMatches, Error};
@@ -35,7 +35,7 @@ impl From<AllocError> for WordsError {
 ///
 /// # Errors
 /// `Bad`: the words are no command. `Help`: they ask for help. `Memory`: memory ran out.
-pub fn read_command<'words>(
+pub fn command<'words>(
     alloc: Global,
     words: &'words [&'words str],
 ) -> Result<Command<'words>, WordsError>
@@ -105,6 +105,7 @@ fn command_named<'words>(
         "run" => Ok(Command::Run {
             isolating: !is_given(found, "no-isolating"),
             overriding: is_given(found, "overriding"),
+            locale: locale_in(found),
             files: files_in(alloc, found)?,
         }),
         "check" => Ok(Command::Check {
@@ -124,6 +125,13 @@ fn is_given(found: &ArgMatches<'_>, name: &str) -> bool
     ensures { result ≡ is_given name.now (rows_of (found_of found.now)) }
 {
     found.get_str(name) == Some("true")
+}
+
+/// The tag of the locale, if one was given.
+fn locale_in<'words>(found: &ArgMatches<'words>) -> Option<&'words str>
+    ensures { option_map (λ locale. locale.now) result ≡ locale_in (rows_of (found_of found.now)) }
+{
+    found.get_str("locale")
 }
 
 /// The file that was given.

@@ -4,6 +4,7 @@ ghost use Rattle.std.specs.Prelude.{◌≡◌, ◌++◌, IfOk, IsOkAnd, IsSome, 
 ghost use Rattle.std.specs.Cow.{IsBorrowedStr, cow_str_bytes};
 ghost use Rattle.fluent_asking.specs.Asked.{TellsAll, TellsFirst, WritesFirst, asked, handed, lone_text};
 ghost use Rattle.fluent_ast.specs.View.{pattern_view};
+ghost use Rattle.fluent_bundle.specs.Bounds.{TellsTooManyOnce};
 ghost use Rattle.fluent_bundle.specs.BundleView.{IsLent, bundle_of, environment_of};
 ghost use Rattle.fluent_bundle.specs.Contents.{ShowsAsIs};
 
@@ -11,6 +12,7 @@ use super::FluentBundle;
 use fluent_asking::answer::{answer, hand_out, write_answer};
 use fluent_ast::Pattern;
 use fluent_errors::FluentError;
+use fluent_meaning::laws::work_is_bounded;
 use fluent_progress::{Lent, Place};
 use fluent_value::{
     FluentArgs, FluentFunction, FluentType, MemoizerKind, TextTransform, ValueFormatter,
@@ -50,7 +52,9 @@ where
         ensures told_first { OnErr result (TellsFirst errors.old errors.new
             (asked C.meaning (environment_of C.text F.gives G.formats M.category_of M.stringified
             transformed self.now) args.entry pattern.now)) }
+        ensures told_once { TellsTooManyOnce errors.old errors.new }
     {
+        work_is_bounded::<C, F>();
         let lent = self.lent();
         let place = Place {
             ids: &self.environment.ids,
@@ -86,7 +90,9 @@ where
         ensures borrowed { ShowsAsIs (bundle_of self.now)
             → IsSome (lone_text (pattern_view _ (λ s. s.now) pattern.now))
             → IsOkAnd result IsBorrowedStr }
+        ensures told_once { TellsTooManyOnce errors.old errors.new }
     {
+        work_is_bounded::<C, F>();
         let lent = self.lent();
         let place = Place {
             ids: &self.environment.ids,

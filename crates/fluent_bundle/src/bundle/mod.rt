@@ -1,8 +1,9 @@
 //! The bundle, and one that holds nothing yet.
 
-ghost use Rattle.std.specs.Prelude.{◌≡◌, map, string_bytes};
+ghost use Rattle.std.specs.Prelude.{◌≡◌, map, option_map, string_bytes};
 ghost use Rattle.fluent_bundle.specs.BundleView.{bundle_of};
 ghost use Rattle.fluent_bundle.specs.Contents.{empty};
+ghost use Rattle.fluent_plurals.specs.Plurals.{plurals_of};
 
 mod adding;
 mod formatting;
@@ -12,6 +13,7 @@ mod settings;
 
 use fluent_environment::Environment;
 use fluent_ids::FluentIds;
+use fluent_plurals::LanguagePlurals;
 use std::alloc::Global;
 use std::marker::PhantomData;
 
@@ -45,5 +47,19 @@ impl<'r, 's, M, C, F, G> FluentBundle<'r, 's, M, C, F, G> {
             },
             custom: PhantomData,
         }
+    }
+}
+
+impl<'r, 's, C, F, G> FluentBundle<'r, 's, LanguagePlurals, C, F, G> {
+    /// A new bundle with the plural rules of the first of its locales that has any, or `None` if none has.
+    ///
+    /// Otherwise it is that of [`new`](Self::new). No other language stands in for locales without rules: a program that has such
+    /// a locale names the rules itself, say those of [`LanguagePlurals::root`].
+    pub fn for_locales(alloc: Global, locales: Vec<String>) -> Option<Self>
+        ensures { option_map bundle_of result ≡ option_map (empty (map string_bytes locales.items))
+            (plurals_of (map string_bytes locales.items)) }
+    {
+        let plurals = LanguagePlurals::of_locales(&locales)?;
+        Some(FluentBundle::new(alloc, locales, plurals))
     }
 }

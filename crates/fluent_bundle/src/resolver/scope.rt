@@ -3,6 +3,7 @@
 ghost use Rattle.std.specs.Prelude.{◌≡◌, [], IfOk, None, OnErr, OnOk, map, option_copied, option_map};
 ghost use Rattle.fluent_asking.specs.Called.{called_of};
 ghost use Rattle.fluent_ast.specs.View.{arguments_view, expression_view, inline_view, maybe_arguments, pattern_view};
+ghost use Rattle.fluent_bundle.specs.Bounds.{IsWithinWork, enters_by_arguments, enters_by_expression, enters_by_pattern};
 ghost use Rattle.fluent_bundle.specs.BundleView.{environment_of};
 ghost use Rattle.fluent_bundle.specs.ScopeView.{Keeps, path_of, place_of, state_of};
 ghost use Rattle.fluent_errors.specs.View.{bundle_view, resolver_view};
@@ -18,6 +19,7 @@ use crate::bundle::FluentBundle;
 use fluent_asking::steps::none_given;
 use fluent_ast::{CallArguments, Expression, InlineExpression, Pattern};
 use fluent_errors::{FluentError, ResolverError};
+use fluent_meaning::laws::work_is_bounded;
 use fluent_value::{
     FluentArgs, FluentFunction, FluentType, FluentValue, MemoizerKind, ValueFormatter,
 };
@@ -130,11 +132,14 @@ where
             M.category_of M.stringified transformed self.old.bundle.now)
             (pattern_view _ (λ s. s.now) pattern.now)
             (expression_view _ (λ s. s.now) expression.now) (place_of C.meaning self.old))) }
+        ensures bounded { IsWithinWork self.old self.new (enters_by_expression self.old
+            (expression_view _ (λ s. s.now) expression.now)) }
         ensures path { OnOk result (path_of self.new
             ≡ s.rooted_path (pattern_view _ (λ s. s.now) pattern.now) (path_of self.old)) }
         ensures path_left { OnErr result (path_of self.new ≡ path_of self.old) }
         ensures kept { Keeps self.old self.new }
     {
+        work_is_bounded::<C, F>();
         let mut piece = String::new(self.bundle.environment.alloc);
         self.write_opened(&mut piece, pattern, expression)?;
         w.write_str(piece.as_str())?;
@@ -164,9 +169,12 @@ where
             (environment_of C.text F.gives G.formats M.category_of M.stringified transformed
             self.old.bundle.now) (inline_view _ (λ s. s.now) inline.now)
             (pattern_view _ (λ s. s.now) pattern.now) (place_of C.meaning self.old))) }
+        ensures bounded { IsWithinWork self.old self.new (enters_by_pattern self.old
+            (pattern_view _ (λ s. s.now) pattern.now)) }
         ensures path { path_of self.new ≡ path_of self.old }
         ensures kept { Keeps self.old self.new }
     {
+        work_is_bounded::<C, F>();
         let mut piece = String::new(self.bundle.environment.alloc);
         self.write_referred(&mut piece, pattern, inline)?;
         w.write_str(piece.as_str())?;
@@ -218,9 +226,13 @@ where
             transformed self.old.bundle.now) (maybe_arguments
             (option_map (arguments_view _ (λ s. s.now)) (option_copied arguments.entry)))
             (place_of C.meaning self.old) (state_of self.old).budget)) }
+        ensures bounded { IsWithinWork self.old self.new (enters_by_arguments self.old
+            (maybe_arguments (option_map (arguments_view _ (λ s. s.now))
+            (option_copied arguments.entry)))) }
         ensures path { path_of self.new ≡ path_of self.old }
         ensures kept { Keeps self.old self.new }
     {
+        work_is_bounded::<C, F>();
         let alloc = self.bundle.environment.alloc;
         match arguments {
             Some(arguments) => self.find_arguments(arguments),

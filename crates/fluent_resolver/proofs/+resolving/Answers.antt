@@ -34,7 +34,7 @@ use Rattle.fluent_meaning.specs.Substitution as s
 use Rattle.fluent_meaning.specs.Substitution.{both, deeper, rooted}
 use Rattle.fluent_meaning.specs.Told.{State, Writes, Finds, after, budget_of}
 use Rattle.fluent_meaning.specs.Weight.{arguments_weight, elements_weight, expression_weight, ids_weight, inline_weight, inlines_weight, maybe_arguments_weight, nameds_weight}
-use Rattle.fluent_progress.proofs.Telling.{faulty-tells, on-err, on-ok, tells-all, tells-same, told-after, within}
+use Rattle.fluent_progress.proofs.Telling.{faulty-tells, on-err, on-ok, tells-same, told-after, within}
 use Rattle.fluent_progress.specs.Results.{function_result}
 use Rattle.fluent_progress.specs.Views.{args_or_none, given_args, path_of, place_view, resolved_in, state, target_view}
 use Rattle.fluent_progress.specs.declared.progress.Progress.{Progress}

@@ -1,6 +1,7 @@
 //! Rows of numbers: which texts are numbers, what numbers are written as, their integers, operands, categories and options.
 
 mod conversions;
+mod languages;
 mod merged;
 mod names;
 mod operands;
@@ -29,8 +30,12 @@ pub enum Rows {
     TooMany,
     /// The operands of numbers.
     Operands,
-    /// The plural categories of numbers.
+    /// The plural categories of numbers in English.
     Categories,
+    /// The plural categories of numbers in a language.
+    Plurals,
+    /// Which rules a list of locales has.
+    Locales,
     /// Which numbers differ.
     Differing,
     /// What options are once others are merged into them.
@@ -41,7 +46,7 @@ pub enum Rows {
     Named,
 }
 
-pub const FILES: [(&str, Rows); 13] = [
+pub const FILES: [(&str, Rows); 15] = [
     ("values/parts.txt", Rows::Parts),
     ("values/cut.txt", Rows::Cut),
     ("values/back.txt", Rows::Back),
@@ -51,6 +56,8 @@ pub const FILES: [(&str, Rows); 13] = [
     ("values/too_many.txt", Rows::TooMany),
     ("values/operands.txt", Rows::Operands),
     ("values/categories.txt", Rows::Categories),
+    ("values/plurals.txt", Rows::Plurals),
+    ("values/locales.txt", Rows::Locales),
     ("values/differing.txt", Rows::Differing),
     ("values/merged.txt", Rows::Merged),
     ("values/copied.txt", Rows::Copied),
@@ -70,6 +77,8 @@ impl Rows {
             Rows::TooMany => written::is_too_long(alloc, row),
             Rows::Operands => operands::are_operands(row),
             Rows::Categories => operands::are_categories(row),
+            Rows::Plurals => languages::is_category(row),
+            Rows::Locales => languages::are_found(alloc, row),
             Rows::Differing => written::are_differing(row),
             Rows::Merged => merged::is_merged(alloc, row),
             Rows::Copied => merged::is_copied(alloc, row),

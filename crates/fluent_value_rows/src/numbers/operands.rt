@@ -48,7 +48,7 @@ pub fn are_categories(row: Row<'_>) -> Option<bool> {
 }
 
 /// The name of a category.
-fn name_of(category: PluralCategory) -> &'static str {
+pub fn name_of(category: PluralCategory) -> &'static str {
     match category {
         PluralCategory::ZERO => "zero",
         PluralCategory::ONE => "one",

@@ -3,13 +3,14 @@ use Rattle.std.proofs.lemmas.List.{length-take}
 use Rattle.std.proofs.lemmas.Result.{err_from_is_err_and}
 use Rattle.fluent_serve.specs.Devices.{HasFailed}
 use Rattle.fluent_serve.proofs.Runs.{at_start, line_free, serves_whole, serves_all, serves_first, first_in_block, front_in_block, block_done, block_cut}
-use Rattle.fluent_serve.proofs.Outcomes.{on_ok_map, on_ok_always, failed_now, by_error}
+use Rattle.fluent_serve.proofs.Outcomes.{on_ok_map, on_ok_always, failed_now, given_none, given_more, by_error}
 use Rattle.fluent_serve.proofs.serve.answer_all.Goals as goal
 
 pub loop-init : goal.loop-init
 loop-init g c = record {
   so_far = at_start (g.R.Source.remaining c.args.reader.now) (g.W.Sink.contents c.args.writer.now) c.args.waiting.now.line.items c.args.waiting.now.output.items
       (g.E.Engine.reply c.args.engine.now) c.requires.no_line c.requires.no_output;
+  given = given_none (g.R.Source.given c.args.reader.now);
   reader = refl;
   writer = refl;
 }
@@ -17,6 +18,10 @@ loop-init g c = record {
 pub returns-in_err-count-clause-read : goal.returns-in_err-count-clause-read
 returns-in_err-count-clause-read g c = λ is. serves_whole c.loop.invariant.so_far c.in_err-count.ensures.bytes
     (inl (failed_now (g.R.Source.failures c.args.reader.now) (g.R.Source.failures c.loop.reader) (g.R.Source.failures c.read.new.self) c.loop.invariant.reader c.in_err-count.ensures.failed))
+
+pub returns-in_err-count-clause-given_up : goal.returns-in_err-count-clause-given_up
+returns-in_err-count-clause-given_up g c = λ is.
+    inl (failed_now (g.R.Source.failures c.args.reader.now) (g.R.Source.failures c.loop.reader) (g.R.Source.failures c.read.new.self) c.loop.invariant.reader c.in_err-count.ensures.failed)
 
 pub returns-then-count-eq0-clause-ok : goal.returns-then-count-eq0-clause-ok
 returns-then-count-eq0-clause-ok g c = on_ok_map c.answer_end.result (serves_all c.loop.invariant.so_far (rw c.if-count-eq0.true at c.in_ok-count.ensures.bytes.0)) c.answer_end.ensures.ok
@@ -64,6 +69,7 @@ pub loop-preserved : goal.loop-preserved
 loop-preserved g c = record {
   so_far = block_done c.loop.invariant.so_far (g.R.Source.remaining c.read.new.self) _ c.in_ok-count.ensures.bytes.0 c.in_ok-answer_block.ensures.ok c.in_ok-flush.ensures.ok
       c.in_ok-answer_block.ensures.line c.in_ok-flush.ensures.emptied (omega (arith, length-take c.in_ok-count.count c.read.new.buffer, c.in_ok-count.ensures.bound, c.if-count-eq0.false));
+  given = given_more (g.R.Source.given c.args.reader.now) (g.R.Source.given c.loop.reader) (g.R.Source.given c.read.new.self) _ c.in_ok-count.count c.loop.invariant.given c.in_ok-count.ensures.counted (omega (arith, c.if-count-eq0.false));
   reader = c.in_ok-count.ensures.failed ∙ c.loop.invariant.reader;
   writer = c.in_ok-flush.ensures.failures ∙ (c.in_ok-answer_block.ensures.failures ∙ c.loop.invariant.writer);
 }

@@ -1,5 +1,13 @@
-use Rattle.ftl_command.proofs.FaultLemmas.{status_of-among}
 use Rattle.ftl_command.proofs.commands.program.Goals as goal
 
-pub returns-in-Err-clause-statuses : goal.returns-in-Err-clause-statuses
-returns-in-Err-clause-statuses g c = rw c.tell.ensures (status_of-among _)
+pub returns-clause-ended : goal.returns-clause-ended
+returns-clause-ended g c = record {
+  unread = _;
+  input = _;
+  output = _;
+  faults = _;
+  input_new = (c.new-reader.ensures.bytes, c.new-reader.ensures.failures);
+  output_new = (c.new-writer.ensures.bytes, c.new-writer.ensures.failures);
+  faults_new = (c.new-faults.ensures.bytes, c.new-faults.ensures.failures);
+  ends = rw c.new-folder.ensures.failures at c.program_on.ensures.ended;
+}

@@ -3,7 +3,7 @@ use Rattle.std.proofs.lemmas.Result.{IfErr-weaker, IfOk-weaker}
 use Rattle.clap.specs.Words.{IsAmong, app_of, kind_of}
 use Rattle.ftl_words.specs.Meaning.{faults_of, texts}
 use Rattle.ftl_words.proofs.Parsed.{no_faults, asked, among, nothing_asked, not_help_alone, no_help_asked}
-use Rattle.ftl_words.proofs.reading.read_command.Goals as goal
+use Rattle.ftl_words.proofs.reading.command.Goals as goal
 
 pub returns-in-Ok-clause-command : goal.returns-in-Ok-clause-command
 returns-in-Ok-clause-command c =

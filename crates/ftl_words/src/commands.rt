@@ -9,6 +9,8 @@ pub enum Command<'words> {
         isolating: bool,
         /// Whether the last entry of an id counts, and not the first.
         overriding: bool,
+        /// The tag of the locale whose plural rules choose variants, if one is given.
+        locale: Option<&'words str>,
         /// The names of the sources' files.
         files: Vec<&'words str>,
     },

@@ -1,0 +1,2 @@
+pub mod English
+mod Rows

@@ -1,0 +1,70 @@
+use Rattle.std.proofs.Common.{◌∙◌, Err, Ok, ap, refl, sym}
+use Rattle.ftl_words.specs.Meaning.{command_of, texts}
+use Rattle.ftl_command.proofs.EndLemmas.{no_help_by, refused_by, untouched, without_input}
+use Rattle.ftl_command.proofs.FaultLemmas.{status_of-among}
+use Rattle.ftl_command.proofs.commands.program_on.Goals as goal
+
+pub returns-in-Ok-clause-ended : goal.returns-in-Ok-clause-ended
+returns-in-Ok-clause-ended g c = record {
+  outcome = Ok c.in-Ok.end;
+  exact = c.status.ensures;
+  reports = (refl, refl);
+  done = c.in-Ok.ensures.done;
+  help = c.in-Ok.ensures.help;
+  opens = c.in-Ok.ensures.opens;
+  reads = c.in-Ok.ensures.reads;
+  writes = c.in-Ok.ensures.writes;
+  no_input = without_input (command_of (texts c.args.words.now)) (untouched g.I.Source.remaining g.I.Source.failures) c.run_command.ensures.no_input;
+  refused = λ is. absurd cc;
+  not_help = λ is. absurd cc;
+  unknown = tt;
+  reached = tt;
+  unreadable = tt;
+  not_utf8 = tt;
+  right = tt;
+  unread = tt;
+  unwritten = tt;
+  memory_out = λ is. absurd cc;
+  input_failed = λ is. absurd cc;
+  output_cut = λ is. absurd cc;
+  output_failed = λ is. absurd cc;
+}
+
+pub returns-in-Err-clause-ended : goal.returns-in-Err-clause-ended
+returns-in-Err-clause-ended g c = record {
+  outcome = Err c.in-Err.fault;
+  exact = c.tell_on.ensures.status;
+  reports = c.tell_on.ensures.told;
+  done = tt;
+  help = tt;
+  opens = tt;
+  reads = tt;
+  writes = tt;
+  no_input = without_input (command_of (texts c.args.words.now)) (untouched g.I.Source.remaining g.I.Source.failures) c.run_command.ensures.no_input;
+  refused = c.in-Err.ensures.refused;
+  not_help = c.in-Err.ensures.not_help;
+  unknown = c.in-Err.ensures.unknown;
+  reached = c.in-Err.ensures.reached;
+  unreadable = c.in-Err.ensures.unreadable;
+  not_utf8 = c.in-Err.ensures.not_utf8;
+  right = c.in-Err.ensures.right;
+  unread = λ before. untouched g.I.Source.remaining g.I.Source.failures (c.in-Err.ensures.unread before);
+  unwritten = λ before. untouched g.O.Sink.contents g.O.Sink.failures (c.in-Err.ensures.unwritten before);
+  memory_out = c.in-Err.ensures.memory;
+  input_failed = c.in-Err.ensures.input;
+  output_cut = c.in-Err.ensures.output;
+  output_failed = c.in-Err.ensures.failed;
+}
+
+pub returns-in-Err-clause-statuses : goal.returns-in-Err-clause-statuses
+returns-in-Err-clause-statuses g c = rw c.tell_on.ensures.status (status_of-among _)
+
+pub returns-in-Err-clause-refused : goal.returns-in-Err-clause-refused
+returns-in-Err-clause-refused g c = λ two.
+    refused_by (command_of (texts c.args.words.now)) c.in-Err.fault (λ is. c.in-Err.ensures.refused (ap Err is)) c.in-Err.ensures.unknown
+    (sym c.tell_on.ensures.status ∙ two)
+
+pub returns-in-Err-clause-not_help : goal.returns-in-Err-clause-not_help
+returns-in-Err-clause-not_help g c = λ two.
+    no_help_by (texts c.args.words.now) c.in-Err.fault (λ is. c.in-Err.ensures.not_help (ap Err is)) c.in-Err.ensures.unknown
+    (sym c.tell_on.ensures.status ∙ two)

@@ -1,0 +1,96 @@
+-- How the program ends, by what its devices tell.
+use Rattle.std.specs.Prelude.{◌≡◌, ◌⊎◌, ℕ, List, Option, None, Result, Ok, Err, IfOk, OnOk, IfErr, IsErrOf}
+use Rattle.std.specs.Io.KnownBytes.{Appends}
+use Rattle.fluent_requests.specs.Text.{Text}
+use Rattle.fluent_serve.specs.Devices.{HasFailed}
+use Rattle.fluent_serve.specs.Exchange.{Devices, devices_of}
+use Rattle.ftl_words.specs.Meaning.{AskForHelp, AskForHelpAlone, command_of}
+use Rattle.ftl_command.specs.declared.ended.Ended.{Ended}
+use Rattle.ftl_command.specs.declared.fault.Fault.{Fault}
+use Rattle.ftl_command.specs.declared.fault.Fault.TheVariants.{CommandLine, Input, Output, Memory}
+use Rattle.ftl_command.specs.Faults.{outcome_status, fault_line, ReachesFile, SaysNoUtf8, SaysUnknown, FailsAsTold, IsBeforeInput}
+use Rattle.ftl_command.specs.Program.{IsDone, AfterMemory, AfterInput, AfterOutput, WithoutInput, WritesFront, files_named, locale_named}
+use Rattle.ftl_command.specs.Refusals.{IsRight}
+
+-- A device before and after: the bytes that it tells, and how many of its calls have failed.
+pub record Seen : Type 0 where
+  pub before : Option Text
+  pub after : Option Text
+  pub failures_before : ℕ
+  pub failures_after : ℕ
+
+-- by what the device tells
+abbrev pub seen : {D : Type 0} → (D → Option Text) → (D → ℕ) → D → D → Seen
+seen bytes failures before after =
+    record { before = bytes before; after = bytes after; failures_before = failures before; failures_after = failures after }
+
+abbrev pub exchanged : Seen → Seen → Devices
+exchanged input output = devices_of input.before input.after output.before output.after
+
+-- no call of the device failed
+abbrev pub Works : Seen → Type 0
+Works s = s.failures_after ≡ s.failures_before
+
+-- nothing was read or written
+abbrev pub IsUntouched : Seen → Type 0
+IsUntouched s = (s.after ≡ s.before) × Works s
+
+-- The text is written; or a write failed, and a front of it is.
+abbrev pub WritesOrFails : Seen → Text → Type 0
+WritesOrFails s text =
+    (Appends s.before s.after text × Works s) ⊎ (WritesFront s.before s.after text × HasFailed s.failures_before s.failures_after)
+
+-- a fault is reported on one line, and nothing else is
+abbrev pub Reports : Seen → Result Ended Fault → Type 0
+Reports s (Ok end) = IsUntouched s
+Reports s (Err fault) = WritesOrFails s (fault_line fault)
+
+-- The status, and the line of a fault, are those of what the command came to; and that is right. The counts are those of
+-- the files that could not be read, before and after.
+pub record Ends (contents : Text → Option Text) (unread_before unread_after : ℕ) (input output faults : Seen) (words : List Text) (status : ℕ) : Type 0 where
+  pub outcome : Result Ended Fault
+  pub exact : status ≡ outcome_status outcome
+  pub reports : Reports faults outcome
+  -- without a fault all is done
+  pub done : IfOk outcome (IsDone contents (exchanged input output) (command_of words))
+  pub help : OnOk outcome (command_of words ≡ None → AskForHelp words)
+  pub opens : OnOk outcome (unread_after ≡ unread_before)
+  pub reads : OnOk outcome (Works input)
+  pub writes : OnOk outcome (Works output)
+  pub no_input : WithoutInput (command_of words) (IsUntouched input)
+  -- what a fault says is so, and before the words and all files are read nothing else is read or written
+  pub refused : IsErrOf outcome CommandLine → command_of words ≡ None
+  pub not_help : IsErrOf outcome CommandLine → AskForHelpAlone words → ⊥
+  pub unknown : IfErr outcome (SaysUnknown (locale_named (command_of words)))
+  pub reached : IfErr outcome (ReachesFile contents (files_named (command_of words)))
+  pub unreadable : IfErr outcome (FailsAsTold unread_before unread_after)
+  pub not_utf8 : IfErr outcome (SaysNoUtf8 contents)
+  pub right : IfErr outcome (IsRight contents (command_of words))
+  pub unread : IfErr outcome (λ fault. IsBeforeInput fault → IsUntouched input)
+  pub unwritten : IfErr outcome (λ fault. IsBeforeInput fault → IsUntouched output)
+  -- what was written before another fault stays written
+  pub memory_out : IsErrOf outcome Memory → AfterMemory contents (exchanged input output) (command_of words)
+  pub input_failed : IsErrOf outcome Input → AfterInput contents (exchanged input output) (HasFailed input.failures_before input.failures_after) (command_of words)
+  pub output_cut : IsErrOf outcome Output → AfterOutput contents (exchanged input output) (command_of words)
+  pub output_failed : IsErrOf outcome Output → HasFailed output.failures_before output.failures_after
+
+-- the device begins with these bytes, and no call has failed yet
+abbrev pub Begins : Seen → Option Text → Type 0
+Begins s bytes = (s.before ≡ bytes) × (s.failures_before ≡ 0)
+
+-- The same over files of which nothing is known, and devices that are handed over with these bytes.
+pub record EndsOver (left held reported : Option Text) (words : List Text) (status : ℕ) : Type 0 where
+  pub unread : ℕ
+  pub input : Seen
+  pub output : Seen
+  pub faults : Seen
+  pub input_new : Begins input left
+  pub output_new : Begins output held
+  pub faults_new : Begins faults reported
+  pub ends : Ends (λ _. None) 0 unread input output faults words status
+
+-- the line of a fault is reported on a device that is handed over with these bytes
+pub record ReportsOver (reported : Option Text) (fault : Fault) : Type 0 where
+  pub faults : Seen
+  pub faults_new : Begins faults reported
+  pub reports : WritesOrFails faults (fault_line fault)

@@ -1,0 +1,47 @@
+//! The line that a fault is told on.
+ghost use Rattle.std.specs.Prelude.{◌≡◌, OnOk, OnErr};
+ghost use Rattle.std.specs.Io.KnownBytes.{Appends};
+ghost use Rattle.fluent_serve.specs.Devices.{HasFailed};
+ghost use Rattle.ftl_command.specs.Ends.{seen, ReportsOver, WritesOrFails};
+ghost use Rattle.ftl_command.specs.Faults.{fault_line, status_of};
+ghost use Rattle.ftl_command.specs.Program.{WritesFront};
+
+use crate::fault::Fault;
+use fluent_serve::serve::write_all;
+use fluent_serve::stream::{FromWrite, Sink, WriteFailed};
+use std::io;
+
+/// Tells a fault on one line, and gives the program's status. No memory is taken. Where `faults` fails, the status alone
+/// tells it.
+pub fn tell<F: io::Write + Drop>(faults: F, fault: Fault<'_>) -> u8
+    ensures status { result ≡ status_of fault.entry }
+    ensures told { ReportsOver (F.contents faults) fault.entry }
+{
+    tell_on(&mut FromWrite::new(faults), fault)
+}
+
+/// The same on a sink, which tells what it took: the line, or where it failed a front of that.
+pub fn tell_on<S: Sink>(faults: &mut S, fault: Fault<'_>) -> u8
+    ensures status { result ≡ status_of fault.entry }
+    ensures told { WritesOrFails (seen S.contents S.failures faults.old faults.new)
+        (fault_line fault.entry) }
+{
+    let _ = write_line(faults, fault);
+    fault.status()
+}
+
+/// Writes the line of a fault.
+fn write_line<S: Sink>(faults: &mut S, fault: Fault<'_>) -> Result<(), WriteFailed>
+    ensures written { OnOk result (Appends (S.contents faults.old) (S.contents faults.new)
+        (fault_line fault.entry)) }
+    ensures writes { OnOk result (S.failures faults.new ≡ S.failures faults.old) }
+    ensures front { OnErr result (WritesFront (S.contents faults.old) (S.contents faults.new)
+        (fault_line fault.entry)) }
+    ensures failed { OnErr result (HasFailed (S.failures faults.old) (S.failures faults.new)) }
+{
+    let (name, text) = fault.parts();
+    write_all(faults, b"ftl: ")?;
+    write_all(faults, name.as_bytes())?;
+    write_all(faults, text.as_bytes())?;
+    write_all(faults, b"\n")
+}
