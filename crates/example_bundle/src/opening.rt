@@ -8,7 +8,7 @@ use fluent_bundle::{FluentArgs, FluentFunction, FluentValue};
 use std::alloc::{AllocError, Global};
 use std::borrow::CowStr;
 
-/// `IS_OPEN($day)`: `no` on Sundays, and else `yes`.
+/// `IS_OPEN($day)`: `no` on Sundays, and otherwise `yes`.
 #[derive(Clone, Copy, Debug, PartialEq, Eq)]
 pub struct IsOpen;
 

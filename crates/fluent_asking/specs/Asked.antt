@@ -1,5 +1,8 @@
 -- What a pattern gives a request, and which of its errors are told.
-use Rattle.std.specs.Prelude.{◌≡◌, List, ◌++◌, map, Option, None, Some}
+use Rattle.std.specs.Prelude.{◌≡◌, List, ◌++◌, map, IsSome, OnErr, OnOk, Option, None, Result, Some}
+use Rattle.std.specs.Cow.{cow_str_bytes}
+use Rattle.std.specs.Global.{Global}
+use Rattle.std.specs.declared.borrow.CowStr.{CowStr}
 use Rattle.std.specs.Global.{Vec}
 use denote.Ref.{Bor}
 use Rattle.fluent_ast.specs.View.{pattern_view}
@@ -14,7 +17,10 @@ use Rattle.fluent_meaning.specs.Environment.{Environment}
 use Rattle.fluent_meaning.specs.Refused.{Begins}
 use Rattle.fluent_meaning.specs.Steps.{Done}
 use Rattle.fluent_meaning.specs.Substitution.{answer_handed, answer_written}
-use Rattle.fluent_progress.specs.Views.{args_or_none, given_args}
+use Rattle.fluent_progress.specs.Views.{args_or_none, given_args, resolved_in}
+use Rattle.fluent_progress.specs.declared.place.Place.{Place}
+use Rattle.fluent_value.specs.Shown.{shown_text}
+use Rattle.fluent_value.specs.Value as v
 use Rattle.fluent_value.specs.declared.args.FluentArgs.{FluentArgs}
 
 -- the errors of a list
@@ -37,6 +43,18 @@ pub record WritesFirst (held now : Text) (answer : Done Text) : Type 0 where
   pub first : Begins written answer.value
   pub text : now ≡ held ++ written
 
+-- on Err the first of an answer's errors are reported
+abbrev pub ReportsFirst : {A T E : Type 0} → Result T E → Vec FluentError → Vec FluentError → Done A → Type 0
+ReportsFirst result old new answer = OnErr result (TellsFirst old new answer)
+
+-- on Ok an answer's text stands after what a writer held
+abbrev pub WritesWhole : {W T E : Type 0} → (W → Text) → Result T E → W → W → Done Text → Type 0
+WritesWhole text result held now answer = OnOk result (text now ≡ text held ++ answer.value)
+
+-- on Err a beginning of it does
+abbrev pub WritesStart : {W T E : Type 0} → (W → Text) → Result T E → W → W → Done Text → Type 0
+WritesStart text result held now answer = OnErr result (WritesFirst (text held) (text now) answer)
+
 -- the text of a pattern that is one text
 abbrev pub lone_text : Elements → Option Text
 lone_text t.no_elements = None
@@ -53,3 +71,15 @@ module _ {C S F : Type 0} (meaning : C → S) (env : Environment S F) (args : Op
   -- what of it is handed out: the whole text as a value is shown
   abbrev pub handed : Done Text
   handed = answer_handed env (args_or_none meaning (given_args meaning args)) (pattern_view _ (λ s. s.now) pattern)
+
+-- what a pattern writes at a place
+abbrev pub answer : {C S F E : Type 0} → (C → S) → (E → Environment S F) → Place C F E → Pattern (Bor Text) → Done Text
+answer meaning environment place pattern = asked meaning (resolved_in environment place) place.arguments pattern
+
+-- the pattern is one text
+abbrev pub IsText : Pattern (Bor Text) → Type 0
+IsText pattern = IsSome (lone_text (pattern_view _ (λ s. s.now) pattern))
+
+-- this is a text, as a value is shown
+abbrev pub Shows : {S : Type 0} → (v.Value S → Option Text) → (S → Text) → CowStr Global → CowStr Global → Type 0
+Shows formatted shown text out = cow_str_bytes out ≡ shown_text formatted shown (v.text (cow_str_bytes text))

@@ -1,13 +1,11 @@
 //! What a pattern gives a request.
 
-ghost use Rattle.std.specs.Prelude.{◌≡◌, ◌++◌, false, IfOk, IsOkAnd, IsSome, List, OnErr, OnOk, Some, option_copied, string_bytes};
+ghost use Rattle.std.specs.Prelude.{◌≡◌, false, IfOk, IsOkAnd, List, OnOk, Some, option_copied, string_bytes};
 ghost use Rattle.std.specs.Cow.{IsBorrowedStr, cow_str_bytes};
-ghost use Rattle.fluent_asking.specs.Asked.{TellsAll, TellsFirst, WritesFirst, asked, lone_text, told};
-ghost use Rattle.fluent_ast.specs.View.{pattern_view};
+ghost use Rattle.fluent_asking.specs.Asked.{IsText, ReportsFirst, Shows, TellsAll, WritesStart, WritesWhole, answer, lone_text, told};
+ghost use Rattle.fluent_ast.specs.Borrowed.{elements_of};
 ghost use Rattle.fluent_errors.specs.Errors.{Reported};
-ghost use Rattle.fluent_progress.specs.Views.{resolved_in, state};
-ghost use Rattle.fluent_value.specs.Shown.{shown_text};
-ghost use Rattle.fluent_value.specs.Value as v;
+ghost use Rattle.fluent_progress.specs.Views.{state};
 
 use crate::written::write_pieces;
 use fluent_ast::{Pattern, PatternElement};
@@ -23,22 +21,22 @@ use std::mem;
 /// How many bytes a text has room for at first. Most texts take no more, and are never moved.
 const ROOM: usize = 64;
 
-/// What a pattern gives: a text without placeables as it lies, if nothing changes it, and any other anew. The only error is that
-/// memory runs out; the first of the pattern's errors are told then.
+/// What a pattern gives: a text without placeables as it is, if nothing changes it, and any other anew.
+///
+/// # Errors
+/// [`AllocError`] if memory runs out; the first of the pattern's errors are reported.
 pub fn answer<'b, 'r, 's, 'a, C: FluentType + Drop, F, E: Context<C, F>>(
     place: &Place<'b, 'r, 's, 'a, C, F, E>,
     pattern: &'r Pattern<&'s str>,
     errors: &mut Vec<FluentError>,
 ) -> Result<CowStr<'s>, AllocError>
     ensures text { IfOk result (λ text. cow_str_bytes text
-        ≡ (asked C.meaning (resolved_in E.environment place.now) place.now.arguments
-        pattern.now).value) }
+        ≡ (answer C.meaning E.environment place.now pattern.now).value) }
     ensures told { OnOk result (TellsAll errors.old errors.new
-        (asked C.meaning (resolved_in E.environment place.now) place.now.arguments pattern.now)) }
-    ensures refused { OnErr result (TellsFirst errors.old errors.new
-        (asked C.meaning (resolved_in E.environment place.now) place.now.arguments pattern.now)) }
-    ensures borrowed { E.has_transform place.now.context.now ≡ false
-        → IsSome (lone_text (pattern_view _ (λ s. s.now) pattern.now))
+        (answer C.meaning E.environment place.now pattern.now)) }
+    ensures refused { ReportsFirst result errors.old errors.new
+        (answer C.meaning E.environment place.now pattern.now) }
+    ensures borrowed { E.has_transform place.now.context.now ≡ false → IsText pattern.now
         → IsOkAnd result IsBorrowedStr }
 {
     match lone_text(pattern) {
@@ -49,7 +47,7 @@ pub fn answer<'b, 'r, 's, 'a, C: FluentType + Drop, F, E: Context<C, F>>(
 
 /// The text of a pattern that is one text.
 fn lone_text<'s>(pattern: &Pattern<&'s str>) -> Option<&'s str>
-    ensures { option_copied result ≡ lone_text (pattern_view _ (λ s. s.now) pattern.now) }
+    ensures { option_copied result ≡ lone_text (elements_of pattern.now) }
 {
     let (first, rest) = pattern.elements.split_first()?;
     match first {
@@ -58,19 +56,18 @@ fn lone_text<'s>(pattern: &Pattern<&'s str>) -> Option<&'s str>
     }
 }
 
-/// What a pattern writes. The only error is that memory runs out; the first of the pattern's errors are told then.
+/// What a pattern writes. If memory runs out, the first of the pattern's errors are reported.
 fn resolved<'b, 'r, 's, 'a, C: FluentType + Drop, F, E: Context<C, F>>(
     place: &Place<'b, 'r, 's, 'a, C, F, E>,
     pattern: &'r Pattern<&'s str>,
     errors: &mut Vec<FluentError>,
 ) -> Result<String, AllocError>
     ensures text { IfOk result (λ text. string_bytes text
-        ≡ (asked C.meaning (resolved_in E.environment place.now) place.now.arguments
-        pattern.now).value) }
+        ≡ (answer C.meaning E.environment place.now pattern.now).value) }
     ensures told { OnOk result (TellsAll errors.old errors.new
-        (asked C.meaning (resolved_in E.environment place.now) place.now.arguments pattern.now)) }
-    ensures refused { OnErr result (TellsFirst errors.old errors.new
-        (asked C.meaning (resolved_in E.environment place.now) place.now.arguments pattern.now)) }
+        (answer C.meaning E.environment place.now pattern.now)) }
+    ensures refused { ReportsFirst result errors.old errors.new
+        (answer C.meaning E.environment place.now pattern.now) }
 {
     let alloc = place.context.alloc();
     let mut text = String::with_capacity(alloc, ROOM)?;
@@ -86,7 +83,7 @@ fn resolved<'b, 'r, 's, 'a, C: FluentType + Drop, F, E: Context<C, F>>(
 ///
 /// # Errors
 /// [`Writer`](WriteError::Writer) if the writer refuses a piece, [`Memory`](WriteError::Memory) if memory runs out. The writer
-/// took the pieces before, and the first of the pattern's errors are told.
+/// took the pieces before, and the first of the pattern's errors are reported.
 pub fn write_answer<'b, 'r, 's, 'a, W, C, F, E>(
     w: &mut W,
     place: &Place<'b, 'r, 's, 'a, C, F, E>,
@@ -97,15 +94,14 @@ where
     W: TextWrite,
     C: FluentType + Drop,
     E: Context<C, F>,
-    ensures wrote { OnOk result (W.text w.new ≡ W.text w.old
-        ++ (asked C.meaning (resolved_in E.environment place.now) place.now.arguments
-        pattern.now).value) }
-    ensures wrote_first { OnErr result (WritesFirst (W.text w.old) (W.text w.new)
-        (asked C.meaning (resolved_in E.environment place.now) place.now.arguments pattern.now)) }
+    ensures wrote { WritesWhole W.text result w.old w.new
+        (answer C.meaning E.environment place.now pattern.now) }
+    ensures wrote_first { WritesStart W.text result w.old w.new
+        (answer C.meaning E.environment place.now pattern.now) }
     ensures told { OnOk result (TellsAll errors.old errors.new
-        (asked C.meaning (resolved_in E.environment place.now) place.now.arguments pattern.now)) }
-    ensures told_first { OnErr result (TellsFirst errors.old errors.new
-        (asked C.meaning (resolved_in E.environment place.now) place.now.arguments pattern.now)) }
+        (answer C.meaning E.environment place.now pattern.now)) }
+    ensures told_first { ReportsFirst result errors.old errors.new
+        (answer C.meaning E.environment place.now pattern.now) }
 {
     let alloc = place.context.alloc();
     let list = mem::replace(errors, Vec::new(alloc));
@@ -115,7 +111,7 @@ where
     written
 }
 
-/// Puts the errors that were told back where they were taken from.
+/// Puts the errors that were reported back where they were taken from.
 fn put_back(errors: &mut Vec<FluentError>, progress: Progress<'_, '_>)
     ensures { (list : List Reported) → (state progress.entry).errors ≡ Some list
         → told errors.new ≡ list }
@@ -125,15 +121,15 @@ fn put_back(errors: &mut Vec<FluentError>, progress: Progress<'_, '_>)
     }
 }
 
-/// Hands a text out as a value is shown: where no formatter is set, as it lies, which takes no memory. The only error is that
-/// memory runs out.
+/// Hands a text out as a value is shown: if no formatter is set, as it is, which allocates nothing.
+///
+/// # Errors
+/// [`AllocError`] if memory runs out; nothing is left behind.
 pub fn hand_out<'s, C: FluentType + Drop, V: ValueScope<C>>(
     scope: &V,
     text: CowStr<'s>,
 ) -> Result<CowStr<'s>, AllocError>
-    ensures text { IfOk result (λ out. cow_str_bytes out
-        ≡ shown_text (V.formatted scope.now) (V.shown scope.now)
-        (v.text (cow_str_bytes text.entry))) }
+    ensures text { IfOk result (Shows (V.formatted scope.now) (V.shown scope.now) text.entry) }
     ensures borrowed { V.has_formatter scope.now ≡ false → IsBorrowedStr text.entry
         → IsOkAnd result IsBorrowedStr }
 {

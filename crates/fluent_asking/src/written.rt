@@ -1,11 +1,8 @@
 //! Patterns that are written to a program's own writer, piece by piece.
 
 ghost use Rattle.std.specs.Prelude.{◌≡◌, ◌++◌, None, OnErr, OnOk, false};
-ghost use Rattle.fluent_ast.specs.View.{expression_view, pattern_view};
-ghost use Rattle.fluent_meaning.specs.Refused.{WritesSome};
-ghost use Rattle.fluent_meaning.specs.Substitution as s;
-ghost use Rattle.fluent_meaning.specs.Told.{Writes};
-ghost use Rattle.fluent_progress.specs.Views.{place_view, resolved_in, state};
+ghost use Rattle.fluent_asking.specs.Pieces.{WritesOnOk, WritesSomeOnErr};
+ghost use Rattle.fluent_resolver.specs.Steps.{pattern_step, placeable_step};
 
 use fluent_ast::{Expression, Pattern, PatternElement};
 use fluent_progress::{Context, Place, Progress};
@@ -28,14 +25,10 @@ where
     W: TextWrite,
     C: FluentType + Drop,
     E: Context<C, F>,
-    ensures wrote { OnOk result (Writes (W.text w.old) (W.text w.new) (state progress.old)
-        (state progress.new) (s.pattern_written (resolved_in E.environment place.now)
-        (pattern_view _ (λ s. s.now) pattern.now) (place_view C.meaning place.now None
-        progress.old))) }
-    ensures refused { OnErr result (WritesSome (W.text w.old) (W.text w.new) (state progress.old)
-        (state progress.new) (s.pattern_written (resolved_in E.environment place.now)
-        (pattern_view _ (λ s. s.now) pattern.now) (place_view C.meaning place.now None
-        progress.old))) }
+    ensures wrote { WritesOnOk W.text result w.old w.new progress.old progress.new
+        (pattern_step C.meaning E.environment place.now None pattern.now) }
+    ensures refused { WritesSomeOnErr W.text result w.old w.new progress.old progress.new
+        (pattern_step C.meaning E.environment place.now None pattern.now) }
 {
     for element in &pattern.elements {
         if progress.dirty {
@@ -79,14 +72,10 @@ where
     C: FluentType + Drop,
     E: Context<C, F>,
     requires { progress.now.dirty ≡ false }
-    ensures wrote { OnOk result (Writes (W.text w.old) (W.text w.new) (state progress.old)
-        (state progress.new) (s.placeable_written (resolved_in E.environment place.now)
-        (pattern_view _ (λ s. s.now) whole.now) (expression_view _ (λ s. s.now) expression.now)
-        (place_view C.meaning place.now None progress.old))) }
-    ensures refused { OnErr result (WritesSome (W.text w.old) (W.text w.new) (state progress.old)
-        (state progress.new) (s.placeable_written (resolved_in E.environment place.now)
-        (pattern_view _ (λ s. s.now) whole.now) (expression_view _ (λ s. s.now) expression.now)
-        (place_view C.meaning place.now None progress.old))) }
+    ensures wrote { WritesOnOk W.text result w.old w.new progress.old progress.new
+        (placeable_step C.meaning E.environment place.now None whole.now expression.now) }
+    ensures refused { WritesSomeOnErr W.text result w.old w.new progress.old progress.new
+        (placeable_step C.meaning E.environment place.now None whole.now expression.now) }
     ensures path { OnOk result (progress.new.path.items ≡ progress.old.path.items) }
 {
     let mut piece = String::new(place.context.alloc());

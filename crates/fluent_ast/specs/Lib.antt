@@ -1,2 +1,4 @@
 pub mod View
+pub mod Borrowed
+pub mod Copy
 pub mod Equality

@@ -131,9 +131,29 @@ module _ (S : Type 0) (text_of : S → List ℕ) where
   abbrev pub named_view : NamedArgument S → Named
   named_view = fold-NamedArgument _ _ _ _ _ _ _ _ expression_step inline_step element_step arguments_step named_step pattern_step variant_step
 
+  -- the elements of a list, as the plain tree has them
+  abbrev pub elements_view : List (PatternElement S) → t.Elements
+  elements_view es = elements_of (map element_view es)
+
+  -- the variants of a list
+  abbrev pub variants_view : List (VariantOf S) → t.Variants
+  variants_view vs = variants_of (map variant_view vs)
+
+  -- the arguments of a list without a name
+  abbrev pub inlines_view : List (InlineExpression S) → t.Inlines
+  inlines_view es = inlines_of (map inline_view es)
+
+  -- the arguments of a list with a name
+  abbrev pub nameds_view : List (NamedArgument S) → t.Nameds
+  nameds_view ns = nameds_of (map named_view ns)
+
   -- an attribute
   abbrev pub attribute_view : Attribute S → t.Attribute
   attribute_view a = record { id = name_of a.id; value = pattern_view a.value }
+
+  -- the attributes of a list
+  abbrev pub attributes_view : List (Attribute S) → List t.Attribute
+  attributes_view as_ = map attribute_view as_
 
   -- the lines of a comment
   abbrev pub comment_view : Comment S → List (List ℕ)

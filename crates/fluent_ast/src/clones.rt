@@ -1,9 +1,8 @@
 //! `try_clone` of each type of the tree: the same node, each text copied by [`Slice::try_clone`].
-//!
-//! The only error is that memory runs out. Nothing of the copy is left then.
 
-ghost use Rattle.std.specs.Prelude.{◌≡◌, IfOk, map, option_map};
-ghost use Rattle.fluent_ast.specs.View.{pattern_view, element_view, expression_view, inline_view, variant_view, arguments_view, named_view, key_of, name_of, comment_view, attribute_view, message_view, term_view, entry_view, resource_view};
+ghost use Rattle.std.specs.Prelude.{◌≡◌, IfOk, option_map};
+ghost use Rattle.fluent_ast.specs.Copy.{GivesCopy};
+ghost use Rattle.fluent_ast.specs.View.{pattern_view, element_view, expression_view, inline_view, variant_view, arguments_view, named_view, key_of, name_of, comment_view, attribute_view, attributes_view, message_view, term_view, entry_view, resource_view};
 
 use crate::copies::{
     clone_arguments, clone_element, clone_expression, clone_identifier, clone_inline, clone_key,
@@ -18,8 +17,11 @@ use std::alloc::{AllocError, Global};
 
 impl<'s, S: Slice<'s>> Identifier<S> {
     /// The same name.
+    ///
+    /// # Errors
+    /// [`AllocError`] if memory runs out; nothing is left behind.
     pub fn try_clone(&self, alloc: Global) -> Result<Self, AllocError>
-        ensures { IfOk result (λ copy. name_of S S.text copy ≡ name_of S S.text self.now) }
+        ensures { GivesCopy (name_of S S.text) self.now result }
     {
         clone_identifier(&Slices::new(), alloc, self)
     }
@@ -27,8 +29,11 @@ impl<'s, S: Slice<'s>> Identifier<S> {
 
 impl<'s, S: Slice<'s>> VariantKey<S> {
     /// The same key.
+    ///
+    /// # Errors
+    /// [`AllocError`] if memory runs out; nothing is left behind.
     pub fn try_clone(&self, alloc: Global) -> Result<Self, AllocError>
-        ensures { IfOk result (λ copy. key_of S S.text copy ≡ key_of S S.text self.now) }
+        ensures { GivesCopy (key_of S S.text) self.now result }
     {
         clone_key(&Slices::new(), alloc, self)
     }
@@ -36,9 +41,11 @@ impl<'s, S: Slice<'s>> VariantKey<S> {
 
 impl<'s, S: Slice<'s>> Pattern<S> {
     /// The same pattern.
+    ///
+    /// # Errors
+    /// [`AllocError`] if memory runs out; nothing is left behind.
     pub fn try_clone(&self, alloc: Global) -> Result<Self, AllocError>
-        ensures { IfOk result (λ copy. pattern_view S S.text copy
-            ≡ pattern_view S S.text self.now) }
+        ensures { GivesCopy (pattern_view S S.text) self.now result }
     {
         clone_pattern(&Slices::new(), alloc, self)
     }
@@ -46,9 +53,11 @@ impl<'s, S: Slice<'s>> Pattern<S> {
 
 impl<'s, S: Slice<'s>> PatternElement<S> {
     /// The same element.
+    ///
+    /// # Errors
+    /// [`AllocError`] if memory runs out; nothing is left behind.
     pub fn try_clone(&self, alloc: Global) -> Result<Self, AllocError>
-        ensures { IfOk result (λ copy. element_view S S.text copy
-            ≡ element_view S S.text self.now) }
+        ensures { GivesCopy (element_view S S.text) self.now result }
     {
         clone_element(&Slices::new(), alloc, self)
     }
@@ -56,9 +65,11 @@ impl<'s, S: Slice<'s>> PatternElement<S> {
 
 impl<'s, S: Slice<'s>> Expression<S> {
     /// The same expression.
+    ///
+    /// # Errors
+    /// [`AllocError`] if memory runs out; nothing is left behind.
     pub fn try_clone(&self, alloc: Global) -> Result<Self, AllocError>
-        ensures { IfOk result (λ copy. expression_view S S.text copy
-            ≡ expression_view S S.text self.now) }
+        ensures { GivesCopy (expression_view S S.text) self.now result }
     {
         clone_expression(&Slices::new(), alloc, self)
     }
@@ -66,8 +77,11 @@ impl<'s, S: Slice<'s>> Expression<S> {
 
 impl<'s, S: Slice<'s>> InlineExpression<S> {
     /// The same expression.
+    ///
+    /// # Errors
+    /// [`AllocError`] if memory runs out; nothing is left behind.
     pub fn try_clone(&self, alloc: Global) -> Result<Self, AllocError>
-        ensures { IfOk result (λ copy. inline_view S S.text copy ≡ inline_view S S.text self.now) }
+        ensures { GivesCopy (inline_view S S.text) self.now result }
     {
         clone_inline(&Slices::new(), alloc, self)
     }
@@ -75,9 +89,11 @@ impl<'s, S: Slice<'s>> InlineExpression<S> {
 
 impl<'s, S: Slice<'s>> Variant<S> {
     /// The same variant.
+    ///
+    /// # Errors
+    /// [`AllocError`] if memory runs out; nothing is left behind.
     pub fn try_clone(&self, alloc: Global) -> Result<Self, AllocError>
-        ensures { IfOk result (λ copy. variant_view S S.text copy
-            ≡ variant_view S S.text self.now) }
+        ensures { GivesCopy (variant_view S S.text) self.now result }
     {
         clone_variant(&Slices::new(), alloc, self)
     }
@@ -85,9 +101,11 @@ impl<'s, S: Slice<'s>> Variant<S> {
 
 impl<'s, S: Slice<'s>> CallArguments<S> {
     /// The same arguments.
+    ///
+    /// # Errors
+    /// [`AllocError`] if memory runs out; nothing is left behind.
     pub fn try_clone(&self, alloc: Global) -> Result<Self, AllocError>
-        ensures { IfOk result (λ copy. arguments_view S S.text copy
-            ≡ arguments_view S S.text self.now) }
+        ensures { GivesCopy (arguments_view S S.text) self.now result }
     {
         clone_arguments(&Slices::new(), alloc, self)
     }
@@ -95,8 +113,11 @@ impl<'s, S: Slice<'s>> CallArguments<S> {
 
 impl<'s, S: Slice<'s>> NamedArgument<S> {
     /// The same argument.
+    ///
+    /// # Errors
+    /// [`AllocError`] if memory runs out; nothing is left behind.
     pub fn try_clone(&self, alloc: Global) -> Result<Self, AllocError>
-        ensures { IfOk result (λ copy. named_view S S.text copy ≡ named_view S S.text self.now) }
+        ensures { GivesCopy (named_view S S.text) self.now result }
     {
         clone_named(&Slices::new(), alloc, self)
     }
@@ -104,9 +125,11 @@ impl<'s, S: Slice<'s>> NamedArgument<S> {
 
 impl<'s, S: Slice<'s>> Comment<S> {
     /// The same comment.
+    ///
+    /// # Errors
+    /// [`AllocError`] if memory runs out; nothing is left behind.
     pub fn try_clone(&self, alloc: Global) -> Result<Self, AllocError>
-        ensures { IfOk result (λ copy. comment_view S S.text copy
-            ≡ comment_view S S.text self.now) }
+        ensures { GivesCopy (comment_view S S.text) self.now result }
     {
         let mut content = Vec::new(alloc);
         for line in &self.content {
@@ -119,9 +142,11 @@ impl<'s, S: Slice<'s>> Comment<S> {
 
 impl<'s, S: Slice<'s>> Attribute<S> {
     /// The same attribute.
+    ///
+    /// # Errors
+    /// [`AllocError`] if memory runs out; nothing is left behind.
     pub fn try_clone(&self, alloc: Global) -> Result<Self, AllocError>
-        ensures { IfOk result (λ copy. attribute_view S S.text copy
-            ≡ attribute_view S S.text self.now) }
+        ensures { GivesCopy (attribute_view S S.text) self.now result }
     {
         let id = self.id.try_clone(alloc)?;
         let value = self.value.try_clone(alloc)?;
@@ -133,8 +158,8 @@ fn clone_attributes<'s, S: Slice<'s>>(
     alloc: Global,
     attributes: &[Attribute<S>],
 ) -> Result<Vec<Attribute<S>>, AllocError>
-    ensures { IfOk result (λ copies. map (attribute_view S S.text) copies.items
-        ≡ map (attribute_view S S.text) attributes.now) }
+    ensures { IfOk result (λ copies. attributes_view S S.text copies.items
+        ≡ attributes_view S S.text attributes.now) }
 {
     let mut copies = Vec::new(alloc);
     for attribute in attributes {
@@ -147,8 +172,7 @@ fn clone_comment<'s, S: Slice<'s>>(
     alloc: Global,
     comment: &Option<Comment<S>>,
 ) -> Result<Option<Comment<S>>, AllocError>
-    ensures { IfOk result (λ copy. option_map (comment_view S S.text) copy
-        ≡ option_map (comment_view S S.text) comment.now) }
+    ensures { GivesCopy (option_map (comment_view S S.text)) comment.now result }
 {
     match comment {
         Some(comment) => Ok(Some(comment.try_clone(alloc)?)),
@@ -160,8 +184,7 @@ fn clone_value<'s, S: Slice<'s>>(
     alloc: Global,
     value: &Option<Pattern<S>>,
 ) -> Result<Option<Pattern<S>>, AllocError>
-    ensures { IfOk result (λ copy. option_map (pattern_view S S.text) copy
-        ≡ option_map (pattern_view S S.text) value.now) }
+    ensures { GivesCopy (option_map (pattern_view S S.text)) value.now result }
 {
     match value {
         Some(value) => Ok(Some(value.try_clone(alloc)?)),
@@ -171,9 +194,11 @@ fn clone_value<'s, S: Slice<'s>>(
 
 impl<'s, S: Slice<'s>> Message<S> {
     /// The same message.
+    ///
+    /// # Errors
+    /// [`AllocError`] if memory runs out; nothing is left behind.
     pub fn try_clone(&self, alloc: Global) -> Result<Self, AllocError>
-        ensures { IfOk result (λ copy. message_view S S.text copy
-            ≡ message_view S S.text self.now) }
+        ensures { GivesCopy (message_view S S.text) self.now result }
     {
         Ok(Message {
             id: self.id.try_clone(alloc)?,
@@ -186,8 +211,11 @@ impl<'s, S: Slice<'s>> Message<S> {
 
 impl<'s, S: Slice<'s>> Term<S> {
     /// The same term.
+    ///
+    /// # Errors
+    /// [`AllocError`] if memory runs out; nothing is left behind.
     pub fn try_clone(&self, alloc: Global) -> Result<Self, AllocError>
-        ensures { IfOk result (λ copy. term_view S S.text copy ≡ term_view S S.text self.now) }
+        ensures { GivesCopy (term_view S S.text) self.now result }
     {
         Ok(Term {
             id: self.id.try_clone(alloc)?,
@@ -200,8 +228,11 @@ impl<'s, S: Slice<'s>> Term<S> {
 
 impl<'s, S: Slice<'s>> Entry<S> {
     /// The same entry.
+    ///
+    /// # Errors
+    /// [`AllocError`] if memory runs out; nothing is left behind.
     pub fn try_clone(&self, alloc: Global) -> Result<Self, AllocError>
-        ensures { IfOk result (λ copy. entry_view S S.text copy ≡ entry_view S S.text self.now) }
+        ensures { GivesCopy (entry_view S S.text) self.now result }
     {
         match self {
             Entry::Message(message) => Ok(Entry::Message(message.try_clone(alloc)?)),
@@ -220,9 +251,11 @@ impl<'s, S: Slice<'s>> Entry<S> {
 
 impl<'s, S: Slice<'s>> Resource<S> {
     /// The same tree.
+    ///
+    /// # Errors
+    /// [`AllocError`] if memory runs out; nothing is left behind.
     pub fn try_clone(&self, alloc: Global) -> Result<Self, AllocError>
-        ensures { IfOk result (λ copy. resource_view S S.text copy
-            ≡ resource_view S S.text self.now) }
+        ensures { GivesCopy (resource_view S S.text) self.now result }
     {
         let mut body = Vec::new(alloc);
         for entry in &self.body {

@@ -5,6 +5,7 @@
 ghost use Rattle.std.specs.Prelude.{◌≡◌, IfOk, map, option_map};
 ghost use Rattle.fluent_ast.specs.declared.InlineExpression.TheVariants.{StringLiteral, NumberLiteral, FunctionReference, MessageReference, TermReference, VariableReference};
 ghost use Rattle.fluent_grammar.specs.Tree.{nested};
+ghost use Rattle.fluent_ast.specs.Copy.{GivesCopy};
 ghost use Rattle.fluent_ast.specs.View.{pattern_view, element_view, expression_view, inline_view, variant_view, arguments_view, named_view, key_of, name_of};
 
 use crate::{
@@ -19,7 +20,7 @@ pub(crate) fn clone_identifier<S: Drop, T: Texts<S>>(
     alloc: Global,
     id: &Identifier<S>,
 ) -> Result<Identifier<S>, AllocError>
-    ensures { IfOk result (λ copy. name_of S T.text copy ≡ name_of S T.text id.now) }
+    ensures { GivesCopy (name_of S T.text) id.now result }
 {
     let name = texts.try_clone(&id.name, alloc)?;
     Ok(Identifier { name })
@@ -30,7 +31,7 @@ pub(crate) fn clone_key<S: Drop, T: Texts<S>>(
     alloc: Global,
     key: &VariantKey<S>,
 ) -> Result<VariantKey<S>, AllocError>
-    ensures { IfOk result (λ copy. key_of S T.text copy ≡ key_of S T.text key.now) }
+    ensures { GivesCopy (key_of S T.text) key.now result }
 {
     match key {
         VariantKey::Identifier { name } => {
@@ -50,8 +51,7 @@ fn clone_accessor<S: Drop, T: Texts<S>>(
     alloc: Global,
     attribute: &Option<Identifier<S>>,
 ) -> Result<Option<Identifier<S>>, AllocError>
-    ensures { IfOk result (λ copy. option_map (name_of S T.text) copy
-        ≡ option_map (name_of S T.text) attribute.now) }
+    ensures { GivesCopy (option_map (name_of S T.text)) attribute.now result }
 {
     match attribute {
         Some(id) => Ok(Some(clone_identifier(texts, alloc, id)?)),
@@ -65,7 +65,7 @@ pub(crate) fn clone_pattern<S: Drop, T: Texts<S>>(
     alloc: Global,
     pattern: &Pattern<S>,
 ) -> Result<Pattern<S>, AllocError>
-    ensures { IfOk result (λ copy. pattern_view S T.text copy ≡ pattern_view S T.text pattern.now) }
+    ensures { GivesCopy (pattern_view S T.text) pattern.now result }
 {
     let mut elements = Vec::new(alloc);
     for element in &pattern.elements {
@@ -80,7 +80,7 @@ pub(crate) fn clone_element<S: Drop, T: Texts<S>>(
     alloc: Global,
     element: &PatternElement<S>,
 ) -> Result<PatternElement<S>, AllocError>
-    ensures { IfOk result (λ copy. element_view S T.text copy ≡ element_view S T.text element.now) }
+    ensures { GivesCopy (element_view S T.text) element.now result }
 {
     match element {
         PatternElement::TextElement { value } => {
@@ -100,8 +100,7 @@ pub(crate) fn clone_expression<S: Drop, T: Texts<S>>(
     alloc: Global,
     expression: &Expression<S>,
 ) -> Result<Expression<S>, AllocError>
-    ensures { IfOk result (λ copy. expression_view S T.text copy
-        ≡ expression_view S T.text expression.now) }
+    ensures { GivesCopy (expression_view S T.text) expression.now result }
 {
     match expression {
         Expression::Select { selector, variants } => {
@@ -135,7 +134,7 @@ pub(crate) fn clone_variant<S: Drop, T: Texts<S>>(
     alloc: Global,
     variant: &Variant<S>,
 ) -> Result<Variant<S>, AllocError>
-    ensures { IfOk result (λ copy. variant_view S T.text copy ≡ variant_view S T.text variant.now) }
+    ensures { GivesCopy (variant_view S T.text) variant.now result }
 {
     let key = clone_key(texts, alloc, &variant.key)?;
     let value = clone_pattern(texts, alloc, &variant.value)?;
@@ -152,7 +151,7 @@ pub(crate) fn clone_inline<S: Drop, T: Texts<S>>(
     alloc: Global,
     inline: &InlineExpression<S>,
 ) -> Result<InlineExpression<S>, AllocError>
-    ensures { IfOk result (λ copy. inline_view S T.text copy ≡ inline_view S T.text inline.now) }
+    ensures { GivesCopy (inline_view S T.text) inline.now result }
 {
     match inline {
         InlineExpression::StringLiteral { value } => clone_string(texts, alloc, value),
@@ -179,8 +178,7 @@ fn clone_string<S: Drop, T: Texts<S>>(
     alloc: Global,
     value: &S,
 ) -> Result<InlineExpression<S>, AllocError>
-    ensures { IfOk result (λ copy. inline_view S T.text copy
-        ≡ inline_view S T.text (StringLiteral value.now)) }
+    ensures { GivesCopy (inline_view S T.text) (StringLiteral value.now) result }
 {
     let value = texts.try_clone(value, alloc)?;
     Ok(InlineExpression::StringLiteral { value })
@@ -192,8 +190,7 @@ fn clone_number<S: Drop, T: Texts<S>>(
     alloc: Global,
     value: &S,
 ) -> Result<InlineExpression<S>, AllocError>
-    ensures { IfOk result (λ copy. inline_view S T.text copy
-        ≡ inline_view S T.text (NumberLiteral value.now)) }
+    ensures { GivesCopy (inline_view S T.text) (NumberLiteral value.now) result }
 {
     let value = texts.try_clone(value, alloc)?;
     Ok(InlineExpression::NumberLiteral { value })
@@ -205,8 +202,7 @@ fn clone_variable<S: Drop, T: Texts<S>>(
     alloc: Global,
     id: &Identifier<S>,
 ) -> Result<InlineExpression<S>, AllocError>
-    ensures { IfOk result (λ copy. inline_view S T.text copy
-        ≡ inline_view S T.text (VariableReference id.now)) }
+    ensures { GivesCopy (inline_view S T.text) (VariableReference id.now) result }
 {
     let id = clone_identifier(texts, alloc, id)?;
     Ok(InlineExpression::VariableReference { id })
@@ -233,8 +229,7 @@ fn clone_call<S: Drop, T: Texts<S>>(
     id: &Identifier<S>,
     arguments: &CallArguments<S>,
 ) -> Result<InlineExpression<S>, AllocError>
-    ensures { IfOk result (λ copy. inline_view S T.text copy
-        ≡ inline_view S T.text (FunctionReference id.now arguments.now)) }
+    ensures { GivesCopy (inline_view S T.text) (FunctionReference id.now arguments.now) result }
 {
     let id = clone_identifier(texts, alloc, id)?;
     let arguments = clone_arguments(texts, alloc, arguments)?;
@@ -247,8 +242,7 @@ fn clone_message_reference<S: Drop, T: Texts<S>>(
     id: &Identifier<S>,
     attribute: &Option<Identifier<S>>,
 ) -> Result<InlineExpression<S>, AllocError>
-    ensures { IfOk result (λ copy. inline_view S T.text copy
-        ≡ inline_view S T.text (MessageReference id.now attribute.now)) }
+    ensures { GivesCopy (inline_view S T.text) (MessageReference id.now attribute.now) result }
 {
     let id = clone_identifier(texts, alloc, id)?;
     let attribute = clone_accessor(texts, alloc, attribute)?;
@@ -263,8 +257,7 @@ fn clone_term_reference<S: Drop, T: Texts<S>>(
     attribute: &Option<Identifier<S>>,
     arguments: &Option<CallArguments<S>>,
 ) -> Result<InlineExpression<S>, AllocError>
-    ensures { IfOk result (λ copy. inline_view S T.text copy
-        ≡ inline_view S T.text (TermReference id.now attribute.now arguments.now)) }
+    ensures { GivesCopy (inline_view S T.text) (TermReference id.now attribute.now arguments.now) result }
 {
     let id = clone_identifier(texts, alloc, id)?;
     let attribute = clone_accessor(texts, alloc, attribute)?;
@@ -285,8 +278,7 @@ pub(crate) fn clone_arguments<S: Drop, T: Texts<S>>(
     alloc: Global,
     arguments: &CallArguments<S>,
 ) -> Result<CallArguments<S>, AllocError>
-    ensures { IfOk result (λ copy. arguments_view S T.text copy
-        ≡ arguments_view S T.text arguments.now) }
+    ensures { GivesCopy (arguments_view S T.text) arguments.now result }
 {
     let positional = clone_positional(texts, alloc, &arguments.positional)?;
     let named = clone_all_named(texts, alloc, &arguments.named)?;
@@ -331,7 +323,7 @@ pub(crate) fn clone_named<S: Drop, T: Texts<S>>(
     alloc: Global,
     argument: &NamedArgument<S>,
 ) -> Result<NamedArgument<S>, AllocError>
-    ensures { IfOk result (λ copy. named_view S T.text copy ≡ named_view S T.text argument.now) }
+    ensures { GivesCopy (named_view S T.text) argument.now result }
 {
     let name = clone_identifier(texts, alloc, &argument.name)?;
     let value = clone_inline(texts, alloc, &argument.value)?;

@@ -22,6 +22,13 @@ pub struct Resource<S> {
 }
 
 /// One entry of a source. Productions `Entry` and `Junk`.
+///
+/// ```
+/// for entry in &mut resource.body {
+///     if let Entry::Message(message) = entry {
+///         if message.id.name == id {
+///             message.value = Some(plain_pattern(alloc, text)?);
+/// ```
 #[derive(Debug, PartialEq, Eq, Drop)]
 pub enum Entry<S> {
     Message(Message<S>),
@@ -59,6 +66,12 @@ pub struct Term<S> {
 }
 
 /// A value: texts and placeables in their order. Production `Pattern`.
+///
+/// ```
+/// let mut elements = Vec::new(alloc);
+/// elements.push(PatternElement::TextElement { value: text })?;
+/// Ok(Pattern { elements })
+/// ```
 #[cycle(tree)]
 #[derive(Debug, PartialEq, Eq, Drop)]
 pub struct Pattern<S> {

@@ -1,9 +1,8 @@
 -- What a scope hands on and takes back.
-use Rattle.std.proofs.Common.{◌≡◌, ◌∙◌, ◌++◌, ℕ, List, Option, None, Some, Bor, map, option_map, refl, ap, sym, subst, arith}
+use Rattle.std.proofs.Common.{◌≡◌, ◌∙◌, ◌++◌, ℕ, Option, None, Some, Bor, map, option_map, refl, ap, sym, subst, arith}
 use Rattle.std.specs.Prelude.{is_some}
 use Rattle.std.specs.Borrow.{MutBor}
-use Rattle.std.specs.Global.{Global, Vec}
-use Rattle.std.specs.declared.dyn_box.DynBox.{DynBox}
+use Rattle.std.specs.Global.{Vec}
 use Rattle.fluent_errors.specs.Errors.{Reference, reference_of, unknown, unresolved}
 use Rattle.fluent_errors.specs.View.{bundle_view}
 use Rattle.fluent_errors.specs.declared.bundle.FluentError.{FluentError}
@@ -20,12 +19,15 @@ use Rattle.fluent_progress.specs.Views as v
 use Rattle.fluent_progress.specs.Views.{args_or_none, given_args, state}
 use Rattle.fluent_progress.specs.declared.lent.Lent.{Lent}
 use Rattle.fluent_progress.specs.declared.progress.Progress.{Progress}
-use Rattle.fluent_value.specs.Matching.{Plurals}
-use Rattle.fluent_value.specs.Value.{Value}
 use Rattle.fluent_bundle.proofs.LentBundle.{env_lent, lent-is}
 use Rattle.fluent_bundle.specs.BundleView.{IsLent, bundle_of, environment_of}
 use Rattle.fluent_bundle.specs.ScopeView.{Keeps, path_of, place_of, state_of}
 use Rattle.fluent_bundle.specs.declared.bundle.FluentBundle.{FluentBundle}
+use Rattle.fluent_value.specs.declared.custom.FluentType.{Ghosts as Custom}
+use Rattle.fluent_value.specs.declared.formatter.ValueFormatter.{Ghosts as Formatter}
+use Rattle.fluent_value.specs.declared.function.FluentFunction.{Ghosts as Function}
+use Rattle.fluent_value.specs.declared.plurals.MemoizerKind.{Ghosts as PluralSource}
+use Rattle.fluent_value.specs.declared.transform.TextTransform.{Ghosts as Transform}
 use Rattle.fluent_bundle.specs.declared.resolver.scope.Scope.{Scope}
 
 byte_again : (n : ℕ) → in_byte (in_byte n) ≡ in_byte n
@@ -63,12 +65,12 @@ tells-same {A = A} h e same p = record {
   counts = subst (λ (x : State × State × Done A). CountsSome x.0 x.1 x.2) (λ i. (h i, sym e i, same i (h i).budget)) p.counts;
 }
 
-module _ {M C F G X : Type 0} {V : X → Type 0} where
-  pub scope-within : (scope : Scope M C F G X V) → IsWithin (state_of scope)
+module _ {M C F G T S : Type 0} {m : PluralSource M} {c : Custom C S} {f : Function F C S} {g : Formatter G C M S} where
+  pub scope-within : (scope : Scope M C F G T S m c f g) → IsWithin (state_of scope)
   scope-within scope = record { placeables = byte_again scope.placeables; entered = capped_again scope.entered }
 
   -- the list is put back wherever it was taken out
-  still-listed : (old mid : Scope M C F G X V) (p q : Progress) → Keeps old mid → state p ≡ state_of old → is_some (state q).errors ≡ is_some (state p).errors → is_some mid.errors ≡ is_some q.errors
+  still-listed : (old mid : Scope M C F G T S m c f g) (p q : Progress) → Keeps old mid → state p ≡ state_of old → is_some (state q).errors ≡ is_some (state p).errors → is_some mid.errors ≡ is_some q.errors
   still-listed old mid p q kept taken told =
       sym (some-map (λ (l : MutBor (Vec FluentError)). l.ghost_name) mid.errors)
       ∙ ap is_some kept.list
@@ -78,39 +80,37 @@ module _ {M C F G X : Type 0} {V : X → Type 0} where
       ∙ sym told
       ∙ some-map (λ (es : Vec FluentError). map bundle_view es.items) q.errors
 
-module _ {S M C F G X : Type 0} {V : X → Type 0}
-    (shown : S → Text) (gives : F → List (Value S) → List (Text × Value S) → Value S) (formats : G → M → Value S → Option Text)
-    (category_of : M → Plurals) (stringified : M → (A : Type 0) → (A → Text) → A → Text) (transformed : (x : X) × V x → Text → Text)
-    (meaning : C → S) (old mid end : Scope M C F G X V) (kept : Keeps old mid)
-    (lent : Lent M G (DynBox X Global V)) (is_lent : IsLent (bundle_of mid.bundle.now) lent)
+module _ {M C F G T S : Type 0} {m : PluralSource M} {c : Custom C S} {f : Function F C S} {g : Formatter G C M S}
+    (t : Transform T) (old mid end : Scope M C F G T S m c f g) (kept : Keeps old mid)
+    (lent : Lent M G T) (is_lent : IsLent (bundle_of mid.bundle.now) lent)
     (p q : Progress) (walked : v.path_of p ≡ path_of old) (taken : state p ≡ state_of old)
     (put : is_some mid.errors ≡ is_some q.errors → state_of end ≡ state q) where
   abbrev env_here : Environment S F
-  env_here = env_lent shown gives formats category_of stringified transformed mid.bundle.now lent is_lent
+  env_here = env_lent t mid.bundle.now lent is_lent
 
   abbrev env_scope : Environment S F
-  env_scope = environment_of shown gives formats category_of stringified transformed old.bundle.now
+  env_scope = environment_of t old.bundle.now
 
   abbrev here : s.Place S
-  here = record { arguments = args_or_none meaning (given_args meaning mid.arguments); locals = None; path = v.path_of p }
+  here = record { arguments = args_or_none c.meaning (given_args c.meaning mid.arguments); locals = None; path = v.path_of p }
 
   envs : env_here ≡ env_scope
-  envs = lent-is shown gives formats category_of stringified transformed mid.bundle.now lent is_lent ∙ ap (λ (b : Bor (FluentBundle M C F G X V)). environment_of shown gives formats category_of stringified transformed b.now) kept.bundle
+  envs = lent-is t mid.bundle.now lent is_lent ∙ ap (λ (b : Bor (FluentBundle M C F G T S m c f g)). environment_of t b.now) kept.bundle
 
-  places : here ≡ place_of meaning old
-  places = λ i. record { arguments = args_or_none meaning (given_args meaning (kept.arguments i)); locals = None; path = walked i }
+  places : here ≡ place_of old
+  places = λ i. record { arguments = args_or_none c.meaning (given_args c.meaning (kept.arguments i)); locals = None; path = walked i }
 
-  step-is : {A : Type 0} (step : Environment S F → s.Place S → Budget → Done A) → step env_here here ≡ step env_scope (place_of meaning old)
+  step-is : {A : Type 0} (step : Environment S F → s.Place S → Budget → Done A) → step env_here here ≡ step env_scope (place_of old)
   step-is step = λ i. step (envs i) (places i)
 
-  pub put-writes : (step : Environment S F → s.Place S → Budget → Done Text) {x y : Text} → Writes x y (state p) (state q) (step env_here here) → Writes x y (state_of old) (state_of end) (step env_scope (place_of meaning old))
+  pub put-writes : (step : Environment S F → s.Place S → Budget → Done Text) {x y : Text} → Writes x y (state p) (state q) (step env_here here) → Writes x y (state_of old) (state_of end) (step env_scope (place_of old))
   put-writes step w = writes-same taken (put (still-listed old mid p q kept taken (wrote-listed (step env_here here) w))) (step-is step) w
 
-  pub put-finds : {A : Type 0} (step : Environment S F → s.Place S → Budget → Done A) {a : A} → Finds a (state p) (state q) (step env_here here) → Finds a (state_of old) (state_of end) (step env_scope (place_of meaning old))
+  pub put-finds : {A : Type 0} (step : Environment S F → s.Place S → Budget → Done A) {a : A} → Finds a (state p) (state q) (step env_here here) → Finds a (state_of old) (state_of end) (step env_scope (place_of old))
   put-finds step w = finds-same taken (put (still-listed old mid p q kept taken (found-listed (step env_here here) w))) (step-is step) w
 
-  pub put-tells : {A : Type 0} (step : Environment S F → s.Place S → Budget → Done A) → TellsSome (state p) (state q) (step env_here here (state p).budget) → TellsSome (state_of old) (state_of end) (step env_scope (place_of meaning old) (state_of old).budget)
-  put-tells step w = tells-same {f = step env_here here} {g = step env_scope (place_of meaning old)} taken (put (still-listed old mid p q kept taken (told-listed (step env_here here (state p).budget) w))) (step-is step) w
+  pub put-tells : {A : Type 0} (step : Environment S F → s.Place S → Budget → Done A) → TellsSome (state p) (state q) (step env_here here (state p).budget) → TellsSome (state_of old) (state_of end) (step env_scope (place_of old) (state_of old).budget)
+  put-tells step w = tells-same {f = step env_here here} {g = step env_scope (place_of old)} taken (put (still-listed old mid p q kept taken (told-listed (step env_here here (state p).budget) w))) (step-is step) w
 
 -- what an expression refers to is told where it refers to anything
 module _ {S F : Type 0} (env : Environment S F) (i : Inline) where

@@ -1,11 +1,16 @@
 -- A step of resolving takes no more than its bound, and so does the call of a scope that makes it.
 use Rattle.std.proofs.Common.{◌≡◌, ℕ, suc, ◌+◌, ◌≤◌, List, [], ◌∷◌, ◌++◌, map, refl, ap, subst, arith}
 use Rattle.std.specs.Global.{Vec}
-use Rattle.std.specs.Prelude.{IfOk, OnErr, OnOk, Option, Result, Ok, Err}
+use Rattle.std.specs.Prelude.{IfOk, OnErr, OnOk, Result, Ok, Err}
 use Rattle.fluent_asking.specs.Asked.{TellsAll, TellsFirst, told}
 use Rattle.fluent_errors.specs.Errors.{Reported, Unresolved, cyclic, damaged, missing_default, no_value, overriding, too_many_placeables, unknown, unresolved}
 use Rattle.fluent_errors.specs.declared.bundle.FluentError.{FluentError}
-use Rattle.fluent_grammar.specs.Tree.{Elements, Expression, Inline, MaybeArguments}
+use denote.Ref.{Bor}
+use Rattle.fluent_ast.specs.View.{expression_view, inline_view, pattern_view}
+use Rattle.fluent_ast.specs.declared.Expression.{Expression}
+use Rattle.fluent_ast.specs.declared.InlineExpression.{InlineExpression}
+use Rattle.fluent_ast.specs.declared.Pattern.{Pattern}
+use Rattle.fluent_grammar.specs.Tree.{MaybeArguments}
 use Rattle.fluent_grammar.specs.Words.{Text}
 use Rattle.fluent_meaning.proofs.ToldOnce.{times-append}
 use Rattle.fluent_meaning.specs.Environment.{Environment}
@@ -14,12 +19,15 @@ use Rattle.fluent_meaning.specs.Steps.{Budget, Done, left, may_open, shut}
 use Rattle.fluent_meaning.specs.Substitution as s
 use Rattle.fluent_meaning.specs.Work.{placeables_of, times_too_many}
 use Rattle.fluent_meaning.specs.WorkLaws.{EntersWithinBound, Opens, OpensWithinBudget, times_shut}
-use Rattle.fluent_value.specs.Matching.{Plurals}
-use Rattle.fluent_value.specs.Value.{Value}
 use Rattle.fluent_bundle.proofs.Scopes.{scope-within}
 use Rattle.fluent_bundle.specs.Bounds.{IsWithinWork, TellsTooManyOnce, enters_by_arguments, enters_by_expression, enters_by_pattern, ids_in, may_count, times_reported}
-use Rattle.fluent_bundle.specs.BundleView.{environment_of}
+use Rattle.fluent_bundle.specs.ScopeSteps.{call_arguments, environment_in, placeable, reference}
 use Rattle.fluent_bundle.specs.ScopeView.{place_of, state_of}
+use Rattle.fluent_value.specs.declared.custom.FluentType.{Ghosts as Custom}
+use Rattle.fluent_value.specs.declared.formatter.ValueFormatter.{Ghosts as Formatter}
+use Rattle.fluent_value.specs.declared.function.FluentFunction.{Ghosts as Function}
+use Rattle.fluent_value.specs.declared.plurals.MemoizerKind.{Ghosts as PluralSource}
+use Rattle.fluent_value.specs.declared.transform.TextTransform.{Ghosts as Transform}
 use Rattle.fluent_bundle.specs.declared.resolver.scope.Scope.{Scope}
 
 -- ---- placeables
@@ -48,7 +56,7 @@ pub of-both : {T E Q R : Type 0} (r : Result T E) (P : T → Type 0) → ((x : T
 of-both (Ok x) P f g h k = f x h
 of-both (Err e) P f g h k = g k
 
-module _ {M C F G X : Type 0} {V : X → Type 0} (old new : Scope M C F G X V) where
+module _ {M C F G T S : Type 0} {m : PluralSource M} {c : Custom C S} {f : Function F C S} {g : Formatter G C M S} (old new : Scope M C F G T S m c f g) where
   step-within : {A : Type 0} (a : Done A) (most : ℕ) → CountsSome (state_of old) (state_of new) a → Opens (state_of old).budget a → a.entered ≤ most → IsWithinWork old new most
   step-within a most h o e = record {
     placeables = few-counted (state_of old).budget (state_of old).placeables (state_of new).placeables a h.placeables o;
@@ -57,29 +65,29 @@ module _ {M C F G X : Type 0} {V : X → Type 0} (old new : Scope M C F G X V) w
     entered_stay = subst (λ n. n ≤ (state_of new).entered) (scope-within old).entered h.entered_stay;
   }
 
-  module _ {S : Type 0} (shown : S → Text) (gives : F → List (Value S) → List (Text × Value S) → Value S) (formats : G → M → Value S → Option Text)
-      (category_of : M → Plurals) (stringified : M → (A : Type 0) → (A → Text) → A → Text) (transformed : (x : X) × V x → Text → Text)
-      (meaning : C → S) (enters : EntersWithinBound S F) (opens : OpensWithinBudget S F) where
+  module _ (t : Transform T) (enters : EntersWithinBound S F) (opens : OpensWithinBudget S F) where
     abbrev env : Environment S F
-    env = environment_of shown gives formats category_of stringified transformed old.bundle.now
+    env = environment_in t old
 
     abbrev here : s.Place S
-    here = place_of meaning old
+    here = place_of old
 
     abbrev budget : Budget
     budget = (state_of old).budget
 
-    pub reference-within : (i : Inline) (es : Elements) → CountsSome (state_of old) (state_of new) (s.reference_written env i es here budget) → IsWithinWork old new (enters_by_pattern old es)
-    reference-within i es h =
-        step-within (s.reference_written env i es here budget) (enters_by_pattern old es) h ((opens env).references i es here budget) ((enters env (ids_in old)).references i es here budget)
+    pub reference-within : (i : InlineExpression (Bor Text)) (p : Pattern (Bor Text)) → CountsSome (state_of old) (state_of new) (reference t i p old budget) → IsWithinWork old new (enters_by_pattern old p)
+    reference-within i p h =
+        let inline = inline_view _ (λ s. s.now) i in let es = pattern_view _ (λ s. s.now) p in
+        step-within (reference t i p old budget) (enters_by_pattern old p) h ((opens env).references inline es here budget) ((enters env (ids_in old)).references inline es here budget)
 
-    pub expression-within : (whole : Elements) (e : Expression) → CountsSome (state_of old) (state_of new) (s.unmarked_written env whole e here budget) → IsWithinWork old new (enters_by_expression old e)
-    expression-within whole e h =
-        step-within (s.unmarked_written env whole e here budget) (enters_by_expression old e) h ((opens env).unmarked whole e here budget) ((enters env (ids_in old)).unmarked whole e here budget)
+    pub expression-within : (p : Pattern (Bor Text)) (e : Expression (Bor Text)) → CountsSome (state_of old) (state_of new) (placeable t p e old budget) → IsWithinWork old new (enters_by_expression old e)
+    expression-within p e h =
+        let whole = pattern_view _ (λ s. s.now) p in let inner = expression_view _ (λ s. s.now) e in
+        step-within (placeable t p e old budget) (enters_by_expression old e) h ((opens env).unmarked whole inner here budget) ((enters env (ids_in old)).unmarked whole inner here budget)
 
-    pub arguments-within : (args : MaybeArguments) → CountsSome (state_of old) (state_of new) (s.arguments_found env args here budget) → IsWithinWork old new (enters_by_arguments old args)
+    pub arguments-within : (args : MaybeArguments) → CountsSome (state_of old) (state_of new) (call_arguments t args old budget) → IsWithinWork old new (enters_by_arguments old args)
     arguments-within args h =
-        step-within (s.arguments_found env args here budget) (enters_by_arguments old args) h ((opens env).arguments args here budget) ((enters env (ids_in old)).arguments args here budget)
+        step-within (call_arguments t args old budget) (enters_by_arguments old args) h ((opens env).arguments args here budget) ((enters env (ids_in old)).arguments args here budget)
 
 -- ---- errors of an answer
 

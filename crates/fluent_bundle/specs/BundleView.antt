@@ -1,45 +1,57 @@
 -- What a bundle is to contracts.
-use Rattle.std.specs.Prelude.{◌≡◌, List, Option, map, option_copied, string_bytes}
-use Rattle.std.specs.Global.{Global}
-use Rattle.std.specs.declared.dyn_box.DynBox.{DynBox}
+use Rattle.std.specs.Prelude.{◌≡◌, Option, map, option_copied, string_bytes}
+use denote.Ref.{Bor}
 use Rattle.fluent_grammar.specs.Words.{Text}
-use Rattle.fluent_value.specs.Matching.{Plurals}
-use Rattle.fluent_value.specs.Value.{Value}
+use Rattle.fluent_ast.specs.declared.Pattern.{Pattern}
+use Rattle.fluent_value.specs.declared.args.FluentArgs.{FluentArgs}
+use Rattle.fluent_value.specs.declared.custom.FluentType.{Ghosts as Custom}
+use Rattle.fluent_value.specs.declared.formatter.ValueFormatter.{Ghosts as Formatter}
+use Rattle.fluent_value.specs.declared.function.FluentFunction.{Ghosts as Function}
+use Rattle.fluent_value.specs.declared.plurals.MemoizerKind.{Ghosts as PluralSource}
+use Rattle.fluent_value.specs.declared.transform.TextTransform.{Ghosts as Transform}
 use Rattle.fluent_meaning.specs.Environment as plain
 use Rattle.fluent_meaning.specs.Ids.{find}
+use Rattle.fluent_meaning.specs.Steps.{Done}
 use Rattle.fluent_ids.specs.IdsView.{ids_view}
 use Rattle.fluent_environment.specs.Settings.{formatted_by, transformed_by}
+use Rattle.fluent_asking.specs.Asked.{asked, handed}
 use Rattle.fluent_progress.specs.declared.lent.Lent.{Lent}
 use Rattle.fluent_bundle.specs.Contents.{Contents}
 use Rattle.fluent_bundle.specs.declared.bundle.FluentBundle.{FluentBundle}
 
-module _ {M C F G X : Type 0} {V : X → Type 0} where
+-- M is the plural source, C the program's own type of values and S what these mean, F the type of its functions, G that of its
+-- formatter and T that of its transform.
+module _ {M C F G T S : Type 0} {m : PluralSource M} {c : Custom C S} {f : Function F C S} {g : Formatter G C M S} where
   -- what a bundle holds
-  abbrev pub bundle_of : FluentBundle M C F G X V → Contents M F G (DynBox X Global V)
-  bundle_of bundle = let env = bundle.environment in record {
-    ids = ids_view F env.ids;
+  abbrev pub bundle_of : FluentBundle M C F G T S m c f g → Contents M F G T
+  bundle_of bundle = record {
+    ids = ids_view F bundle.ids;
     locales = map string_bytes bundle.locales.items;
-    plurals = env.plurals;
-    isolating = env.isolating;
-    transform = env.transform;
-    formatter = env.formatter;
+    plurals = bundle.plurals;
+    isolating = bundle.isolating;
+    transform = bundle.transform;
+    formatter = bundle.formatter;
   }
 
--- What patterns are resolved in, by what the program's own types mean: the text of a value of its own, what a function gives, what a
--- formatter answers, the categories of a plural source and how it shows values, and what a transform makes of a text.
-abbrev pub environment_of : {S M C F G X : Type 0} {V : X → Type 0}
-    (shown : S → Text) (gives : F → List (Value S) → List (Text × Value S) → Value S) (formats : G → M → Value S → Option Text)
-    (category_of : M → Plurals) (stringified : M → (A : Type 0) → (A → Text) → A → Text) (transformed : (x : X) × V x → Text → Text)
-    → FluentBundle M C F G X V → plain.Environment S F
-environment_of {S} shown gives formats category_of stringified transformed bundle = let held = bundle_of bundle in record {
-  find = find held.ids;
-  call = gives;
-  isolating = held.isolating;
-  transformed = transformed_by (λ it. transformed (it.vtable, it.value)) held.transform;
-  formatted = formatted_by formats held.plurals held.formatter;
-  plurals = category_of held.plurals;
-  shown = stringified held.plurals S shown;
-}
+  -- what patterns are resolved in
+  abbrev pub environment_of : Transform T → FluentBundle M C F G T S m c f g → plain.Environment S F
+  environment_of t bundle = let held = bundle_of bundle in record {
+    find = find held.ids;
+    call = f.gives;
+    isolating = held.isolating;
+    transformed = transformed_by t.transformed held.transform;
+    formatted = formatted_by g.formats held.plurals held.formatter;
+    plurals = m.category_of held.plurals;
+    shown = m.stringified held.plurals S c.text;
+  }
+
+  -- what a pattern writes for these arguments, or for none
+  abbrev pub answer_of : Transform T → FluentBundle M C F G T S m c f g → Option (Bor (FluentArgs C)) → Pattern (Bor Text) → Done Text
+  answer_of t bundle args pattern = asked c.meaning (environment_of t bundle) args pattern
+
+  -- what of it is handed out: the whole text as a value is shown
+  abbrev pub shown_answer_of : Transform T → FluentBundle M C F G T S m c f g → Option (Bor (FluentArgs C)) → Pattern (Bor Text) → Done Text
+  shown_answer_of t bundle args pattern = handed c.meaning (environment_of t bundle) args pattern
 
 -- what a bundle holds is lent
 pub record IsLent {M F G T : Type 0} (held : Contents M F G T) (lent : Lent M G T) : Type 0 where

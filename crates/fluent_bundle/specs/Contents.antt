@@ -2,6 +2,7 @@
 use Rattle.std.specs.Prelude.{◌≡◌, Bool, false, true, List, [], Option, None, is_some}
 use Rattle.fluent_grammar.specs.Words.{Text}
 use Rattle.fluent_meaning.specs.Ids.{Ids}
+use Rattle.fluent_value.specs.declared.plurals.EnglishPlurals.{EnglishPlurals}
 
 -- M is the plural source, F a function of the program, G a formatter and T a transform.
 pub record Contents (M F G T : Type 0) : Type 0 where
@@ -21,3 +22,7 @@ empty locales plurals = record { ids = []; locales = locales; plurals = plurals;
 -- nothing is set that texts go through
 abbrev pub ShowsAsIs : {M F G T : Type 0} → Contents M F G T → Type 0
 ShowsAsIs bundle = (is_some bundle.transform ≡ false) × (is_some bundle.formatter ≡ false)
+
+-- the plural source of English
+abbrev pub english_plurals : EnglishPlurals
+english_plurals = record {}

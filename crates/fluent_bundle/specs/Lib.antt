@@ -2,4 +2,5 @@ pub mod Contents
 pub mod BundleView
 pub mod Adding
 pub mod ScopeView
+pub mod ScopeSteps
 pub mod Bounds

@@ -6,15 +6,23 @@
 //! functions of the program by their ids, with the plural source and the settings that patterns are resolved by.
 //!
 //! ```
-//! let mut bundle = Bundle::new(alloc, Vec::new(alloc), EnglishPlurals);
-//! bundle.add_resource(&resource)?;                // hello = Hello, { $name }!
-//! let message = bundle.get_message("hello")?;
+//! let resource = FluentResource::try_new(alloc, SOURCE)?;
+//! ..
+//! let mut bundle = LanguageBundle::for_tag(alloc, "en-US").context("unknown locale")?;
+//! ..
+//! bundle.add_resource(&resource)?;
+//! ..
+//! let message = bundle.get_message("hello-world").context("no such message")?;
+//! ..
 //! let mut errors = Vec::new(alloc);
-//! bundle.format_pattern(message.value()?, Some(&args), &mut errors)?; // "Hello, Jane!", with marks round the name
+//! let pattern = message.value().context("the message has no value")?;
+//! let text = bundle.format_pattern(pattern, None, &mut errors)?;
+//! println!(rt; "{text}")?; // Hello, world!
 //! ```
 //!
-//! `crates/example_bundle` is such a program, whole. Contracts speak of a bundle through what it holds, the record of
-//! `specs/Contents.antt`, and of patterns by the definitions of `fluent_meaning`. `docs/bundles.md` has the rules in plain words.
+//! `crates/example_hello` is this program, whole, and `crates/example_bundle` one with a function and a type of its own. Contracts
+//! speak of a bundle through what it holds, the record of `specs/Contents.antt`, and of patterns by the definitions of
+//! `fluent_meaning`. `docs/bundles.md` has the rules in plain words.
 
 pub mod builtins;
 pub mod bundle;
@@ -23,8 +31,7 @@ pub mod memoizer;
 pub mod resolver;
 pub mod types;
 
-pub use bundle::FluentBundle;
-pub use fluent_environment::Environment;
+pub use bundle::{EnglishBundle, FluentBundle, LanguageBundle};
 pub use fluent_errors::{EntryKind, FluentError};
 pub use fluent_ids::{
     AddFunctionError, AddResourceError, Attributes, Entry, FluentAttribute, FluentMessage,
@@ -34,6 +41,6 @@ pub use fluent_plurals::LanguagePlurals;
 pub use fluent_resource::{Entries, FluentResource, ResourceError};
 pub use fluent_value::{
     EnglishPlurals, FluentArgs, FluentFunction, FluentValue, IntoIter, Iter, NoCustom, NoFormatter,
-    NoFunction, TextTransform, ValueFormatter, ValueScope,
+    NoFunction, NoTransform, TextTransform, ValueFormatter, ValueScope,
 };
 pub use fluent_write::{TextWrite, WriteError};

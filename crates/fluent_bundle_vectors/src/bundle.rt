@@ -1,15 +1,31 @@
 //! The bundles that are tried.
 
-use fluent_bundle::{
-    EnglishPlurals, FluentBundle, FluentResource, NoCustom, NoFormatter, ResourceError,
-};
-use std::alloc::Global;
+ghost use Rattle.fluent_value.specs.Value.{none};
 
-/// A function of the program, which only has to be told from others.
+use fluent_bundle::{
+    EnglishPlurals, FluentArgs, FluentBundle, FluentFunction, FluentResource, FluentValue,
+    NoCustom, NoFormatter, ResourceError,
+};
+use std::alloc::{AllocError, Global};
+
+/// A function of the program, which only has to be told from others. It gives nothing.
 #[derive(Clone, Copy, Debug, PartialEq, Eq)]
 pub enum Function {
     Older,
     Newer,
+}
+
+impl FluentFunction<NoCustom> for Function {
+    ghost gives = { λ _ _ _. none };
+
+    fn call<'a, 'n>(
+        &self,
+        _alloc: Global,
+        _positional: &[FluentValue<'a, NoCustom>],
+        _named: &FluentArgs<'n, NoCustom>,
+    ) -> Result<FluentValue<'a, NoCustom>, AllocError> {
+        Ok(FluentValue::None)
+    }
 }
 
 pub type Bundle<'r, 's> = FluentBundle<'r, 's, EnglishPlurals, NoCustom, Function, NoFormatter>;

@@ -6,12 +6,12 @@
 //! this crate's folder `src` declares the calls for C.
 #![tactic(auto)]
 
-ghost use Rattle.std.specs.Prelude.{◌≡◌, ◌≢◌, IsSomeAnd, IsUtf8, None};
+ghost use Rattle.std.specs.Prelude.{◌≡◌, ◌≢◌, IsUtf8, None};
 ghost use Rattle.serde_json.specs.Written.{compact_text};
 ghost use Rattle.fluent_syntax.specs.Tiling.{tree, errors, runtime_tree, runtime_errors};
 ghost use Rattle.fluent_syntax.specs.Written.{written_with};
 ghost use Rattle.fluent_json.specs.Json.{json};
-ghost use Rattle.fluent_calls.specs.Answering.{texts_of, AreUtf8, HoldsOther, answers_in, plurals_in};
+ghost use Rattle.fluent_calls.specs.Answering.{AreUtf8, HoldsOther, IsAnswer, plurals_in};
 ghost use Rattle.fluent_calls.specs.Counts.{Counted};
 ghost use Rattle.fluent_calls.specs.Made.{Holds, HoldsNone};
 
@@ -100,8 +100,8 @@ pub extern "C" fn fluent_answer(
     requests: &[u8],
     made: &mut FluentText,
 ) -> u32
-    ensures answered { result ≡ 0 → IsSomeAnd (answers_in locale.now isolating overriding
-        (texts_of sources.now) requests.now) (Holds made.new) }
+    ensures answered { result ≡ 0
+        → IsAnswer locale.now isolating overriding sources.now requests.now made.new }
     ensures utf8 { result ≡ 0 → AreUtf8 sources.now }
     ensures not_utf8 { result ≡ 1 → HoldsOther sources.now }
     ensures unknown { result ≡ 3 → plurals_in locale.now ≡ None }

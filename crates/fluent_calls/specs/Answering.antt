@@ -1,12 +1,14 @@
 -- What request lines are answered, from sources that C hands over.
-use Rattle.std.specs.Prelude.{Bool, List, [], ◌∷◌, Option, Some, option_map, map, IsUtf8, All, Contains}
+use Rattle.std.specs.Prelude.{Bool, List, [], ◌∷◌, Option, Some, IsSomeAnd, option_map, map, IsUtf8, All, Contains}
 use Rattle.fluent_answers.specs.Answers.{answers}
 use Rattle.fluent_grammar.specs.Words.{Text}
 use Rattle.fluent_plurals.specs.Plurals.{english_rules, plurals_by, plurals_for}
 use Rattle.fluent_plurals.specs.declared.plurals.LanguagePlurals.{LanguagePlurals}
 use Rattle.fluent_run.specs.RunView.{no_text}
 use Rattle.fluent_value.specs.declared.function.NoFunction.{NoFunction}
+use Rattle.fluent_calls.specs.Made.{Holds}
 use Rattle.fluent_calls.specs.declared.answering.FluentSource.{FluentSource}
+use Rattle.fluent_calls.specs.declared.text.FluentText.{FluentText}
 
 abbrev pub texts_of : List FluentSource → List Text
 texts_of = map (λ s. s.text.now)
@@ -39,3 +41,8 @@ answers_by plurals isolating overriding sources =
 abbrev pub answers_in : Text → Bool → Bool → List Text → Text → Option Text
 answers_in locale isolating overriding sources requests =
     option_map (λ plurals. answers_by plurals isolating overriding sources requests) (plurals_in locale)
+
+-- the locale has plural rules, and the text holds the answers by them
+abbrev pub IsAnswer : Text → Bool → Bool → List FluentSource → Text → FluentText → Type 0
+IsAnswer locale isolating overriding sources requests made =
+    IsSomeAnd (answers_in locale isolating overriding (texts_of sources) requests) (Holds made)

@@ -1,7 +1,8 @@
 -- How many entries of each kind a tree has.
-use Rattle.std.specs.Prelude.{◌≡◌, ℕ, Bool, true, false, List, length}
+use Rattle.std.specs.Prelude.{◌≡◌, ℕ, Bool, true, false, List, length, map, Result, IfOk}
 use Rattle.std.specs.List.{count_by}
 use denote.Ref.{Bor}
+use Rattle.fluent_syntax.specs.ErrorView.{ErrorView, error_told}
 use Rattle.fluent_syntax.specs.Tree as t
 use Rattle.fluent_syntax.specs.Tiling.{ParserError, tree, errors, runtime_tree, runtime_errors}
 use Rattle.fluent_syntax.specs.View.{resource_view}
@@ -72,3 +73,8 @@ pub record HasEntries (counts : FluentCounts) (es : List t.Entry) : Type 0 where
 -- the numbers of the entries and of the errors
 abbrev pub Counted : FluentCounts → List t.Entry → List ParserError → Type 0
 Counted counts es errors = HasEntries counts es × (counts.errors ≡ length errors)
+
+-- the counts are those of the tree and the errors that were read
+abbrev pub IsCountOf : {E : Type 0} → (List t.Entry → Type 0) → (List ErrorView → Type 0) → Result FluentCounts E → Type 0
+IsCountOf IsTree AreErrors result =
+    (es : List t.Entry) (errors : List ParserError) → IsTree es → AreErrors (map error_told errors) → IfOk result (λ counts. Counted counts es errors)

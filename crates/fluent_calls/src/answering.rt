@@ -1,9 +1,8 @@
 //! Answers to request lines, from sources.
 
-ghost use Rattle.std.specs.Prelude.{◌≡◌, ◌≢◌, ◌++◌, ◌∷◌, [], false, IfOk, IfErr, IsSomeAnd, IsTrue, OnOk, IsUtf8, None};
+ghost use Rattle.std.specs.Prelude.{◌≡◌, ◌≢◌, ◌++◌, ◌∷◌, [], false, IfOk, IfErr, IsTrue, OnOk, IsUtf8, None};
 ghost use Rattle.fluent_serve.specs.Texts.{texts};
-ghost use Rattle.fluent_calls.specs.Answering.{texts_of, AreUtf8, HoldsOther, answers_in, plurals_in};
-ghost use Rattle.fluent_calls.specs.Made.{Holds};
+ghost use Rattle.fluent_calls.specs.Answering.{texts_of, AreUtf8, HoldsOther, IsAnswer, plurals_in};
 ghost use Rattle.fluent_calls.specs.declared.answering.Refusal.TheVariants.{Memory, NotUtf8, UnknownLocale};
 
 use crate::text::FluentText;
@@ -114,8 +113,8 @@ fn answered(
     settings: Settings,
     requests: &[u8],
 ) -> Result<FluentText, Refusal>
-    ensures answered { IfOk result (λ made. IsSomeAnd (answers_in locale.now settings.isolating
-        settings.overriding (texts_of sources.now) requests.now) (Holds made)) }
+    ensures answered { IfOk result (IsAnswer locale.now settings.isolating settings.overriding
+        sources.now requests.now) }
     ensures utf8 { OnOk result (AreUtf8 sources.now) }
     ensures not_utf8 { IfErr result (λ refusal. refusal ≡ NotUtf8 → HoldsOther sources.now) }
     ensures unknown { IfErr result (λ refusal. refusal ≡ UnknownLocale
@@ -149,8 +148,8 @@ pub fn answer(
     requests: &[u8],
     made: &mut FluentText,
 ) -> u32
-    ensures answered { result ≡ 0 → IsSomeAnd (answers_in locale.now isolating overriding
-        (texts_of sources.now) requests.now) (Holds made.new) }
+    ensures answered { result ≡ 0
+        → IsAnswer locale.now isolating overriding sources.now requests.now made.new }
     ensures utf8 { result ≢ 1 → AreUtf8 sources.now }
     ensures not_utf8 { result ≡ 1 → HoldsOther sources.now }
     ensures unknown { result ≡ 3 → plurals_in locale.now ≡ None }

@@ -1,11 +1,8 @@
 //! How many entries of each kind a tree has.
 
-ghost use Rattle.std.specs.Prelude.{◌≡◌, ◌≢◌, List, map, IfOk, IsUtf8};
+ghost use Rattle.std.specs.Prelude.{◌≡◌, ◌≢◌, IfOk, IsUtf8};
 ghost use Rattle.fluent_syntax.specs.Collected.{HasTree, HasErrors};
-ghost use Rattle.fluent_syntax.specs.ErrorView.{error_told};
-ghost use Rattle.fluent_syntax.specs.Tiling.{ParserError};
-ghost use Rattle.fluent_syntax.specs.Tree.{Entry as PlainEntry};
-ghost use Rattle.fluent_calls.specs.Counts.{Counted, HasEntries, Text, text_of, plain, tree_of, errors_of};
+ghost use Rattle.fluent_calls.specs.Counts.{Counted, HasEntries, IsCountOf, Text, text_of, plain, tree_of, errors_of};
 
 use crate::{FLUENT_NO_MEMORY, FLUENT_NOT_UTF8, FLUENT_READ};
 use fluent_syntax::ast::{Entry, Resource};
@@ -97,10 +94,7 @@ fn counts_of(alloc: Global, text: &str, reading: Reading) -> Result<FluentCounts
 
 /// The counts of what was read, with or without errors.
 fn counts_of_read(read: parser::Result<&str>) -> Result<FluentCounts, AllocError>
-    ensures { (es : List PlainEntry) (errors : List ParserError)
-        → HasTree Text text_of read.entry es
-        → HasErrors Text read.entry (map error_told errors)
-        → IfOk result (λ counts. Counted counts es errors) }
+    ensures { IsCountOf (HasTree Text text_of read.entry) (HasErrors Text read.entry) result }
 {
     match read {
         Ok(resource) => Ok(FluentCounts::of(&resource, 0)),

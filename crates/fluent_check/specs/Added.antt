@@ -7,6 +7,8 @@ use Rattle.fluent_meaning.specs.Ids.{Ids, Meaning, entries_by_id}
 use Rattle.fluent_resource.specs.ResourceView.{entries_view}
 use Rattle.fluent_resource.specs.declared.resource.FluentResource.{FluentResource}
 use Rattle.fluent_ids.specs.IdsView.{ids_view}
+use Rattle.fluent_errors.specs.Errors.{Reported}
+use Rattle.fluent_check.specs.ReportView.{notices_view}
 use Rattle.fluent_check.specs.declared.notices.Added.{Added}
 
 -- the messages and terms of a resource, by their ids
@@ -17,5 +19,10 @@ by_id r = entries_by_id (entries_view r)
 abbrev pub all_by_id : List FluentResource → List (Text × Meaning NoFunction)
 all_by_id rs = flat_map by_id rs
 
+-- the ids that were added
 abbrev pub ids_in : Added → Ids NoFunction
 ids_in added = ids_view NoFunction added.ids
+
+-- the notices that came
+abbrev pub told_in : Added → List Reported
+told_in added = notices_view added.told

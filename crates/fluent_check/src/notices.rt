@@ -3,7 +3,7 @@
 ghost use Rattle.std.specs.Prelude.{◌≡◌, ◌++◌, [], ◌∷◌, false, IfOk, OnOk};
 ghost use Rattle.fluent_answers.specs.Sources.{notices_of};
 ghost use Rattle.fluent_check.specs.ReportView.{notices_view, texts};
-ghost use Rattle.fluent_check.specs.Added.{by_id, all_by_id, ids_in};
+ghost use Rattle.fluent_check.specs.Added.{by_id, all_by_id, ids_in, told_in};
 ghost use Rattle.fluent_meaning.specs.Ids.{notices, number_pair, with_ids};
 
 use crate::sources::read_sources;
@@ -35,7 +35,7 @@ impl<'r, 's> Added<'r, 's> {
     /// `NUMBER` alone.
     fn new(alloc: Global) -> Result<Self, AllocError>
         ensures { IfOk result (λ added. (ids_in added ≡ number_pair ∷ [])
-            × (notices_view added.told ≡ [])) }
+            × (told_in added ≡ [])) }
     {
         let mut ids = FluentIds::new(alloc);
         match ids.add_builtins() {
@@ -53,8 +53,8 @@ impl<'r, 's> Added<'r, 's> {
     fn add(&mut self, resource: &'r FluentResource<'s>) -> Result<(), AllocError>
         ensures ids { OnOk result (ids_in self.new
             ≡ with_ids false (ids_in self.old) (by_id resource.now)) }
-        ensures told { OnOk result (notices_view self.new.told
-            ≡ notices_view self.old.told ++ notices (ids_in self.old) (by_id resource.now)) }
+        ensures told { OnOk result (told_in self.new
+            ≡ told_in self.old ++ notices (ids_in self.old) (by_id resource.now)) }
     {
         match self.ids.add_resource(resource.tree()) {
             Ok(()) => Ok(()),

@@ -22,8 +22,12 @@ pub struct Report {
 
 /// The errors of each source, and the entries whose id was there.
 ///
+/// ```
+/// let report = check(alloc, &[SOURCE])?;
+/// ```
+///
 /// # Errors
-/// Memory ran out.
+/// [`AllocError`] if memory runs out; nothing is left behind.
 pub fn check(alloc: Global, sources: &[&str]) -> Result<Report, AllocError>
     ensures errors { IfOk result (λ report. map errors_view report.errors.items
         ≡ map errors_told (texts sources.now)) }

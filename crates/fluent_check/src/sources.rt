@@ -11,7 +11,7 @@ use std::alloc::{AllocError, Global};
 /// What is read of each source, in their order. What is no entry is passed over: a resource has it as junk.
 ///
 /// # Errors
-/// Memory ran out.
+/// [`AllocError`] if memory runs out; nothing is left behind.
 pub fn read_sources<'s>(
     alloc: Global,
     sources: &[&'s str],

@@ -4,3 +4,4 @@ pub use Rattle.fluent_tidy.specs.Messages
 pub use Rattle.fluent_tidy.specs.Sources
 pub use Rattle.fluent_tidy.specs.Trees
 pub use Rattle.fluent_tidy.specs.DeskLaws
+pub mod ForCallers

@@ -18,9 +18,8 @@
 //! | [`import`] | the text of a JSON tree, where that is read back as the same tree |
 //!
 //! ```
-//! let source = "key1 = Value 1\n\ng@Rb@ge\n\nkey2={ $x }\n";
-//! clean(alloc, source)?;      // "key1 = Value 1\n\nkey2={ $x }\n"
-//! normalize(alloc, source)?;  // "key1 = Value 1\nkey2 = { $x }\n"
+//! let cleaned = clean(alloc, SOURCE)?; // key1 = Value 1, an empty line, key2={ $x }
+//! let normal = normalize(alloc, &cleaned)?; // key1 = Value 1, key2 = { $x }
 //! ```
 //!
 //! The calls that tidy refuse sources with a carriage return, since written text ends its lines in a line feed alone. No call

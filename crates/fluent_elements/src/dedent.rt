@@ -1,9 +1,9 @@
 //! Elements without the common indent.
 #![tactic(auto, using(fluent_words::proofs::Counted::cuts))]
 
-ghost use Rattle.std.specs.Prelude.{◌≡◌, IfOk, map};
+ghost use Rattle.std.specs.Prelude.{◌≡◌, IfOk, OnOk};
 ghost use Rattle.fluent_ast.specs.View.{element_view};
-ghost use Rattle.fluent_elements.specs.Elements.{cut_len, line_behind, dedented_by, dedented_from};
+ghost use Rattle.fluent_elements.specs.Elements.{AreDedented, IsDedented, cut_len, line_behind};
 
 use fluent_ast::PatternElement;
 use fluent_slice::Texts;
@@ -11,6 +11,9 @@ use fluent_words as words;
 use std::alloc::{AllocError, Global};
 
 /// Takes the common indent off all texts that begin lines. `begins_line` says whether the first element does.
+///
+/// # Errors
+/// [`AllocError`] if memory runs out; some of the texts may have lost their indent.
 pub fn dedent_all<S: Drop, T: Texts<S>>(
     alloc: Global,
     texts: &T,
@@ -18,8 +21,8 @@ pub fn dedent_all<S: Drop, T: Texts<S>>(
     begins_line: bool,
     common_indent: Option<usize>,
 ) -> Result<(), AllocError>
-    ensures { IfOk result (λ u. map (element_view S T.text) elements.new
-        ≡ dedented_from begins_line common_indent (map (element_view S T.text) elements.old)) }
+    ensures { OnOk result (AreDedented S T.text begins_line common_indent
+        elements.old elements.new) }
 {
     let mut line = begins_line;
     for element in elements.iter_mut() {
@@ -37,8 +40,8 @@ fn dedent<S: Drop, T: Texts<S>>(
     common_indent: Option<usize>,
 ) -> Result<bool, AllocError>
     ensures line { IfOk result (λ line. line ≡ line_behind (element_view S T.text element.old)) }
-    ensures element { IfOk result (λ line. element_view S T.text element.new
-        ≡ dedented_by begins_line common_indent (element_view S T.text element.old)) }
+    ensures element { OnOk result (IsDedented S T.text begins_line common_indent
+        element.old element.new) }
 {
     let PatternElement::TextElement { value } = element else {
         return Ok(false);

@@ -1,10 +1,10 @@
 //! The elements that were read so far.
 #![tactic(auto)]
 
-ghost use Rattle.std.specs.Prelude.{◌≡◌, ◌++◌, ◌∷◌, [], None, IfOk, map, option_map};
+ghost use Rattle.std.specs.Prelude.{◌≡◌, ◌++◌, ◌∷◌, [], None, IfOk, OnOk, option_map};
 ghost use Rattle.fluent_grammar.specs.Lines.{lesser};
-ghost use Rattle.fluent_ast.specs.View.{pattern_view, element_view};
-ghost use Rattle.fluent_elements.specs.Elements.{value_by};
+ghost use Rattle.fluent_ast.specs.View.{pattern_view};
+ghost use Rattle.fluent_elements.specs.Elements.{gathered_value};
 
 use crate::dedent::dedent_all;
 use crate::kept::{kept_len, trim_last};
@@ -40,18 +40,17 @@ impl<S: Drop> Gathered<S> {
         }
     }
 
-    /// Puts an element behind the others. `indent` is what it says of the common indent.
+    /// Puts an element after the others. `indent` is what it says of the common indent.
     ///
     /// # Errors
-    ///
-    /// Where memory runs out the element is dropped.
+    /// [`AllocError`] if memory runs out; the element is dropped.
     #[inline(always)]
     pub fn push(
         &mut self,
         element: PatternElement<S>,
         indent: Option<usize>,
     ) -> Result<(), AllocError>
-        ensures elements { IfOk result (λ u. self.new.elements.items
+        ensures elements { OnOk result (self.new.elements.items
             ≡ self.old.elements.items ++ element ∷ []) }
         ensures begins_line { self.new.begins_line ≡ self.old.begins_line }
         ensures common_indent { self.new.common_indent ≡ lesser self.old.common_indent indent }
@@ -60,15 +59,17 @@ impl<S: Drop> Gathered<S> {
         push_tight(&mut self.elements, element, TYPICAL)
     }
 
-    /// The pattern that the elements give, or none where nothing but blank was read.
+    /// The pattern that the elements give, or none if nothing but blank was read.
+    ///
+    /// # Errors
+    /// [`AllocError`] if memory runs out; the elements are dropped.
     pub fn finish<T: Texts<S>>(
         self,
         alloc: Global,
         texts: &T,
     ) -> Result<Option<Pattern<S>>, AllocError>
         ensures { IfOk result (λ p. option_map (pattern_view S T.text) p
-            ≡ value_by self.begins_line self.common_indent
-            (map (element_view S T.text) self.elements.items)) }
+            ≡ gathered_value S T.text self) }
     {
         let Gathered {
             mut elements,

@@ -1,10 +1,10 @@
 //! Where the elements of a pattern end: blank ones at its end are dropped, and its last text is trimmed.
 #![tactic(auto)]
 
-ghost use Rattle.std.specs.Prelude.{◌≡◌, ◌≤◌, length, take, map};
+ghost use Rattle.std.specs.Prelude.{◌≡◌, ◌≤◌, length, take};
 ghost use Rattle.fluent_grammar.specs.Lines as l;
 ghost use Rattle.fluent_ast.specs.View.{element_view};
-ghost use Rattle.fluent_elements.specs.Elements.{is_blank, kept_of, trimmed, last_trimmed};
+ghost use Rattle.fluent_elements.specs.Elements.{is_blank, kept_of, plain_elements, trimmed, last_trimmed};
 
 use fluent_ast::PatternElement;
 use fluent_slice::Texts;
@@ -12,8 +12,8 @@ use fluent_slice::Texts;
 /// How many elements there are up to the last one that isn't blank.
 pub fn kept_len<S: Drop, T: Texts<S>>(texts: &T, elements: &[PatternElement<S>]) -> usize
     ensures within { result ≤ length elements.now }
-    ensures kept { take result (map (element_view S T.text) elements.now)
-        ≡ kept_of (map (element_view S T.text) elements.now) }
+    ensures kept { take result (plain_elements S T.text elements.now)
+        ≡ kept_of (plain_elements S T.text elements.now) }
 {
     let mut kept = elements.len();
     while kept > 0 && is_blank(texts, &elements[kept - 1]) {
@@ -41,8 +41,8 @@ pub fn is_blank_text(text: &[u8]) -> bool
 
 /// Cuts white space at the end of the last element, if it is a text.
 pub fn trim_last<S: Drop, T: Texts<S>>(texts: &T, elements: &mut [PatternElement<S>])
-    ensures { map (element_view S T.text) elements.new
-        ≡ last_trimmed (map (element_view S T.text) elements.old) }
+    ensures { plain_elements S T.text elements.new
+        ≡ last_trimmed (plain_elements S T.text elements.old) }
 {
     if let Some(last) = elements.last_mut() {
         trim(texts, last);

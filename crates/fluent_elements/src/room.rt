@@ -1,18 +1,17 @@
 //! The room that short lists have.
 #![tactic(auto)]
 
-ghost use Rattle.std.specs.Prelude.{◌≡◌, ◌++◌, ◌∷◌, [], IfOk};
+ghost use Rattle.std.specs.Prelude.{◌≡◌, ◌++◌, ◌∷◌, [], OnOk};
 
 use std::alloc::AllocError;
 
-/// Puts an item behind the others of a list. The first one makes room for as many as most such lists hold.
+/// Puts an item after the others of a list. The first one makes room for as many as most such lists hold.
 ///
 /// # Errors
-///
-/// Where memory runs out the item is dropped.
+/// [`AllocError`] if memory runs out; the list is unchanged, and the item is dropped.
 #[inline(always)]
 pub fn push_tight<T: Drop>(list: &mut Vec<T>, item: T, room: usize) -> Result<(), AllocError>
-    ensures { IfOk result (λ u. list.new.items ≡ list.old.items ++ item ∷ []) }
+    ensures { OnOk result (list.new.items ≡ list.old.items ++ item ∷ []) }
 {
     if list.is_empty() {
         list.reserve_exact(room)?;

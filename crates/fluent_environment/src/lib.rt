@@ -1,11 +1,6 @@
 #![tactic(auto)]
 
-//! What patterns are resolved in: the ids of a bundle, its plural source and its settings.
-//!
-//! An [`Environment`] stays the same while a pattern is resolved. Values are compared and shown by it.
+//! What the settings of a bundle make of texts, values and calls, as definitions, and a law between what is looked up and what a
+//! pattern gives.
 
-mod environment;
 pub mod laws;
-mod scope;
-
-pub use environment::Environment;

@@ -1,3 +1,4 @@
 pub mod Errors
 pub mod Texts
 pub mod View
+pub mod Laws

@@ -1,5 +1,5 @@
 -- The texts of errors.
-use Rattle.std.specs.Prelude.{ℕ, List, ◌++◌, Option, None, Some, codes}
+use Rattle.std.specs.Prelude.{ℕ, List, ◌++◌, None, Some, codes}
 use Rattle.fluent_parsed.specs.ErrorView.{ErrorView, kind_name}
 use Rattle.fluent_errors.specs.Errors.{Kind, message, term, function, Reference, to_function, to_message, to_term, to_variable, Unresolved, unknown, no_value, missing_default, cyclic, too_many_placeables, Reported, overriding, damaged, unresolved}
 

@@ -12,6 +12,12 @@ use std::alloc::{AllocError, Global};
 use std::fmt;
 
 /// What a bundle reports: while entries are added to it, or while it resolves a pattern.
+///
+/// ```
+/// for error in errors.iter() {
+///     println!(rt; "{error}")?; // Resolver error: Unknown variable: $count
+/// }
+/// ```
 #[derive(Debug, PartialEq, Eq, Drop)]
 pub enum FluentError {
     /// An entry of this kind was to be added under an id that stands for another one already.
@@ -23,7 +29,10 @@ pub enum FluentError {
 }
 
 impl FluentError {
-    /// The same error. The call fails only where memory runs out.
+    /// The same error.
+    ///
+    /// # Errors
+    /// [`AllocError`] if memory runs out; nothing is left behind.
     pub fn try_clone(&self, alloc: Global) -> Result<Self, AllocError>
         ensures { IfOk result (λ copy. bundle_view copy ≡ bundle_view self.now) }
     {
@@ -70,3 +79,5 @@ impl fmt::Display for FluentError {
         }
     }
 }
+
+impl std::error::Error for FluentError {}

@@ -10,6 +10,15 @@ use fluent_slice::Slice;
 use std::alloc::{AllocError, Global};
 
 /// What an expression refers to, by names without `-` and `$`.
+///
+/// ```
+/// if let FluentError::ResolverError(
+///     ResolverError::Reference(ReferenceKind::Variable { id }),
+/// ) = error
+/// {
+///     println!(rt; "missing: {id}")?; // missing: count
+/// }
+/// ```
 #[derive(Debug, PartialEq, Eq, Drop)]
 pub enum ReferenceKind {
     Function {
@@ -31,8 +40,10 @@ pub enum ReferenceKind {
 }
 
 impl ReferenceKind {
-    /// What an expression refers to, with names copied; `None` for a literal and for a placeable. The only error is that
-    /// memory runs out.
+    /// What an expression refers to, with names copied; `None` for a literal and for a placeable.
+    ///
+    /// # Errors
+    /// [`AllocError`] if memory runs out; nothing is left behind.
     pub fn of<'s, S: Slice<'s>>(
         alloc: Global,
         expression: &InlineExpression<S>,
@@ -65,7 +76,10 @@ impl ReferenceKind {
         }))
     }
 
-    /// The same reference. The only error is that memory runs out.
+    /// The same reference.
+    ///
+    /// # Errors
+    /// [`AllocError`] if memory runs out; nothing is left behind.
     pub fn try_clone(&self, alloc: Global) -> Result<Self, AllocError>
         ensures { IfOk result (λ copy. reference_view copy ≡ reference_view self.now) }
     {

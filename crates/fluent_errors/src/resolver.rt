@@ -24,7 +24,10 @@ pub enum ResolverError {
 }
 
 impl ResolverError {
-    /// The same error. The call fails only where memory runs out.
+    /// The same error.
+    ///
+    /// # Errors
+    /// [`AllocError`] if memory runs out; nothing is left behind.
     pub fn try_clone(&self, alloc: Global) -> Result<Self, AllocError>
         ensures { IfOk result (λ copy. resolver_view copy ≡ resolver_view self.now) }
     {
@@ -74,3 +77,5 @@ impl fmt::Display for ResolverError {
         }
     }
 }
+
+impl std::error::Error for ResolverError {}

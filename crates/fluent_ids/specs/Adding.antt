@@ -1,5 +1,5 @@
 -- What adding does to the map of ids, and what it answers.
-use Rattle.std.specs.Prelude.{◌≡◌, ◌≢◌, ℕ, false, List, [], None, Result, Ok, Err, map, IsSome}
+use Rattle.std.specs.Prelude.{◌≡◌, ◌≢◌, ℕ, false, true, List, [], None, Result, Ok, Err, map, IsSome}
 use Rattle.fluent_errors.specs.Errors as e
 use Rattle.fluent_errors.specs.View.{bundle_view}
 use Rattle.fluent_meaning.specs.Ids.{Meaning, find, kind_of, with_id, with_ids, entries_by_id}
@@ -25,6 +25,10 @@ module _ (F : Type 0) where
   AddsFirst (Err resource.Memory) old new r = Unit {0}
   AddsFirst (Err (resource.Overriding notices)) old new r = ids_view F new ≡ with_ids false (ids_view F old) (entries_by_id (entries_in r))
   AddsFirst (Ok u) old new r = ids_view F new ≡ with_ids false (ids_view F old) (entries_by_id (entries_in r))
+
+  -- the entries of a resource were put in, the last of an id staying
+  abbrev pub PutsLast : FluentIds F → FluentIds F → Resource (Bor (List ℕ)) → Type 0
+  PutsLast old new r = ids_view F new ≡ with_ids true (ids_view F old) (entries_by_id (entries_in r))
 
   -- where memory ran out, nothing changed
   abbrev pub KeepsAtMemory : Result (Unit {0}) AddResourceError → FluentIds F → FluentIds F → Type 0

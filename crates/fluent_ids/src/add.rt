@@ -1,8 +1,8 @@
 //! Adding resources.
 
-ghost use Rattle.std.specs.Prelude.{◌≡◌, ◌+◌, ◌<◌, ◌≤◌, false, true, OnOk, OnErr, length};
+ghost use Rattle.std.specs.Prelude.{◌≡◌, ◌+◌, ◌<◌, ◌≤◌, OnOk, OnErr, length};
 ghost use Rattle.std.specs.HashMap.{spare};
-ghost use Rattle.fluent_ids.specs.Adding.{AddsFirst, KeepsAtMemory, TellsNotices};
+ghost use Rattle.fluent_ids.specs.Adding.{AddsFirst, PutsLast, KeepsAtMemory, TellsNotices};
 ghost use Rattle.fluent_ids.specs.EntryView.{meaning_of};
 ghost use Rattle.fluent_ids.specs.IdsView.{ids_view};
 ghost use Rattle.fluent_ids.specs.ResourceEntries.{entries_in};
@@ -22,7 +22,7 @@ impl<'r, 's, F: Drop> FluentIds<'r, 's, F> {
     /// # Errors
     /// - [`AddResourceError::Overriding`] has a notice for each entry whose id stood for another one, in the order of the
     ///   entries. All other entries were added.
-    /// - [`AddResourceError::Memory`] where memory runs out. Nothing is added then.
+    /// - [`AddResourceError::Memory`] if memory runs out. Nothing is added then.
     pub fn add_resource(&mut self, resource: &'r Resource<&'s str>) -> Result<(), AddResourceError>
         ensures added { AddsFirst F result self.old self.new resource.now }
         ensures refused { KeepsAtMemory F result self.old self.new }
@@ -42,13 +42,12 @@ impl<'r, 's, F: Drop> FluentIds<'r, 's, F> {
     /// Adds the messages and terms of a resource, by its tree. Where two entries have one id, the last stays.
     ///
     /// # Errors
-    /// Memory ran out. Nothing is added then.
+    /// [`AllocError`] if memory runs out; the ids are unchanged.
     pub fn add_resource_overriding(
         &mut self,
         resource: &'r Resource<&'s str>,
     ) -> Result<(), AllocError>
-        ensures added { OnOk result (ids_view F self.new
-            ≡ with_ids true (ids_view F self.old) (entries_by_id (entries_in resource.now))) }
+        ensures added { OnOk result (PutsLast F self.old self.new resource.now) }
         ensures refused { OnErr result (ids_view F self.new ≡ ids_view F self.old) }
     {
         self.make_room(resource)?;

@@ -10,6 +10,12 @@ use fluent_ast::{Attribute, Pattern};
 use std::slice;
 
 /// An attribute of a message. Two are equal where their ids and values are.
+///
+/// ```
+/// let message = bundle.get_message("checkout").context("no such message")?;
+/// let title = message.get_attribute("title").context("no such attribute")?;
+/// let pattern = title.value();
+/// ```
 #[derive(Debug, PartialEq, Eq, Drop)]
 pub struct FluentAttribute<'m, 's> {
     node: &'m Attribute<&'s str>,

@@ -10,6 +10,18 @@ use std::alloc::AllocError;
 use std::fmt;
 
 /// Why not all entries of a resource were added.
+///
+/// ```
+/// match bundle.add_resource(&resource) {
+///     Ok(()) => {}
+///     Err(AddResourceError::Overriding(notices)) => {
+///         for notice in notices.iter() {
+///             println!(rt; "{notice}")?; // Attempt to override an existing message: "pay".
+///         }
+///     }
+///     Err(AddResourceError::Memory) => bail!("out of memory"),
+/// }
+/// ```
 #[derive(Debug, PartialEq, Eq, Drop)]
 pub enum AddResourceError {
     /// These entries were left out, since their ids stand for another entry already. All others were added.
@@ -64,3 +76,7 @@ impl fmt::Display for AddFunctionError {
         })
     }
 }
+
+impl std::error::Error for AddResourceError {}
+
+impl std::error::Error for AddFunctionError {}

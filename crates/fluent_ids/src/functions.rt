@@ -17,8 +17,8 @@ impl<'r, 's, F: Drop> FluentIds<'r, 's, F> {
     ///
     /// # Errors
     /// After each of them nothing has changed, and the function was dropped.
-    /// - [`AddFunctionError::Overriding`] where the id stands for something.
-    /// - [`AddFunctionError::Memory`] where memory runs out.
+    /// - [`AddFunctionError::Overriding`] if the id stands for something.
+    /// - [`AddFunctionError::Memory`] if memory runs out.
     pub fn add_function(&mut self, id: &str, function: F) -> Result<(), AddFunctionError>
         ensures { AddsFunction F result self.old self.new (id.now, ids.function function) }
     {
@@ -29,8 +29,8 @@ impl<'r, 's, F: Drop> FluentIds<'r, 's, F> {
     ///
     /// # Errors
     /// After each of them nothing has changed.
-    /// - [`AddFunctionError::Overriding`] where `NUMBER` stands for something.
-    /// - [`AddFunctionError::Memory`] where memory runs out.
+    /// - [`AddFunctionError::Overriding`] if `NUMBER` stands for something.
+    /// - [`AddFunctionError::Memory`] if memory runs out.
     pub fn add_builtins(&mut self) -> Result<(), AddFunctionError>
         ensures { AddsFunction F result self.old self.new number_pair }
     {

@@ -1,9 +1,8 @@
 //! Asking for messages, terms and functions by their ids.
 
-ghost use Rattle.std.specs.Prelude.{◌≡◌, is_some, option_map, option_copied};
-ghost use Rattle.fluent_ast.specs.View.{message_view, term_view};
+ghost use Rattle.std.specs.Prelude.{◌≡◌, is_some, option_map};
 ghost use Rattle.fluent_ids.specs.EntryView.{function_meaning};
-ghost use Rattle.fluent_ids.specs.Found.{message_in, term_in, function_in};
+ghost use Rattle.fluent_ids.specs.Found.{message_in, term_in, function_in, lent_message, lent_term};
 ghost use Rattle.fluent_ids.specs.IdsView.{ids_view};
 ghost use Rattle.fluent_meaning.specs.Ids.{Ids, find};
 ghost use Rattle.fluent_ids.specs.MessageView.{message_of};
@@ -19,13 +18,11 @@ pub trait GetEntry<'s, F> {
 
     /// The message of an id.
     fn get_entry_message(&self, id: &str) -> Option<&Message<&'s str>>
-        ensures { option_map (message_view _ (λ s. s.now)) (option_copied result)
-            ≡ message_in (find (ids self.now) id.now) };
+        ensures { lent_message result ≡ message_in (find (ids self.now) id.now) };
 
     /// The term of an id, which is its name without the minus.
     fn get_entry_term(&self, id: &str) -> Option<&Term<&'s str>>
-        ensures { option_map (term_view _ (λ s. s.now)) (option_copied result)
-            ≡ term_in (find (ids self.now) id.now) };
+        ensures { lent_term result ≡ term_in (find (ids self.now) id.now) };
 
     /// The function of an id.
     fn get_entry_function(&self, id: &str) -> Option<FunctionRef<'_, F>>
@@ -74,8 +71,7 @@ impl<'r, 's, F> FluentIds<'r, 's, F> {
 
     /// The message of an id, lent as long as its resource is.
     fn message(&self, id: &str) -> Option<&'r Message<&'s str>>
-        ensures { option_map (message_view _ (λ s. s.now)) (option_copied result)
-            ≡ message_in (find (ids_view F self.now) id.now) }
+        ensures { lent_message result ≡ message_in (find (ids_view F self.now) id.now) }
     {
         match self.get(id) {
             Some(Entry::Message((_, message))) => Some(message),

@@ -11,6 +11,11 @@ use crate::attribute::{Attributes, FluentAttribute};
 use fluent_ast::{Message, Pattern};
 
 /// A message. Two are equal where their ids, values, attributes and comments are.
+///
+/// ```
+/// let message = bundle.get_message("intro").context("no such message")?;
+/// let pattern = message.value().context("the message has no value")?;
+/// ```
 #[derive(Debug, PartialEq, Eq, Drop)]
 pub struct FluentMessage<'m, 's> {
     node: &'m Message<&'s str>,

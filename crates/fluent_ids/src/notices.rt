@@ -1,15 +1,13 @@
 //! Which entries of a resource would override others.
 
-ghost use Rattle.std.specs.Prelude.{◌≡◌, ℕ, List, [], ◌∷◌, ◌++◌, ◌||◌, IfOk, OnOk, map, if◌then◌else◌};
-ghost use Rattle.std.specs.Str.{bytes_eq};
+ghost use Rattle.std.specs.Prelude.{◌≡◌, [], IfOk, OnOk};
 ghost use Rattle.fluent_errors.specs.Errors.{overriding};
 ghost use Rattle.fluent_errors.specs.View as e;
 ghost use Rattle.fluent_errors.specs.View.{bundle_view};
-ghost use Rattle.fluent_ids.specs.EntryView.{meaning_of};
 ghost use Rattle.fluent_ids.specs.IdsView.{ids_view};
-ghost use Rattle.fluent_ids.specs.Known.{is_known, told};
+ghost use Rattle.fluent_ids.specs.Known.{TellsIfKnown, KnowsOneMore, reports, told};
 ghost use Rattle.fluent_ids.specs.ResourceEntries.{entries_in};
-ghost use Rattle.fluent_meaning.specs.Ids.{entries_by_id, kind_of, notices};
+ghost use Rattle.fluent_meaning.specs.Ids.{entries_by_id, notices};
 
 use crate::entry::Entry;
 use crate::ids::FluentIds;
@@ -59,12 +57,9 @@ impl<'s> Notices<'s> {
         id: &'s str,
         kind: EntryKind,
     ) -> Result<(), AllocError>
-        ensures told { OnOk result (told self.new ≡ told self.old
-            ++ (if is_known (ids_view F ids.now) self.old id.now then overriding (e.entry_view kind)
-            id.now ∷ [] else [])) }
-        ensures known { OnOk result ((other : List ℕ)
-            → is_known (ids_view F ids.now) self.new other
-            ≡ (bytes_eq id.now other || is_known (ids_view F ids.now) self.old other)) }
+        ensures told { OnOk result (TellsIfKnown (ids_view F ids.now) self.old self.new
+            (e.entry_view kind) id.now) }
+        ensures known { OnOk result (KnowsOneMore (ids_view F ids.now) self.old self.new id.now) }
     {
         let is_new = !ids.contains(id) && self.seen.insert(id)?;
         if !is_new {
@@ -80,7 +75,7 @@ impl<'r, 's, F: Drop> FluentIds<'r, 's, F> {
         &self,
         resource: &'r Resource<&'s str>,
     ) -> Result<Vec<FluentError>, AllocError>
-        ensures { IfOk result (λ all. map bundle_view all.items
+        ensures { IfOk result (λ all. reports all
             ≡ notices (ids_view F self.now) (entries_by_id (entries_in resource.now))) }
     {
         let mut notices = Notices::new(self.alloc);

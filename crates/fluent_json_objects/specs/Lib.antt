@@ -1,3 +1,4 @@
 pub mod Objects
 pub mod Left
 pub mod Given
+pub mod Taken

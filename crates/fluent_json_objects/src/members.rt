@@ -2,7 +2,10 @@
 
 ghost use Rattle.std.specs.Prelude.{◌≡◌, ◌≢◌, IfSome, IfNone};
 ghost use Rattle.serde_json.specs.Data.{Data, object, string, member, no_members};
-ghost use Rattle.serde_json.specs.View.{view, items_view};
+ghost use Rattle.serde_json.specs.View.{view};
+ghost use Rattle.fluent_json_objects.specs.Taken.{two, three, four, five, two_members, three_members, four_members};
+ghost use Rattle.fluent_json_objects.specs.Taken.{IsOfTwo, IsOfThree, IsOfFour, IsOfFive};
+ghost use Rattle.fluent_json_objects.specs.Taken.{IsOfNoTwo, IsOfNoThree, IsOfNoFour, IsOfNoFive};
 
 use serde_json::Value;
 use std::collections::btree_map;
@@ -65,10 +68,10 @@ impl<'v> Members<'v> {
 
     /// The values at these two keys, or None where others are left.
     fn two(mut self, first: &str, second: &str) -> Option<(&'v Value, &'v Value)>
-        ensures some { IfSome result (λ v. left self.entry
-            ≡ member first.now (view v.0.now) (member second.now (view v.1.now) no_members)) }
-        ensures none { IfNone result ((d e : Data) → left self.entry
-            ≢ member first.now d (member second.now e no_members)) }
+        ensures some { IfSome result (IsOfTwo (two_members first.now second.now)
+            (left self.entry)) }
+        ensures none { IfNone result (IsOfNoTwo (two_members first.now second.now)
+            (left self.entry)) }
     {
         let value = self.take(first)?;
         Some((value, self.one(second)?))
@@ -81,10 +84,10 @@ impl<'v> Members<'v> {
         second: &str,
         third: &str,
     ) -> Option<(&'v Value, &'v Value, &'v Value)>
-        ensures some { IfSome result (λ v. left self.entry ≡ member first.now (view v.0.now)
-            (member second.now (view v.1.now) (member third.now (view v.2.now) no_members))) }
-        ensures none { IfNone result ((d e f : Data) → left self.entry
-            ≢ member first.now d (member second.now e (member third.now f no_members))) }
+        ensures some { IfSome result (IsOfThree (three_members first.now second.now third.now)
+            (left self.entry)) }
+        ensures none { IfNone result (IsOfNoThree (three_members first.now second.now third.now)
+            (left self.entry)) }
     {
         let value = self.take(first)?;
         let (other, last) = self.two(second, third)?;
@@ -99,11 +102,10 @@ impl<'v> Members<'v> {
         third: &str,
         fourth: &str,
     ) -> Option<(&'v Value, &'v Value, &'v Value, &'v Value)>
-        ensures some { IfSome result (λ v. left self.entry ≡ member first.now (view v.0.now)
-            (member second.now (view v.1.now) (member third.now (view v.2.now)
-            (member fourth.now (view v.3.now) no_members)))) }
-        ensures none { IfNone result ((d e f g : Data) → left self.entry ≢ member first.now d
-            (member second.now e (member third.now f (member fourth.now g no_members)))) }
+        ensures some { IfSome result (IsOfFour (four_members first.now second.now third.now fourth.now)
+            (left self.entry)) }
+        ensures none { IfNone result (IsOfNoFour (four_members first.now second.now third.now fourth.now)
+            (left self.entry)) }
     {
         let value = self.take(first)?;
         let (other, more, last) = self.three(second, third, fourth)?;
@@ -113,10 +115,8 @@ impl<'v> Members<'v> {
 
 /// The values of an object that has exactly these keys, in the order of their bytes.
 pub(crate) fn two<'v>(value: &'v Value, first: &str, second: &str) -> Option<(&'v Value, &'v Value)>
-    ensures some { IfSome result (λ v. view value.now ≡ object
-        (member first.now (view v.0.now) (member second.now (view v.1.now) no_members))) }
-    ensures none { IfNone result ((d e : Data) → view value.now
-        ≢ object (member first.now d (member second.now e no_members))) }
+    ensures some { IfSome result (IsOfTwo (two first.now second.now) (view value.now)) }
+    ensures none { IfNone result (IsOfNoTwo (two first.now second.now) (view value.now)) }
 {
     Members::of(value)?.two(first, second)
 }
@@ -128,10 +128,10 @@ pub(crate) fn three<'v>(
     second: &str,
     third: &str,
 ) -> Option<(&'v Value, &'v Value, &'v Value)>
-    ensures some { IfSome result (λ v. view value.now ≡ object (member first.now (view v.0.now)
-        (member second.now (view v.1.now) (member third.now (view v.2.now) no_members)))) }
-    ensures none { IfNone result ((d e f : Data) → view value.now ≢ object
-        (member first.now d (member second.now e (member third.now f no_members)))) }
+    ensures some { IfSome result (IsOfThree (three first.now second.now third.now)
+        (view value.now)) }
+    ensures none { IfNone result (IsOfNoThree (three first.now second.now third.now)
+        (view value.now)) }
 {
     Members::of(value)?.three(first, second, third)
 }
@@ -144,11 +144,10 @@ pub(crate) fn four<'v>(
     third: &str,
     fourth: &str,
 ) -> Option<(&'v Value, &'v Value, &'v Value, &'v Value)>
-    ensures some { IfSome result (λ v. view value.now ≡ object (member first.now (view v.0.now)
-        (member second.now (view v.1.now) (member third.now (view v.2.now)
-        (member fourth.now (view v.3.now) no_members))))) }
-    ensures none { IfNone result ((d e f g : Data) → view value.now ≢ object (member first.now d
-        (member second.now e (member third.now f (member fourth.now g no_members))))) }
+    ensures some { IfSome result (IsOfFour (four first.now second.now third.now fourth.now)
+        (view value.now)) }
+    ensures none { IfNone result (IsOfNoFour (four first.now second.now third.now fourth.now)
+        (view value.now)) }
 {
     Members::of(value)?.four(first, second, third, fourth)
 }
@@ -162,12 +161,10 @@ pub(crate) fn five<'v>(
     fourth: &str,
     fifth: &str,
 ) -> Option<(&'v Value, &'v Value, &'v Value, &'v Value, &'v Value)>
-    ensures some { IfSome result (λ v. view value.now ≡ object (member first.now (view v.0.now)
-        (member second.now (view v.1.now) (member third.now (view v.2.now)
-        (member fourth.now (view v.3.now) (member fifth.now (view v.4.now) no_members)))))) }
-    ensures none { IfNone result ((d e f g h : Data) → view value.now
-        ≢ object (member first.now d (member second.now e (member third.now f
-        (member fourth.now g (member fifth.now h no_members)))))) }
+    ensures some { IfSome result (IsOfFive (five first.now second.now third.now fourth.now fifth.now)
+        (view value.now)) }
+    ensures none { IfNone result (IsOfNoFive (five first.now second.now third.now fourth.now fifth.now)
+        (view value.now)) }
 {
     let mut members = Members::of(value)?;
     let at_first = members.take(first)?;

@@ -3,10 +3,11 @@
 //! Each gives the values of an object's keys, or None where the value isn't that object: where a key is unknown or
 //! missing, the `type` is another one, or a text, an array or a truth value is something else.
 
-ghost use Rattle.std.specs.Prelude.{◌≡◌, ◌≢◌, ℕ, Bool, List, IfSome, IfNone};
+ghost use Rattle.std.specs.Prelude.{◌≡◌, ◌≢◌, ℕ, List, IfSome, IfNone};
 ghost use Rattle.serde_json.specs.Data.{Data, Items};
 ghost use Rattle.serde_json.specs.View.{view, items_view};
 ghost use Rattle.fluent_json_objects.specs.Objects as object;
+ghost use Rattle.fluent_json_objects.specs.Taken.{IsOfTwo, IsOfThree, IsOfEntry, IsOfNoTwo, IsOfNoThree, IsOfNoFour};
 
 use crate::members::{five, four, is_text, three, two};
 use serde_json::Value;
@@ -36,11 +37,8 @@ pub fn unversioned_resource(value: &Value) -> Option<&[Value]>
 
 /// The identifier, the value, the attributes and the comment of a `Message`.
 pub fn message(value: &Value) -> Option<(&Value, &Value, &[Value], &Value)>
-    ensures some { IfSome result (λ parts. view value.now
-        ≡ object.message (view parts.0.now) (view parts.1.now) (items_view parts.2.now)
-        (view parts.3.now)) }
-    ensures none { IfNone result ((id : Data) (value' : Data) (attributes : Items) (comment : Data)
-        → view value.now ≢ object.message id value' attributes comment) }
+    ensures some { IfSome result (IsOfEntry object.message (view value.now)) }
+    ensures none { IfNone result (IsOfNoFour object.message (view value.now)) }
 {
     let (attributes, comment, id, kind, inner) = five(
         value,
@@ -56,11 +54,8 @@ pub fn message(value: &Value) -> Option<(&Value, &Value, &[Value], &Value)>
 
 /// The identifier, the value, the attributes and the comment of a `Term`.
 pub fn term(value: &Value) -> Option<(&Value, &Value, &[Value], &Value)>
-    ensures some { IfSome result (λ parts. view value.now
-        ≡ object.term (view parts.0.now) (view parts.1.now) (items_view parts.2.now)
-        (view parts.3.now)) }
-    ensures none { IfNone result ((id : Data) (value' : Data) (attributes : Items) (comment : Data)
-        → view value.now ≢ object.term id value' attributes comment) }
+    ensures some { IfSome result (IsOfEntry object.term (view value.now)) }
+    ensures none { IfNone result (IsOfNoFour object.term (view value.now)) }
 {
     let (attributes, comment, id, kind, inner) = five(
         value,
@@ -130,10 +125,8 @@ pub fn identifier(value: &Value) -> Option<&str>
 
 /// The identifier and the value of an `Attribute`.
 pub fn attribute(value: &Value) -> Option<(&Value, &Value)>
-    ensures some { IfSome result (λ parts. view value.now
-        ≡ object.attribute (view parts.0.now) (view parts.1.now)) }
-    ensures none { IfNone result ((id : Data) (value' : Data)
-        → view value.now ≢ object.attribute id value') }
+    ensures some { IfSome result (IsOfTwo object.attribute (view value.now)) }
+    ensures none { IfNone result (IsOfNoTwo object.attribute (view value.now)) }
 {
     let (id, kind, inner) = three(value, "id", "type", "value")?;
     is_text(kind, "Attribute")?;
@@ -175,8 +168,7 @@ pub fn placeable(value: &Value) -> Option<&Value>
 pub fn select(value: &Value) -> Option<(&Value, &[Value])>
     ensures some { IfSome result (λ parts. view value.now
         ≡ object.select (view parts.0.now) (items_view parts.1.now)) }
-    ensures none { IfNone result ((selector : Data) (variants : Items)
-        → view value.now ≢ object.select selector variants) }
+    ensures none { IfNone result (IsOfNoTwo object.select (view value.now)) }
 {
     let (selector, kind, variants) = three(value, "selector", "type", "variants")?;
     is_text(kind, "Select")?;
@@ -187,8 +179,7 @@ pub fn select(value: &Value) -> Option<(&Value, &[Value])>
 pub fn variant(value: &Value) -> Option<(&Value, &Value, bool)>
     ensures some { IfSome result (λ parts. view value.now
         ≡ object.variant (view parts.0.now) (view parts.1.now) parts.2) }
-    ensures none { IfNone result ((key : Data) (value' : Data) (default : Bool)
-        → view value.now ≢ object.variant key value' default) }
+    ensures none { IfNone result (IsOfNoThree object.variant (view value.now)) }
 {
     let (default, key, kind, inner) = four(value, "default", "key", "type", "value")?;
     is_text(kind, "Variant")?;
@@ -219,10 +210,8 @@ pub fn number_literal(value: &Value) -> Option<&str>
 
 /// The identifier and the arguments of a `FunctionReference`.
 pub fn function_reference(value: &Value) -> Option<(&Value, &Value)>
-    ensures some { IfSome result (λ parts. view value.now
-        ≡ object.function_reference (view parts.0.now) (view parts.1.now)) }
-    ensures none { IfNone result ((id : Data) (arguments : Data)
-        → view value.now ≢ object.function_reference id arguments) }
+    ensures some { IfSome result (IsOfTwo object.function_reference (view value.now)) }
+    ensures none { IfNone result (IsOfNoTwo object.function_reference (view value.now)) }
 {
     let (arguments, id, kind) = three(value, "arguments", "id", "type")?;
     is_text(kind, "FunctionReference")?;
@@ -231,10 +220,8 @@ pub fn function_reference(value: &Value) -> Option<(&Value, &Value)>
 
 /// The identifier and the attribute of a `MessageReference`.
 pub fn message_reference(value: &Value) -> Option<(&Value, &Value)>
-    ensures some { IfSome result (λ parts. view value.now
-        ≡ object.message_reference (view parts.0.now) (view parts.1.now)) }
-    ensures none { IfNone result ((id : Data) (attribute : Data)
-        → view value.now ≢ object.message_reference id attribute) }
+    ensures some { IfSome result (IsOfTwo object.message_reference (view value.now)) }
+    ensures none { IfNone result (IsOfNoTwo object.message_reference (view value.now)) }
 {
     let (attribute, id, kind) = three(value, "attribute", "id", "type")?;
     is_text(kind, "MessageReference")?;
@@ -243,10 +230,8 @@ pub fn message_reference(value: &Value) -> Option<(&Value, &Value)>
 
 /// The identifier, the attribute and the arguments of a `TermReference`.
 pub fn term_reference(value: &Value) -> Option<(&Value, &Value, &Value)>
-    ensures some { IfSome result (λ parts. view value.now
-        ≡ object.term_reference (view parts.0.now) (view parts.1.now) (view parts.2.now)) }
-    ensures none { IfNone result ((id : Data) (attribute : Data) (arguments : Data)
-        → view value.now ≢ object.term_reference id attribute arguments) }
+    ensures some { IfSome result (IsOfThree object.term_reference (view value.now)) }
+    ensures none { IfNone result (IsOfNoThree object.term_reference (view value.now)) }
 {
     let (arguments, attribute, id, kind) = four(value, "arguments", "attribute", "id", "type")?;
     is_text(kind, "TermReference")?;
@@ -266,10 +251,9 @@ pub fn variable_reference(value: &Value) -> Option<&Value>
 
 /// The positional and the named arguments of `CallArguments`.
 pub fn call_arguments(value: &Value) -> Option<(&[Value], &[Value])>
-    ensures some { IfSome result (λ parts. view value.now
-        ≡ object.call_arguments (items_view parts.0.now) (items_view parts.1.now)) }
-    ensures none { IfNone result ((positional : Items) (named : Items)
-        → view value.now ≢ object.call_arguments positional named) }
+    ensures some { IfSome result (λ p. view value.now
+        ≡ object.call_arguments (items_view p.0.now) (items_view p.1.now)) }
+    ensures none { IfNone result (IsOfNoTwo object.call_arguments (view value.now)) }
 {
     let (named, positional, kind) = three(value, "named", "positional", "type")?;
     is_text(kind, "CallArguments")?;
@@ -281,10 +265,8 @@ pub fn call_arguments(value: &Value) -> Option<(&[Value], &[Value])>
 
 /// The name and the value of a `NamedArgument`.
 pub fn named_argument(value: &Value) -> Option<(&Value, &Value)>
-    ensures some { IfSome result (λ parts. view value.now
-        ≡ object.named_argument (view parts.0.now) (view parts.1.now)) }
-    ensures none { IfNone result ((name : Data) (value' : Data)
-        → view value.now ≢ object.named_argument name value') }
+    ensures some { IfSome result (IsOfTwo object.named_argument (view value.now)) }
+    ensures none { IfNone result (IsOfNoTwo object.named_argument (view value.now)) }
 {
     let (name, kind, inner) = three(value, "name", "type", "value")?;
     is_text(kind, "NamedArgument")?;

@@ -44,3 +44,5 @@ impl<T: Drop> From<AllocFailed<T>> for FromValueError {
         FromValueError::from(AllocError::from(error))
     }
 }
+
+impl std::error::Error for FromValueError {}

@@ -1,11 +1,11 @@
 //! From a tree to its JSON value, object by object: each function makes those of a row of `docs/json.md`.
 
-ghost use Rattle.std.specs.Prelude.{◌≡◌, [], ◌∷◌, IfOk, codes};
-ghost use Rattle.serde_json.specs.Data.{string, array};
+ghost use Rattle.std.specs.Prelude.{◌≡◌, IfOk};
 ghost use Rattle.serde_json.specs.View.{view, items_view};
-ghost use Rattle.fluent_json_objects.specs.Objects.{members, placeable, message_reference};
+ghost use Rattle.fluent_json_objects.specs.Objects.{placeable, message_reference};
 ghost use Rattle.fluent_json_values.specs.Json.{json};
 ghost use Rattle.fluent_json_objects.specs.Given.{given};
+ghost use Rattle.fluent_json_write.specs.Unfinished.{entry_members, identified_members, term_reference_members};
 ghost use Rattle.fluent_json_values.specs.Parts.{plain, accessor_json, text_json, variable_json, maybe_comment_json, commented_json, lines_json, identifier_json, key_json, pattern_json, maybe_pattern_json, element_json, elements_json, expression_json, inline_json, variant_json, variants_json, arguments_json, positional_json, named_json, nameds_json, attribute_json, attributes_json, message_json, term_json, entry_json, entries_json};
 
 use fluent_ast::{
@@ -21,7 +21,7 @@ use std::alloc::{AllocError, Global};
 /// An object holds its members in the order of their keys' bytes, and the compact text of the value writes them so.
 ///
 /// # Errors
-/// `AllocError` where memory ran out, and nothing else. Nothing of the value is left then, and the tree is as it was.
+/// [`AllocError`] if memory runs out; nothing is left behind.
 pub fn to_value(alloc: Global, resource: &Resource<String>) -> Result<Value, AllocError>
     ensures { IfOk result (λ value. view value ≡ json (plain resource.now)) }
 {
@@ -90,9 +90,7 @@ fn entry_object(
     comment: &Option<Comment<String>>,
 ) -> Result<Object, AllocError>
     ensures { IfOk result (λ made. given made
-        ≡ members ((codes "type", string kind.now) ∷ (codes "id", identifier_json id.now)
-        ∷ (codes "attributes", array (attributes_json attributes.now))
-        ∷ (codes "comment", maybe_comment_json comment.now) ∷ [])) }
+        ≡ entry_members kind.now id.now attributes.now comment.now) }
 {
     let object = identified(alloc, kind, id)?;
     let object = object.with("comment", comment_or_null(alloc, comment)?)?;
@@ -102,8 +100,7 @@ fn entry_object(
 
 /// An object of this `type` with the identifier of its part.
 fn identified(alloc: Global, kind: &str, id: &Identifier<String>) -> Result<Object, AllocError>
-    ensures { IfOk result (λ made. given made
-        ≡ members ((codes "type", string kind.now) ∷ (codes "id", identifier_json id.now) ∷ [])) }
+    ensures { IfOk result (λ made. given made ≡ identified_members kind.now id.now) }
 {
     let object = Object::of_type(alloc, kind)?;
     object.with("id", identifier_value(alloc, id)?)
@@ -329,9 +326,7 @@ fn term_reference_object(
     id: &Identifier<String>,
     attribute: &Option<Identifier<String>>,
 ) -> Result<Object, AllocError>
-    ensures { IfOk result (λ made. given made
-        ≡ members ((codes "type", string (codes "TermReference")) ∷ (codes "id", identifier_json id.now)
-        ∷ (codes "attribute", accessor_json attribute.now) ∷ [])) }
+    ensures { IfOk result (λ made. given made ≡ term_reference_members id.now attribute.now) }
 {
     let object = identified(alloc, "TermReference", id)?;
     object.with("attribute", identifier_or_null(alloc, attribute)?)

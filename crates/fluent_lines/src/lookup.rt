@@ -65,9 +65,11 @@ impl<'a> Lines<'a> {
         self.text.len() - place
     }
 
-    /// The text at this place, as the text of a pattern: up to and with the line feed, or up to an opening brace, a CR LF or
-    /// the end. An `Err` is the offset of a closing brace from here, which no text may have. In a plain line no brace is
-    /// searched for.
+    /// How many bytes the text at this place has, as the text of a pattern: up to and with the line feed, or up to an opening
+    /// brace, a CR LF or the end. In a plain line no brace is searched for.
+    ///
+    /// # Errors
+    /// The offset of a closing brace from this place, if one comes first: no text may have it.
     #[inline(always)]
     pub fn text_len(&mut self, place: usize) -> Result<usize, usize>
         requires { place ≤ length self.old.text.now }

@@ -1,9 +1,10 @@
 -- What `merge` makes of the options.
-use Rattle.std.specs.Prelude.{ℕ, Bool, not, Option, Some, option_map, unwrap_or, codes, bytes_eq, if◌then◌else◌}
+use Rattle.std.specs.Prelude.{◌≡◌, ℕ, Bool, not, Option, Some, option_map, unwrap_or, codes, bytes_eq, if◌then◌else◌}
 use Rattle.fluent_number.specs.Conversion.{unsigned_of}
 use Rattle.fluent_number.specs.Digits.{Text}
 use Rattle.fluent_number.specs.Number.{Number}
-use Rattle.fluent_number.specs.Options.{Options}
+use Rattle.fluent_number.specs.Options.{Options, options_of}
+use Rattle.fluent_number.specs.declared.options.FluentNumberOptions.{FluentNumberOptions}
 use Rattle.fluent_number.specs.declared.options.FluentNumberType.{FluentNumberType}
 use Rattle.fluent_number.specs.declared.options.FluentNumberType.TheVariants.{Cardinal, Ordinal}
 use Rattle.fluent_number.specs.declared.options.FluentNumberStyle.{FluentNumberStyle}
@@ -61,3 +62,7 @@ abbrev pub merged : (Text → Option Text) → (Text → Option Number) → Opti
 merged text number before =
     let currency = updated Some (text (codes "currency")) before.currency in
     with_counts number (with_texts text (record before { currency = currency }))
+
+-- the new options are the old ones after such a merge
+abbrev pub Merges : (Text → Option Text) → (Text → Option Number) → FluentNumberOptions → FluentNumberOptions → Type 0
+Merges text number old new = options_of new ≡ merged text number (options_of old)

@@ -1,5 +1,5 @@
 -- Which number a text is, if it is one.
-use Rattle.std.specs.Prelude.{ℕ, ℤ, ◌+◌, ◌-◌, ◌*◌, ◌^◌, Bool, ◌&&◌, ◌||◌, ◌==◌, nat_lt, nat_le, if◌then◌else◌, length, drop, take, position, Option, Some, None, option_map, unwrap_or, slice_index, [], ◌++◌}
+use Rattle.std.specs.Prelude.{◌≡◌, ◌≤◌, true, ℕ, ℤ, ◌+◌, ◌-◌, ◌*◌, ◌^◌, Bool, ◌&&◌, ◌||◌, ◌==◌, nat_lt, nat_le, if◌then◌else◌, length, drop, take, position, Option, Some, None, option_map, unwrap_or, slice_index, [], ◌++◌}
 use Rattle.std.specs.Char.{is_ascii_digit}
 use Rattle.std.specs.List.{list_all}
 use Rattle.fluent_number.specs.Decimal.{signed}
@@ -34,6 +34,18 @@ are_decimal whole behind =
 -- how many units they are: all the digits as one number, of which so many stand behind the point
 abbrev pub units_of : Text → Text → ℕ
 units_of whole behind = digits_worth (whole ++ behind) * 10 ^ (18 - length behind)
+
+-- digits before a point whose number doesn't fit
+abbrev pub IsTooGreatAsDigits : Text → Type 0
+IsTooGreatAsDigits whole = list_all is_ascii_digit whole ≡ true → 2 ^ 64 ≤ digits_worth whole
+
+-- digits that may stand behind a point
+abbrev pub IsFraction : Text → Type 0
+IsFraction behind = (list_all is_ascii_digit behind ≡ true) × (length behind ≤ 18)
+
+-- how many units they are
+abbrev pub fraction_units : Text → ℕ
+fraction_units behind = digits_worth behind * 10 ^ (18 - length behind)
 
 -- the decimal that they are with that sign, if they are one
 abbrev pub read_decimal : Bool → Text → Text → Option ℤ

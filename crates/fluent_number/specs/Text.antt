@@ -21,6 +21,10 @@ point_and least digits =
 abbrev pub minus_of : ℤ → Text
 minus_of value = if is_below_zero value then 45 ∷ [] else []
 
+-- the text of a decimal, with at least so many digits behind the point if a count is given
+abbrev pub decimal_text : ℤ → Option ℕ → Text
+decimal_text value least = minus_of value ++ (decimal (whole_of value) ++ point_and least (fraction_text value))
+
 -- the text of a number
 unfoldable pub number_text : Number → Text
 number_text number =

@@ -1,4 +1,5 @@
-// Numbers from the integers of Rust.
+//! Numbers from the integers of Rust.
+
 ghost use Rattle.std.specs.Prelude.{◌≡◌, ◌+◌, ◌*◌, ◌^◌, ◌<◌, ◌↔◌, pos, unsigned_abs, IsSome, IfSome};
 ghost use Rattle.fluent_number.specs.Decimal.{units_per_one, signed};
 ghost use Rattle.fluent_number.specs.Number.{number_of, number_from_integer};

@@ -30,7 +30,10 @@ impl FluentNumber {
         FluentNumber { value, options }
     }
 
-    /// A copy. The error is that memory was refused for the text of the option `currency`.
+    /// A copy. Only the text of the option `currency` takes memory.
+    ///
+    /// # Errors
+    /// [`AllocError`] if memory runs out; nothing is left behind.
     pub fn try_clone(&self, alloc: Global) -> Result<Self, AllocError>
         ensures same { IfOk result (λ copy. number_of copy ≡ number_of self.now) }
         ensures succeeds { IsNone self.now.options.currency → IsOk result }
@@ -42,7 +45,10 @@ impl FluentNumber {
     /// behind it without zeros at the end.
     ///
     /// Where `minimum_fraction_digits` is set a point is always written, and zeros are added until so many digits
-    /// stand behind it. The error is that memory was refused; a count that no memory holds is refused at once.
+    /// stand behind it.
+    ///
+    /// # Errors
+    /// [`AllocError`] if memory runs out; nothing is left behind. A count that no memory holds is refused at once.
     #[tactic(auto, unfolding(crate::specs::Text::number_text))]
     pub fn as_string(&self, alloc: Global) -> Result<String, AllocError>
         ensures { IfOk result (λ text. string_bytes text ≡ number_text (number_of self.now)) }

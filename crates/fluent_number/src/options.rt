@@ -1,5 +1,5 @@
 ghost use Rattle.std.specs.Prelude.{◌≡◌, IfOk, OnOk, OnErr, IsNone, IsOk, option_map, option_copied, string_bytes, codes};
-ghost use Rattle.fluent_number.specs.Merge.{merged, with_texts, with_counts, updated, asks_for_grouping, count_of, number_type_named, style_named, currency_display_named};
+ghost use Rattle.fluent_number.specs.Merge.{Merges, with_texts, with_counts, updated, asks_for_grouping, count_of, number_type_named, style_named, currency_display_named};
 ghost use Rattle.fluent_number.specs.Options.{options_of, default_options};
 
 use crate::source::OptionSource;
@@ -127,7 +127,10 @@ impl Default for FluentNumberOptions {
 }
 
 impl FluentNumberOptions {
-    /// A copy. The error is that memory was refused for the text of `currency`.
+    /// A copy. Only the text of `currency` takes memory.
+    ///
+    /// # Errors
+    /// [`AllocError`] if memory runs out; nothing is left behind.
     pub fn try_clone(&self, alloc: Global) -> Result<Self, AllocError>
         ensures same { IfOk result (λ copy. options_of copy ≡ options_of self.now) }
         ensures succeeds { IsNone self.now.currency → IsOk result }
@@ -150,11 +153,13 @@ impl FluentNumberOptions {
     /// `useGrouping` by a text, `minimumIntegerDigits`, `minimumFractionDigits`, `maximumFractionDigits`,
     /// `minimumSignificantDigits` and `maximumSignificantDigits` by a number, of which the whole part counts.
     ///
-    /// A key with no value or one of another kind changes nothing. The error is that memory was refused for the text of
-    /// `currency`; the options are then unchanged.
+    /// A key with no value or one of another kind changes nothing. Only the text of `currency` takes memory.
+    ///
+    /// # Errors
+    /// [`AllocError`] if memory runs out; the options are unchanged.
     pub fn merge<S: OptionSource>(&mut self, alloc: Global, source: &S) -> Result<(), AllocError>
-        ensures ok { OnOk result (options_of self.new
-            ≡ merged (S.text_under source.now) (S.number_under source.now) (options_of self.old)) }
+        ensures ok { OnOk result (Merges (S.text_under source.now) (S.number_under source.now)
+            self.old self.new) }
         ensures err { OnErr result (options_of self.new ≡ options_of self.old) }
         ensures succeeds { IsNone (S.text_under source.now (codes "currency")) → IsOk result }
     {

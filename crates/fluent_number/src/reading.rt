@@ -1,4 +1,5 @@
-// Reads a number from its text.
+//! Reads a number from its text.
+
 ghost use Rattle.std.specs.Prelude.{◌≡◌, ◌≢◌, ◌+◌, ◌-◌, ◌*◌, ◌^◌, ◌<◌, ◌≤◌, true, length, SomeIff, option_copied, option_map, unwrap_or, take, [], IfSome, OnSome, IfNone, IfOk, OnErr, Option};
 ghost use Rattle.std.specs.Char.{is_ascii_digit};
 ghost use Rattle.std.specs.List.{list_all, prefix_len};
@@ -6,7 +7,7 @@ ghost use Rattle.fluent_number.specs.Digits.{Text, digits_worth};
 ghost use Rattle.fluent_number.specs.Spelling.{point_text};
 ghost use Rattle.fluent_number.specs.Number.{number_of};
 ghost use Rattle.fluent_number.specs.Options.{options_of, default_options};
-ghost use Rattle.fluent_number.specs.Reading.{read_number, begins_with_minus, without_sign, numeral_of};
+ghost use Rattle.fluent_number.specs.Reading.{read_number, begins_with_minus, without_sign, numeral_of, IsTooGreatAsDigits, IsFraction, fraction_units};
 
 use crate::decimal::{Decimal, FRACTION_DIGITS, power_of_ten};
 use crate::number::{FluentNumber, NotANumber};
@@ -85,8 +86,7 @@ fn split_at_point(text: &[u8]) -> Option<Numeral<'_>>
     ensures small { IfSome result (λ n. n.whole < 2 ^ 64) }
     ensures fraction { IfSome result (λ n. option_copied n.fraction
         ≡ (numeral_of text.now).fraction) }
-    ensures none { IfNone result (list_all is_ascii_digit (numeral_of text.now).whole ≡ true
-        → 2 ^ 64 ≤ digits_worth (numeral_of text.now).whole) }
+    ensures none { IfNone result (IsTooGreatAsDigits (numeral_of text.now).whole) }
 {
     let (count, whole) = leading_digits(text)?;
     let Ok(fraction) = fraction_behind(&text[count..]) else {
@@ -158,8 +158,7 @@ fn followed_by(worth: u64, digit: u8) -> Option<u64>
 
 /// How many units the digits behind a point are, if they are digits and not too many.
 fn units_of_fraction(digits: &[u8]) -> Option<u64>
-    ensures { SomeIff result ((list_all is_ascii_digit digits.now ≡ true)
-        × (length digits.now ≤ 18)) (digits_worth digits.now * 10 ^ (18 - length digits.now)) }
+    ensures { SomeIff result (IsFraction digits.now) (fraction_units digits.now) }
 {
     if digits.len() > FRACTION_DIGITS {
         return None;

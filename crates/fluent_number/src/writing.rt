@@ -1,8 +1,8 @@
-// Writes a number's text.
-ghost use Rattle.std.specs.Prelude.{◌≡◌, ◌≢◌, ◌+◌, ◌%◌, ◌^◌, ◌<◌, ◌≤◌, ◌++◌, replicate, string_bytes, decimal, IfOk, OnOk};
-ghost use Rattle.fluent_number.specs.Decimal.{whole_of};
+//! Writes a number's text.
+
+ghost use Rattle.std.specs.Prelude.{◌≡◌, ◌≢◌, ◌+◌, ◌%◌, ◌^◌, ◌<◌, ◌≤◌, ◌++◌, replicate, string_bytes, IfOk, OnOk};
 ghost use Rattle.fluent_number.specs.Digits.{last_digits, without_end_zeros};
-ghost use Rattle.fluent_number.specs.Text.{minus_of, point_and, fraction_text};
+ghost use Rattle.fluent_number.specs.Text.{minus_of, point_and, decimal_text};
 
 use crate::decimal::{Decimal, FRACTION_DIGITS, power_of_ten};
 use itoa::Buffer;
@@ -14,8 +14,7 @@ pub(crate) fn text_of(
     value: Decimal,
     least: Option<usize>,
 ) -> Result<String, AllocError>
-    ensures { IfOk result (λ text. string_bytes text
-        ≡ minus_of value ++ (decimal (whole_of value) ++ point_and least (fraction_text value))) }
+    ensures { IfOk result (λ text. string_bytes text ≡ decimal_text value least) }
 {
     let mut buffer = Buffer::new();
     let whole = buffer.format(value.whole());

@@ -13,5 +13,6 @@ pub record NoneIsForAnAttribute (source : Text) : Type 0 where
   pub full : All IsForNoAttribute (map error_told (errors source))
   pub runtime : All IsForNoAttribute (map error_told (runtime_errors source))
 
+-- the same of every source
 abbrev pub MessageAttributesMaySelect : Type 0
 MessageAttributesMaySelect = (source : Text) → NoneIsForAnAttribute source

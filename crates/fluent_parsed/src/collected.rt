@@ -1,12 +1,11 @@
 //! What the parts of a source make: its tree and its errors.
 #![tactic(auto)]
 
-ghost use Rattle.std.specs.Prelude.{◌≡◌, ◌<◌, ◌++◌, ◌∷◌, [], ℕ, List, None, IfOk, map, vec_len, vec_capacity};
-ghost use Rattle.fluent_grammar.specs.Tree as t;
-ghost use Rattle.fluent_grammar.specs.Tiling.{Piece, entry, entries_of, errors_of, waiting, attached, left_alone};
-ghost use Rattle.fluent_ast.specs.View.{entry_view, message_view, term_view};
-ghost use Rattle.fluent_parsed.specs.ErrorView.{error_told};
-ghost use Rattle.fluent_parsed.specs.Collected.{body_of, held_by, entries_with, errors_with, HasTree, HasErrors};
+ghost use Rattle.std.specs.Prelude.{◌≡◌, ◌<◌, ◌++◌, ◌∷◌, [], ℕ, List, None, IfOk, OnOk, vec_len, vec_capacity};
+ghost use Rattle.fluent_grammar.specs.Tree.{junk};
+ghost use Rattle.fluent_grammar.specs.Tiling.{waiting, left_alone};
+ghost use Rattle.fluent_ast.specs.declared.Entry.TheVariants as entry;
+ghost use Rattle.fluent_parsed.specs.Collected.{Appends, HasErrors, HasNoEntries, HasNoErrors, HasTree, KeepsAttached, TakesEntry, entries_with, errors_with};
 
 use crate::{Error, ParserError};
 use fluent_ast::{Comment, Entry, Message, Resource, Term};
@@ -22,12 +21,13 @@ pub struct Collected<S> {
 }
 
 impl<S: Drop> Collected<S> {
-    /// Of no parts, with room for so many entries. The only error is that memory runs out.
+    /// Of no parts, with room for so many entries.
+    ///
+    /// # Errors
+    /// [`AllocError`] if memory runs out; nothing is left behind.
     pub fn with_capacity(alloc: Global, entries: usize) -> Result<Self, AllocError>
-        ensures entries { IfOk result (λ all. (text_of : S → List ℕ) (pieces : List Piece)
-            → entries_with S text_of all pieces ≡ entries_of None pieces) }
-        ensures errors { IfOk result (λ all. (pieces : List Piece)
-            → errors_with S all pieces ≡ map error_told (errors_of pieces)) }
+        ensures entries { IfOk result (HasNoEntries S) }
+        ensures errors { IfOk result (HasNoErrors S) }
     {
         Ok(Collected {
             body: Vec::with_capacity(alloc, entries)?,
@@ -36,13 +36,15 @@ impl<S: Drop> Collected<S> {
         })
     }
 
-    /// Puts junk behind the other entries, and its error behind the other errors.
+    /// Puts junk after the other entries, and its error after the other errors.
+    ///
+    /// # Errors
+    /// [`AllocError`] if memory runs out; the errors are unchanged, and the junk may be there without one.
     pub fn push_junk(&mut self, content: S, error: ParserError) -> Result<(), AllocError>
-        ensures body { IfOk result (λ u. (text_of : S → List ℕ)
-            → body_of S text_of self.new ≡ body_of S text_of self.old
-            ++ waiting (held_by S text_of self.old) ++ t.junk (text_of content) ∷ []) }
-        ensures comment { IfOk result (λ u. self.new.comment ≡ None) }
-        ensures errors { IfOk result (λ u. self.new.errors.items
+        ensures body { OnOk result (Appends S self.old self.new
+            (λ text_of held. waiting held ++ junk (text_of content) ∷ [])) }
+        ensures comment { OnOk result (self.new.comment ≡ None) }
+        ensures errors { OnOk result (self.new.errors.items
             ≡ self.old.errors.items ++ error ∷ []) }
     {
         self.push_comment()?;
@@ -51,12 +53,13 @@ impl<S: Drop> Collected<S> {
         Ok(())
     }
 
-    /// Puts an entry behind the others. `apart` says whether a blank line stands before it.
+    /// Puts an entry after the others. `apart` says whether a blank line stands before it.
+    ///
+    /// # Errors
+    /// [`AllocError`] if memory runs out; the errors are unchanged, and the entry is dropped.
     pub fn push_entry(&mut self, added: Entry<S>, apart: bool) -> Result<(), AllocError>
-        ensures entries { IfOk result (λ u. (text_of : S → List ℕ) (pieces : List Piece)
-            → entries_with S text_of self.new pieces
-            ≡ entries_with S text_of self.old (entry apart (entry_view S text_of added) ∷ pieces)) }
-        ensures errors { IfOk result (λ u. self.new.errors.items ≡ self.old.errors.items) }
+        ensures entries { OnOk result (TakesEntry S self.old self.new apart added) }
+        ensures errors { OnOk result (self.new.errors.items ≡ self.old.errors.items) }
     {
         match added {
             Entry::Comment(comment) => {
@@ -76,11 +79,8 @@ impl<S: Drop> Collected<S> {
 
     /// Puts a message behind the other entries, with the comment right above it.
     fn push_message(&mut self, message: Message<S>, apart: bool) -> Result<(), AllocError>
-        ensures entries { IfOk result (λ u. (text_of : S → List ℕ) (pieces : List Piece)
-            → entries_with S text_of self.new pieces
-            ≡ entries_with S text_of self.old (entry apart
-            (t.message (message_view S text_of message)) ∷ pieces)) }
-        ensures errors { IfOk result (λ u. self.new.errors.items ≡ self.old.errors.items) }
+        ensures entries { OnOk result (TakesEntry S self.old self.new apart (entry.Message message)) }
+        ensures errors { OnOk result (self.new.errors.items ≡ self.old.errors.items) }
     {
         self.make_room(apart)?;
         let comment = self.comment.take();
@@ -91,11 +91,8 @@ impl<S: Drop> Collected<S> {
 
     /// Puts a term behind the other entries, with the comment right above it.
     fn push_term(&mut self, term: Term<S>, apart: bool) -> Result<(), AllocError>
-        ensures entries { IfOk result (λ u. (text_of : S → List ℕ) (pieces : List Piece)
-            → entries_with S text_of self.new pieces
-            ≡ entries_with S text_of self.old (entry apart (t.term (term_view S text_of term))
-            ∷ pieces)) }
-        ensures errors { IfOk result (λ u. self.new.errors.items ≡ self.old.errors.items) }
+        ensures entries { OnOk result (TakesEntry S self.old self.new apart (entry.Term term)) }
+        ensures errors { OnOk result (self.new.errors.items ≡ self.old.errors.items) }
     {
         self.make_room(apart)?;
         let comment = self.comment.take();
@@ -106,12 +103,10 @@ impl<S: Drop> Collected<S> {
 
     /// Makes room for a message or a term. A comment from above a blank line doesn't wait for it, and becomes an entry.
     fn make_room(&mut self, apart: bool) -> Result<(), AllocError>
-        ensures body { IfOk result (λ u. (text_of : S → List ℕ)
-            → body_of S text_of self.new ≡ body_of S text_of self.old
-            ++ left_alone (held_by S text_of self.old) apart) }
-        ensures held { IfOk result (λ u. (text_of : S → List ℕ)
-            → held_by S text_of self.new ≡ attached (held_by S text_of self.old) apart) }
-        ensures room { IfOk result (λ u. vec_len self.new.body < vec_capacity self.new.body) }
+        ensures body { OnOk result (Appends S self.old self.new
+            (λ text_of held. left_alone held apart)) }
+        ensures held { OnOk result (KeepsAttached S self.old self.new apart) }
+        ensures room { OnOk result (vec_len self.new.body < vec_capacity self.new.body) }
         ensures errors { self.new.errors.items ≡ self.old.errors.items }
     {
         if apart {
@@ -126,10 +121,8 @@ impl<S: Drop> Collected<S> {
 
     /// Puts the comment that waits behind the other entries.
     fn push_comment(&mut self) -> Result<(), AllocError>
-        ensures body { IfOk result (λ u. (text_of : S → List ℕ)
-            → body_of S text_of self.new ≡ body_of S text_of self.old
-            ++ waiting (held_by S text_of self.old)) }
-        ensures comment { IfOk result (λ u. self.new.comment ≡ None) }
+        ensures body { OnOk result (Appends S self.old self.new (λ text_of. waiting)) }
+        ensures comment { OnOk result (self.new.comment ≡ None) }
         ensures errors { self.new.errors.items ≡ self.old.errors.items }
     {
         if let Some(comment) = self.comment.take() {
@@ -138,7 +131,10 @@ impl<S: Drop> Collected<S> {
         Ok(())
     }
 
-    /// The tree, or the tree with the errors where there are any.
+    /// The tree.
+    ///
+    /// # Errors
+    /// [`Error::Memory`] if memory runs out; nothing is left behind. [`Error::Broken`] with the tree if there are errors.
     pub fn finish(mut self) -> Result<Resource<S>, Error<S>>
         ensures tree { (text_of : S → List ℕ) → HasTree S text_of result
             (entries_with S text_of self []) }

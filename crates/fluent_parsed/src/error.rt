@@ -28,5 +28,7 @@ impl<S> fmt::Display for Error<S> {
     }
 }
 
+impl<S: fmt::Debug + Drop> std::error::Error for Error<S> {}
+
 /// What reading a source gives: its tree, or why it isn't read whole.
 pub type Result<S> = std::result::Result<Resource<S>, Error<S>>;

@@ -8,6 +8,10 @@ use std::fmt;
 use std::ops::Range;
 
 /// One error of a source. Offsets are bytes of the source.
+///
+/// ```
+/// println!(rt; "{error} at byte {}", error.pos.start)?; // ExpectedToken at byte 20
+/// ```
 #[derive(Debug, PartialEq, Eq, Drop)]
 pub struct ParserError {
     /// Where the error was found.
@@ -67,7 +71,10 @@ pub enum ErrorKind {
 }
 
 impl ErrorKind {
-    /// The same kind. The only error is that memory runs out.
+    /// The same kind.
+    ///
+    /// # Errors
+    /// [`AllocError`] if memory runs out; nothing is left behind.
     pub fn try_clone(&self, alloc: Global) -> Result<Self, AllocError>
         ensures { IfOk result (λ copy. kind_view copy ≡ kind_view self.now) }
     {
@@ -147,7 +154,10 @@ impl fmt::Display for ErrorKind {
 }
 
 impl ParserError {
-    /// The same error. The call fails only where memory runs out.
+    /// The same error.
+    ///
+    /// # Errors
+    /// [`AllocError`] if memory runs out; nothing is left behind.
     pub fn try_clone(&self, alloc: Global) -> Result<Self, AllocError>
         ensures { IfOk result (λ copy. error_view copy ≡ error_view self.now) }
     {
@@ -173,3 +183,7 @@ impl fmt::Display for ParserError {
         f.write_str(self.kind.name())
     }
 }
+
+impl std::error::Error for ErrorKind {}
+
+impl std::error::Error for ParserError {}

@@ -30,6 +30,7 @@ pub record Head : Type 0 where
   pub id : Text
   pub value : Option t.Elements
 
+-- the reading of a head
 unfoldable pub head_by : Text → Reading Head
 head_by s = identifier_at s >>= (λ id. byte_at equals (skip_spaces id.1) >>= (λ u. mapped (λ value. record { id = id.0; value = value }) (pattern_by u.1)))
 
@@ -38,6 +39,7 @@ abbrev pub attribute_with : Text → Option t.Elements → Text → Reading t.At
 attribute_with id None s = refuse r.missing_value s
 attribute_with id (Some v) s = got (record { id = id; value = v }) s
 
+-- the reading of an attribute, from the start of its line on
 unfoldable pub attribute_by : Text → Reading t.Attribute
 attribute_by s = head_by (drop 1 (skip_spaces s)) >>= (λ h. attribute_with h.0.id h.0.value h.1)
 
@@ -46,6 +48,7 @@ abbrev pub attribute_or_none : Text → Reading t.Attribute → Reading (Option 
 attribute_or_none s (got a rest) = got (Some a) rest
 attribute_or_none s (refused fault) = got None s
 
+-- the attribute of this line, if it has one
 unfoldable pub next_attribute_by : Text → Reading (Option t.Attribute)
 next_attribute_by s = if begins_with dot (skip_spaces s) then attribute_or_none s (attribute_by s) else got None s
 
@@ -53,11 +56,14 @@ next_attribute_by s = if begins_with dot (skip_spaces s) then attribute_or_none 
 unfoldable pub attributes_left : Text → List t.Attribute × Text
 attributes_left s = attributes_at (length s) s
 
+-- the same as a reading, which refuses nothing
 unfoldable pub attributes_by : Text → Reading (List t.Attribute)
 attributes_by s = got (attributes_left s).0 (attributes_left s).1
 
+-- the reading of a message
 unfoldable pub message_by : Text → Reading t.Entry
 message_by s = head_by s >>= (λ h. attributes_by (skip_blank_block h.1) >>= (λ as_. message_of h.0.id h.0.value as_.0 as_.1))
 
+-- the reading of a term, from its minus sign on
 unfoldable pub term_by : Text → Reading t.Entry
 term_by s = head_by (drop 1 s) >>= (λ h. attributes_by (skip_blank_block h.1) >>= (λ as_. term_of h.0.id h.0.value as_.0 as_.1))

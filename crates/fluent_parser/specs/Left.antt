@@ -1,10 +1,22 @@
--- The pieces of what is left of a source of so many bytes.
+-- The pieces of what is left of a source.
 use Rattle.std.specs.Prelude.{ℕ, suc, ◌-◌, List, length}
 use Rattle.fluent_grammar.specs.Words.{Text}
 use Rattle.fluent_grammar.specs.Tiling.{Piece, pieces_from, runtime_pieces_from}
+use Rattle.fluent_slice.specs.declared.Texts.{Ghosts}
+use Rattle.fluent_parser.specs.declared.parser.Parser.{Parser}
 
+-- the pieces of the end of a source of so many bytes
 unfoldable pub pieces_left : ℕ → Text → List Piece
 pieces_left total s = pieces_from (suc (length s)) (total - length s) s
 
+-- the same, read for use at run time
 unfoldable pub runtime_left : ℕ → Text → List Piece
 runtime_left total s = runtime_pieces_from (suc (length s)) (total - length s) s
+
+-- the pieces that a parser stands before
+abbrev pub pieces_ahead : {S T : Type 0} {texts : Ghosts T S} → Parser S T texts → List Piece
+pieces_ahead p = pieces_left (length p.text.now) p.rest.now
+
+-- the same, read for use at run time
+abbrev pub runtime_ahead : {S T : Type 0} {texts : Ghosts T S} → Parser S T texts → List Piece
+runtime_ahead p = runtime_left (length p.text.now) p.rest.now

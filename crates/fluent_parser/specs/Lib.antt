@@ -9,7 +9,9 @@ pub mod Pieces
 pub mod Arguments
 pub mod Indexed
 pub mod Entries
+pub mod Comments
 pub mod Heads
 pub mod Places
 pub mod Parts
+pub mod Selects
 pub mod Left

@@ -6,8 +6,10 @@ use Rattle.fluent_grammar.specs.Lines.{Piece, indent_of, lesser}
 use Rattle.fluent_ast.specs.View.{element_view}
 use Rattle.fluent_elements.specs.declared.gathered.Gathered.{Gathered}
 use Rattle.fluent_elements.specs.Pieces.{undented}
+use Rattle.fluent_slice.specs.declared.Texts.{Ghosts}
 use Rattle.fluent_parser.specs.Reads.{Fails}
 use Rattle.fluent_parser.specs.declared.fault.Fault.{Fault}
+use Rattle.fluent_parser.specs.declared.parser.Parser.{Parser}
 
 module _ (S : Type 0) (text_of : S → Text) where
   -- a piece was put behind what was gathered, with its leading spaces
@@ -27,3 +29,7 @@ module _ (S : Type 0) (text_of : S → Text) where
   GivesPiece old new rest (Ok None) read = (read ≡ got None rest) × (new ≡ old)
   GivesPiece old new rest (Ok (Some ends_line)) read = PutsRead old new rest ends_line read
   GivesPiece old new rest (Err e) read = Fails e rest read
+
+-- the same, where reading goes from where the parser stood
+abbrev pub ReadsPiece : {S T : Type 0} {texts : Ghosts T S} → (S → Text) → Gathered S → Gathered S → Parser S T texts → Parser S T texts → Result (Option Bool) Fault → (Text → Reading (Option (Piece × Bool))) → Type 0
+ReadsPiece text_of before after old new result reading = GivesPiece _ text_of before after new.rest.now result (reading old.rest.now)

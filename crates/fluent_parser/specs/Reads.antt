@@ -1,10 +1,10 @@
 -- What a reader of the code gives, beside the reading of the definitions.
-use Rattle.std.specs.Prelude.{◌≡◌, ℕ, suc, List, length, drop, Result, Ok, Err, Option, Some, None, if◌then◌else◌}
+use Rattle.std.specs.Prelude.{◌≡◌, ℕ, suc, List, [], ◌++◌, length, take, drop, Result, Ok, Err, Option, Some, None, if◌then◌else◌}
 use Rattle.fluent_grammar.specs.Words.{Text, begins_with, quote, close_bracket, skip_blank, is_among}
 use Rattle.fluent_grammar.specs.Tree as t
 use Rattle.fluent_grammar.specs.Refusal as r
 use Rattle.fluent_grammar.specs.Refusal.{Kind, Reading, got, refused, refuse, mapped, ◌>>=◌}
-use Rattle.fluent_grammar.specs.Reading.{Readers, readers, string_content, number_at, key_at, literal_at, is_term_attribute}
+use Rattle.fluent_grammar.specs.Reading.{Readers, readers, first_char, identifier_at, string_content, number_at, key_at, literal_at, is_term_attribute}
 use Rattle.fluent_parsed.specs.ErrorView.{kind_view, told, expected_char_range}
 use Rattle.fluent_parser.specs.declared.fault.Fault.{Fault}
 use Rattle.fluent_parser.specs.declared.fault.Fault.TheVariants as fault
@@ -15,6 +15,7 @@ abbrev pub Refuses : {A : Type 0} → ErrorKind → Text → Reading A → Type 
 Refuses kind rest (got a behind) = ⊥
 Refuses kind rest (refused fault) = (kind_view kind ≡ told fault.kind) × (rest ≡ fault.at)
 
+-- what a reader that failed returned is what reading gives, unless memory ran out
 abbrev pub Fails : {A : Type 0} → Fault → Text → Reading A → Type 0
 Fails fault.Memory rest read = Unit {0}
 Fails (fault.Refused kind) rest read = Refuses kind rest read
@@ -47,6 +48,22 @@ IsRange (fault.Refused kind) range = kind_view kind ≡ expected_char_range rang
 -- a byte that has to stand here
 abbrev pub byte_at : ℕ → Text → Reading (Unit {0})
 byte_at byte s = if begins_with byte s then got tt (drop 1 s) else refuse (r.expected_token byte) s
+
+-- a text from behind this byte, if it begins with it
+abbrev pub past_byte : ℕ → Text → Text
+past_byte byte s = if begins_with byte s then drop 1 s else s
+
+-- so many bytes at the front of a text, and the character behind them
+abbrev pub with_next_char : Text → ℕ → Text
+with_next_char s count = take count s ++ first_char (drop count s)
+
+-- the arguments of a call, from the opening parenthesis on
+abbrev pub call_arguments_at : Text → Reading t.Arguments
+call_arguments_at s = whole.arguments [] (skip_blank (drop 1 s))
+
+-- a variable, from its dollar sign on
+abbrev pub variable_at : Text → Reading t.Inline
+variable_at s = mapped t.variable_reference (identifier_at (drop 1 s))
 
 -- a string or a number
 abbrev pub string_or_number_at : Text → Reading t.Inline

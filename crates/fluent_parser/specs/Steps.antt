@@ -47,10 +47,12 @@ pub data Argument : Type 0 where
   positional : t.Inline → Argument
   named : Named → Argument
 
+-- a positional argument, which no named one may stand before
 abbrev pub positional_by : List Text → t.Inline → Text → Reading Argument
 positional_by [] e s = got (positional e) s
 positional_by (name ∷ names) e s = refuse r.positional_argument_follows_named s
 
+-- an argument, by the name that its expression may be
 abbrev pub named_or_positional_by : List Text → t.Inline → Option Text → Text → Reading Argument
 named_or_positional_by names e None s = positional_by names e s
 named_or_positional_by names e (Some name) s =
@@ -61,6 +63,7 @@ named_or_positional_by names e (Some name) s =
 unfoldable pub argument_by : List Text → Text → Reading Argument
 argument_by names s = whole.inline s >>= (λ e. named_or_positional_by names e.0 (name_of_argument e.0) e.1)
 
+-- the names before, with that of an argument
 abbrev pub names_with : Argument → List Text → List Text
 names_with (positional e) names = names
 names_with (named n) names = n.name ∷ names
@@ -70,10 +73,12 @@ abbrev pub with_argument : Argument → t.Arguments → t.Arguments
 with_argument (positional e) (t.arguments ps ns) = t.arguments (t.positional e ps) ns
 with_argument (named n) (t.arguments ps ns) = t.arguments ps (t.named n.name n.value ns)
 
+-- positional arguments behind some
 abbrev pub inlines_behind : List t.Inline → t.Inlines → t.Inlines
 inlines_behind [] es = es
 inlines_behind (e ∷ more) es = t.positional e (inlines_behind more es)
 
+-- named arguments behind some
 abbrev pub nameds_behind : List Named → t.Nameds → t.Nameds
 nameds_behind [] ns = ns
 nameds_behind (n ∷ more) ns = t.named n.name n.value (nameds_behind more ns)
@@ -91,10 +96,12 @@ abbrev pub text_piece : Bool → ℕ → Text → Piece
 text_piece true indent x = at_line_start indent x
 text_piece false indent x = in_line x
 
+-- how many spaces are an indent here: those of a line start
 abbrev pub indent_at : Bool → Text → ℕ
 indent_at true s = spaces s
 indent_at false s = 0
 
+-- a text, and whether it ends its line
 abbrev pub text_step : Bool → ℕ → Text → Reading (Option (Piece × Bool))
 text_step line indent u = text_run u >>= (λ x. got (Some (text_piece line indent x.0, ends_line x.0)) x.1)
 
@@ -105,6 +112,14 @@ piece_behind line indent u =
     else if begins_with open_brace u then mapped (λ e. Some (placed (line && indent == 0) e, false)) (placeable_by u)
     else if begins_crlf u then got (Some (in_line (line_feed ∷ []), true)) (drop 2 u)
     else text_step line indent u
+
+-- the next piece, from before its spaces
+abbrev pub piece_from : Bool → ℕ → Text → Reading (Option (Piece × Bool))
+piece_from line indent s = piece_behind line indent (drop indent s)
+
+-- a text, from before its spaces
+abbrev pub text_from : Bool → ℕ → Text → Reading (Option (Piece × Bool))
+text_from line indent s = text_step line indent (drop indent s)
 
 -- The next piece, at a line start or within a line. None where the pattern ends.
 unfoldable pub piece_by : Bool → Text → Reading (Option (Piece × Bool))

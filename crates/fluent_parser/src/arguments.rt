@@ -1,7 +1,7 @@
 //! The arguments of calls.
 #![tactic(auto, using(crate::proofs::Failing::handed, fluent_words::proofs::Counted::cuts, crate::proofs::Steps::placeable_is))]
 
-ghost use Rattle.std.specs.Prelude.{◌≡◌, ◌≤◌, ◌<◌, [], true, IfOk, OnOk, length, drop, map, take};
+ghost use Rattle.std.specs.Prelude.{◌≡◌, ◌≤◌, ◌<◌, [], true, IfOk, OnOk, length, drop, take};
 ghost use Rattle.fluent_grammar.specs.Words as w;
 ghost use Rattle.fluent_parser.specs.Frame.{Advances};
 
@@ -29,18 +29,21 @@ fn identifier(text: &str) -> &str
 }
 
 impl<'p, S: Drop, T: Texts<S>> Parser<'p, S, T> {
-    ghost use Rattle.fluent_parser.specs.Reads.{Gives, whole, argument_value_at};
-    ghost use Rattle.fluent_parser.specs.Steps.{argument_by, positional_by, names_of};
-    ghost use Rattle.fluent_parser.specs.Arguments.{argument_view, IsName, IsNamed};
+    ghost use Rattle.fluent_parser.specs.Frame.{Reads};
+    ghost use Rattle.fluent_parser.specs.Reads.{call_arguments_at};
+    ghost use Rattle.fluent_parser.specs.Arguments.{argument_view, argument_with, positional_with, value_with, IsName, IsNamed};
     ghost use Rattle.fluent_parser.specs.Indexed.{IsIndexed};
-    ghost use Rattle.fluent_ast.specs.View.{inline_view, arguments_view, named_view};
+    ghost use Rattle.fluent_ast.specs.View.{inline_view, arguments_view};
 
     /// The arguments of a call, from the opening parenthesis on. Production `CallArguments`.
+    ///
+    /// # Errors
+    /// [`Fault::Refused`] if these are no arguments of a call; the parser then stands at the place of the refusal.
+    /// [`Fault::Memory`] if memory runs out.
     #[cycle(parser)]
     pub fn get_call_arguments(&mut self) -> Result<CallArguments<S>, Fault>
         requires parenthesis { w.begins_with w.open_paren self.old.rest.now ≡ true }
-        ensures gives { Gives (arguments_view S T.text) self.new.rest.now result
-            (whole.arguments [] (w.skip_blank (drop 1 self.old.rest.now))) }
+        ensures gives { Reads (arguments_view S T.text) self.old self.new result call_arguments_at }
         ensures advances { Advances self.old self.new }
     {
         let mut positional = Vec::new(self.alloc);
@@ -69,9 +72,8 @@ impl<'p, S: Drop, T: Texts<S>> Parser<'p, S, T> {
     fn get_argument(&mut self, others: &NamedArguments<'p, S>) -> Result<Argument<'p, S>, Fault>
         requires indexed { IsIndexed S T.text others.now }
         ensures less { OnOk result (length self.new.rest.now < length self.old.rest.now) }
-        ensures gives { Gives (argument_view S T.text) self.new.rest.now result
-            (argument_by (names_of (map (named_view S T.text) others.now.all.items))
-            self.old.rest.now) }
+        ensures gives { Reads (argument_view S T.text) self.old self.new result
+            (argument_with S T.text others.now) }
         ensures named { IfOk result (IsNamed S T.text) }
         ensures advances { Advances self.old self.new }
     {
@@ -96,9 +98,8 @@ impl<'p, S: Drop, T: Texts<S>> Parser<'p, S, T> {
         argument: InlineExpression<S>,
         others: &NamedArguments<'p, S>,
     ) -> Result<Argument<'p, S>, Fault>
-        ensures gives { Gives (argument_view S T.text) self.now.rest.now result
-            (positional_by (names_of (map (named_view S T.text) others.now.all.items))
-            (inline_view S T.text argument) self.now.rest.now) }
+        ensures gives { Reads (argument_view S T.text) self.now self.now result
+            (positional_with S T.text others.now argument) }
         ensures named { IfOk result (IsNamed S T.text) }
     {
         if others.all.is_empty() {
@@ -132,9 +133,8 @@ impl<'p, S: Drop, T: Texts<S>> Parser<'p, S, T> {
     ) -> Result<InlineExpression<S>, Fault>
         requires indexed { IsIndexed S T.text others.now }
         requires colon { w.begins_with w.colon self.old.rest.now ≡ true }
-        ensures gives { Gives (inline_view S T.text) self.new.rest.now result
-            (argument_value_at (names_of (map (named_view S T.text) others.now.all.items)) name.now
-            self.old.rest.now) }
+        ensures gives { Reads (inline_view S T.text) self.old self.new result
+            (value_with S T.text others.now name.now) }
         ensures advances { Advances self.old self.new }
     {
         if others.has_name(self.texts, name) {

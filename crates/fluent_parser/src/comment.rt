@@ -29,17 +29,21 @@ fn comment_of<S>(level: usize, content: Vec<S>) -> Entry<S>
 }
 
 impl<'p, S: Drop, T: Texts<S>> Parser<'p, S, T> {
-    ghost use Rattle.fluent_parser.specs.Reads.{Gives};
+    ghost use Rattle.fluent_parser.specs.Comments.{ReadsLine};
+    ghost use Rattle.fluent_parser.specs.Frame.{Reads};
     ghost use Rattle.fluent_ast.specs.View.{entry_view};
     ghost use Rattle.fluent_grammar.specs.Reading.{comment_line_at, comment_at};
-    ghost use Rattle.fluent_parser.specs.Entries.{line_of, lines_with, comment_content_by};
+    ghost use Rattle.fluent_parser.specs.Entries.{line_of, comment_content_by};
 
     /// A comment with all its lines, from its first sign on. Productions `CommentLine`, `GroupComment` and
     /// `ResourceComment`.
+    ///
+    /// # Errors
+    /// [`Fault::Refused`] if its first line is no line of a comment; the parser then stands at the place of the refusal.
+    /// [`Fault::Memory`] if memory runs out.
     pub fn get_comment(&mut self) -> Result<Entry<S>, Fault>
         requires sign { w.begins_with w.number_sign self.old.rest.now ≡ true }
-        ensures gives { Gives (entry_view S T.text) self.new.rest.now result
-            (comment_at self.old.rest.now) }
+        ensures gives { Reads (entry_view S T.text) self.old self.new result comment_at }
         ensures advances { Advances self.old self.new }
     {
         let level = words::comment_level(self.bytes());
@@ -51,8 +55,8 @@ impl<'p, S: Drop, T: Texts<S>> Parser<'p, S, T> {
     fn get_comment_content(&mut self, level: usize) -> Result<Vec<S>, Fault>
         requires signs { level ≡ w.comment_level self.old.rest.now }
         requires some { 0 < level }
-        ensures gives { Gives (λ lines. map T.text lines.items) self.new.rest.now result
-            (comment_content_by level self.old.rest.now) }
+        ensures gives { Reads (λ lines. map T.text lines.items) self.old self.new result
+            (comment_content_by level) }
         ensures advances { Advances self.old self.new }
     {
         let mut lines = Vec::new(self.alloc);
@@ -76,9 +80,8 @@ impl<'p, S: Drop, T: Texts<S>> Parser<'p, S, T> {
     #[inline(always)]
     fn push_comment_line(&mut self, level: usize, lines: &mut Vec<S>) -> Result<(), Fault>
         requires signs { level ≡ w.comment_level self.old.rest.now }
-        ensures gives { Gives (λ u. map T.text lines.new.items) self.new.rest.now result
-            (lines_with (map T.text lines.old.items)
-            (comment_line_at (drop level self.old.rest.now))) }
+        ensures gives { ReadsLine T.text level lines.old.items lines.new.items self.old self.new
+            result }
         ensures past { length self.new.rest.now ≤ length self.old.rest.now - level }
         ensures advances { Advances self.old self.new }
     {
@@ -92,8 +95,7 @@ impl<'p, S: Drop, T: Texts<S>> Parser<'p, S, T> {
     /// What stands behind the sign of a comment's line. None at the end of the text, where a sign adds no line.
     #[inline(always)]
     fn get_comment_line(&mut self) -> Result<Option<S>, Fault>
-        ensures gives { Gives (line_of T.text) self.new.rest.now result
-            (comment_line_at self.old.rest.now) }
+        ensures gives { Reads (line_of T.text) self.old self.new result comment_line_at }
         ensures advances { Advances self.old self.new }
     {
         if self.bytes().is_empty() {

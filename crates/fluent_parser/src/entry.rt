@@ -1,7 +1,7 @@
 //! Messages, terms and their attributes.
 #![tactic(auto, using(crate::proofs::Failing::handed, fluent_words::proofs::Counted::cuts))]
 
-ghost use Rattle.std.specs.Prelude.{◌≡◌, ◌≤◌, true, length, map, option_map};
+ghost use Rattle.std.specs.Prelude.{◌≡◌, ◌≤◌, true, length, option_map};
 ghost use Rattle.fluent_grammar.specs.Words as w;
 ghost use Rattle.fluent_grammar.specs.Refusal as r;
 ghost use Rattle.fluent_parser.specs.Frame.{Advances};
@@ -18,18 +18,22 @@ use fluent_words as words;
 const FEW: usize = 2;
 
 impl<'p, S: Drop, T: Texts<S>> Parser<'p, S, T> {
-    ghost use Rattle.fluent_parser.specs.Reads.{Gives, Tells};
-    ghost use Rattle.fluent_ast.specs.View.{name_of, entry_view, message_view, term_view, attribute_view, pattern_view};
+    ghost use Rattle.fluent_parser.specs.Frame.{Reads};
+    ghost use Rattle.fluent_parser.specs.Reads.{Tells};
+    ghost use Rattle.fluent_ast.specs.View.{name_of, entry_view, message_view, term_view, attribute_view, attributes_view};
     ghost use Rattle.fluent_grammar.specs.Reading.{entry_at};
     ghost use Rattle.fluent_parser.specs.Entries.{attribute_by, attributes_by, head_by, message_by, next_attribute_by, term_by};
     ghost use Rattle.fluent_parser.specs.Heads.{head_view};
     ghost use Rattle.fluent_grammar.specs.Tree as t;
 
     /// What begins here, told by its first byte. Production `Entry`.
+    ///
+    /// # Errors
+    /// [`Fault::Refused`] if no entry stands here; the parser then stands at the place of the refusal.
+    /// [`Fault::Memory`] if memory runs out.
     #[tactic(auto, using(crate::proofs::Failing::handed), unfolding(fluent_grammar::specs::Reading::entry_at))]
     pub fn get_entry(&mut self) -> Result<Entry<S>, Fault>
-        ensures gives { Gives (entry_view S T.text) self.new.rest.now result
-            (entry_at self.old.rest.now) }
+        ensures gives { Reads (entry_view S T.text) self.old self.new result entry_at }
         ensures advances { Advances self.old self.new }
     {
         if self.is_current_byte(b'#') {
@@ -46,8 +50,8 @@ impl<'p, S: Drop, T: Texts<S>> Parser<'p, S, T> {
     /// Production `Message`.
     #[tactic(auto, using(crate::proofs::Failing::handed, fluent_words::proofs::Counted::cuts), unfolding(crate::specs::Entries::message_by))]
     fn get_message(&mut self) -> Result<Message<S>, Fault>
-        ensures gives { Gives (λ m. t.message (message_view S T.text m)) self.new.rest.now result
-            (message_by self.old.rest.now) }
+        ensures gives { Reads (λ m. t.message (message_view S T.text m)) self.old self.new result
+            message_by }
         ensures advances { Advances self.old self.new }
     {
         let Head { id, value } = self.get_head()?;
@@ -68,8 +72,8 @@ impl<'p, S: Drop, T: Texts<S>> Parser<'p, S, T> {
     #[tactic(auto, using(crate::proofs::Failing::handed, fluent_words::proofs::Counted::cuts), unfolding(crate::specs::Entries::term_by))]
     fn get_term(&mut self) -> Result<Term<S>, Fault>
         requires minus { w.begins_with w.hyphen self.old.rest.now ≡ true }
-        ensures gives { Gives (λ m. t.term (term_view S T.text m)) self.new.rest.now result
-            (term_by self.old.rest.now) }
+        ensures gives { Reads (λ m. t.term (term_view S T.text m)) self.old self.new result
+            term_by }
         ensures advances { Advances self.old self.new }
     {
         self.advance(1);
@@ -111,8 +115,7 @@ impl<'p, S: Drop, T: Texts<S>> Parser<'p, S, T> {
     #[tactic(auto, using(crate::proofs::Failing::handed, fluent_words::proofs::Counted::cuts), unfolding(crate::specs::Entries::head_by))]
     #[inline(always)]
     fn get_head(&mut self) -> Result<Head<S>, Fault>
-        ensures gives { Gives (head_view S T.text) self.new.rest.now result
-            (head_by self.old.rest.now) }
+        ensures gives { Reads (head_view S T.text) self.old self.new result head_by }
         ensures advances { Advances self.old self.new }
     {
         let id = self.get_identifier()?;
@@ -124,8 +127,8 @@ impl<'p, S: Drop, T: Texts<S>> Parser<'p, S, T> {
 
     /// The attributes up to the first line that isn't one, where the parser then stands.
     fn get_attributes(&mut self) -> Result<Vec<Attribute<S>>, Fault>
-        ensures gives { Gives (λ all. map (attribute_view S T.text) all.items) self.new.rest.now
-            result (attributes_by self.old.rest.now) }
+        ensures gives { Reads (λ all. attributes_view S T.text all.items) self.old self.new result
+            attributes_by }
         ensures advances { Advances self.old self.new }
     {
         let mut attributes = Vec::new(self.alloc);
@@ -138,8 +141,8 @@ impl<'p, S: Drop, T: Texts<S>> Parser<'p, S, T> {
     /// The attribute of this line. None where none can be read: the parser then stands where it stood.
     #[tactic(auto, using(crate::proofs::Failing::handed, fluent_words::proofs::Counted::cuts), unfolding(crate::specs::Entries::next_attribute_by))]
     fn next_attribute(&mut self) -> Result<Option<Attribute<S>>, Fault>
-        ensures gives { Gives (option_map (attribute_view S T.text)) self.new.rest.now result
-            (next_attribute_by self.old.rest.now) }
+        ensures gives { Reads (option_map (attribute_view S T.text)) self.old self.new result
+            next_attribute_by }
         ensures advances { Advances self.old self.new }
     {
         if !self.is_attribute_line() {
@@ -169,8 +172,7 @@ impl<'p, S: Drop, T: Texts<S>> Parser<'p, S, T> {
     #[tactic(auto, using(crate::proofs::Failing::handed, fluent_words::proofs::Counted::cuts), unfolding(crate::specs::Entries::attribute_by))]
     fn get_attribute(&mut self) -> Result<Attribute<S>, Fault>
         requires dot { w.begins_with w.dot (w.skip_spaces self.old.rest.now) ≡ true }
-        ensures gives { Gives (attribute_view S T.text) self.new.rest.now result
-            (attribute_by self.old.rest.now) }
+        ensures gives { Reads (attribute_view S T.text) self.old self.new result attribute_by }
         ensures advances { Advances self.old self.new }
     {
         self.skip_blank_inline();

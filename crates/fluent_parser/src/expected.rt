@@ -11,12 +11,16 @@ use fluent_parsed::ErrorKind;
 use fluent_slice::Texts;
 
 impl<'p, S: Drop, T: Texts<S>> Parser<'p, S, T> {
-    ghost use Rattle.fluent_parser.specs.Reads.{Gives, Tells, IsRange, byte_at};
+    ghost use Rattle.fluent_parser.specs.Frame.{Reads};
+    ghost use Rattle.fluent_parser.specs.Reads.{Tells, IsRange, byte_at};
 
     /// Passes over a byte that has to stand here.
+    ///
+    /// # Errors
+    /// [`Fault::Refused`] with `ExpectedToken` if another byte stands here; the parser stays.
     pub fn expect_byte(&mut self, byte: u8) -> Result<(), Fault>
         requires { byte < 128 }
-        ensures gives { Gives (λ u. u) self.new.rest.now result (byte_at byte self.old.rest.now) }
+        ensures gives { Reads (λ u. u) self.old self.new result (byte_at byte) }
         ensures advances { Advances self.old self.new }
     {
         if self.take_byte_if(byte) {

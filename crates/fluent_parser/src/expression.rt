@@ -1,7 +1,7 @@
 //! Expressions.
 #![tactic(auto, using(crate::proofs::Failing::handed, fluent_words::proofs::Counted::cuts, crate::proofs::Steps::placeable_is))]
 
-ghost use Rattle.std.specs.Prelude.{◌≡◌, ◌≤◌, ◌<◌, true, length, drop, map, option_map};
+ghost use Rattle.std.specs.Prelude.{◌≡◌, ◌≤◌, ◌<◌, true, length, drop, option_map};
 ghost use Rattle.std.specs.List.{list_all};
 ghost use Rattle.fluent_grammar.specs.Words as w;
 ghost use Rattle.fluent_parser.specs.Frame.{Advances};
@@ -14,21 +14,24 @@ use fluent_slice::Texts;
 use fluent_words as words;
 
 impl<'p, S: Drop, T: Texts<S>> Parser<'p, S, T> {
-    ghost use Rattle.fluent_parser.specs.Reads.{Gives, whole, string_or_number_at, inline_by};
+    ghost use Rattle.fluent_parser.specs.Frame.{Reads};
+    ghost use Rattle.fluent_parser.specs.Selects.{select_by, select_view};
+    ghost use Rattle.fluent_parser.specs.Reads.{whole, string_or_number_at, inline_by, variable_at};
     ghost use Rattle.fluent_parser.specs.Steps.{expression_by, placeable_by};
-    ghost use Rattle.fluent_ast.specs.View.{name_of, inline_view, expression_view, variant_view, variants_of};
-    ghost use Rattle.fluent_grammar.specs.Reading.{identifier_at, accessor_at, term_at, named_at, select_at, selector_fault};
-    ghost use Rattle.fluent_grammar.specs.Refusal.{mapped};
-    ghost use Rattle.fluent_grammar.specs.Tree as t;
+    ghost use Rattle.fluent_ast.specs.View.{name_of, inline_view, expression_view};
+    ghost use Rattle.fluent_grammar.specs.Reading.{accessor_at, term_at, named_at};
 
     /// A placeable, from its opening brace on. Productions `inline_placeable` and `block_placeable`.
+    ///
+    /// # Errors
+    /// [`Fault::Refused`] if this is no placeable; the parser then stands at the place of the refusal.
+    /// [`Fault::Memory`] if memory runs out.
     #[cycle(parser)]
     #[tactic(auto, using(crate::proofs::Failing::handed, fluent_words::proofs::Counted::cuts), unfolding(crate::specs::Steps::placeable_by))]
     #[inline(always)]
     pub fn get_placeable(&mut self) -> Result<Expression<S>, Fault>
         requires brace { w.begins_with w.open_brace self.old.rest.now ≡ true }
-        ensures gives { Gives (expression_view S T.text) self.new.rest.now result
-            (placeable_by self.old.rest.now) }
+        ensures gives { Reads (expression_view S T.text) self.old self.new result placeable_by }
         ensures less { length self.new.rest.now < length self.old.rest.now }
         ensures advances { Advances self.old self.new }
     {
@@ -45,8 +48,7 @@ impl<'p, S: Drop, T: Texts<S>> Parser<'p, S, T> {
     #[tactic(auto, using(crate::proofs::Failing::handed, fluent_words::proofs::Counted::cuts), unfolding(crate::specs::Steps::expression_by, fluent_grammar::specs::Reading::select_or_inline_at))]
     #[inline(always)]
     fn get_expression(&mut self) -> Result<Expression<S>, Fault>
-        ensures gives { Gives (expression_view S T.text) self.new.rest.now result
-            (expression_by self.old.rest.now) }
+        ensures gives { Reads (expression_view S T.text) self.old self.new result expression_by }
         ensures advances { Advances self.old self.new }
     {
         let selector = self.get_inline_expression()?;
@@ -66,10 +68,8 @@ impl<'p, S: Drop, T: Texts<S>> Parser<'p, S, T> {
         selector: &InlineExpression<S>,
     ) -> Result<Vec<Variant<S>>, Fault>
         requires arrow { w.begins_arrow self.old.rest.now ≡ true }
-        ensures gives { Gives (λ vs. t.select (inline_view S T.text selector.now)
-            (variants_of (map (variant_view S T.text) vs.items))) self.new.rest.now result
-            (select_at whole (inline_view S T.text selector.now)
-            (selector_fault (inline_view S T.text selector.now)) self.old.rest.now) }
+        ensures gives { Reads (select_view S T.text selector.now) self.old self.new result
+            (select_by S T.text selector.now) }
         ensures advances { Advances self.old self.new }
     {
         if let Some(kind) = self.selector_fault(selector) {
@@ -88,8 +88,8 @@ impl<'p, S: Drop, T: Texts<S>> Parser<'p, S, T> {
     /// An expression that no arrow follows.
     #[inline(always)]
     fn inline_expression(&self, inline: InlineExpression<S>) -> Result<Expression<S>, Fault>
-        ensures { Gives (expression_view S T.text) self.now.rest.now result
-            (inline_by (inline_view S T.text inline) self.now.rest.now) }
+        ensures { Reads (expression_view S T.text) self.now self.now result
+            (inline_by (inline_view S T.text inline)) }
     {
         if let InlineExpression::TermReference {
             attribute: Some(_),
@@ -102,10 +102,13 @@ impl<'p, S: Drop, T: Texts<S>> Parser<'p, S, T> {
     }
 
     /// An inline expression. Production `InlineExpression`.
+    ///
+    /// # Errors
+    /// [`Fault::Refused`] if no inline expression stands here; the parser then stands at the place of the refusal.
+    /// [`Fault::Memory`] if memory runs out.
     #[cycle(parser)]
     pub fn get_inline_expression(&mut self) -> Result<InlineExpression<S>, Fault>
-        ensures gives { Gives (inline_view S T.text) self.new.rest.now result
-            (whole.inline self.old.rest.now) }
+        ensures gives { Reads (inline_view S T.text) self.old self.new result whole.inline }
         ensures advances { Advances self.old self.new }
     {
         let bytes = self.bytes();
@@ -131,8 +134,8 @@ impl<'p, S: Drop, T: Texts<S>> Parser<'p, S, T> {
     #[tactic(auto, using(crate::proofs::Failing::handed, fluent_words::proofs::Counted::cuts), unfolding(fluent_grammar::specs::Reading::term_at, fluent_grammar::specs::Reading::term_arguments_at))]
     fn get_term_reference(&mut self) -> Result<InlineExpression<S>, Fault>
         requires minus { w.begins_with w.hyphen self.old.rest.now ≡ true }
-        ensures gives { Gives (inline_view S T.text) self.new.rest.now result
-            (term_at whole (drop 1 self.old.rest.now)) }
+        ensures gives { Reads (inline_view S T.text) self.old self.new result
+            (λ s. term_at whole (drop 1 s)) }
         ensures advances { Advances self.old self.new }
     {
         self.advance(1);
@@ -158,8 +161,7 @@ impl<'p, S: Drop, T: Texts<S>> Parser<'p, S, T> {
     #[cycle(parser)]
     #[tactic(auto, using(crate::proofs::Failing::handed, fluent_words::proofs::Counted::cuts), unfolding(fluent_grammar::specs::Reading::named_at, fluent_grammar::specs::Reading::called_at, fluent_grammar::specs::Reading::function_of))]
     fn get_named_reference(&mut self) -> Result<InlineExpression<S>, Fault>
-        ensures gives { Gives (inline_view S T.text) self.new.rest.now result
-            (named_at whole self.old.rest.now) }
+        ensures gives { Reads (inline_view S T.text) self.old self.new result (named_at whole) }
         ensures advances { Advances self.old self.new }
     {
         let id = self.get_identifier()?;
@@ -177,9 +179,12 @@ impl<'p, S: Drop, T: Texts<S>> Parser<'p, S, T> {
     }
 
     /// A string or a number. Productions `StringLiteral` and `NumberLiteral`.
+    ///
+    /// # Errors
+    /// [`Fault::Refused`] if no literal stands here; the parser then stands at the place of the refusal.
+    /// [`Fault::Memory`] if memory runs out.
     pub fn get_literal(&mut self) -> Result<InlineExpression<S>, Fault>
-        ensures gives { Gives (inline_view S T.text) self.new.rest.now result
-            (string_or_number_at self.old.rest.now) }
+        ensures gives { Reads (inline_view S T.text) self.old self.new result string_or_number_at }
         ensures advances { Advances self.old self.new }
     {
         if self.take_byte_if(b'"') {
@@ -194,8 +199,7 @@ impl<'p, S: Drop, T: Texts<S>> Parser<'p, S, T> {
     /// Production `VariableReference`, from its dollar sign on.
     fn get_variable_reference(&mut self) -> Result<InlineExpression<S>, Fault>
         requires dollar { w.begins_with w.dollar self.old.rest.now ≡ true }
-        ensures gives { Gives (inline_view S T.text) self.new.rest.now result
-            (mapped t.variable_reference (identifier_at (drop 1 self.old.rest.now))) }
+        ensures gives { Reads (inline_view S T.text) self.old self.new result variable_at }
         ensures advances { Advances self.old self.new }
     {
         self.advance(1);
@@ -206,8 +210,7 @@ impl<'p, S: Drop, T: Texts<S>> Parser<'p, S, T> {
     /// The attribute that a reference names, if it names one. Production `AttributeAccessor`.
     #[tactic(auto, using(crate::proofs::Failing::handed), unfolding(fluent_grammar::specs::Reading::accessor_at))]
     fn get_attribute_accessor(&mut self) -> Result<Option<Identifier<S>>, Fault>
-        ensures gives { Gives (option_map (name_of S T.text)) self.new.rest.now result
-            (accessor_at self.old.rest.now) }
+        ensures gives { Reads (option_map (name_of S T.text)) self.old self.new result accessor_at }
         ensures advances { Advances self.old self.new }
     {
         if !self.take_byte_if(b'.') {

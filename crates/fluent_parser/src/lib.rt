@@ -33,12 +33,22 @@ use std::alloc::Global;
 /// The tree of a source, with its comments.
 ///
 /// Each stretch of the source that isn't an entry, a blank line or a comment becomes junk in the tree, up to the next
-/// line that may begin an entry, and has one error. Where there is junk the answer is [`Error::Broken`] with the whole
-/// tree and the errors in the order of their places, which are bytes of the source. The other error, [`Error::Memory`], comes
-/// where memory runs out.
+/// line that may begin an entry, and has one error.
 ///
-/// A comment of one `#` becomes the comment of the message or the term right below it, where no blank line lies
-/// between. The grammar is that of Fluent Syntax 1.0, production `Resource`.
+/// A comment of one `#` becomes the comment of the message or the term right below it, if no blank line lies between.
+/// The grammar is that of Fluent Syntax 1.0, production `Resource`.
+///
+/// ```
+/// match parse(alloc, source) {
+///     Ok(resource) => Ok(resource),
+///     Err(Error::Broken(resource, _)) => Ok(resource),
+///     Err(Error::Memory) => bail!("out of memory"),
+/// }
+/// ```
+///
+/// # Errors
+/// [`Error::Memory`] if memory runs out; nothing is left behind. [`Error::Broken`] if there is junk, with the whole tree and
+/// the errors in the order of their places, which are bytes of the source.
 pub fn parse<'s, S: Slice<'s>>(alloc: Global, input: S) -> Result<S>
     ensures tree { HasTree S S.text result (tree (S.text input)) }
     ensures errors { HasErrors S result (map error_told (errors (S.text input))) }
@@ -53,6 +63,10 @@ pub fn parse<'s, S: Slice<'s>>(alloc: Global, input: S) -> Result<S>
 ///
 /// It reads as [`parse`] does, but for comments: a line that begins with `#` where an entry may begin is passed over,
 /// whatever follows the sign. So no entry has a comment.
+///
+/// # Errors
+/// [`Error::Memory`] if memory runs out; nothing is left behind.
+/// [`Error::Broken`] if there is junk, with the whole tree and the errors in the order of their places.
 pub fn parse_runtime<'s, S: Slice<'s>>(alloc: Global, input: S) -> Result<S>
     ensures tree { HasTree S S.text result (runtime_tree (S.text input)) }
     ensures errors { HasErrors S result (map error_told (runtime_errors (S.text input))) }

@@ -1,12 +1,11 @@
 //! The named arguments of a call that were read so far.
 #![tactic(auto)]
 
-ghost use Rattle.std.specs.Prelude.{◌≡◌, ℕ, List, [], ◌++◌, ◌∷◌, OnOk, map};
+ghost use Rattle.std.specs.Prelude.{◌≡◌, ℕ, List, [], ◌++◌, ◌∷◌, OnOk};
 ghost use Rattle.std.specs.List.{list_any};
 ghost use Rattle.std.specs.Str.{bytes_eq};
 ghost use Rattle.fluent_grammar.specs.Words as w;
-ghost use Rattle.fluent_parser.specs.Indexed.{IsIndexed};
-ghost use Rattle.fluent_parser.specs.Steps.{names_of};
+ghost use Rattle.fluent_parser.specs.Indexed.{IsIndexed, StaysIndexed, names_in};
 ghost use Rattle.fluent_ast.specs.View.{named_view};
 
 use fluent_ast::NamedArgument;
@@ -37,12 +36,13 @@ impl<'p, S: Drop> NamedArguments<'p, S> {
         }
     }
 
-    /// Puts an argument behind the others, whose name is this text.
+    /// Puts an argument after the others, whose name is this text.
+    ///
+    /// # Errors
+    /// [`AllocError`] if memory runs out; the arguments are unchanged, and this one is dropped.
     pub fn push(&mut self, argument: NamedArgument<S>, name: &'p str) -> Result<(), AllocError>
         ensures all { OnOk result (self.new.all.items ≡ self.old.all.items ++ argument ∷ []) }
-        ensures indexed { OnOk result ((text_of : S → List ℕ)
-            → (named_view S text_of argument).name ≡ name.now → IsIndexed S text_of self.old
-            → IsIndexed S text_of self.new) }
+        ensures indexed { OnOk result (StaysIndexed S self.old self.new argument name.now) }
     {
         if self.all.len() >= FEW {
             self.later.insert(name)?;
@@ -62,8 +62,7 @@ impl<'p, S: Drop> NamedArguments<'p, S> {
     /// Whether one of them has this name.
     pub fn has_name<T: Texts<S>>(&self, texts: &T, name: &str) -> bool
         requires { IsIndexed S T.text self.now }
-        ensures { result ≡ w.is_among name.now (names_of
-            (map (named_view S T.text) self.now.all.items)) }
+        ensures { result ≡ w.is_among name.now (names_in S T.text self.now) }
     {
         let few = FEW.min(self.all.len());
         is_among(texts, &self.all[..few], name) || self.later.contains(name)

@@ -1,7 +1,7 @@
 //! The parser's place in its source.
 #![tactic(auto, using(fluent_words::proofs::Counted::cuts))]
 
-ghost use Rattle.std.specs.Prelude.{◌≡◌, ◌-◌, ◌<◌, ◌≤◌, if◌then◌else◌, length, drop, map, take, true, false, IfOk};
+ghost use Rattle.std.specs.Prelude.{◌≡◌, ◌-◌, ◌<◌, ◌≤◌, length, drop, map, take, true, false, IfOk};
 ghost use Rattle.std.specs.Str.{IsUtf8};
 ghost use Rattle.fluent_words.specs.Counted.{Cuts, IsLine, IsText};
 ghost use Rattle.fluent_lines.specs.Lookup.{IsOneLine, is_last_feed};
@@ -9,6 +9,7 @@ ghost use Rattle.fluent_grammar.specs.Lines.{pattern_ends};
 ghost use Rattle.fluent_lines.specs.Table as table;
 ghost use Rattle.fluent_grammar.specs.Words as w;
 ghost use Rattle.fluent_grammar.specs.Tiling.{resume};
+ghost use Rattle.fluent_parser.specs.Reads.{past_byte};
 
 use fluent_lines::{Lines, Row};
 use fluent_slice::Texts;
@@ -114,6 +115,9 @@ impl<'p, S: Drop, T: Texts<S>> Parser<'p, S, T> {
     }
 
     /// The text of a pattern that stands behind so many bytes: see `text_len` of `fluent_lines`.
+    ///
+    /// # Errors
+    /// The offset of a closing brace from here, if one comes first: no text may have it.
     pub fn text_len(&mut self, indent: usize) -> Result<usize, usize>
         requires { indent ≤ length self.old.rest.now }
         ensures value { IsText (drop indent self.old.rest.now) result }
@@ -162,6 +166,9 @@ impl<'p, S: Drop, T: Texts<S>> Parser<'p, S, T> {
     }
 
     /// The text of so many bytes at the place, passed over.
+    ///
+    /// # Errors
+    /// [`AllocError`] if memory runs out; the bytes are passed over all the same.
     pub fn take(&mut self, count: usize) -> Result<S, AllocError>
         requires { Cuts self.old.rest.now count }
         ensures value { IfOk result (λ part. T.text part ≡ take count self.old.rest.now) }
@@ -188,8 +195,7 @@ impl<'p, S: Drop, T: Texts<S>> Parser<'p, S, T> {
     pub fn take_byte_if(&mut self, byte: u8) -> bool
         requires { byte < 128 }
         ensures value { result ≡ w.begins_with byte self.old.rest.now }
-        ensures rest { self.new.rest.now ≡ (if w.begins_with byte self.old.rest.now then drop 1
-            self.old.rest.now else self.old.rest.now) }
+        ensures rest { self.new.rest.now ≡ past_byte byte self.old.rest.now }
         ensures advances { Advances self.old self.new }
     {
         let found = self.is_current_byte(byte);

@@ -1,7 +1,7 @@
 //! One part of a source: an entry, or junk with its error.
 #![tactic(auto, using(crate::proofs::Failing::handed, fluent_words::proofs::Counted::cuts))]
 
-ghost use Rattle.std.specs.Prelude.{◌≡◌, ◌<◌, ◌≤◌, ◌-◌, ◌^◌, IfOk, drop, length};
+ghost use Rattle.std.specs.Prelude.{◌≡◌, ◌<◌, ◌≤◌, ◌-◌, ◌^◌, OnOk, drop, length};
 ghost use Rattle.fluent_words.specs.Counted.{Cuts};
 ghost use Rattle.fluent_grammar.specs.Tiling.{behind_junk, resume};
 ghost use Rattle.fluent_parsed.specs.ErrorView.{error_view, kind_view};
@@ -16,28 +16,25 @@ use fluent_slice::Texts;
 use std::alloc::AllocError;
 
 impl<'p, S: Drop, T: Texts<S>> Parser<'p, S, T> {
-    ghost use Rattle.std.specs.Prelude.{◌∷◌, List};
-    ghost use Rattle.fluent_grammar.specs.Tiling.{Piece};
     ghost use Rattle.fluent_grammar.specs.Reading.{entry_at};
-    ghost use Rattle.fluent_parser.specs.Parts.{piece_of, behind_piece};
-    ghost use Rattle.fluent_parsed.specs.Collected.{entries_with, errors_with};
+    ghost use Rattle.fluent_parser.specs.Parts.{next_piece, behind_piece};
+    ghost use Rattle.fluent_parsed.specs.Collected.{TakesEntries, TakesErrors};
 
     /// Reads the part that begins here, and puts it behind those that were collected. `apart` says whether a blank line
     /// stands before it. Behind a refused entry, reading goes on at the first place that may begin another: at or behind
     /// the place of the refusal, at column 0, before a letter, `-` or `#`.
+    ///
+    /// # Errors
+    /// [`AllocError`] if memory runs out; the part may be there without its error.
     pub fn get_part(&mut self, collected: &mut Collected<S>, apart: bool) -> Result<(), AllocError>
         requires some { 0 < length self.old.rest.now }
-        ensures entries { IfOk result (λ u. (pieces : List Piece)
-            → entries_with S T.text collected.new pieces ≡ entries_with S T.text collected.old
-            (piece_of (length self.old.text.now - length self.old.rest.now) apart
-            self.old.rest.now (entry_at self.old.rest.now) ∷ pieces)) }
-        ensures errors { IfOk result (λ u. (pieces : List Piece)
-            → errors_with S collected.new pieces ≡ errors_with S collected.old
-            (piece_of (length self.old.text.now - length self.old.rest.now) apart
-            self.old.rest.now (entry_at self.old.rest.now) ∷ pieces)) }
-        ensures rest { IfOk result (λ u. self.new.rest.now
+        ensures entries { OnOk result (TakesEntries S T.text collected.old collected.new
+            (next_piece self.old apart)) }
+        ensures errors { OnOk result (TakesErrors S collected.old collected.new
+            (next_piece self.old apart)) }
+        ensures rest { OnOk result (self.new.rest.now
             ≡ behind_piece self.old.rest.now (entry_at self.old.rest.now)) }
-        ensures less { IfOk result (λ u. length self.new.rest.now < length self.old.rest.now) }
+        ensures less { OnOk result (length self.new.rest.now < length self.old.rest.now) }
         ensures text { self.new.text.now ≡ self.old.text.now }
     {
         let start = self.rest();

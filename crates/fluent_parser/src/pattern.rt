@@ -28,16 +28,20 @@ fn said_by(at_line_start: bool, indent: usize, text: &[u8]) -> Option<usize>
 }
 
 impl<'p, S: Drop, T: Texts<S>> Parser<'p, S, T> {
-    ghost use Rattle.fluent_parser.specs.Reads.{Gives};
-    ghost use Rattle.fluent_parser.specs.Steps.{pattern_by, pattern_behind, kept_piece_by, piece_behind, indent_at, text_step, first_place, IsTextStart};
+    ghost use Rattle.fluent_parser.specs.Frame.{Reads};
+    ghost use Rattle.fluent_parser.specs.Steps.{pattern_by, pattern_behind, kept_piece_by, piece_from, indent_at, text_from, first_place, IsTextStart};
     ghost use Rattle.fluent_ast.specs.View.{pattern_view};
-    ghost use Rattle.fluent_parser.specs.Pieces.{GivesPiece};
+    ghost use Rattle.fluent_parser.specs.Pieces.{ReadsPiece};
 
     /// A pattern, or none where nothing but blank stands. Production `Pattern`.
+    ///
+    /// # Errors
+    /// [`Fault::Refused`] if a piece of the pattern is refused; the parser then stands at the place of the refusal.
+    /// [`Fault::Memory`] if memory runs out.
     #[cycle(parser)]
     pub fn get_pattern(&mut self) -> Result<Option<Pattern<S>>, Fault>
-        ensures gives { Gives (option_map (pattern_view S T.text)) self.new.rest.now result
-            (pattern_by self.old.rest.now) }
+        ensures gives { Reads (option_map (pattern_view S T.text)) self.old self.new result
+            pattern_by }
         ensures advances { Advances self.old self.new }
     {
         self.skip_blank_inline();
@@ -50,8 +54,8 @@ impl<'p, S: Drop, T: Texts<S>> Parser<'p, S, T> {
     /// A pattern of one line, whose text has so many bytes with its line feed. Most patterns are such.
     fn get_one_line(&mut self, count: usize) -> Result<Option<Pattern<S>>, Fault>
         requires line { IsOneLine self.old.rest.now (Some count) }
-        ensures gives { Gives (option_map (pattern_view S T.text)) self.new.rest.now result
-            (pattern_behind self.old.rest.now) }
+        ensures gives { Reads (option_map (pattern_view S T.text)) self.old self.new result
+            pattern_behind }
         ensures advances { Advances self.old self.new }
     {
         let mut value = self.take(count)?;
@@ -65,8 +69,8 @@ impl<'p, S: Drop, T: Texts<S>> Parser<'p, S, T> {
     /// Any pattern, behind the blank before it.
     #[cycle(parser)]
     fn get_lines(&mut self) -> Result<Option<Pattern<S>>, Fault>
-        ensures gives { Gives (option_map (pattern_view S T.text)) self.new.rest.now result
-            (pattern_behind self.old.rest.now) }
+        ensures gives { Reads (option_map (pattern_view S T.text)) self.old self.new result
+            pattern_behind }
         ensures advances { Advances self.old self.new }
     {
         let mut at_line_start = self.skip_to_line();
@@ -101,8 +105,8 @@ impl<'p, S: Drop, T: Texts<S>> Parser<'p, S, T> {
         gathered: &mut Gathered<S>,
     ) -> Result<Option<bool>, Fault>
         requires { StartsLine at_line_start self.old.text.now self.old.rest.now }
-        ensures gives { GivesPiece S T.text gathered.old gathered.new self.new.rest.now result
-            (kept_piece_by at_line_start self.old.rest.now) }
+        ensures gives { ReadsPiece T.text gathered.old gathered.new self.old self.new result
+            (kept_piece_by at_line_start) }
         ensures less { IfOk result (λ found. IfSome found
             (λ ends. length self.new.rest.now < length self.old.rest.now)) }
         ensures advances { Advances self.old self.new }
@@ -131,8 +135,8 @@ impl<'p, S: Drop, T: Texts<S>> Parser<'p, S, T> {
         gathered: &mut Gathered<S>,
     ) -> Result<Option<bool>, Fault>
         requires indent { indent ≡ indent_at at_line_start self.old.rest.now }
-        ensures gives { GivesPiece S T.text gathered.old gathered.new self.new.rest.now result
-            (piece_behind at_line_start indent (drop indent self.old.rest.now)) }
+        ensures gives { ReadsPiece T.text gathered.old gathered.new self.old self.new result
+            (piece_from at_line_start indent) }
         ensures less { IfOk result (λ found. IfSome found
             (λ ends. length self.new.rest.now < length self.old.rest.now)) }
         ensures advances { Advances self.old self.new }
@@ -167,8 +171,8 @@ impl<'p, S: Drop, T: Texts<S>> Parser<'p, S, T> {
     ) -> Result<Option<bool>, Fault>
         requires indent { indent ≡ indent_at at_line_start self.old.rest.now }
         requires some { IsTextStart (drop indent self.old.rest.now) }
-        ensures gives { GivesPiece S T.text gathered.old gathered.new self.new.rest.now result
-            (text_step at_line_start indent (drop indent self.old.rest.now)) }
+        ensures gives { ReadsPiece T.text gathered.old gathered.new self.old self.new result
+            (text_from at_line_start indent) }
         ensures less { IfOk result (λ found. IfSome found
             (λ ends. length self.new.rest.now < length self.old.rest.now)) }
         ensures advances { Advances self.old self.new }

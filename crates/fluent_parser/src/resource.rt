@@ -18,6 +18,9 @@ use std::alloc::{AllocError, Global};
 const SHORT: usize = 64;
 
 /// The parts of a source, with their comments.
+///
+/// # Errors
+/// [`AllocError`] if memory runs out; nothing is left behind.
 pub fn parts_of<S: Drop, T: Texts<S>>(
     alloc: Global,
     texts: &T,
@@ -34,6 +37,9 @@ pub fn parts_of<S: Drop, T: Texts<S>>(
 }
 
 /// The parts of a source, without comments.
+///
+/// # Errors
+/// [`AllocError`] if memory runs out; nothing is left behind.
 pub fn runtime_parts_of<S: Drop, T: Texts<S>>(
     alloc: Global,
     texts: &T,
@@ -51,17 +57,19 @@ pub fn runtime_parts_of<S: Drop, T: Texts<S>>(
 
 impl<'p, S: Drop, T: Texts<S>> Parser<'p, S, T> {
     ghost use Rattle.fluent_parsed.specs.Collected.{entries_with, errors_with};
-    ghost use Rattle.fluent_parser.specs.Left.{pieces_left, runtime_left};
+    ghost use Rattle.fluent_parser.specs.Left.{pieces_ahead, runtime_ahead};
     ghost use Rattle.fluent_grammar.specs.Tiling.{entries_of, errors_of};
     ghost use Rattle.fluent_parsed.specs.ErrorView.{error_told};
 
     /// All parts that are left, with their comments.
+    ///
+    /// # Errors
+    /// [`AllocError`] if memory runs out; the parts that were read are dropped.
     pub fn get_parts(&mut self) -> Result<Collected<S>, AllocError>
         ensures entries { IfOk result (λ all. entries_with S T.text all []
-            ≡ entries_of None (pieces_left (length self.old.text.now) self.old.rest.now)) }
+            ≡ entries_of None (pieces_ahead self.old)) }
         ensures errors { IfOk result (λ all. errors_with S all []
-            ≡ map error_told (errors_of (pieces_left (length self.old.text.now)
-            self.old.rest.now))) }
+            ≡ map error_told (errors_of (pieces_ahead self.old))) }
     {
         let mut collected = Collected::with_capacity(self.alloc, self.bytes().len() / SHORT + 1)?;
         'parts: loop {
@@ -75,12 +83,14 @@ impl<'p, S: Drop, T: Texts<S>> Parser<'p, S, T> {
 
     /// All parts that are left, without comments: a line that begins with `#` where a part may begin is passed over,
     /// whatever follows.
+    ///
+    /// # Errors
+    /// [`AllocError`] if memory runs out; the parts that were read are dropped.
     pub fn get_runtime_parts(&mut self) -> Result<Collected<S>, AllocError>
         ensures entries { IfOk result (λ all. entries_with S T.text all []
-            ≡ entries_of None (runtime_left (length self.old.text.now) self.old.rest.now)) }
+            ≡ entries_of None (runtime_ahead self.old)) }
         ensures errors { IfOk result (λ all. errors_with S all []
-            ≡ map error_told (errors_of (runtime_left (length self.old.text.now)
-            self.old.rest.now))) }
+            ≡ map error_told (errors_of (runtime_ahead self.old))) }
     {
         let mut collected = Collected::with_capacity(self.alloc, self.bytes().len() / SHORT + 1)?;
         'parts: loop {

@@ -1,7 +1,7 @@
 //! Selects.
 #![tactic(auto, using(crate::proofs::Failing::handed, fluent_words::proofs::Counted::cuts, crate::proofs::Steps::placeable_is))]
 
-ghost use Rattle.std.specs.Prelude.{◌≡◌, ◌≤◌, ◌<◌, true, false, length, map};
+ghost use Rattle.std.specs.Prelude.{◌≡◌, ◌≤◌, ◌<◌, true, false, length};
 ghost use Rattle.fluent_grammar.specs.Words as w;
 ghost use Rattle.fluent_grammar.specs.Reading.{selector_fault};
 ghost use Rattle.fluent_parser.specs.Frame.{Advances};
@@ -14,9 +14,10 @@ use fluent_slice::Texts;
 use fluent_words as words;
 
 impl<'p, S: Drop, T: Texts<S>> Parser<'p, S, T> {
-    ghost use Rattle.fluent_parser.specs.Reads.{Gives, whole, key_in_brackets_at, IsToldAs};
+    ghost use Rattle.fluent_parser.specs.Frame.{Reads};
+    ghost use Rattle.fluent_parser.specs.Reads.{whole, key_in_brackets_at, IsToldAs};
     ghost use Rattle.fluent_parser.specs.Steps.{variant_by, default_mark_at};
-    ghost use Rattle.fluent_ast.specs.View.{inline_view, key_of, variants_of, variant_view};
+    ghost use Rattle.fluent_ast.specs.View.{inline_view, key_of, variants_view, variant_view};
     ghost use Rattle.fluent_grammar.specs.Reading.{key_at};
 
     /// Why an expression can't be a selector.
@@ -40,10 +41,14 @@ impl<'p, S: Drop, T: Texts<S>> Parser<'p, S, T> {
     }
 
     /// The variants of a select. Production `variant_list`.
+    ///
+    /// # Errors
+    /// [`Fault::Refused`] if these are no variants, or not exactly one is the default; the parser then stands at the place of the refusal.
+    /// [`Fault::Memory`] if memory runs out.
     #[cycle(parser)]
     pub fn get_variants(&mut self) -> Result<Vec<Variant<S>>, Fault>
-        ensures gives { Gives (λ vs. variants_of (map (variant_view S T.text) vs.items))
-            self.new.rest.now result (whole.variants false self.old.rest.now) }
+        ensures gives { Reads (λ vs. variants_view S T.text vs.items) self.old self.new result
+            (whole.variants false) }
         ensures advances { Advances self.old self.new }
     {
         let mut variants = Vec::new(self.alloc);
@@ -66,8 +71,8 @@ impl<'p, S: Drop, T: Texts<S>> Parser<'p, S, T> {
 
     /// Passes over the mark of the default variant, and says whether it stood here. A second one is refused.
     fn take_default_mark(&mut self, has_default: bool) -> Result<bool, Fault>
-        ensures gives { Gives (λ found. found) self.new.rest.now result
-            (default_mark_at has_default self.old.rest.now) }
+        ensures gives { Reads (λ found. found) self.old self.new result
+            (default_mark_at has_default) }
         ensures advances { Advances self.old self.new }
     {
         let found = self.take_byte_if(b'*');
@@ -82,8 +87,8 @@ impl<'p, S: Drop, T: Texts<S>> Parser<'p, S, T> {
     #[tactic(auto, using(crate::proofs::Failing::handed, fluent_words::proofs::Counted::cuts), unfolding(crate::specs::Steps::variant_by))]
     fn get_variant(&mut self, default: bool) -> Result<Variant<S>, Fault>
         requires bracket { w.begins_with w.open_bracket self.old.rest.now ≡ true }
-        ensures gives { Gives (variant_view S T.text) self.new.rest.now result
-            (variant_by default self.old.rest.now) }
+        ensures gives { Reads (variant_view S T.text) self.old self.new result
+            (variant_by default) }
         ensures less { length self.new.rest.now < length self.old.rest.now }
         ensures advances { Advances self.old self.new }
     {
@@ -101,8 +106,7 @@ impl<'p, S: Drop, T: Texts<S>> Parser<'p, S, T> {
 
     /// A variant's key with its closing bracket. Production `VariantKey`.
     fn get_variant_key(&mut self) -> Result<VariantKey<S>, Fault>
-        ensures gives { Gives (key_of S T.text) self.new.rest.now result
-            (key_in_brackets_at self.old.rest.now) }
+        ensures gives { Reads (key_of S T.text) self.old self.new result key_in_brackets_at }
         ensures advances { Advances self.old self.new }
     {
         self.skip_blank();
@@ -115,8 +119,7 @@ impl<'p, S: Drop, T: Texts<S>> Parser<'p, S, T> {
     /// A number or an identifier.
     #[tactic(auto, using(crate::proofs::Failing::handed), unfolding(fluent_grammar::specs::Reading::key_at))]
     fn get_key(&mut self) -> Result<VariantKey<S>, Fault>
-        ensures gives { Gives (key_of S T.text) self.new.rest.now result
-            (key_at self.old.rest.now) }
+        ensures gives { Reads (key_of S T.text) self.old self.new result key_at }
         ensures advances { Advances self.old self.new }
     {
         if words::begins_number(self.bytes()) {

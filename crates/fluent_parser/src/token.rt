@@ -1,13 +1,14 @@
 //! Identifiers, numbers and strings.
 #![tactic(auto, using(fluent_words::proofs::Counted::cuts))]
 
-ghost use Rattle.std.specs.Prelude.{◌≡◌, ◌++◌, ◌≤◌, true, length, drop, take};
+ghost use Rattle.std.specs.Prelude.{◌≡◌, ◌≤◌, true, length, drop};
 ghost use Rattle.std.specs.List.{prefix_len};
 ghost use Rattle.fluent_words.specs.Counted.{Cuts, character_or_space};
 ghost use Rattle.fluent_grammar.specs.Words as w;
 ghost use Rattle.fluent_grammar.specs.Refusal as r;
 ghost use Rattle.fluent_grammar.specs.Reading.{first_char};
 ghost use Rattle.fluent_parser.specs.Frame.{Advances};
+ghost use Rattle.fluent_parser.specs.Reads.{with_next_char};
 
 use crate::fault::Fault;
 use crate::parser::{Parser, behind};
@@ -27,23 +28,27 @@ fn first_char(text: &str) -> &str
 /// So many bytes at the front of a text, and the character behind them.
 fn with_next_char(text: &str, count: usize) -> &str
     requires { Cuts text.now count }
-    ensures { result.now ≡ take count text.now ++ first_char (drop count text.now) }
+    ensures { result.now ≡ with_next_char text.now count }
 {
     let end = count + first_char(behind(text, count)).len();
     &text[..end]
 }
 
 impl<'p, S: Drop, T: Texts<S>> Parser<'p, S, T> {
-    ghost use Rattle.fluent_parser.specs.Reads.{Gives, Tells};
+    ghost use Rattle.fluent_parser.specs.Frame.{Reads};
+    ghost use Rattle.fluent_parser.specs.Reads.{Tells};
     ghost use Rattle.fluent_ast.specs.View.{name_of};
     ghost use Rattle.fluent_grammar.specs.Reading.{identifier_at, number_at, string_content};
 
     /// Production `Identifier`.
+    ///
+    /// # Errors
+    /// [`Fault::Refused`] with the range `a-zA-Z` if no letter stands here; the parser stays.
+    /// [`Fault::Memory`] if memory runs out.
     #[tactic(auto, using(fluent_words::proofs::Counted::cuts), unfolding(fluent_grammar::specs::Reading::identifier_at))]
     #[inline(always)]
     pub fn get_identifier(&mut self) -> Result<Identifier<S>, Fault>
-        ensures gives { Gives (name_of S T.text) self.new.rest.now result
-            (identifier_at self.old.rest.now) }
+        ensures gives { Reads (name_of S T.text) self.old self.new result identifier_at }
         ensures advances { Advances self.old self.new }
     {
         let count = words::identifier_len(self.bytes());
@@ -55,8 +60,12 @@ impl<'p, S: Drop, T: Texts<S>> Parser<'p, S, T> {
     }
 
     /// Production `NumberLiteral`.
+    ///
+    /// # Errors
+    /// [`Fault::Refused`] with the range `0-9` if a digit is missing; the parser then stands where one had to stand.
+    /// [`Fault::Memory`] if memory runs out.
     pub fn get_number_literal(&mut self) -> Result<S, Fault>
-        ensures gives { Gives T.text self.new.rest.now result (number_at self.old.rest.now) }
+        ensures gives { Reads T.text self.old self.new result number_at }
         ensures advances { Advances self.old self.new }
     {
         match words::number_len(self.bytes()) {
@@ -72,8 +81,12 @@ impl<'p, S: Drop, T: Texts<S>> Parser<'p, S, T> {
     }
 
     /// The content of a string, behind its opening quote, with the closing one. Production `StringLiteral`.
+    ///
+    /// # Errors
+    /// [`Fault::Refused`] if the string isn't closed on its line, or an escape is none; the parser then stands at the place of the refusal.
+    /// [`Fault::Memory`] if memory runs out.
     pub fn get_string_content(&mut self) -> Result<S, Fault>
-        ensures gives { Gives T.text self.new.rest.now result (string_content self.old.rest.now) }
+        ensures gives { Reads T.text self.old self.new result string_content }
         ensures advances { Advances self.old self.new }
     {
         match words::string_end(self.bytes()) {
@@ -125,7 +138,7 @@ impl<'p, S: Drop, T: Texts<S>> Parser<'p, S, T> {
     fn missing_digit(&self, digits: usize) -> Fault
         requires { digits ≡ prefix_len w.is_hex_digit self.now.rest.now }
         ensures { Tells result (r.invalid_unicode_escape_sequence
-            (take digits self.now.rest.now ++ first_char (drop digits self.now.rest.now))) }
+            (with_next_char self.now.rest.now digits)) }
     {
         match String::from_str(self.alloc, with_next_char(self.rest(), digits)) {
             Ok(text) => Fault::Refused(ErrorKind::InvalidUnicodeEscapeSequence(text)),

@@ -11,6 +11,10 @@ use std::alloc::{AllocError, Global};
 use std::borrow::CowStr;
 
 /// The plural rules of a language. Values of a program's own type are shown by their own text.
+///
+/// ```
+/// let mut bundle = LanguageBundle::for_tag(alloc, "pl").context("no rules")?;
+/// ```
 #[derive(Clone, Copy, Debug, PartialEq, Eq)]
 pub struct LanguagePlurals {
     pub(crate) cardinal: Cardinal,

@@ -2,3 +2,5 @@ pub mod Views
 pub mod LentView
 pub mod Telling
 pub mod Results
+pub mod Resolves
+pub mod Variables

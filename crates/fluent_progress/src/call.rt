@@ -1,12 +1,6 @@
 //! Calls of functions.
 
-ghost use Rattle.std.specs.Prelude.{◌≡◌, IfOk, map, option_map};
-ghost use Rattle.fluent_ids.specs.IdsView.{ids_view};
-ghost use Rattle.fluent_meaning.specs.Ids.{find};
-ghost use Rattle.fluent_progress.specs.Results.{function_result};
-ghost use Rattle.fluent_progress.specs.Views.{resolved_in};
-ghost use Rattle.fluent_value.specs.ArgsView.{args_view};
-ghost use Rattle.fluent_value.specs.View.{value_view};
+ghost use Rattle.fluent_progress.specs.Results.{GivesCall};
 
 use crate::context::Context;
 use crate::place::Place;
@@ -15,17 +9,17 @@ use fluent_value::{FluentArgs, FluentType, FluentValue};
 use std::alloc::AllocError;
 
 impl<'b, 'r, 's, 'a, C: FluentType, F, E: Context<C, F>> Place<'b, 'r, 's, 'a, C, F, E> {
-    /// What the function of an id gives for these values, if the id stands for one. The only error is that memory runs out.
+    /// What the function of an id gives for these values, if the id stands for one.
+    ///
+    /// # Errors
+    /// [`AllocError`] if memory runs out; nothing is left behind.
     pub fn call<'v, 'n>(
         &self,
         id: &str,
         positional: &[FluentValue<'v, C>],
         named: &FluentArgs<'n, C>,
     ) -> Result<Option<FluentValue<'v, C>>, AllocError>
-        ensures { IfOk result (λ value. option_map (value_view C.meaning) value
-            ≡ function_result (resolved_in E.environment self.now)
-            (find (ids_view F self.now.ids.now) id.now) (map (value_view C.meaning) positional.now)
-            (args_view C.meaning named.now)) }
+        ensures { GivesCall C.meaning E.environment result self.now id.now positional.now named.now }
     {
         let function = match self.ids.get(id) {
             Some(Entry::Function(function)) => FunctionRef::Own(function),

@@ -1,14 +1,11 @@
 //! What patterns are resolved in.
 
-ghost use Rattle.std.specs.Prelude.{◌≡◌, Bool, false, IfOk, IsOkAnd, map};
+ghost use Rattle.std.specs.Prelude.{◌≡◌, Bool, false, IfOk, IsOkAnd};
 ghost use Rattle.std.specs.Cow.{cow_str_bytes, IsBorrowedStr};
-ghost use Rattle.fluent_environment.specs.Settings.{result_of};
-ghost use Rattle.fluent_ids.specs.EntryView.{function_meaning};
 ghost use Rattle.fluent_meaning.specs.Environment.{Environment, value_text};
-ghost use Rattle.fluent_value.specs.ArgsView.{args_view};
+ghost use Rattle.fluent_progress.specs.Results.{GivesResult};
 ghost use Rattle.fluent_value.specs.Shown.{shown_text};
 ghost use Rattle.fluent_value.specs.Value.{Value};
-ghost use Rattle.fluent_value.specs.View.{value_view};
 
 use fluent_ids::FunctionRef;
 use fluent_value::{FluentArgs, FluentType, FluentValue, ValueScope};
@@ -24,19 +21,24 @@ pub trait Context<C: FluentType, F>: ValueScope<C> {
     /// Whether a transform is set.
     ghost has_transform: { Self → Bool };
 
-    /// What a function gives for these values. The only error is that memory runs out.
+    /// What a function gives for these values.
+    ///
+    /// # Errors
+    /// [`AllocError`] if memory runs out; nothing is left behind.
     fn call<'a, 'n>(
         &self,
         function: &FunctionRef<'_, F>,
         positional: &[FluentValue<'a, C>],
         named: &FluentArgs<'n, C>,
     ) -> Result<FluentValue<'a, C>, AllocError>
-        ensures { IfOk result (λ value. value_view C.meaning value
-            ≡ result_of (environment self.now).call (function_meaning F function.now)
-            (map (value_view C.meaning) positional.now) (args_view C.meaning named.now)) };
+        ensures { GivesResult C.meaning (environment self.now) result function.now positional.now
+            named.now };
 
-    /// What becomes of a text of a pattern. Where no transform is set it is the text itself, borrowed, which takes no memory and
-    /// succeeds. The only error is that memory runs out.
+    /// What becomes of a text of a pattern. If no transform is set it is the text itself, borrowed, which allocates nothing and
+    /// succeeds.
+    ///
+    /// # Errors
+    /// [`AllocError`] if memory runs out; nothing is left behind.
     fn transform<'t>(&self, text: &'t str) -> Result<CowStr<'t>, AllocError>
         ensures text { IfOk result (λ new. cow_str_bytes new
             ≡ (environment self.now).transformed text.now) }

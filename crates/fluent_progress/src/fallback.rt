@@ -1,25 +1,22 @@
 //! What stands in the place of an expression that has no text.
 
-ghost use Rattle.std.specs.Prelude.{◌≡◌, ◌++◌, ◌∷◌, [], OnErr, OnOk, option_copied, option_map, string_bytes};
-ghost use Rattle.fluent_ast.specs.View.{expression_view, inline_view, name_of};
+ghost use Rattle.std.specs.Prelude.{◌≡◌, ◌∷◌, []};
+ghost use Rattle.fluent_ast.specs.Borrowed.{expression_of, inline_of};
 ghost use Rattle.fluent_errors.specs.View.{resolver_view};
 ghost use Rattle.fluent_meaning.specs.Fallback.{braced, fallback, inline_fallback, with_attribute};
-ghost use Rattle.fluent_meaning.specs.Refused.{TellsSome};
-ghost use Rattle.fluent_meaning.specs.Steps.{faulty};
-ghost use Rattle.fluent_meaning.specs.Told.{Writes};
 ghost use Rattle.fluent_meaning.specs.Work.{times_too_many};
-ghost use Rattle.fluent_progress.specs.Views.{state};
+ghost use Rattle.fluent_progress.specs.Resolves.{Appends, TellsOnErr, WritesOnOk, fallback_step};
+ghost use Rattle.fluent_progress.specs.Results.{found_name};
 
 use crate::progress::Progress;
 use fluent_ast::{Expression, Identifier, InlineExpression};
 use fluent_errors::ResolverError;
 use std::alloc::AllocError;
 
-/// Writes the fallback of an expression. The only error is that memory runs out.
+/// Writes the fallback of an expression.
 #[cycle(fallbacks)]
 fn write_fallback(out: &mut String, expression: &Expression<&str>) -> Result<(), AllocError>
-    ensures { OnOk result (string_bytes out.new ≡ string_bytes out.old
-        ++ fallback (expression_view _ (λ s. s.now) expression.now)) }
+    ensures { Appends result out.old out.new (fallback (expression_of expression.now)) }
 {
     match expression {
         Expression::Select {
@@ -30,14 +27,13 @@ fn write_fallback(out: &mut String, expression: &Expression<&str>) -> Result<(),
     }
 }
 
-/// Writes the fallback of an inline expression. The only error is that memory runs out.
+/// Writes the fallback of an inline expression.
 #[cycle(fallbacks)]
 fn write_inline_fallback(
     out: &mut String,
     inline: &InlineExpression<&str>,
 ) -> Result<(), AllocError>
-    ensures { OnOk result (string_bytes out.new ≡ string_bytes out.old
-        ++ inline_fallback (inline_view _ (λ s. s.now) inline.now)) }
+    ensures { Appends result out.old out.new (inline_fallback (inline_of inline.now)) }
 {
     match inline {
         InlineExpression::StringLiteral { value } => {
@@ -70,14 +66,13 @@ fn write_inline_fallback(
     Ok(())
 }
 
-/// Writes a name, with the attribute that a reference names behind a dot. The only error is that memory runs out.
+/// Writes a name, and after a dot the attribute that a reference names.
 fn write_name(
     out: &mut String,
     name: &str,
     attribute: Option<&Identifier<&str>>,
 ) -> Result<(), AllocError>
-    ensures { OnOk result (string_bytes out.new ≡ string_bytes out.old ++ with_attribute name.now
-        (option_map (name_of _ (λ s. s.now)) (option_copied attribute.entry))) }
+    ensures { Appends result out.old out.new (with_attribute name.now (found_name attribute.entry)) }
 {
     out.push_str(name)?;
     match attribute {
@@ -89,31 +84,37 @@ fn write_name(
     }
 }
 
-/// Writes the fallback of an expression in braces. The only error is that memory runs out.
+/// Writes the fallback of an expression in braces.
+///
+/// # Errors
+/// [`AllocError`] if memory runs out; `out` may hold a part of the text.
 pub fn write_braced(out: &mut String, expression: &Expression<&str>) -> Result<(), AllocError>
-    ensures { OnOk result (string_bytes out.new ≡ string_bytes out.old
-        ++ braced (fallback (expression_view _ (λ s. s.now) expression.now))) }
+    ensures { Appends result out.old out.new (braced (fallback (expression_of expression.now))) }
 {
     out.push_str("{")?;
     write_fallback(out, expression)?;
     out.push_str("}")
 }
 
-/// Writes the fallback of an inline expression in braces. The only error is that memory runs out.
+/// Writes the fallback of an inline expression in braces.
+///
+/// # Errors
+/// [`AllocError`] if memory runs out; `out` may hold a part of the text.
 pub fn write_inline_braced(
     out: &mut String,
     inline: &InlineExpression<&str>,
 ) -> Result<(), AllocError>
-    ensures { OnOk result (string_bytes out.new ≡ string_bytes out.old
-        ++ braced (inline_fallback (inline_view _ (λ s. s.now) inline.now))) }
+    ensures { Appends result out.old out.new (braced (inline_fallback (inline_of inline.now))) }
 {
     out.push_str("{")?;
     write_inline_fallback(out, inline)?;
     out.push_str("}")
 }
 
-/// Tells an error, which isn't that of too many placeables, and writes the fallback of an inline expression in braces. The only
-/// error is that memory runs out.
+/// Reports an error, which isn't that of too many placeables, and writes the fallback of an inline expression in braces.
+///
+/// # Errors
+/// [`AllocError`] if memory runs out; the path is unchanged, and the error may be reported.
 pub fn fall_back(
     out: &mut String,
     progress: &mut Progress<'_, '_>,
@@ -121,12 +122,10 @@ pub fn fall_back(
     error: ResolverError,
 ) -> Result<(), AllocError>
     requires { times_too_many (resolver_view error ∷ []) ≡ 0 }
-    ensures wrote { OnOk result (Writes (string_bytes out.old) (string_bytes out.new)
-        (state progress.old) (state progress.new) (faulty
-        (braced (inline_fallback (inline_view _ (λ s. s.now) inline.now))) (resolver_view error))) }
-    ensures refused { OnErr result (TellsSome (state progress.old) (state progress.new)
-        (faulty (braced (inline_fallback (inline_view _ (λ s. s.now) inline.now)))
-        (resolver_view error) (state progress.old).budget)) }
+    ensures wrote { WritesOnOk result out.old out.new progress.old progress.new
+        (fallback_step inline.now error) }
+    ensures refused { TellsOnErr result progress.old progress.new
+        (fallback_step inline.now error) }
     ensures path { progress.new.path ≡ progress.old.path }
 {
     progress.add_error(error)?;

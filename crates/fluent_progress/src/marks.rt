@@ -1,10 +1,10 @@
 //! What stands round the text of a placeable.
 
-ghost use Rattle.std.specs.Prelude.{◌≡◌, ◌++◌, [], if◌then◌else◌, encode_utf8, OnOk, string_bytes};
-ghost use Rattle.fluent_ast.specs.View.{expression_view, pattern_view};
-ghost use Rattle.fluent_meaning.specs.Fallback.{braced, fallback};
-ghost use Rattle.fluent_meaning.specs.Steps.{is_shut};
+ghost use Rattle.std.specs.Prelude.{◌≡◌, [], if◌then◌else◌, encode_utf8};
+ghost use Rattle.fluent_ast.specs.Borrowed.{elements_of, expression_of};
 ghost use Rattle.fluent_meaning.specs.Substitution.{is_isolated, several, stands_bare};
+ghost use Rattle.fluent_progress.specs.Resolves.{Appends};
+ghost use Rattle.fluent_progress.specs.Results.{closing_text};
 ghost use Rattle.fluent_progress.specs.Views.{state};
 
 use crate::context::Context;
@@ -16,7 +16,7 @@ use std::alloc::AllocError;
 
 /// Whether no isolation marks stand round an expression.
 fn is_bare(expression: &Expression<&str>) -> bool
-    ensures { result ≡ stands_bare (expression_view _ (λ s. s.now) expression.now) }
+    ensures { result ≡ stands_bare (expression_of expression.now) }
 {
     match expression {
         Expression::Inline(
@@ -39,7 +39,7 @@ fn is_bare(expression: &Expression<&str>) -> bool
 
 /// Whether a pattern has more than one element.
 fn has_several(pattern: &Pattern<&str>) -> bool
-    ensures { result ≡ several (pattern_view _ (λ s. s.now) pattern.now) }
+    ensures { result ≡ several (elements_of pattern.now) }
 {
     pattern.elements.len() > 1
 }
@@ -50,16 +50,18 @@ pub fn is_isolated<C: FluentType, F, E: Context<C, F>>(
     whole: &Pattern<&str>,
     expression: &Expression<&str>,
 ) -> bool
-    ensures { result ≡ is_isolated (E.environment context.now)
-        (pattern_view _ (λ s. s.now) whole.now) (expression_view _ (λ s. s.now) expression.now) }
+    ensures { result ≡ is_isolated (E.environment context.now) (elements_of whole.now)
+        (expression_of expression.now) }
 {
     context.is_isolating() && has_several(whole) && !is_bare(expression)
 }
 
-/// Writes the mark before an isolated placeable. The only error is that memory runs out.
+/// Writes the mark before an isolated placeable.
+///
+/// # Errors
+/// [`AllocError`] if memory runs out; `out` is unchanged.
 pub fn write_front(out: &mut String, is_isolated: bool) -> Result<(), AllocError>
-    ensures { OnOk result (string_bytes out.new ≡ string_bytes out.old
-        ++ (if is_isolated then encode_utf8 0x2068 else [])) }
+    ensures { Appends result out.old out.new (if is_isolated then encode_utf8 0x2068 else []) }
 {
     if is_isolated {
         out.push_str("\u{2068}")?;
@@ -67,10 +69,12 @@ pub fn write_front(out: &mut String, is_isolated: bool) -> Result<(), AllocError
     Ok(())
 }
 
-/// Writes the mark behind an isolated placeable. The only error is that memory runs out.
+/// Writes the mark after an isolated placeable.
+///
+/// # Errors
+/// [`AllocError`] if memory runs out; `out` is unchanged.
 pub fn write_back(out: &mut String, is_isolated: bool) -> Result<(), AllocError>
-    ensures { OnOk result (string_bytes out.new ≡ string_bytes out.old
-        ++ (if is_isolated then encode_utf8 0x2069 else [])) }
+    ensures { Appends result out.old out.new (if is_isolated then encode_utf8 0x2069 else []) }
 {
     if is_isolated {
         out.push_str("\u{2069}")?;
@@ -78,15 +82,17 @@ pub fn write_back(out: &mut String, is_isolated: bool) -> Result<(), AllocError>
     Ok(())
 }
 
-/// Writes the fallback of an expression in braces where one placeable was too many. The only error is that memory runs out.
+/// Writes the fallback of an expression in braces if one placeable was too many.
+///
+/// # Errors
+/// [`AllocError`] if memory runs out; `out` may hold a part of the text.
 pub fn close(
     out: &mut String,
     progress: &Progress<'_, '_>,
     expression: &Expression<&str>,
 ) -> Result<(), AllocError>
-    ensures { OnOk result (string_bytes out.new ≡ string_bytes out.old
-        ++ (if is_shut (state progress.now).budget then braced
-        (fallback (expression_view _ (λ s. s.now) expression.now)) else [])) }
+    ensures { Appends result out.old out.new
+        (closing_text (state progress.now).budget (expression_of expression.now)) }
 {
     if progress.dirty {
         write_braced(out, expression)?;

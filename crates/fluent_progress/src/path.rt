@@ -1,7 +1,7 @@
 //! The patterns that are being written.
 
 ghost use Rattle.std.specs.Prelude.{◌≡◌, ◌++◌, ◌∷◌, [], ◌-◌, IfOk, OnOk, length, take};
-ghost use Rattle.fluent_ast.specs.View.{pattern_view};
+ghost use Rattle.fluent_ast.specs.Borrowed.{elements_of};
 ghost use Rattle.fluent_meaning.specs.Substitution.{is_on_path, rooted_path};
 ghost use Rattle.fluent_progress.specs.Views.{path_left, path_of, state};
 
@@ -13,7 +13,7 @@ use std::alloc::AllocError;
 impl<'r, 's> Progress<'r, 's> {
     /// Whether a pattern of this content is being written.
     pub fn is_entered(&self, pattern: &Pattern<&'s str>) -> bool
-        ensures { result ≡ is_on_path (pattern_view _ (λ s. s.now) pattern.now) (path_of self.now) }
+        ensures { result ≡ is_on_path (elements_of pattern.now) (path_of self.now) }
     {
         equal_nodes::<&'s str>();
         for index in 0..self.path.len() {
@@ -25,7 +25,10 @@ impl<'r, 's> Progress<'r, 's> {
         false
     }
 
-    /// Puts a pattern on the path. The only error is that memory runs out; nothing has changed then.
+    /// Puts a pattern on the path.
+    ///
+    /// # Errors
+    /// [`AllocError`] if memory runs out; the progress is unchanged.
     pub fn enter_path(&mut self, pattern: &'r Pattern<&'s str>) -> Result<(), AllocError>
         ensures path { OnOk result (self.new.path.items
             ≡ self.old.path.items ++ pattern.entry ∷ []) }
@@ -35,11 +38,13 @@ impl<'r, 's> Progress<'r, 's> {
         Ok(())
     }
 
-    /// Puts a pattern on the path where it is empty, and answers whether it was. The only error is that memory runs out;
-    /// nothing has changed then.
+    /// Puts a pattern on the path if it is empty, and answers whether it was.
+    ///
+    /// # Errors
+    /// [`AllocError`] if memory runs out; the progress is unchanged.
     pub fn enter_root(&mut self, whole: &'r Pattern<&'s str>) -> Result<bool, AllocError>
         ensures path { OnOk result (path_of self.new
-            ≡ rooted_path (pattern_view _ (λ s. s.now) whole.now) (path_of self.old)) }
+            ≡ rooted_path (elements_of whole.now) (path_of self.old)) }
         ensures before { IfOk result (λ is_root. path_left is_root self.new ≡ self.old.path.items) }
         ensures state { state self.new ≡ state self.old }
     {

@@ -52,7 +52,10 @@ impl Progress<'_, '_> {
         self.errors
     }
 
-    /// Tells an error, where errors are wanted. The only error of the call is that memory runs out; nothing is told then.
+    /// Reports an error, where errors are wanted.
+    ///
+    /// # Errors
+    /// [`AllocError`] if memory runs out; the progress is unchanged.
     pub fn add_error(&mut self, error: ResolverError) -> Result<(), AllocError>
         ensures told { OnOk result (state self.new
             ≡ with_error (resolver_view error) (state self.old)) }
@@ -74,8 +77,10 @@ impl Progress<'_, '_> {
         self.entered = self.entered.saturating_add(1);
     }
 
-    /// Counts a placeable, and answers whether it may be opened. One too many is told. The only error is that memory runs out;
-    /// nothing is counted or told then.
+    /// Counts a placeable, and answers whether it may be opened. One too many is reported.
+    ///
+    /// # Errors
+    /// [`AllocError`] if memory runs out; the progress is unchanged.
     pub fn open_placeable(&mut self) -> Result<bool, AllocError>
         requires { self.now.dirty ≡ false }
         ensures opens { IfOk result (λ is_open. Finds is_open (state self.old) (state self.new)

@@ -1,12 +1,11 @@
 //! The patterns that references mean.
 
-ghost use Rattle.std.specs.Prelude.{◌≡◌, IfOk, map, option_copied, option_map, string_bytes};
-ghost use Rattle.fluent_ast.specs.View.{attribute_view, name_of, pattern_view};
+ghost use Rattle.std.specs.Prelude.{◌≡◌, IfOk, option_map, string_bytes};
+ghost use Rattle.fluent_ast.specs.Borrowed.{attributes_of, name_of};
 ghost use Rattle.fluent_errors.specs.Errors as e;
 ghost use Rattle.fluent_errors.specs.View.{reference_view};
-ghost use Rattle.fluent_ids.specs.IdsView.{ids_view};
 ghost use Rattle.fluent_meaning.specs.Ids as ids;
-ghost use Rattle.fluent_meaning.specs.Substitution as s;
+ghost use Rattle.fluent_progress.specs.Results.{found_elements, message_meant, term_meant};
 ghost use Rattle.fluent_progress.specs.Views.{target_view};
 
 use crate::context::Context;
@@ -32,8 +31,8 @@ fn attribute_named<'r, 's>(
     attributes: &'r [Attribute<&'s str>],
     name: &str,
 ) -> Option<&'r Pattern<&'s str>>
-    ensures { option_map (pattern_view _ (λ s. s.now)) (option_copied result)
-        ≡ ids.attribute_named name.now (map (attribute_view _ (λ s. s.now)) attributes.now) }
+    ensures { found_elements result
+        ≡ ids.attribute_named name.now (attributes_of attributes.now) }
 {
     for attribute in attributes {
         if attribute.id.name == name {
@@ -45,8 +44,7 @@ fn attribute_named<'r, 's>(
 
 /// A copy of a name, if there is one.
 fn copied(alloc: Global, name: &Option<Identifier<&str>>) -> Result<Option<String>, AllocError>
-    ensures { IfOk result (λ copy. option_map string_bytes copy
-        ≡ option_map (name_of _ (λ s. s.now)) name.now) }
+    ensures { IfOk result (λ copy. option_map string_bytes copy ≡ option_map name_of name.now) }
 {
     match name {
         Some(name) => Ok(Some(String::from_str(alloc, name.name)?)),
@@ -61,8 +59,7 @@ fn unknown_message(
     attribute: &Option<Identifier<&str>>,
 ) -> Result<ReferenceKind, AllocError>
     ensures { IfOk result (λ kind. reference_view kind
-        ≡ e.to_message (name_of _ (λ s. s.now) id.now)
-        (option_map (name_of _ (λ s. s.now)) attribute.now)) }
+        ≡ e.to_message (name_of id.now) (option_map name_of attribute.now)) }
 {
     let attribute = copied(alloc, attribute)?;
     Ok(ReferenceKind::Message {
@@ -78,8 +75,7 @@ fn unknown_term(
     attribute: &Option<Identifier<&str>>,
 ) -> Result<ReferenceKind, AllocError>
     ensures { IfOk result (λ kind. reference_view kind
-        ≡ e.to_term (name_of _ (λ s. s.now) id.now)
-        (option_map (name_of _ (λ s. s.now)) attribute.now)) }
+        ≡ e.to_term (name_of id.now) (option_map name_of attribute.now)) }
 {
     let attribute = copied(alloc, attribute)?;
     Ok(ReferenceKind::Term {
@@ -89,16 +85,17 @@ fn unknown_term(
 }
 
 impl<'b, 'r, 's, 'a, C: FluentType, F, E: Context<C, F>> Place<'b, 'r, 's, 'a, C, F, E> {
-    /// What a message reference means. The only error is that memory runs out.
+    /// What a message reference means.
+    ///
+    /// # Errors
+    /// [`AllocError`] if memory runs out; nothing is left behind.
     pub fn message_target(
         &self,
         id: &Identifier<&str>,
         attribute: &Option<Identifier<&str>>,
     ) -> Result<Target<'r, 's>, AllocError>
         ensures { IfOk result (λ target. target_view target
-            ≡ s.message_target (name_of _ (λ s. s.now) id.now)
-            (option_map (name_of _ (λ s. s.now)) attribute.now)
-            (ids.find (ids_view F self.now.ids.now) (name_of _ (λ s. s.now) id.now))) }
+            ≡ message_meant self.now id.now attribute.now) }
     {
         let alloc = self.context.alloc();
         let Some(Entry::Message((_, message))) = self.ids.get(id.name) else {
@@ -115,16 +112,17 @@ impl<'b, 'r, 's, 'a, C: FluentType, F, E: Context<C, F>> Place<'b, 'r, 's, 'a, C
         }
     }
 
-    /// What a term reference means. The only error is that memory runs out.
+    /// What a term reference means.
+    ///
+    /// # Errors
+    /// [`AllocError`] if memory runs out; nothing is left behind.
     pub fn term_target(
         &self,
         id: &Identifier<&str>,
         attribute: &Option<Identifier<&str>>,
     ) -> Result<Target<'r, 's>, AllocError>
         ensures { IfOk result (λ target. target_view target
-            ≡ s.term_target (name_of _ (λ s. s.now) id.now)
-            (option_map (name_of _ (λ s. s.now)) attribute.now)
-            (ids.find (ids_view F self.now.ids.now) (name_of _ (λ s. s.now) id.now))) }
+            ≡ term_meant self.now id.now attribute.now) }
     {
         let alloc = self.context.alloc();
         let Some(Entry::Term((_, term))) = self.ids.get(id.name) else {

@@ -1,9 +1,8 @@
 //! Values that are written.
 
-ghost use Rattle.std.specs.Prelude.{◌≡◌, ◌++◌, OnOk, string_bytes};
 ghost use Rattle.fluent_meaning.specs.Environment.{value_text};
-ghost use Rattle.fluent_meaning.specs.Steps.{may_open};
-ghost use Rattle.fluent_meaning.specs.Substitution.{result_written};
+ghost use Rattle.fluent_progress.specs.Resolves.{Appends};
+ghost use Rattle.fluent_progress.specs.Results.{result_text};
 ghost use Rattle.fluent_value.specs.Value.{number_or_text};
 ghost use Rattle.fluent_value.specs.View.{value_view};
 
@@ -11,14 +10,17 @@ use crate::context::Context;
 use fluent_value::{FluentType, FluentValue};
 use std::alloc::AllocError;
 
-/// Writes the text of a value. The only error is that memory runs out.
+/// Writes the text of a value.
+///
+/// # Errors
+/// [`AllocError`] if memory runs out; `out` may hold a part of the text.
 pub fn write_value<C: FluentType, F, E: Context<C, F>>(
     out: &mut String,
     context: &E,
     value: &FluentValue<'_, C>,
 ) -> Result<(), AllocError>
-    ensures { OnOk result (string_bytes out.new ≡ string_bytes out.old
-        ++ value_text (E.environment context.now) (value_view C.meaning value.now)) }
+    ensures { Appends result out.old out.new
+        (value_text (E.environment context.now) (value_view C.meaning value.now)) }
 {
     match value.write(out, context) {
         Ok(()) => Ok(()),
@@ -26,29 +28,34 @@ pub fn write_value<C: FluentType, F, E: Context<C, F>>(
     }
 }
 
-/// Writes what a number literal stands for. The only error is that memory runs out.
+/// Writes what a number literal stands for.
+///
+/// # Errors
+/// [`AllocError`] if memory runs out; `out` may hold a part of the text.
 pub fn write_number<C: FluentType + Drop, F, E: Context<C, F>>(
     out: &mut String,
     context: &E,
     digits: &str,
 ) -> Result<(), AllocError>
-    ensures { OnOk result (string_bytes out.new ≡ string_bytes out.old
-        ++ value_text (E.environment context.now) (number_or_text digits.now)) }
+    ensures { Appends result out.old out.new
+        (value_text (E.environment context.now) (number_or_text digits.now)) }
 {
     let value: FluentValue<'_, C> = FluentValue::try_number(digits);
     write_value(out, context, &value)
 }
 
-/// Writes the result of a function of this name: an error as a call without arguments. The only error is that memory runs out.
+/// Writes the result of a function of this name: an error as a call without arguments.
+///
+/// # Errors
+/// [`AllocError`] if memory runs out; `out` may hold a part of the text.
 pub fn write_result<C: FluentType, F, E: Context<C, F>>(
     out: &mut String,
     context: &E,
     id: &str,
     value: &FluentValue<'_, C>,
 ) -> Result<(), AllocError>
-    ensures { OnOk result (string_bytes out.new ≡ string_bytes out.old
-        ++ (result_written (E.environment context.now) id.now (value_view C.meaning value.now)
-        (may_open 0)).value) }
+    ensures { Appends result out.old out.new
+        (result_text C.meaning (E.environment context.now) id.now value.now) }
 {
     if let FluentValue::Error = value {
         out.push_str(id)?;

@@ -1,18 +1,11 @@
 //! Variables.
 
-ghost use Rattle.std.specs.Prelude.{◌≡◌, ◌++◌, ◌∷◌, is_some, true, IfOk, OnErr, OnOk, option_map, string_bytes};
-ghost use Rattle.fluent_ast.specs.View.{name_of};
+ghost use Rattle.std.specs.Prelude.{◌≡◌, ◌∷◌, is_some, IfOk, OnErr};
 ghost use Rattle.fluent_grammar.specs.Words.{dollar};
-ghost use Rattle.fluent_meaning.specs.Environment.{value_text};
 ghost use Rattle.fluent_meaning.specs.Fallback.{braced};
-ghost use Rattle.fluent_meaning.specs.Refused.{TellsSome};
-ghost use Rattle.fluent_meaning.specs.Substitution as s;
-ghost use Rattle.fluent_meaning.specs.Told.{Finds, Writes, after};
-ghost use Rattle.fluent_progress.specs.Results.{given_text};
-ghost use Rattle.fluent_progress.specs.Views.{args_or_none, given_args, place_view, resolved_in, state};
-ghost use Rattle.fluent_value.specs.Args.{argument};
-ghost use Rattle.fluent_value.specs.ArgsView.{args_view};
-ghost use Rattle.fluent_value.specs.View.{value_view};
+ghost use Rattle.fluent_progress.specs.Resolves.{Appends, TellsOnErr, WritesOnOk};
+ghost use Rattle.fluent_progress.specs.Variables.{Copies, FindsVariable, ReportsMissing, argument_of, argument_text, variable_value_step, variable_of, variable_step, variable_text};
+ghost use Rattle.fluent_progress.specs.Views.{state};
 
 use crate::context::Context;
 use crate::place::Place;
@@ -25,16 +18,14 @@ use std::alloc::{AllocError, Global};
 
 /// Writes the name of a variable in braces.
 fn write_name(out: &mut String, id: &str) -> Result<(), AllocError>
-    ensures { OnOk result (string_bytes out.new ≡ string_bytes out.old
-        ++ braced (dollar ∷ id.now)) }
+    ensures { Appends result out.old out.new (braced (dollar ∷ id.now)) }
 {
     out.push_str("{$")?;
     out.push_str(id)?;
     out.push_str("}")
 }
 
-/// Writes the value of an argument of this name where there is one, and answers whether there is. The only error is that memory
-/// runs out.
+/// Writes the value of an argument of this name if there is one, and answers whether there is.
 fn write_argument<C: FluentType, F, E: Context<C, F>>(
     out: &mut String,
     context: &E,
@@ -42,10 +33,9 @@ fn write_argument<C: FluentType, F, E: Context<C, F>>(
     id: &str,
 ) -> Result<bool, AllocError>
     ensures given { IfOk result (λ is_given. is_given
-        ≡ is_some (argument id.now (args_view C.meaning arguments.now))) }
-    ensures wrote { OnOk result (string_bytes out.new
-        ≡ string_bytes out.old ++ given_text (value_text (E.environment context.now))
-        (argument id.now (args_view C.meaning arguments.now))) }
+        ≡ is_some (argument_of C.meaning arguments.now id.now)) }
+    ensures text { Appends result out.old out.new
+        (argument_text C.meaning E.environment context.now arguments.now id.now) }
 {
     match arguments.get(id) {
         Some(value) => {
@@ -56,14 +46,13 @@ fn write_argument<C: FluentType, F, E: Context<C, F>>(
     }
 }
 
-/// A copy of the argument of this name, in which a borrowed text stays borrowed. The only error is that memory runs out.
+/// A copy of the argument of this name, in which a borrowed text stays borrowed.
 fn copied<'v, C: FluentType>(
     alloc: Global,
     arguments: &FluentArgs<'v, C>,
     id: &str,
 ) -> Result<Option<FluentValue<'v, C>>, AllocError>
-    ensures { IfOk result (λ copy. option_map (value_view C.meaning) copy
-        ≡ argument id.now (args_view C.meaning arguments.now)) }
+    ensures { Copies C.meaning result (argument_of C.meaning arguments.now id.now) }
 {
     match arguments.get(id) {
         Some(value) => Ok(Some(value.try_clone(alloc)?)),
@@ -71,14 +60,13 @@ fn copied<'v, C: FluentType>(
     }
 }
 
-/// A copy of the argument of this name, which borrows nothing. The only error is that memory runs out.
+/// A copy of the argument of this name, which borrows nothing.
 fn owned<'v, C: FluentType>(
     alloc: Global,
     arguments: &FluentArgs<'_, C>,
     id: &str,
 ) -> Result<Option<FluentValue<'v, C>>, AllocError>
-    ensures { IfOk result (λ copy. option_map (value_view C.meaning) copy
-        ≡ argument id.now (args_view C.meaning arguments.now)) }
+    ensures { Copies C.meaning result (argument_of C.meaning arguments.now id.now) }
 {
     match arguments.get(id) {
         Some(value) => Ok(Some(value.into_owned(alloc)?)),
@@ -87,8 +75,8 @@ fn owned<'v, C: FluentType>(
 }
 
 impl<'b, 'r, 's, 'a, C: FluentType, F, E: Context<C, F>> Place<'b, 'r, 's, 'a, C, F, E> {
-    /// Writes the value of a variable where it has one, inside a term that of one of its arguments, else that of one of the
-    /// request's, and answers whether it has one. The only error is that memory runs out.
+    /// Writes the value of a variable if it has one, inside a term that of one of its arguments, else that of one of the
+    /// request's, and answers whether it has one.
     fn write_given(
         &self,
         out: &mut String,
@@ -96,12 +84,9 @@ impl<'b, 'r, 's, 'a, C: FluentType, F, E: Context<C, F>> Place<'b, 'r, 's, 'a, C
         id: &str,
     ) -> Result<bool, AllocError>
         ensures given { IfOk result (λ is_given. is_given
-            ≡ is_some (argument id.now (s.locals_or (args_or_none C.meaning
-            (given_args C.meaning self.now.arguments)) (given_args C.meaning locals.entry)))) }
-        ensures wrote { OnOk result (string_bytes out.new
-            ≡ string_bytes out.old ++ given_text (value_text (E.environment self.now.context.now))
-            (argument id.now (s.locals_or (args_or_none C.meaning
-            (given_args C.meaning self.now.arguments)) (given_args C.meaning locals.entry)))) }
+            ≡ is_some (variable_of C.meaning self.now locals.entry id.now)) }
+        ensures text { Appends result out.old out.new
+            (variable_text C.meaning E.environment self.now locals.entry id.now) }
     {
         match (locals, self.arguments) {
             (Some(locals), _) => write_argument(out, self.context, locals, id),
@@ -111,15 +96,13 @@ impl<'b, 'r, 's, 'a, C: FluentType, F, E: Context<C, F>> Place<'b, 'r, 's, 'a, C
     }
 
     /// A copy of the value of a variable: inside a term of one of its arguments, else of one of the request's, which then borrows
-    /// nothing. The only error is that memory runs out.
+    /// nothing.
     fn variable_copy(
         &self,
         locals: Option<&FluentArgs<'s, C>>,
         id: &str,
     ) -> Result<Option<FluentValue<'s, C>>, AllocError>
-        ensures { IfOk result (λ copy. option_map (value_view C.meaning) copy
-            ≡ argument id.now (s.locals_or (args_or_none C.meaning
-            (given_args C.meaning self.now.arguments)) (given_args C.meaning locals.entry))) }
+        ensures { Copies C.meaning result (variable_of C.meaning self.now locals.entry id.now) }
     {
         let alloc = self.context.alloc();
         match (locals, self.arguments) {
@@ -129,17 +112,15 @@ impl<'b, 'r, 's, 'a, C: FluentType, F, E: Context<C, F>> Place<'b, 'r, 's, 'a, C
         }
     }
 
-    /// Tells that a variable is missing, which is told outside terms alone.
+    /// Reports that a variable is missing, outside terms alone.
     fn tell_missing(
         &self,
         locals: Option<&FluentArgs<'s, C>>,
         progress: &mut Progress<'r, 's>,
         id: &str,
     ) -> Result<(), AllocError>
-        ensures told { OnOk result (state progress.new
-            ≡ after (state progress.old) (s.missing_variable (resolved_in E.environment self.now)
-            true id.now (place_view C.meaning self.now locals.entry progress.old)
-            (state progress.old).budget)) }
+        ensures told { ReportsMissing C.meaning E.environment result self.now locals.entry
+            progress.old progress.new id.now }
         ensures refused { OnErr result (state progress.new ≡ state progress.old) }
         ensures path { progress.new.path ≡ progress.old.path }
     {
@@ -150,7 +131,10 @@ impl<'b, 'r, 's, 'a, C: FluentType, F, E: Context<C, F>> Place<'b, 'r, 's, 'a, C
         progress.add_error(ResolverError::Reference(ReferenceKind::Variable { id }))
     }
 
-    /// Writes the value of a variable, or its name in braces. The only error is that memory runs out.
+    /// Writes the value of a variable, or its name in braces.
+    ///
+    /// # Errors
+    /// [`AllocError`] if memory runs out; the path is unchanged, and a missing variable may be reported.
     pub fn write_variable(
         &self,
         out: &mut String,
@@ -158,18 +142,10 @@ impl<'b, 'r, 's, 'a, C: FluentType, F, E: Context<C, F>> Place<'b, 'r, 's, 'a, C
         progress: &mut Progress<'r, 's>,
         id: &Identifier<&str>,
     ) -> Result<(), AllocError>
-        ensures wrote { OnOk result (Writes (string_bytes out.old) (string_bytes out.new)
-            (state progress.old) (state progress.new)
-            (s.variable_written (resolved_in E.environment self.now) (name_of _ (λ s. s.now) id.now)
-            (s.variable (resolved_in E.environment self.now) (name_of _ (λ s. s.now) id.now)
-            (place_view C.meaning self.now locals.entry progress.old))
-            (place_view C.meaning self.now locals.entry progress.old))) }
-        ensures refused { OnErr result (TellsSome (state progress.old) (state progress.new)
-            (s.variable_written (resolved_in E.environment self.now) (name_of _ (λ s. s.now) id.now)
-            (s.variable (resolved_in E.environment self.now) (name_of _ (λ s. s.now) id.now)
-            (place_view C.meaning self.now locals.entry progress.old))
-            (place_view C.meaning self.now locals.entry progress.old)
-            (state progress.old).budget)) }
+        ensures wrote { WritesOnOk result out.old out.new progress.old progress.new
+            (variable_step C.meaning E.environment self.now locals.entry id.now) }
+        ensures refused { TellsOnErr result progress.old progress.new
+            (variable_step C.meaning E.environment self.now locals.entry id.now) }
         ensures path { progress.new.path ≡ progress.old.path }
     {
         if self.write_given(out, locals, id.name)? {
@@ -179,25 +155,20 @@ impl<'b, 'r, 's, 'a, C: FluentType, F, E: Context<C, F>> Place<'b, 'r, 's, 'a, C
         write_name(out, id.name)
     }
 
-    /// The value of a variable, as a selector or an argument. The only error is that memory runs out.
+    /// The value of a variable, as a selector or an argument.
+    ///
+    /// # Errors
+    /// [`AllocError`] if memory runs out; the progress is unchanged.
     pub fn variable_value(
         &self,
         locals: Option<&FluentArgs<'s, C>>,
         progress: &mut Progress<'r, 's>,
         id: &Identifier<&str>,
     ) -> Result<FluentValue<'s, C>, AllocError>
-        ensures found { IfOk result (λ found. Finds (value_view C.meaning found)
-            (state progress.old) (state progress.new)
-            (s.variable_found (resolved_in E.environment self.now) (name_of _ (λ s. s.now) id.now)
-            (s.variable (resolved_in E.environment self.now) (name_of _ (λ s. s.now) id.now)
-            (place_view C.meaning self.now locals.entry progress.old))
-            (place_view C.meaning self.now locals.entry progress.old))) }
-        ensures refused { OnErr result (TellsSome (state progress.old) (state progress.new)
-            (s.variable_found (resolved_in E.environment self.now) (name_of _ (λ s. s.now) id.now)
-            (s.variable (resolved_in E.environment self.now) (name_of _ (λ s. s.now) id.now)
-            (place_view C.meaning self.now locals.entry progress.old))
-            (place_view C.meaning self.now locals.entry progress.old)
-            (state progress.old).budget)) }
+        ensures found { FindsVariable C.meaning E.environment result self.now locals.entry
+            progress.old progress.new id.now }
+        ensures refused { TellsOnErr result progress.old progress.new
+            (variable_value_step C.meaning E.environment self.now locals.entry id.now) }
         ensures path { progress.new.path ≡ progress.old.path }
     {
         match self.variable_copy(locals, id.name)? {

@@ -1,8 +1,9 @@
 //! Which variant of a select is chosen.
 
-ghost use Rattle.std.specs.Prelude.{◌≡◌, map, option_copied, option_map};
-ghost use Rattle.fluent_ast.specs.View.{key_of, pattern_view, variant_view, variants_of};
-ghost use Rattle.fluent_meaning.specs.Choice.{chosen, first_default, first_match, key_value};
+ghost use Rattle.std.specs.Prelude.{◌≡◌};
+ghost use Rattle.fluent_ast.specs.Borrowed.{key_of, variants_of};
+ghost use Rattle.fluent_meaning.specs.Choice.{first_default, key_value};
+ghost use Rattle.fluent_progress.specs.Results.{choice_of, found_elements, match_of};
 ghost use Rattle.fluent_value.specs.View.{value_view};
 
 use crate::context::Context;
@@ -12,7 +13,7 @@ use std::borrow::CowStr;
 
 /// What a variant's key stands for.
 fn key_value<'s, C: FluentType>(key: &VariantKey<&'s str>) -> FluentValue<'s, C>
-    ensures { value_view C.meaning result ≡ key_value (key_of _ (λ s. s.now) key.now) }
+    ensures { value_view C.meaning result ≡ key_value (key_of key.now) }
 {
     match key {
         VariantKey::Identifier { name } => FluentValue::String(CowStr::Borrowed(*name)),
@@ -26,9 +27,8 @@ fn first_match<'r, 's, C: FluentType + Drop, V: ValueScope<C>>(
     value: &FluentValue<'_, C>,
     variants: &'r [Variant<&'s str>],
 ) -> Option<&'r Pattern<&'s str>>
-    ensures { option_map (pattern_view _ (λ s. s.now)) (option_copied result)
-        ≡ first_match (V.plurals scope.now) (value_view C.meaning value.now)
-        (variants_of (map (variant_view _ (λ s. s.now)) variants.now)) }
+    ensures { found_elements result
+        ≡ match_of C.meaning (V.plurals scope.now) value.now variants.now }
 {
     for variant in variants {
         let key: FluentValue<'_, C> = key_value(&variant.key);
@@ -41,8 +41,7 @@ fn first_match<'r, 's, C: FluentType + Drop, V: ValueScope<C>>(
 
 /// The pattern of the first default variant.
 fn first_default<'r, 's>(variants: &'r [Variant<&'s str>]) -> Option<&'r Pattern<&'s str>>
-    ensures { option_map (pattern_view _ (λ s. s.now)) (option_copied result)
-        ≡ first_default (variants_of (map (variant_view _ (λ s. s.now)) variants.now)) }
+    ensures { found_elements result ≡ first_default (variants_of variants.now) }
 {
     for variant in variants {
         if variant.default {
@@ -58,9 +57,8 @@ pub fn chosen<'r, 's, C: FluentType + Drop, F, E: Context<C, F>>(
     value: &FluentValue<'_, C>,
     variants: &'r [Variant<&'s str>],
 ) -> Option<&'r Pattern<&'s str>>
-    ensures { option_map (pattern_view _ (λ s. s.now)) (option_copied result)
-        ≡ chosen (E.environment context.now).plurals (value_view C.meaning value.now)
-        (variants_of (map (variant_view _ (λ s. s.now)) variants.now)) }
+    ensures { found_elements result
+        ≡ choice_of C.meaning (E.environment context.now) value.now variants.now }
 {
     let matched = match value {
         FluentValue::String(_) | FluentValue::Number(_) => first_match(context, value, variants),

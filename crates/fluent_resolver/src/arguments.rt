@@ -1,17 +1,9 @@
 //! The arguments of calls, and what calls give.
 
-ghost use Rattle.std.specs.Prelude.{◌≡◌, [], map, OnErr, OnOk, IfOk, option_map};
-ghost use Rattle.fluent_ast.specs.View.{arguments_view, inline_view, inlines_of, maybe_arguments, name_of, named_view, nameds_of};
-ghost use Rattle.fluent_grammar.specs.Tree as t;
-ghost use Rattle.fluent_meaning.specs.Refused.{TellsSome};
-ghost use Rattle.fluent_meaning.specs.Steps.{mapped};
-ghost use Rattle.fluent_meaning.specs.Substitution as s;
-ghost use Rattle.fluent_meaning.specs.Told.{Finds};
-ghost use Rattle.fluent_progress.specs.Results.{function_result};
-ghost use Rattle.fluent_progress.specs.Views.{place_view, resolved_in, state};
-ghost use Rattle.fluent_value.specs.Args.{all_set};
-ghost use Rattle.fluent_value.specs.ArgsView.{args_view};
-ghost use Rattle.fluent_value.specs.View.{value_view};
+ghost use Rattle.std.specs.Prelude.{◌≡◌, OnOk};
+ghost use Rattle.fluent_progress.specs.Resolves.{TellsOnErr};
+ghost use Rattle.fluent_resolver.specs.Finds.{Calls, FindsNamed, FindsOwn, FindsValues};
+ghost use Rattle.fluent_resolver.specs.Steps.{call_step, named_step, own_step, positional_step};
 
 use crate::value::value_of;
 use fluent_ast::{CallArguments, Identifier, InlineExpression, NamedArgument};
@@ -29,19 +21,10 @@ pub(crate) fn call_result<'b, 'r, 's, 'a, C: FluentType + Drop, F, E: Context<C,
     id: &'r Identifier<&'s str>,
     arguments: &'r CallArguments<&'s str>,
 ) -> Result<Option<FluentValue<'s, C>>, AllocError>
-    ensures found { IfOk result (λ found. Finds (option_map (value_view C.meaning) found)
-        (state progress.old) (state progress.new) (λ b. mapped
-        (λ called. function_result (resolved_in E.environment place.now)
-        ((resolved_in E.environment place.now).find (name_of _ (λ s. s.now) id.now))
-        called.positional called.named) (s.arguments_found (resolved_in E.environment place.now)
-        (t.with_arguments (arguments_view _ (λ s. s.now) arguments.now))
-        (place_view C.meaning place.now locals.entry progress.old) b))) }
-    ensures refused { OnErr result (TellsSome (state progress.old) (state progress.new)
-        (mapped (λ called. function_result (resolved_in E.environment place.now)
-        ((resolved_in E.environment place.now).find (name_of _ (λ s. s.now) id.now))
-        called.positional called.named) (s.arguments_found (resolved_in E.environment place.now)
-        (t.with_arguments (arguments_view _ (λ s. s.now) arguments.now))
-        (place_view C.meaning place.now locals.entry progress.old) (state progress.old).budget))) }
+    ensures found { Calls C.meaning E.environment result place.now locals.entry
+        progress.old progress.new id.now arguments.now }
+    ensures refused { TellsOnErr result progress.old progress.new
+        (call_step C.meaning E.environment place.now locals.entry id.now arguments.now) }
     ensures path { OnOk result (progress.new.path.items ≡ progress.old.path.items) }
 {
     let positional = positional_values(place, locals, progress, &arguments.positional)?;
@@ -57,15 +40,10 @@ pub(crate) fn own_arguments<'b, 'r, 's, 'a, C: FluentType + Drop, F, E: Context<
     progress: &mut Progress<'r, 's>,
     arguments: &'r Option<CallArguments<&'s str>>,
 ) -> Result<FluentArgs<'s, C>, AllocError>
-    ensures found { IfOk result (λ found. Finds (args_view C.meaning found) (state progress.old)
-        (state progress.new) (λ b. mapped (λ called. called.named)
-        (s.arguments_found (resolved_in E.environment place.now)
-        (maybe_arguments (option_map (arguments_view _ (λ s. s.now)) arguments.now))
-        (place_view C.meaning place.now locals.entry progress.old) b))) }
-    ensures refused { OnErr result (TellsSome (state progress.old) (state progress.new)
-        (mapped (λ called. called.named) (s.arguments_found (resolved_in E.environment place.now)
-        (maybe_arguments (option_map (arguments_view _ (λ s. s.now)) arguments.now))
-        (place_view C.meaning place.now locals.entry progress.old) (state progress.old).budget))) }
+    ensures found { FindsOwn C.meaning E.environment result place.now locals.entry
+        progress.old progress.new arguments.now }
+    ensures refused { TellsOnErr result progress.old progress.new
+        (own_step C.meaning E.environment place.now locals.entry arguments.now) }
     ensures path { OnOk result (progress.new.path.items ≡ progress.old.path.items) }
 {
     match arguments {
@@ -77,7 +55,10 @@ pub(crate) fn own_arguments<'b, 'r, 's, 'a, C: FluentType + Drop, F, E: Context<
     }
 }
 
-/// The values of positional arguments. The only error is that memory runs out.
+/// The values of positional arguments.
+///
+/// # Errors
+/// [`AllocError`] if memory runs out; the first of the errors are reported.
 #[cycle(resolving)]
 pub fn positional_values<'b, 'r, 's, 'a, C: FluentType + Drop, F, E: Context<C, F>>(
     place: &Place<'b, 'r, 's, 'a, C, F, E>,
@@ -85,15 +66,10 @@ pub fn positional_values<'b, 'r, 's, 'a, C: FluentType + Drop, F, E: Context<C, 
     progress: &mut Progress<'r, 's>,
     arguments: &'r Vec<InlineExpression<&'s str>>,
 ) -> Result<Vec<FluentValue<'s, C>>, AllocError>
-    ensures found { IfOk result (λ found. Finds (map (value_view C.meaning) found.items)
-        (state progress.old) (state progress.new) (s.positional_found
-        (resolved_in E.environment place.now) (inlines_of
-        (map (inline_view _ (λ s. s.now)) arguments.now.items))
-        (place_view C.meaning place.now locals.entry progress.old))) }
-    ensures refused { OnErr result (TellsSome (state progress.old) (state progress.new)
-        ((s.positional_found (resolved_in E.environment place.now)
-        (inlines_of (map (inline_view _ (λ s. s.now)) arguments.now.items))
-        (place_view C.meaning place.now locals.entry progress.old)) (state progress.old).budget)) }
+    ensures found { FindsValues C.meaning E.environment result place.now locals.entry
+        progress.old progress.new arguments.now }
+    ensures refused { TellsOnErr result progress.old progress.new
+        (positional_step C.meaning E.environment place.now locals.entry arguments.now) }
     ensures path { OnOk result (progress.new.path.items ≡ progress.old.path.items) }
 {
     let mut values = Vec::with_capacity(place.context.alloc(), arguments.len())?;
@@ -103,7 +79,10 @@ pub fn positional_values<'b, 'r, 's, 'a, C: FluentType + Drop, F, E: Context<C, 
     Ok(values)
 }
 
-/// The values of named arguments: of a name that comes twice the last one. The only error is that memory runs out.
+/// The values of named arguments: of a name that comes twice the last one.
+///
+/// # Errors
+/// [`AllocError`] if memory runs out; the first of the errors are reported.
 #[cycle(resolving)]
 pub fn named_values<'b, 'r, 's, 'a, C: FluentType + Drop, F, E: Context<C, F>>(
     place: &Place<'b, 'r, 's, 'a, C, F, E>,
@@ -111,21 +90,16 @@ pub fn named_values<'b, 'r, 's, 'a, C: FluentType + Drop, F, E: Context<C, F>>(
     progress: &mut Progress<'r, 's>,
     arguments: &'r Vec<NamedArgument<&'s str>>,
 ) -> Result<FluentArgs<'s, C>, AllocError>
-    ensures found { IfOk result (λ found. Finds (args_view C.meaning found) (state progress.old)
-        (state progress.new) (λ b. mapped (all_set [])
-        (s.named_found (resolved_in E.environment place.now)
-        (nameds_of (map (named_view _ (λ s. s.now)) arguments.now.items))
-        (place_view C.meaning place.now locals.entry progress.old) b))) }
-    ensures refused { OnErr result (TellsSome (state progress.old) (state progress.new)
-        (mapped (all_set []) (s.named_found (resolved_in E.environment place.now)
-        (nameds_of (map (named_view _ (λ s. s.now)) arguments.now.items))
-        (place_view C.meaning place.now locals.entry progress.old) (state progress.old).budget))) }
+    ensures found { FindsNamed C.meaning E.environment result place.now locals.entry
+        progress.old progress.new arguments.now }
+    ensures refused { TellsOnErr result progress.old progress.new
+        (named_step C.meaning E.environment place.now locals.entry arguments.now) }
     ensures path { OnOk result (progress.new.path.items ≡ progress.old.path.items) }
 {
     let mut values = FluentArgs::new(place.context.alloc());
     for argument in arguments {
         let value = value_of(place, locals, progress, &argument.value)?;
-        values.set(CowStr::Borrowed(argument.name.name), value)?;
+        values.set_value(CowStr::Borrowed(argument.name.name), value)?;
     }
     Ok(values)
 }

@@ -1,14 +1,10 @@
 //! Expressions that are written.
 
-ghost use Rattle.std.specs.Prelude.{◌≡◌, map, OnErr, OnOk, IfOk, option_copied, option_map, string_bytes};
-ghost use Rattle.fluent_ast.specs.View.{arguments_view, expression_view, inline_view, maybe_arguments, name_of, pattern_view, variant_view, variants_of};
-ghost use Rattle.fluent_meaning.specs.Choice.{chosen as chosen_of};
-ghost use Rattle.fluent_meaning.specs.Refused.{TellsSome};
-ghost use Rattle.fluent_meaning.specs.Steps.{mapped};
-ghost use Rattle.fluent_meaning.specs.Substitution as s;
-ghost use Rattle.fluent_meaning.specs.Told.{Finds, Writes};
-ghost use Rattle.fluent_grammar.specs.Tree as t;
-ghost use Rattle.fluent_progress.specs.Views.{place_view, resolved_in, state};
+ghost use Rattle.std.specs.Prelude.{◌≡◌, OnOk};
+ghost use Rattle.fluent_ast.specs.Borrowed.{inline_of};
+ghost use Rattle.fluent_progress.specs.Resolves.{TellsOnErr, WritesOnOk};
+ghost use Rattle.fluent_resolver.specs.Finds.{Chooses};
+ghost use Rattle.fluent_resolver.specs.Steps.{call_of, choice_step, expression_step, inline_step, select_step, term_reference_of};
 
 use crate::arguments::{call_result, own_arguments};
 use crate::pattern::{write_pattern, write_target};
@@ -23,7 +19,10 @@ use fluent_progress::{Context, Place, Progress};
 use fluent_value::{FluentArgs, FluentType};
 use std::alloc::AllocError;
 
-/// Writes an expression. The only error is that memory runs out.
+/// Writes an expression.
+///
+/// # Errors
+/// [`AllocError`] if memory runs out; `out` may hold a part of the text, and the first of the errors are reported.
 #[cycle(resolving)]
 pub fn write_expression<'b, 'r, 's, 'a, C: FluentType + Drop, F, E: Context<C, F>>(
     out: &mut String,
@@ -32,14 +31,10 @@ pub fn write_expression<'b, 'r, 's, 'a, C: FluentType + Drop, F, E: Context<C, F
     progress: &mut Progress<'r, 's>,
     expression: &'r Expression<&'s str>,
 ) -> Result<(), AllocError>
-    ensures wrote { OnOk result (Writes (string_bytes out.old) (string_bytes out.new)
-        (state progress.old) (state progress.new) (s.expression_written
-        (resolved_in E.environment place.now) (expression_view _ (λ s. s.now) expression.now)
-        (place_view C.meaning place.now locals.entry progress.old))) }
-    ensures refused { OnErr result (TellsSome (state progress.old) (state progress.new)
-        (s.expression_written (resolved_in E.environment place.now)
-        (expression_view _ (λ s. s.now) expression.now)
-        (place_view C.meaning place.now locals.entry progress.old) (state progress.old).budget)) }
+    ensures wrote { WritesOnOk result out.old out.new progress.old progress.new
+        (expression_step C.meaning E.environment place.now locals.entry expression.now) }
+    ensures refused { TellsOnErr result progress.old progress.new
+        (expression_step C.meaning E.environment place.now locals.entry expression.now) }
     ensures path { OnOk result (progress.new.path.items ≡ progress.old.path.items) }
 {
     match expression {
@@ -60,16 +55,10 @@ fn write_select<'b, 'r, 's, 'a, C: FluentType + Drop, F, E: Context<C, F>>(
     selector: &'r InlineExpression<&'s str>,
     variants: &'r Vec<Variant<&'s str>>,
 ) -> Result<(), AllocError>
-    ensures wrote { OnOk result (Writes (string_bytes out.old) (string_bytes out.new)
-        (state progress.old) (state progress.new) (s.expression_written
-        (resolved_in E.environment place.now) (t.select (inline_view _ (λ s. s.now) selector.now)
-        (variants_of (map (variant_view _ (λ s. s.now)) variants.now.items)))
-        (place_view C.meaning place.now locals.entry progress.old))) }
-    ensures refused { OnErr result (TellsSome (state progress.old) (state progress.new)
-        (s.expression_written (resolved_in E.environment place.now)
-        (t.select (inline_view _ (λ s. s.now) selector.now)
-        (variants_of (map (variant_view _ (λ s. s.now)) variants.now.items)))
-        (place_view C.meaning place.now locals.entry progress.old) (state progress.old).budget)) }
+    ensures wrote { WritesOnOk result out.old out.new progress.old progress.new
+        (select_step C.meaning E.environment place.now locals.entry selector.now variants.now) }
+    ensures refused { TellsOnErr result progress.old progress.new
+        (select_step C.meaning E.environment place.now locals.entry selector.now variants.now) }
     ensures path { OnOk result (progress.new.path.items ≡ progress.old.path.items) }
 {
     match choose(place, locals, progress, selector, variants)? {
@@ -90,26 +79,20 @@ fn choose<'b, 'r, 's, 'a, C: FluentType + Drop, F, E: Context<C, F>>(
     selector: &'r InlineExpression<&'s str>,
     variants: &'r Vec<Variant<&'s str>>,
 ) -> Result<Option<&'r Pattern<&'s str>>, AllocError>
-    ensures found { IfOk result (λ found. Finds (option_map (pattern_view _ (λ s. s.now))
-        (option_copied found)) (state progress.old) (state progress.new)
-        (λ b. mapped (λ v. chosen_of (resolved_in E.environment place.now).plurals v
-        (variants_of (map (variant_view _ (λ s. s.now)) variants.now.items)))
-        (s.value_found (resolved_in E.environment place.now)
-        (inline_view _ (λ s. s.now) selector.now) (place_view C.meaning place.now locals.entry
-        progress.old) b))) }
-    ensures refused { OnErr result (TellsSome (state progress.old) (state progress.new)
-        (mapped (λ v. chosen_of (resolved_in E.environment place.now).plurals v
-        (variants_of (map (variant_view _ (λ s. s.now)) variants.now.items)))
-        (s.value_found (resolved_in E.environment place.now)
-        (inline_view _ (λ s. s.now) selector.now) (place_view C.meaning place.now locals.entry
-        progress.old) (state progress.old).budget))) }
+    ensures found { Chooses C.meaning E.environment result place.now locals.entry
+        progress.old progress.new selector.now variants.now }
+    ensures refused { TellsOnErr result progress.old progress.new
+        (choice_step C.meaning E.environment place.now locals.entry selector.now variants.now) }
     ensures path { OnOk result (progress.new.path.items ≡ progress.old.path.items) }
 {
     let value = value_of(place, locals, progress, selector)?;
     Ok(chosen(place.context, &value, variants))
 }
 
-/// Writes an inline expression. The only error is that memory runs out.
+/// Writes an inline expression.
+///
+/// # Errors
+/// [`AllocError`] if memory runs out; `out` may hold a part of the text, and the first of the errors are reported.
 #[cycle(resolving)]
 pub fn write_inline<'b, 'r, 's, 'a, C: FluentType + Drop, F, E: Context<C, F>>(
     out: &mut String,
@@ -118,14 +101,10 @@ pub fn write_inline<'b, 'r, 's, 'a, C: FluentType + Drop, F, E: Context<C, F>>(
     progress: &mut Progress<'r, 's>,
     inline: &'r InlineExpression<&'s str>,
 ) -> Result<(), AllocError>
-    ensures wrote { OnOk result (Writes (string_bytes out.old) (string_bytes out.new)
-        (state progress.old) (state progress.new) (s.inline_written
-        (resolved_in E.environment place.now) (inline_view _ (λ s. s.now) inline.now)
-        (place_view C.meaning place.now locals.entry progress.old))) }
-    ensures refused { OnErr result (TellsSome (state progress.old) (state progress.new)
-        (s.inline_written (resolved_in E.environment place.now)
-        (inline_view _ (λ s. s.now) inline.now) (place_view C.meaning place.now locals.entry
-        progress.old) (state progress.old).budget)) }
+    ensures wrote { WritesOnOk result out.old out.new progress.old progress.new
+        (inline_step C.meaning E.environment place.now locals.entry inline.now) }
+    ensures refused { TellsOnErr result progress.old progress.new
+        (inline_step C.meaning E.environment place.now locals.entry inline.now) }
     ensures path { OnOk result (progress.new.path.items ≡ progress.old.path.items) }
 {
     match inline {
@@ -165,17 +144,11 @@ fn write_call<'b, 'r, 's, 'a, C: FluentType + Drop, F, E: Context<C, F>>(
     id: &'r Identifier<&'s str>,
     arguments: &'r CallArguments<&'s str>,
 ) -> Result<(), AllocError>
-    requires { inline_view _ (λ s. s.now) inline.now
-        ≡ t.function_reference (name_of _ (λ s. s.now) id.now)
-        (arguments_view _ (λ s. s.now) arguments.now) }
-    ensures wrote { OnOk result (Writes (string_bytes out.old) (string_bytes out.new)
-        (state progress.old) (state progress.new) (s.inline_written
-        (resolved_in E.environment place.now) (inline_view _ (λ s. s.now) inline.now)
-        (place_view C.meaning place.now locals.entry progress.old))) }
-    ensures refused { OnErr result (TellsSome (state progress.old) (state progress.new)
-        (s.inline_written (resolved_in E.environment place.now)
-        (inline_view _ (λ s. s.now) inline.now) (place_view C.meaning place.now locals.entry
-        progress.old) (state progress.old).budget)) }
+    requires { inline_of inline.now ≡ call_of id.now arguments.now }
+    ensures wrote { WritesOnOk result out.old out.new progress.old progress.new
+        (inline_step C.meaning E.environment place.now locals.entry inline.now) }
+    ensures refused { TellsOnErr result progress.old progress.new
+        (inline_step C.meaning E.environment place.now locals.entry inline.now) }
     ensures path { OnOk result (progress.new.path.items ≡ progress.old.path.items) }
 {
     match call_result(place, locals, progress, id, arguments)? {
@@ -200,18 +173,11 @@ fn write_term<'b, 'r, 's, 'a, C: FluentType + Drop, F, E: Context<C, F>>(
     attribute: &'r Option<Identifier<&'s str>>,
     arguments: &'r Option<CallArguments<&'s str>>,
 ) -> Result<(), AllocError>
-    requires { inline_view _ (λ s. s.now) inline.now
-        ≡ t.term_reference (name_of _ (λ s. s.now) id.now)
-        (option_map (name_of _ (λ s. s.now)) attribute.now)
-        (maybe_arguments (option_map (arguments_view _ (λ s. s.now)) arguments.now)) }
-    ensures wrote { OnOk result (Writes (string_bytes out.old) (string_bytes out.new)
-        (state progress.old) (state progress.new) (s.inline_written
-        (resolved_in E.environment place.now) (inline_view _ (λ s. s.now) inline.now)
-        (place_view C.meaning place.now locals.entry progress.old))) }
-    ensures refused { OnErr result (TellsSome (state progress.old) (state progress.new)
-        (s.inline_written (resolved_in E.environment place.now)
-        (inline_view _ (λ s. s.now) inline.now) (place_view C.meaning place.now locals.entry
-        progress.old) (state progress.old).budget)) }
+    requires { inline_of inline.now ≡ term_reference_of id.now attribute.now arguments.now }
+    ensures wrote { WritesOnOk result out.old out.new progress.old progress.new
+        (inline_step C.meaning E.environment place.now locals.entry inline.now) }
+    ensures refused { TellsOnErr result progress.old progress.new
+        (inline_step C.meaning E.environment place.now locals.entry inline.now) }
     ensures path { OnOk result (progress.new.path.items ≡ progress.old.path.items) }
 {
     let own = own_arguments(place, locals, progress, arguments)?;

@@ -1,11 +1,8 @@
 //! Patterns, their placeables, and references to them.
 
-ghost use Rattle.std.specs.Prelude.{◌≡◌, false, OnErr, OnOk, string_bytes};
-ghost use Rattle.fluent_ast.specs.View.{expression_view, inline_view, pattern_view};
-ghost use Rattle.fluent_meaning.specs.Refused.{TellsSome};
-ghost use Rattle.fluent_meaning.specs.Substitution as s;
-ghost use Rattle.fluent_meaning.specs.Told.{Writes};
-ghost use Rattle.fluent_progress.specs.Views.{place_view, resolved_in, state, target_view};
+ghost use Rattle.std.specs.Prelude.{◌≡◌, false, OnOk};
+ghost use Rattle.fluent_progress.specs.Resolves.{TellsOnErr, WritesOnOk};
+ghost use Rattle.fluent_resolver.specs.Steps.{opened_step, pattern_step, placeable_step, reference_step, target_step};
 
 use crate::expression::write_expression;
 use fluent_ast::{Expression, InlineExpression, Pattern, PatternElement};
@@ -17,7 +14,10 @@ use fluent_progress::{Context, Place, Progress, Target};
 use fluent_value::{FluentArgs, FluentType};
 use std::alloc::AllocError;
 
-/// Writes a pattern. The only error is that memory runs out.
+/// Writes a pattern.
+///
+/// # Errors
+/// [`AllocError`] if memory runs out; `out` may hold a part of the text, and the first of the errors are reported.
 #[cycle(resolving)]
 pub fn write_pattern<'b, 'r, 's, 'a, C: FluentType + Drop, F, E: Context<C, F>>(
     out: &mut String,
@@ -26,14 +26,10 @@ pub fn write_pattern<'b, 'r, 's, 'a, C: FluentType + Drop, F, E: Context<C, F>>(
     progress: &mut Progress<'r, 's>,
     pattern: &'r Pattern<&'s str>,
 ) -> Result<(), AllocError>
-    ensures wrote { OnOk result (Writes (string_bytes out.old) (string_bytes out.new)
-        (state progress.old) (state progress.new) (s.pattern_written
-        (resolved_in E.environment place.now) (pattern_view _ (λ s. s.now) pattern.now)
-        (place_view C.meaning place.now locals.entry progress.old))) }
-    ensures refused { OnErr result (TellsSome (state progress.old) (state progress.new)
-        (s.pattern_written (resolved_in E.environment place.now)
-        (pattern_view _ (λ s. s.now) pattern.now) (place_view C.meaning place.now locals.entry
-        progress.old) (state progress.old).budget)) }
+    ensures wrote { WritesOnOk result out.old out.new progress.old progress.new
+        (pattern_step C.meaning E.environment place.now locals.entry pattern.now) }
+    ensures refused { TellsOnErr result progress.old progress.new
+        (pattern_step C.meaning E.environment place.now locals.entry pattern.now) }
     ensures path { OnOk result (progress.new.path.items ≡ progress.old.path.items) }
 {
     for element in &pattern.elements {
@@ -51,6 +47,9 @@ pub fn write_pattern<'b, 'r, 's, 'a, C: FluentType + Drop, F, E: Context<C, F>>(
 }
 
 /// Writes a placeable of a pattern: it counts one.
+///
+/// # Errors
+/// [`AllocError`] if memory runs out; `out` may hold a part of the text, and the first of the errors are reported.
 #[cycle(resolving)]
 pub fn write_placeable<'b, 'r, 's, 'a, C: FluentType + Drop, F, E: Context<C, F>>(
     out: &mut String,
@@ -61,15 +60,10 @@ pub fn write_placeable<'b, 'r, 's, 'a, C: FluentType + Drop, F, E: Context<C, F>
     expression: &'r Expression<&'s str>,
 ) -> Result<(), AllocError>
     requires { progress.now.dirty ≡ false }
-    ensures wrote { OnOk result (Writes (string_bytes out.old) (string_bytes out.new)
-        (state progress.old) (state progress.new) (s.placeable_written
-        (resolved_in E.environment place.now) (pattern_view _ (λ s. s.now) whole.now)
-        (expression_view _ (λ s. s.now) expression.now)
-        (place_view C.meaning place.now locals.entry progress.old))) }
-    ensures refused { OnErr result (TellsSome (state progress.old) (state progress.new)
-        (s.placeable_written (resolved_in E.environment place.now)
-        (pattern_view _ (λ s. s.now) whole.now) (expression_view _ (λ s. s.now) expression.now)
-        (place_view C.meaning place.now locals.entry progress.old) (state progress.old).budget)) }
+    ensures wrote { WritesOnOk result out.old out.new progress.old progress.new
+        (placeable_step C.meaning E.environment place.now locals.entry whole.now expression.now) }
+    ensures refused { TellsOnErr result progress.old progress.new
+        (placeable_step C.meaning E.environment place.now locals.entry whole.now expression.now) }
     ensures path { OnOk result (progress.new.path.items ≡ progress.old.path.items) }
 {
     if !progress.open_placeable()? {
@@ -81,8 +75,11 @@ pub fn write_placeable<'b, 'r, 's, 'a, C: FluentType + Drop, F, E: Context<C, F>
     write_back(out, is_isolated)
 }
 
-/// Writes a placeable of a pattern that was opened before, its isolation marks aside. The first pattern in which one opens
+/// Writes a placeable of a pattern that was opened before, without its isolation marks. The first pattern in which one opens
 /// goes on the path.
+///
+/// # Errors
+/// [`AllocError`] if memory runs out; `out` may hold a part of the text, and the first of the errors are reported.
 #[cycle(resolving)]
 pub fn write_opened<'b, 'r, 's, 'a, C: FluentType + Drop, F, E: Context<C, F>>(
     out: &mut String,
@@ -92,15 +89,10 @@ pub fn write_opened<'b, 'r, 's, 'a, C: FluentType + Drop, F, E: Context<C, F>>(
     whole: &'r Pattern<&'s str>,
     expression: &'r Expression<&'s str>,
 ) -> Result<(), AllocError>
-    ensures wrote { OnOk result (Writes (string_bytes out.old) (string_bytes out.new)
-        (state progress.old) (state progress.new) (s.unmarked_written
-        (resolved_in E.environment place.now) (pattern_view _ (λ s. s.now) whole.now)
-        (expression_view _ (λ s. s.now) expression.now)
-        (place_view C.meaning place.now locals.entry progress.old))) }
-    ensures refused { OnErr result (TellsSome (state progress.old) (state progress.new)
-        (s.unmarked_written (resolved_in E.environment place.now)
-        (pattern_view _ (λ s. s.now) whole.now) (expression_view _ (λ s. s.now) expression.now)
-        (place_view C.meaning place.now locals.entry progress.old) (state progress.old).budget)) }
+    ensures wrote { WritesOnOk result out.old out.new progress.old progress.new
+        (opened_step C.meaning E.environment place.now locals.entry whole.now expression.now) }
+    ensures refused { TellsOnErr result progress.old progress.new
+        (opened_step C.meaning E.environment place.now locals.entry whole.now expression.now) }
     ensures path { OnOk result (progress.new.path.items ≡ progress.old.path.items) }
 {
     let is_root = progress.enter_root(whole)?;
@@ -119,16 +111,10 @@ pub(crate) fn write_target<'b, 'r, 's, 'a, C: FluentType + Drop, F, E: Context<C
     inline: &'r InlineExpression<&'s str>,
     target: Target<'r, 's>,
 ) -> Result<(), AllocError>
-    ensures wrote { OnOk result (Writes (string_bytes out.old) (string_bytes out.new)
-        (state progress.old) (state progress.new) (s.target_written
-        (resolved_in E.environment place.now) (s.pattern_written
-        (resolved_in E.environment place.now)) (inline_view _ (λ s. s.now) inline.now)
-        (target_view target.entry) (place_view C.meaning place.now locals.entry progress.old))) }
-    ensures refused { OnErr result (TellsSome (state progress.old) (state progress.new)
-        (s.target_written (resolved_in E.environment place.now)
-        (s.pattern_written (resolved_in E.environment place.now))
-        (inline_view _ (λ s. s.now) inline.now) (target_view target.entry)
-        (place_view C.meaning place.now locals.entry progress.old) (state progress.old).budget)) }
+    ensures wrote { WritesOnOk result out.old out.new progress.old progress.new
+        (target_step C.meaning E.environment place.now locals.entry inline.now target.entry) }
+    ensures refused { TellsOnErr result progress.old progress.new
+        (target_step C.meaning E.environment place.now locals.entry inline.now target.entry) }
     ensures path { OnOk result (progress.new.path.items ≡ progress.old.path.items) }
 {
     match target {
@@ -140,7 +126,10 @@ pub(crate) fn write_target<'b, 'r, 's, 'a, C: FluentType + Drop, F, E: Context<C
     }
 }
 
-/// Writes a pattern that an expression refers to. The only error is that memory runs out.
+/// Writes a pattern that an expression refers to.
+///
+/// # Errors
+/// [`AllocError`] if memory runs out; `out` may hold a part of the text, and the first of the errors are reported.
 #[cycle(resolving)]
 pub fn write_referred<'b, 'r, 's, 'a, C: FluentType + Drop, F, E: Context<C, F>>(
     out: &mut String,
@@ -150,15 +139,10 @@ pub fn write_referred<'b, 'r, 's, 'a, C: FluentType + Drop, F, E: Context<C, F>>
     inline: &'r InlineExpression<&'s str>,
     pattern: &'r Pattern<&'s str>,
 ) -> Result<(), AllocError>
-    ensures wrote { OnOk result (Writes (string_bytes out.old) (string_bytes out.new)
-        (state progress.old) (state progress.new) (s.reference_written
-        (resolved_in E.environment place.now) (inline_view _ (λ s. s.now) inline.now)
-        (pattern_view _ (λ s. s.now) pattern.now) (place_view C.meaning place.now locals.entry
-        progress.old))) }
-    ensures refused { OnErr result (TellsSome (state progress.old) (state progress.new)
-        (s.reference_written (resolved_in E.environment place.now)
-        (inline_view _ (λ s. s.now) inline.now) (pattern_view _ (λ s. s.now) pattern.now)
-        (place_view C.meaning place.now locals.entry progress.old) (state progress.old).budget)) }
+    ensures wrote { WritesOnOk result out.old out.new progress.old progress.new
+        (reference_step C.meaning E.environment place.now locals.entry inline.now pattern.now) }
+    ensures refused { TellsOnErr result progress.old progress.new
+        (reference_step C.meaning E.environment place.now locals.entry inline.now pattern.now) }
     ensures path { OnOk result (progress.new.path.items ≡ progress.old.path.items) }
 {
     if progress.is_entered(pattern) {

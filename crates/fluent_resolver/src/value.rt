@@ -1,14 +1,9 @@
 //! The values of expressions, as selectors and arguments.
 
-ghost use Rattle.std.specs.Prelude.{◌≡◌, OnErr, OnOk, IfOk};
-ghost use Rattle.fluent_ast.specs.View.{inline_view};
-ghost use Rattle.fluent_meaning.specs.Refused.{TellsSome};
-ghost use Rattle.fluent_meaning.specs.Steps.{mapped};
-ghost use Rattle.fluent_meaning.specs.Substitution as s;
-ghost use Rattle.fluent_meaning.specs.Told.{Finds};
-ghost use Rattle.fluent_progress.specs.Views.{place_view, resolved_in, state};
-ghost use Rattle.fluent_value.specs.Value as v;
-ghost use Rattle.fluent_value.specs.View.{value_view};
+ghost use Rattle.std.specs.Prelude.{◌≡◌, OnOk};
+ghost use Rattle.fluent_progress.specs.Resolves.{TellsOnErr};
+ghost use Rattle.fluent_resolver.specs.Finds.{FindsText, FindsValue};
+ghost use Rattle.fluent_resolver.specs.Steps.{inline_step, value_step};
 
 use crate::arguments::call_result;
 use crate::expression::write_inline;
@@ -19,7 +14,10 @@ use fluent_value::{FluentArgs, FluentType, FluentValue};
 use std::alloc::AllocError;
 use std::borrow::CowStr;
 
-/// The value of an expression, as a selector or an argument. The only error is that memory runs out.
+/// The value of an expression, as a selector or an argument.
+///
+/// # Errors
+/// [`AllocError`] if memory runs out; the first of the errors are reported.
 #[cycle(resolving)]
 pub fn value_of<'b, 'r, 's, 'a, C: FluentType + Drop, F, E: Context<C, F>>(
     place: &Place<'b, 'r, 's, 'a, C, F, E>,
@@ -27,14 +25,10 @@ pub fn value_of<'b, 'r, 's, 'a, C: FluentType + Drop, F, E: Context<C, F>>(
     progress: &mut Progress<'r, 's>,
     inline: &'r InlineExpression<&'s str>,
 ) -> Result<FluentValue<'s, C>, AllocError>
-    ensures found { IfOk result (λ found. Finds (value_view C.meaning found) (state progress.old)
-        (state progress.new) (s.value_found (resolved_in E.environment place.now)
-        (inline_view _ (λ s. s.now) inline.now) (place_view C.meaning place.now locals.entry
-        progress.old))) }
-    ensures refused { OnErr result (TellsSome (state progress.old) (state progress.new)
-        ((s.value_found (resolved_in E.environment place.now)
-        (inline_view _ (λ s. s.now) inline.now) (place_view C.meaning place.now locals.entry
-        progress.old)) (state progress.old).budget)) }
+    ensures found { FindsValue C.meaning E.environment result place.now locals.entry
+        progress.old progress.new inline.now }
+    ensures refused { TellsOnErr result progress.old progress.new
+        (value_step C.meaning E.environment place.now locals.entry inline.now) }
     ensures path { OnOk result (progress.new.path.items ≡ progress.old.path.items) }
 {
     match inline {
@@ -70,14 +64,10 @@ fn text_value<'b, 'r, 's, 'a, C: FluentType + Drop, F, E: Context<C, F>>(
     progress: &mut Progress<'r, 's>,
     inline: &'r InlineExpression<&'s str>,
 ) -> Result<FluentValue<'s, C>, AllocError>
-    ensures found { IfOk result (λ found. Finds (value_view C.meaning found) (state progress.old)
-        (state progress.new) (λ b. mapped v.text (s.inline_written
-        (resolved_in E.environment place.now) (inline_view _ (λ s. s.now) inline.now)
-        (place_view C.meaning place.now locals.entry progress.old) b))) }
-    ensures refused { OnErr result (TellsSome (state progress.old) (state progress.new)
-        (s.inline_written (resolved_in E.environment place.now)
-        (inline_view _ (λ s. s.now) inline.now) (place_view C.meaning place.now locals.entry
-        progress.old) (state progress.old).budget)) }
+    ensures found { FindsText C.meaning E.environment result place.now locals.entry
+        progress.old progress.new inline.now }
+    ensures refused { TellsOnErr result progress.old progress.new
+        (inline_step C.meaning E.environment place.now locals.entry inline.now) }
     ensures path { OnOk result (progress.new.path.items ≡ progress.old.path.items) }
 {
     let mut text = String::new(place.context.alloc());

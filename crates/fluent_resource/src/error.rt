@@ -8,6 +8,19 @@ use fluent_parser::ParserError;
 use std::fmt;
 
 /// Why a source isn't read whole.
+///
+/// ```
+/// let resource = match FluentResource::try_new(alloc, source) {
+///     Ok(resource) => resource,
+///     Err(ResourceError::Broken(resource, errors)) => {
+///         for error in errors.iter() {
+///             println!(rt; "{error} at byte {}", error.pos.start)?; // ExpectedToken at byte 20
+///         }
+///         resource
+///     }
+///     Err(ResourceError::Memory) => bail!("out of memory"),
+/// };
+/// ```
 #[derive(Debug, Drop)]
 pub enum ResourceError<'s> {
     /// Parts of the source are no entries. The resource has the others, and each of these parts as junk; the errors are
@@ -27,3 +40,5 @@ impl<'s> fmt::Display for ResourceError<'s> {
         })
     }
 }
+
+impl std::error::Error for ResourceError<'_> {}

@@ -25,10 +25,14 @@ pub struct FluentResource<'s> {
 impl<'s> FluentResource<'s> {
     /// Reads a source.
     ///
+    /// ```
+    /// let resource = FluentResource::try_new(alloc, SOURCE)?;
+    /// ```
+    ///
     /// # Errors
-    /// - [`ResourceError::Broken`] where parts of the source are no entries. The resource that it holds has all messages and
+    /// - [`ResourceError::Broken`] if parts of the source are no entries. The resource that it holds has all messages and
     ///   terms of the source, and each of those parts as junk; there is an error for each junk, in the same order.
-    /// - [`ResourceError::Memory`] where memory runs out.
+    /// - [`ResourceError::Memory`] if memory runs out.
     pub fn try_new(alloc: Global, source: &'s str) -> Result<Self, ResourceError<'s>>
         ensures source { ReadsSource result source.now }
         ensures entries { HoldsEntries result (runtime_tree source.now) }

@@ -1,21 +1,24 @@
 -- What lines are answered from, as plain data.
 use Rattle.std.specs.Prelude.{Bool, List, [], ◌∷◌, Option, None, map, option_map}
 use denote.Ref.{Bor}
-use Rattle.fluent_answers.specs.Answers.{pattern_asked, told}
+use Rattle.fluent_answers.specs.Answers.{line_from, pattern_asked, told}
 use Rattle.fluent_ast.specs.View.{pattern_view}
 use Rattle.fluent_ast.specs.declared.Pattern.{Pattern}
 use Rattle.fluent_check.specs.Added.{all_by_id}
 use Rattle.fluent_grammar.specs.Tree.{Elements}
 use Rattle.fluent_grammar.specs.Words.{Text}
 use Rattle.fluent_ids.specs.IdsView.{ids_view}
+use Rattle.fluent_ids.specs.declared.ids.FluentIds.{FluentIds}
 use Rattle.fluent_meaning.specs.Environment.{Environment}
 use Rattle.fluent_meaning.specs.Ids.{Ids, find, number_pair, with_ids}
 use Rattle.fluent_meaning.specs.Substitution.{answer_written}
-use Rattle.fluent_requests.specs.Frames.{Reply}
+use Rattle.fluent_requests.specs.Frames.{Reply, frame_of, ok}
 use Rattle.fluent_requests.specs.Requests.{Request}
 use Rattle.fluent_resource.specs.declared.resource.FluentResource.{FluentResource}
 use Rattle.fluent_run.specs.declared.desk.Desk.{Desk}
 use Rattle.fluent_run.specs.RunView.{no_text}
+use Rattle.fluent_serve.specs.RequestView.{request_view}
+use Rattle.fluent_serve.specs.declared.request.Request.{Request as Read}
 use Rattle.fluent_value.specs.Args.{all_set}
 use Rattle.fluent_value.specs.ArgsView.{args_view}
 use Rattle.fluent_value.specs.Matching.{Plurals}
@@ -23,23 +26,29 @@ use Rattle.fluent_value.specs.Value.{Value, error, number_or_text}
 use Rattle.fluent_value.specs.declared.args.FluentArgs.{FluentArgs}
 use Rattle.fluent_value.specs.declared.custom.NoCustom.{NoCustom}
 use Rattle.fluent_value.specs.declared.function.NoFunction.{NoFunction}
+use Rattle.fluent_value.specs.declared.plurals.MemoizerKind.{Ghosts as KindGhosts}
 
 -- the ids of resources: `NUMBER` stands first, then their messages and terms come, one resource after the other
 abbrev pub ids_added : Bool → List FluentResource → Ids NoFunction
 ids_added overriding resources = with_ids overriding (number_pair ∷ []) (all_by_id resources)
 
--- what the ids stand for
+-- what ids stand for, with no functions but `NUMBER`
+abbrev pub plain_ids : FluentIds NoFunction → Ids NoFunction
+plain_ids ids = ids_view NoFunction ids
+
+-- what the ids of a desk stand for
 abbrev pub desk_ids : {M : Type 0} → Desk M → Ids NoFunction
-desk_ids desk = ids_view NoFunction desk.ids
+desk_ids desk = plain_ids desk.ids
 
 -- the pattern that a request asks for
 abbrev pub asked_of : {M : Type 0} → Desk M → Request Text → Option Elements
 asked_of desk request = pattern_asked request.attribute (find (desk_ids desk) request.id)
 
--- the elements of a pattern, and those of one that may be absent
+-- the elements of a pattern
 abbrev pub elements_of : Pattern (Bor Text) → Elements
 elements_of pattern = pattern_view _ (λ s. s.now) pattern
 
+-- the elements of a pattern that may be absent
 abbrev pub elements_found : Option (Bor (Pattern (Bor Text))) → Option Elements
 elements_found found = option_map (λ p. elements_of p.now) found
 
@@ -72,3 +81,15 @@ module _ {M : Type 0} (category_of : M → Plurals) (stringified : M → (S : Ty
   -- and for those of a request, the last of a name counting
   abbrev pub reply_for : Desk M → Request Text → Elements → Reply
   reply_for desk request es = reply_by desk (all_set [] (map valued request.arguments)) es
+
+-- what the code's pattern gives for the code's arguments, by what a plural source means
+abbrev pub reply_to : {M : Type 0} → KindGhosts M → Desk M → FluentArgs NoCustom → Pattern (Bor Text) → Reply
+reply_to kind desk args pattern = reply_by kind.category_of kind.stringified desk (arguments_view args) (elements_of pattern)
+
+-- what is written for the code's request, which asks for the code's pattern
+abbrev pub reply_frame : {M : Type 0} → KindGhosts M → Desk M → Read → Pattern (Bor Text) → Text
+reply_frame kind desk request pattern = frame_of (ok (reply_for kind.category_of kind.stringified desk (request_view request) (elements_of pattern)))
+
+-- what is written for a line
+abbrev pub line_frame : {M : Type 0} → KindGhosts M → Desk M → Text → Text
+line_frame kind desk line = line_from (environment_in kind.category_of kind.stringified desk) line

@@ -1,10 +1,18 @@
 -- What the code's texts and errors stand for.
 use Rattle.std.specs.Prelude.{map, string_bytes}
+use denote.Ref.{Bor}
+use Rattle.fluent_answers.specs.Answers.{told}
+use Rattle.fluent_ast.specs.declared.Pattern.{Pattern}
 use Rattle.fluent_errors.specs.Errors.{Reported, overriding, damaged, unresolved}
 use Rattle.fluent_errors.specs.Texts.{bundle_text, resolver_text}
 use Rattle.fluent_errors.specs.View.{bundle_view}
 use Rattle.fluent_grammar.specs.Words.{Text}
+use Rattle.fluent_meaning.specs.Environment.{Environment}
+use Rattle.fluent_meaning.specs.Substitution.{answer_written}
+use Rattle.fluent_progress.specs.Views.{args_or_none, given_args, resolved_in}
+use Rattle.fluent_progress.specs.declared.place.Place.{Place}
 use Rattle.fluent_requests.specs.Frames as frames
+use Rattle.fluent_run.specs.DeskView.{elements_of}
 use Rattle.fluent_run.specs.declared.reply.ErrorLine.{ErrorLine}
 use Rattle.fluent_run.specs.declared.reply.Reply.{Reply}
 
@@ -14,8 +22,15 @@ error_text (overriding kind id) = bundle_text (overriding kind id)
 error_text (damaged e) = bundle_text (damaged e)
 error_text (unresolved e) = resolver_text e
 
+-- what an error's line says
 abbrev pub line_of : ErrorLine → Text
 line_of line = error_text (bundle_view line.0.now)
 
+-- a reply, as plain data
 abbrev pub reply_view : Reply → frames.Reply
 reply_view r = record { text = string_bytes r.text; errors = map error_text (map bundle_view r.errors.items) }
+
+-- what the code's pattern gives at a place, in what its context means
+abbrev pub resolved_reply : {C S F E : Type 0} → (C → S) → (E → Environment S F) → Place C F E → Pattern (Bor Text) → frames.Reply
+resolved_reply meaning environment place pattern =
+    told (answer_written (resolved_in environment place) (args_or_none meaning (given_args meaning place.arguments)) (elements_of pattern))

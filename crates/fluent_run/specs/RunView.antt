@@ -1,14 +1,22 @@
 -- What a run answers, by the code's own values.
-use Rattle.std.specs.Prelude.{List, []}
+use Rattle.std.specs.Prelude.{List, [], Result, IfSome, OnOk}
+use Rattle.std.specs.Io.KnownBytes.{Appends}
 use denote.Ref.{Bor}
 use Rattle.fluent_answers.specs.Answers.{line_answered, answers}
 use Rattle.fluent_answers.specs.Sources as plain
 use Rattle.fluent_grammar.specs.Words.{Text}
+use Rattle.fluent_normal.specs.Tidied.{Tidied}
 use Rattle.fluent_run.specs.declared.settings.Settings.{Settings}
+use Rattle.fluent_serve.specs.Exchange.{Runs}
 use Rattle.fluent_serve.specs.Texts.{texts}
+use Rattle.fluent_serve.specs.declared.serve.RunError.{RunError}
+use Rattle.fluent_serve.specs.declared.stream.Sink.{Ghosts as SinkGhosts}
+use Rattle.fluent_serve.specs.declared.stream.Source.{Ghosts as SourceGhosts}
 use Rattle.fluent_value.specs.Matching.{Plurals}
 use Rattle.fluent_value.specs.declared.function.NoFunction.{NoFunction}
+use Rattle.fluent_value.specs.declared.plurals.MemoizerKind.{Ghosts as KindGhosts}
 
+-- the settings, as plain data
 abbrev pub settings_view : Settings → plain.Settings
 settings_view s = record { isolating = s.isolating; overriding = s.overriding }
 
@@ -32,3 +40,19 @@ module _ {M : Type 0} (category_of : M → Plurals) (stringified : M → (S : Ty
   abbrev pub answers_of : M → Settings → List Text → Text → Text
   answers_of plurals settings sources =
       answers NoFunction (category_of plurals) (stringified plurals (Unit {0}) no_text) (settings_view settings) sources
+
+-- what is written for a stream of lines, by what a plural source means
+abbrev pub answers_in : {M : Type 0} → KindGhosts M → M → Settings → List (Bor Text) → Text → Text
+answers_in kind plurals settings sources = answers_by kind.category_of kind.stringified plurals settings sources
+
+-- What a run from these sources has come to, by how it ended.
+pub record RunsFrom {M R W : Type 0} (kind : KindGhosts M) (plurals : M) (settings : Settings) (sources : List (Bor Text))
+    (source : SourceGhosts R) (reader reader' : R) (sink : SinkGhosts W) (writer writer' : W) (result : Result (Unit {0}) RunError) : Type 0 where
+  -- the answers to all of the input are written, and nothing else
+  pub exact : OnOk result (IfSome (source.remaining reader) (λ input.
+      Appends (sink.contents writer) (sink.contents writer') (answers_by kind.category_of kind.stringified plurals settings sources input)))
+  -- they are also the answers of whatever the sources are tidied into
+  pub tidied : OnOk result (IfSome (source.remaining reader) (λ input. (others : List Text) → Tidied (texts sources) others →
+      Appends (sink.contents writer) (sink.contents writer') (answers_of kind.category_of kind.stringified plurals settings others input)))
+  -- Of a reader that doesn't tell its bytes, they are the answers to those that it gave. So it is of an error, too.
+  pub served : Runs source reader reader' sink writer writer' (line_by kind.category_of kind.stringified plurals settings sources) 4294967296 result

@@ -1,12 +1,10 @@
 //! Answers a stream of request lines from sources.
 
-ghost use Rattle.std.specs.Prelude.{◌≡◌, ℕ, List, OnOk, IfSome, IsErrOf};
-ghost use Rattle.fluent_normal.specs.Tidied.{Tidied};
-ghost use Rattle.fluent_serve.specs.Texts.{texts};
-ghost use Rattle.std.specs.Io.KnownBytes.{Appends, IsAtEnd};
-ghost use Rattle.fluent_run.specs.RunView.{answers_by, answers_of, line_by};
-ghost use Rattle.fluent_serve.specs.Devices.{HasFailed, IsGivenUp};
-ghost use Rattle.fluent_serve.specs.Exchange.{devices, AnswersAll, AnswersFirst, AnswersWhole, AnswersFront};
+ghost use Rattle.std.specs.Prelude.{◌≡◌, OnOk, IsErrOf};
+ghost use Rattle.std.specs.Io.KnownBytes.{IsAtEnd};
+ghost use Rattle.fluent_run.specs.RunView.{RunsFrom};
+ghost use Rattle.fluent_serve.specs.Devices.{HasFailed};
+ghost use Rattle.fluent_serve.specs.Exchange.{GivesUp};
 
 use crate::desk::Desk;
 use crate::settings::Settings;
@@ -41,40 +39,22 @@ pub fn run<M: MemoizerKind, R: Source, W: Sink>(
     reader: &mut R,
     writer: &mut W,
 ) -> Result<(), RunError>
-    // The answers to all of the input are written, and nothing else. Of a reader that doesn't tell its bytes: to those
-    // that it gave. No device failed.
-    ensures exact { OnOk result (IfSome (R.remaining reader.old) (λ input.
-        Appends (W.contents writer.old) (W.contents writer.new)
-        (answers_by M.category_of M.stringified plurals.now settings sources.now input))) }
-    // They are also the answers of whatever the sources are tidied into.
-    ensures tidied { OnOk result (IfSome (R.remaining reader.old) (λ input.
-        (others : List (List ℕ)) → Tidied (texts sources.now) others → Appends (W.contents writer.old)
-        (W.contents writer.new) (answers_of M.category_of M.stringified plurals.now settings others input))) }
-    ensures given { OnOk result (AnswersAll
-        (devices R.remaining reader.old reader.new W.contents writer.old writer.new)
-        (line_by M.category_of M.stringified plurals.now settings sources.now)) }
+    // The answers to all of the input are written, and nothing else; they are also those of whatever the sources are tidied
+    // into. After `Memory` the first whole lines are answered, after `Read` all whole lines that came, and after `Write` a
+    // front of the answers is written.
+    ensures answered { RunsFrom M.MemoizerKind plurals.now settings sources.now
+        R.Source reader.old reader.new W.Sink writer.old writer.new result }
+
+    // No device failed.
     ensures end { OnOk result (IsAtEnd (R.remaining reader.new)) }
     ensures reads { OnOk result (R.failures reader.new ≡ R.failures reader.old) }
     ensures writes { OnOk result (W.failures writer.new ≡ W.failures writer.old) }
 
-    // The first whole lines are answered.
-    ensures memory { IsErrOf result RunError.Memory → AnswersFirst
-        (devices R.remaining reader.old reader.new W.contents writer.old writer.new)
-        (line_by M.category_of M.stringified plurals.now settings sources.now) }
+    // The reader failed in this call, or gave 2^32 bytes or more without an end.
+    ensures given_up { IsErrOf result RunError.Read
+        → GivesUp R.Source reader.old reader.new 4294967296 }
 
-    // All whole lines that came are answered. The reader failed in this call, or gave 2^32 bytes or more without an end.
-    ensures read { IsErrOf result RunError.Read → AnswersWhole
-        (devices R.remaining reader.old reader.new W.contents writer.old writer.new)
-        (line_by M.category_of M.stringified plurals.now settings sources.now)
-        (HasFailed (R.failures reader.old) (R.failures reader.new)) 4294967296 }
-    // So it is of a reader that doesn't tell its bytes, by its counts.
-    ensures given_up { IsErrOf result RunError.Read → IsGivenUp (R.failures reader.old)
-        (R.failures reader.new) (R.given reader.old) (R.given reader.new) 4294967296 }
-
-    // A front of the answers is written. The writer failed in this call, or took none of a piece that wasn't empty.
-    ensures write { IsErrOf result RunError.Write → AnswersFront
-        (devices R.remaining reader.old reader.new W.contents writer.old writer.new)
-        (line_by M.category_of M.stringified plurals.now settings sources.now) }
+    // The writer failed in this call, or took none of a piece that wasn't empty.
     ensures failed { IsErrOf result RunError.Write
         → HasFailed (W.failures writer.old) (W.failures writer.new) }
 {

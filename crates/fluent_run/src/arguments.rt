@@ -12,7 +12,7 @@ use std::borrow::CowStr;
 /// The arguments that pairs of a name and a text give: the number that a text is, or else the text. The last of a name counts.
 ///
 /// # Errors
-/// Memory ran out.
+/// [`AllocError`] if memory runs out; nothing is left behind.
 pub(crate) fn valued_arguments<'line>(
     alloc: Global,
     pairs: &[(&'line str, &'line str)],
@@ -22,7 +22,7 @@ pub(crate) fn valued_arguments<'line>(
 {
     let mut arguments = FluentArgs::new(alloc);
     for &(name, text) in pairs {
-        arguments.set(CowStr::Borrowed(name), FluentValue::try_number(text))?;
+        arguments.set_value(CowStr::Borrowed(name), FluentValue::try_number(text))?;
     }
     Ok(arguments)
 }

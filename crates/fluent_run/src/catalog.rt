@@ -2,10 +2,8 @@
 
 ghost use Rattle.std.specs.Prelude.{◌≡◌, false, IfOk, OnOk};
 ghost use Rattle.fluent_check.specs.Added.{by_id};
-ghost use Rattle.fluent_ids.specs.IdsView.{ids_view};
 ghost use Rattle.fluent_meaning.specs.Ids.{number_pair, with_id, with_ids};
-ghost use Rattle.fluent_run.specs.DeskView.{ids_added};
-ghost use Rattle.fluent_value.specs.declared.function.NoFunction.{NoFunction as Function};
+ghost use Rattle.fluent_run.specs.DeskView.{ids_added, plain_ids};
 
 use fluent_ids::{AddFunctionError, AddResourceError, FluentIds};
 use fluent_resource::FluentResource;
@@ -16,13 +14,13 @@ use std::alloc::{AllocError, Global};
 /// Of an id the first entry counts, or the last with `overriding`.
 ///
 /// # Errors
-/// Memory ran out.
+/// [`AllocError`] if memory runs out; nothing is left behind.
 pub(crate) fn ids_of<'r, 's>(
     alloc: Global,
     resources: &'r [FluentResource<'s>],
     overriding: bool,
 ) -> Result<FluentIds<'r, 's, NoFunction>, AllocError>
-    ensures { IfOk result (λ ids. ids_view Function ids ≡ ids_added overriding resources.now) }
+    ensures { IfOk result (λ ids. plain_ids ids ≡ ids_added overriding resources.now) }
 {
     let mut ids = FluentIds::new(alloc);
     add_number(&mut ids)?;
@@ -34,8 +32,7 @@ pub(crate) fn ids_of<'r, 's>(
 
 /// Adds `NUMBER`, unless its id stands for something.
 fn add_number(ids: &mut FluentIds<'_, '_, NoFunction>) -> Result<(), AllocError>
-    ensures { OnOk result (ids_view Function ids.new ≡
-        with_id false (ids_view Function ids.old) number_pair) }
+    ensures { OnOk result (plain_ids ids.new ≡ with_id false (plain_ids ids.old) number_pair) }
 {
     match ids.add_builtins() {
         Ok(()) => Ok(()),
@@ -50,8 +47,8 @@ fn add<'r, 's>(
     resource: &'r FluentResource<'s>,
     overriding: bool,
 ) -> Result<(), AllocError>
-    ensures { OnOk result (ids_view Function ids.new ≡
-        with_ids overriding (ids_view Function ids.old) (by_id resource.now)) }
+    ensures { OnOk result (plain_ids ids.new
+        ≡ with_ids overriding (plain_ids ids.old) (by_id resource.now)) }
 {
     if overriding {
         return ids.add_resource_overriding(resource.tree());

@@ -1,12 +1,11 @@
 //! Answers request lines from the messages and terms of sources.
 
-ghost use Rattle.std.specs.Prelude.{◌≡◌, ◌++◌, IfOk, OnOk};
-ghost use Rattle.fluent_answers.specs.Answers.{line_from};
+ghost use Rattle.std.specs.Prelude.{◌≡◌, IfOk, OnOk};
 ghost use Rattle.fluent_meaning.specs.Ids.{attribute_named};
-ghost use Rattle.fluent_requests.specs.Frames.{frame_of, ok};
 ghost use Rattle.fluent_ids.specs.MessageView.{message_of};
-ghost use Rattle.fluent_run.specs.DeskView.{arguments_view, asked_of, desk_ids, elements_found, environment_in, ids_added, elements_of, reply_by, reply_for};
+ghost use Rattle.fluent_run.specs.DeskView.{asked_of, desk_ids, elements_found, ids_added, line_frame, reply_frame, reply_to};
 ghost use Rattle.fluent_run.specs.ReplyView.{reply_view};
+ghost use Rattle.fluent_serve.specs.AnswerView.{Adds};
 ghost use Rattle.fluent_serve.specs.Exchange.{IsFrontOf};
 ghost use Rattle.fluent_serve.specs.RequestView.{request_view};
 
@@ -14,7 +13,6 @@ use crate::arguments::valued_arguments;
 use crate::catalog::ids_of;
 use crate::reply::{ErrorLine, Reply, resolve};
 use crate::settings::Settings;
-use crate::transform::NoTransform;
 use fluent_ast::Pattern;
 use fluent_environment::laws::attributes_agree;
 use fluent_ids::{FluentIds, FluentMessage};
@@ -23,7 +21,7 @@ use fluent_resource::FluentResource;
 use fluent_serve::answer::Answer;
 use fluent_serve::request::{Request, read_request};
 use fluent_serve::serve::Engine;
-use fluent_value::{FluentArgs, MemoizerKind, NoCustom, NoFormatter, NoFunction};
+use fluent_value::{FluentArgs, MemoizerKind, NoCustom, NoFormatter, NoFunction, NoTransform};
 use std::alloc::{AllocError, Global};
 
 /// What lines are answered from: the ids of the sources, the plural source, and whether placeables stand between isolation marks.
@@ -38,7 +36,7 @@ impl<'b, 'r, 's, M: MemoizerKind> Desk<'b, 'r, 's, M> {
     /// Answers from resources, in their order.
     ///
     /// # Errors
-    /// Memory ran out.
+    /// [`AllocError`] if memory runs out; nothing is left behind.
     pub(crate) fn new(
         alloc: Global,
         resources: &'r [FluentResource<'s>],
@@ -76,9 +74,8 @@ impl<'b, 'r, 's, M: MemoizerKind> Desk<'b, 'r, 's, M> {
         pattern: &'r Pattern<&'s str>,
         arguments: &'x FluentArgs<'_, NoCustom>,
     ) -> Result<Reply, AllocError>
-        ensures { IfOk result (λ reply. reply_view reply ≡
-            reply_by M.category_of M.stringified self.now (arguments_view arguments.now)
-            (elements_of pattern.now)) }
+        ensures { IfOk result (λ reply. reply_view reply
+            ≡ reply_to M.MemoizerKind self.now arguments.now pattern.now) }
     {
         let context: Lent<'_, M, NoFormatter, NoTransform> = Lent {
             plurals: self.plurals,
@@ -103,9 +100,8 @@ impl<'b, 'r, 's, M: MemoizerKind> Desk<'b, 'r, 's, M> {
         pattern: &'r Pattern<&'s str>,
         out: &mut Vec<u8>,
     ) -> Result<(), AllocError>
-        ensures ok { OnOk result (out.new.items ≡ out.old.items ++ frame_of (ok
-            (reply_for M.category_of M.stringified self.now (request_view request.now)
-            (elements_of pattern.now)))) }
+        ensures ok { OnOk result (Adds out.old out.new
+            (reply_frame M.MemoizerKind self.now request.now pattern.now)) }
         ensures front { IsFrontOf out.old.items out.new.items }
     {
         let arguments = valued_arguments(alloc, &request.arguments)?;
@@ -115,8 +111,8 @@ impl<'b, 'r, 's, M: MemoizerKind> Desk<'b, 'r, 's, M> {
 
     /// Puts what is written for `line` behind `out`. After an error a front of it may stand there.
     fn push_answer(&self, alloc: Global, line: &[u8], out: &mut Vec<u8>) -> Result<(), AllocError>
-        ensures ok { OnOk result (out.new.items ≡
-            out.old.items ++ line_from (environment_in M.category_of M.stringified self.now) line.now) }
+        ensures ok { OnOk result (Adds out.old out.new
+            (line_frame M.MemoizerKind self.now line.now)) }
         ensures front { IsFrontOf out.old.items out.new.items }
     {
         let Some(request) = read_request(alloc, line)? else {

@@ -12,7 +12,6 @@ mod desk;
 mod memory;
 mod reply;
 mod settings;
-mod transform;
 
 pub use answering::run;
 pub use fluent_serve::serve::RunError;

@@ -1,7 +1,7 @@
 //! Answers request lines that lie in memory.
 
 ghost use Rattle.std.specs.Prelude.{◌≡◌, IfOk};
-ghost use Rattle.fluent_run.specs.RunView.{answers_by};
+ghost use Rattle.fluent_run.specs.RunView.{answers_in};
 
 use crate::answering::run;
 use crate::settings::Settings;
@@ -11,8 +11,16 @@ use std::alloc::{AllocError, Global};
 
 /// The answers to request lines: the bytes that [`run`] would write for them.
 ///
+/// ```
+/// let settings = Settings { isolating: false, overriding: false };
+/// let plurals = LanguagePlurals::root();
+/// let requests = "key2\tx=3\n".as_bytes();
+/// let before = answers(alloc, &[SOURCE], settings, &plurals, requests)?;
+/// ```
+///
 /// # Errors
-/// `AllocError` where memory runs out, and where the requests are longer than 4,294,967,296 blocks of 8,192 bytes.
+/// [`AllocError`] if memory runs out, or the requests are longer than 4,294,967,296 blocks of 8,192 bytes; nothing is left
+/// behind.
 pub fn answers<M: MemoizerKind>(
     alloc: Global,
     sources: &[&str],
@@ -20,8 +28,8 @@ pub fn answers<M: MemoizerKind>(
     plurals: &M,
     requests: &[u8],
 ) -> Result<Vec<u8>, AllocError>
-    ensures { IfOk result (λ answers. answers.items
-        ≡ answers_by M.category_of M.stringified plurals.now settings sources.now requests.now) }
+    ensures { IfOk result (λ made. made.items
+        ≡ answers_in M.MemoizerKind plurals.now settings sources.now requests.now) }
 {
     let mut reader = FromRead::new(requests);
     let mut writer = FromWrite::new(Vec::new(alloc));

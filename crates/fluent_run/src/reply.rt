@@ -1,14 +1,11 @@
 //! The text of a pattern, and the errors that came up while it was made.
 
 ghost use Rattle.std.specs.Prelude.{◌≡◌, ◌++◌, IfOk, List, OnOk, Some, map};
-ghost use Rattle.fluent_answers.specs.Answers.{told};
 ghost use Rattle.fluent_errors.specs.Errors.{Reported};
 ghost use Rattle.fluent_errors.specs.View.{bundle_view};
-ghost use Rattle.fluent_meaning.specs.Substitution.{answer_written};
-ghost use Rattle.fluent_progress.specs.Views.{args_or_none, given_args, resolved_in, state};
+ghost use Rattle.fluent_progress.specs.Views.{state};
 ghost use Rattle.fluent_requests.specs.Frames.{frame_of, ok};
-ghost use Rattle.fluent_run.specs.DeskView.{elements_of};
-ghost use Rattle.fluent_run.specs.ReplyView.{line_of, reply_view};
+ghost use Rattle.fluent_run.specs.ReplyView.{line_of, reply_view, resolved_reply};
 ghost use Rattle.fluent_serve.specs.Exchange.{IsFrontOf};
 
 use fluent_ast::Pattern;
@@ -45,15 +42,13 @@ impl fmt::Display for ErrorLine<'_> {
 /// What a pattern gives.
 ///
 /// # Errors
-/// Memory ran out.
+/// [`AllocError`] if memory runs out; nothing is left behind.
 pub(crate) fn resolve<'b, 'r, 's, 'a, C: FluentType + Drop, F, E: Context<C, F>>(
     place: &Place<'b, 'r, 's, 'a, C, F, E>,
     pattern: &'r Pattern<&'s str>,
 ) -> Result<Reply, AllocError>
-    ensures { IfOk result (λ reply. reply_view reply ≡
-        told (answer_written (resolved_in E.environment place.now)
-        (args_or_none C.meaning (given_args C.meaning place.now.arguments))
-        (elements_of pattern.now))) }
+    ensures { IfOk result (λ reply. reply_view reply
+        ≡ resolved_reply C.meaning E.environment place.now pattern.now) }
 {
     let alloc = place.context.alloc();
     let mut progress = Progress::new(alloc, Some(Vec::new(alloc)));
@@ -75,10 +70,10 @@ fn told_by(alloc: Global, progress: Progress<'_, '_>) -> Vec<FluentError>
 }
 
 impl Reply {
-    /// Puts the answer that tells the reply behind `out`. After an error a front of it may stand there.
+    /// Puts the answer that tells the reply behind `out`.
     ///
     /// # Errors
-    /// Memory ran out.
+    /// [`AllocError`] if memory runs out; `out` then holds its old bytes and a front of the answer's.
     pub(crate) fn push_to(&self, alloc: Global, out: &mut Vec<u8>) -> Result<(), AllocError>
         ensures ok { OnOk result (out.new.items ≡ out.old.items
             ++ frame_of (ok (reply_view self.now))) }
@@ -93,7 +88,7 @@ impl Reply {
     /// The errors, as an answer tells them.
     ///
     /// # Errors
-    /// Memory ran out.
+    /// [`AllocError`] if memory runs out; nothing is left behind.
     fn error_lines(&self, alloc: Global) -> Result<Vec<ErrorLine<'_>>, AllocError>
         ensures { IfOk result (λ lines. map line_of lines.items ≡ (reply_view self.now).errors) }
     {

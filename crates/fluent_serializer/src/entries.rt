@@ -1,9 +1,10 @@
 //! Writing entries.
 
-ghost use Rattle.std.specs.Prelude.{◌≡◌, ℕ, List, [], ◌∷◌, false, map, option_map, OnOk, string_bytes};
+ghost use Rattle.std.specs.Prelude.{◌≡◌, ℕ, List, [], ◌∷◌, false, option_map};
 ghost use Rattle.fluent_grammar.specs.Written as written;
-ghost use Rattle.fluent_grammar.specs.Written.{onto, attributes_signs, comment_signs, comment_text_signs, entries_signs, entry_signs, free_comment_signs, gap_signs, message_signs, own_comment_signs, term_signs, value_signs};
-ghost use Rattle.fluent_ast.specs.View.{attribute_view, comment_view, entry_view, message_view, pattern_view, resource_view, term_view};
+ghost use Rattle.fluent_grammar.specs.Written.{attributes_signs, comment_signs, comment_text_signs, entries_signs, entry_signs, free_comment_signs, gap_signs, message_signs, own_comment_signs, term_signs, value_signs};
+ghost use Rattle.fluent_ast.specs.View.{attribute_view, attributes_view, comment_view, entry_view, message_view, pattern_view, resource_view, term_view};
+ghost use Rattle.fluent_serializer.specs.Writing.{Writes};
 
 use crate::Options;
 use crate::expressions::write_pattern;
@@ -14,8 +15,7 @@ use std::alloc::AllocError;
 
 /// Writes what stands behind the sign of a comment's line: nothing where the line is empty or white space alone.
 fn write_comment_text(out: &mut String, line: &str) -> Result<(), AllocError>
-    ensures { OnOk result (string_bytes out.new ≡ onto (string_bytes out.old)
-        (comment_text_signs line.now)) }
+    ensures { Writes result out.old out.new (comment_text_signs line.now) }
 {
     if line.trim_end().is_empty() {
         return Ok(());
@@ -25,8 +25,7 @@ fn write_comment_text(out: &mut String, line: &str) -> Result<(), AllocError>
 }
 
 fn write_comment_line(out: &mut String, sign: &str, line: &str) -> Result<(), AllocError>
-    ensures { OnOk result (string_bytes out.new ≡ onto (string_bytes out.old)
-        (comment_signs sign.now (line.now ∷ []))) }
+    ensures { Writes result out.old out.new (comment_signs sign.now (line.now ∷ [])) }
 {
     write_piece(out, 0, sign)?;
     write_comment_text(out, line)?;
@@ -39,8 +38,8 @@ fn write_comment<'s, S: Slice<'s>>(
     sign: &str,
     comment: &Comment<S>,
 ) -> Result<(), AllocError>
-    ensures { OnOk result (string_bytes out.new ≡ onto (string_bytes out.old)
-        (comment_signs sign.now (comment_view S S.text comment.now))) }
+    ensures { Writes result out.old out.new
+        (comment_signs sign.now (comment_view S S.text comment.now)) }
 {
     for line in &comment.content {
         write_comment_line(out, sign, line.as_str())?;
@@ -53,8 +52,8 @@ fn write_own_comment<'s, S: Slice<'s>>(
     out: &mut String,
     comment: &Option<Comment<S>>,
 ) -> Result<(), AllocError>
-    ensures { OnOk result (string_bytes out.new ≡ onto (string_bytes out.old)
-        (own_comment_signs (option_map (comment_view S S.text) comment.now))) }
+    ensures { Writes result out.old out.new
+        (own_comment_signs (option_map (comment_view S S.text) comment.now)) }
 {
     match comment {
         Some(comment) => write_comment(out, "#", comment),
@@ -64,7 +63,7 @@ fn write_own_comment<'s, S: Slice<'s>>(
 
 /// Writes the line feed before a comment that stands by itself behind another entry.
 fn write_gap(out: &mut String, after: bool) -> Result<(), AllocError>
-    ensures { OnOk result (string_bytes out.new ≡ onto (string_bytes out.old) (gap_signs after)) }
+    ensures { Writes result out.old out.new (gap_signs after) }
 {
     if after {
         return write_new_line(out);
@@ -79,8 +78,8 @@ fn write_free_comment<'s, S: Slice<'s>>(
     sign: &str,
     comment: &Comment<S>,
 ) -> Result<(), AllocError>
-    ensures { OnOk result (string_bytes out.new ≡ onto (string_bytes out.old)
-        (free_comment_signs after sign.now (comment_view S S.text comment.now))) }
+    ensures { Writes result out.old out.new
+        (free_comment_signs after sign.now (comment_view S S.text comment.now)) }
 {
     write_gap(out, after)?;
     write_comment(out, sign, comment)?;
@@ -91,8 +90,8 @@ fn write_attribute<'s, S: Slice<'s>>(
     out: &mut String,
     attribute: &Attribute<S>,
 ) -> Result<(), AllocError>
-    ensures { OnOk result (string_bytes out.new ≡ onto (string_bytes out.old)
-        (attributes_signs (attribute_view S S.text attribute.now ∷ []))) }
+    ensures { Writes result out.old out.new
+        (attributes_signs (attribute_view S S.text attribute.now ∷ [])) }
 {
     write_new_line(out)?;
     write_piece(out, 1, ".")?;
@@ -105,8 +104,8 @@ fn write_attributes<'s, S: Slice<'s>>(
     out: &mut String,
     attributes: &[Attribute<S>],
 ) -> Result<(), AllocError>
-    ensures { OnOk result (string_bytes out.new ≡ onto (string_bytes out.old)
-        (attributes_signs (map (attribute_view S S.text) attributes.now))) }
+    ensures { Writes result out.old out.new
+        (attributes_signs (attributes_view S S.text attributes.now)) }
 {
     for attribute in attributes {
         write_attribute(out, attribute)?;
@@ -118,8 +117,8 @@ fn write_value<'s, S: Slice<'s>>(
     out: &mut String,
     value: &Option<Pattern<S>>,
 ) -> Result<(), AllocError>
-    ensures { OnOk result (string_bytes out.new ≡ onto (string_bytes out.old)
-        (value_signs (option_map (pattern_view S S.text) value.now))) }
+    ensures { Writes result out.old out.new
+        (value_signs (option_map (pattern_view S S.text) value.now)) }
 {
     match value {
         Some(value) => write_pattern(out, 1, &Slices::new(), value),
@@ -128,8 +127,7 @@ fn write_value<'s, S: Slice<'s>>(
 }
 
 fn write_message<'s, S: Slice<'s>>(out: &mut String, message: &Message<S>) -> Result<(), AllocError>
-    ensures { OnOk result (string_bytes out.new ≡ onto (string_bytes out.old)
-        (message_signs (message_view S S.text message.now))) }
+    ensures { Writes result out.old out.new (message_signs (message_view S S.text message.now)) }
 {
     write_own_comment(out, &message.comment)?;
     write_piece(out, 0, message.id.name.as_str())?;
@@ -140,8 +138,7 @@ fn write_message<'s, S: Slice<'s>>(out: &mut String, message: &Message<S>) -> Re
 }
 
 fn write_term<'s, S: Slice<'s>>(out: &mut String, term: &Term<S>) -> Result<(), AllocError>
-    ensures { OnOk result (string_bytes out.new ≡ onto (string_bytes out.old)
-        (term_signs (term_view S S.text term.now))) }
+    ensures { Writes result out.old out.new (term_signs (term_view S S.text term.now)) }
 {
     write_own_comment(out, &term.comment)?;
     write_piece(out, 0, "-")?;
@@ -159,8 +156,8 @@ fn write_entry<'s, S: Slice<'s>>(
     after: bool,
     entry: &Entry<S>,
 ) -> Result<(), AllocError>
-    ensures { OnOk result (string_bytes out.new ≡ onto (string_bytes out.old)
-        (entry_signs options.with_junk after (entry_view S S.text entry.now))) }
+    ensures { Writes result out.old out.new
+        (entry_signs options.with_junk after (entry_view S S.text entry.now)) }
 {
     match entry {
         Entry::Message(message) => write_message(out, message),
@@ -186,8 +183,8 @@ pub(crate) fn write_entries<'s, S: Slice<'s>>(
     options: Options,
     resource: &Resource<S>,
 ) -> Result<(), AllocError>
-    ensures { OnOk result (string_bytes out.new ≡ onto (string_bytes out.old)
-        (entries_signs options.with_junk false (resource_view S S.text resource.now))) }
+    ensures { Writes result out.old out.new
+        (entries_signs options.with_junk false (resource_view S S.text resource.now)) }
 {
     let mut after = false;
     for entry in &resource.body {

@@ -2,11 +2,12 @@
 //!
 //! The functions call each other, so they take the text type as a value under [`Texts`].
 
-ghost use Rattle.std.specs.Prelude.{◌≡◌, ℕ, List, [], ◌∷◌, map, OnOk, string_bytes};
+ghost use Rattle.std.specs.Prelude.{◌≡◌, ℕ, List, [], ◌∷◌};
 ghost use Rattle.fluent_grammar.specs.Tree as tree;
 ghost use Rattle.fluent_grammar.specs.Written as written;
-ghost use Rattle.fluent_grammar.specs.Written.{onto, elements_signs, expression_signs, pattern_signs, pattern_start, placeable_signs, variants_signs};
-ghost use Rattle.fluent_ast.specs.View.{element_view, elements_of, expression_view, inline_view, pattern_view, variant_view, variants_of};
+ghost use Rattle.fluent_grammar.specs.Written.{elements_signs, expression_signs, pattern_signs, pattern_start, placeable_signs, variants_signs};
+ghost use Rattle.fluent_ast.specs.View.{elements_view, expression_view, inline_view, pattern_view, variants_view};
+ghost use Rattle.fluent_serializer.specs.Writing.{Writes};
 
 use crate::inline::write_inline;
 use crate::names::write_variant_head;
@@ -24,8 +25,8 @@ pub(crate) fn write_pattern<S: Drop, T: Texts<S>>(
     texts: &T,
     pattern: &Pattern<S>,
 ) -> Result<(), AllocError>
-    ensures { OnOk result (string_bytes out.new ≡ onto (string_bytes out.old)
-        (pattern_signs level (pattern_view S T.text pattern.now))) }
+    ensures { Writes result out.old out.new
+        (pattern_signs level (pattern_view S T.text pattern.now)) }
 {
     write_pattern_start(out, level, texts, pattern)?;
     write_elements(out, level, texts, &pattern.elements)
@@ -38,8 +39,8 @@ fn write_pattern_start<S: Drop, T: Texts<S>>(
     texts: &T,
     pattern: &Pattern<S>,
 ) -> Result<(), AllocError>
-    ensures { OnOk result (string_bytes out.new ≡ onto (string_bytes out.old)
-        (pattern_start level (pattern_view S T.text pattern.now) ∷ [])) }
+    ensures { Writes result out.old out.new
+        (pattern_start level (pattern_view S T.text pattern.now) ∷ []) }
 {
     if begins_on_new_line(texts, pattern) {
         write_new_line(out)
@@ -55,8 +56,8 @@ fn write_elements<S: Drop, T: Texts<S>>(
     texts: &T,
     elements: &[PatternElement<S>],
 ) -> Result<(), AllocError>
-    ensures { OnOk result (string_bytes out.new ≡ onto (string_bytes out.old)
-        (elements_signs level (elements_of (map (element_view S T.text) elements.now)))) }
+    ensures { Writes result out.old out.new
+        (elements_signs level (elements_view S T.text elements.now)) }
 {
     for element in elements {
         match element {
@@ -77,8 +78,8 @@ fn write_placeable<S: Drop, T: Texts<S>>(
     texts: &T,
     expression: &Expression<S>,
 ) -> Result<(), AllocError>
-    ensures { OnOk result (string_bytes out.new ≡ onto (string_bytes out.old)
-        (placeable_signs level (expression_view S T.text expression.now))) }
+    ensures { Writes result out.old out.new
+        (placeable_signs level (expression_view S T.text expression.now)) }
 {
     match expression {
         Expression::Select {
@@ -101,8 +102,8 @@ fn write_inline_placeable<S: Drop, T: Texts<S>>(
     texts: &T,
     inline: &InlineExpression<S>,
 ) -> Result<(), AllocError>
-    ensures { OnOk result (string_bytes out.new ≡ onto (string_bytes out.old)
-        (placeable_signs level (tree.inline (inline_view S T.text inline.now)))) }
+    ensures { Writes result out.old out.new
+        (placeable_signs level (tree.inline (inline_view S T.text inline.now))) }
 {
     match inline {
         InlineExpression::Placeable { expression } => {
@@ -140,8 +141,8 @@ pub(crate) fn write_expression<S: Drop, T: Texts<S>>(
     texts: &T,
     expression: &Expression<S>,
 ) -> Result<(), AllocError>
-    ensures { OnOk result (string_bytes out.new ≡ onto (string_bytes out.old)
-        (expression_signs level (expression_view S T.text expression.now))) }
+    ensures { Writes result out.old out.new
+        (expression_signs level (expression_view S T.text expression.now)) }
 {
     match expression {
         Expression::Select { selector, variants } => {
@@ -162,8 +163,8 @@ fn write_variants<S: Drop, T: Texts<S>>(
     texts: &T,
     variants: &[Variant<S>],
 ) -> Result<(), AllocError>
-    ensures { OnOk result (string_bytes out.new ≡ onto (string_bytes out.old)
-        (variants_signs level (variants_of (map (variant_view S T.text) variants.now)))) }
+    ensures { Writes result out.old out.new
+        (variants_signs level (variants_view S T.text variants.now)) }
 {
     for variant in variants {
         write_variant_head(out, level, texts, &variant.key, variant.default)?;

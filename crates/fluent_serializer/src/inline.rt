@@ -1,8 +1,9 @@
 //! Writing inline expressions and the arguments of calls.
 
-ghost use Rattle.std.specs.Prelude.{◌≡◌, false, map, OnOk, string_bytes};
-ghost use Rattle.fluent_grammar.specs.Written.{onto, arguments_signs, inline_signs, inlines_signs, nameds_signs};
-ghost use Rattle.fluent_ast.specs.View.{arguments_view, inline_view, inlines_of, named_view, nameds_of};
+ghost use Rattle.std.specs.Prelude.{false};
+ghost use Rattle.fluent_grammar.specs.Written.{arguments_signs, inline_signs, inlines_signs, nameds_signs};
+ghost use Rattle.fluent_ast.specs.View.{arguments_view, inline_view, inlines_view, nameds_view};
+ghost use Rattle.fluent_serializer.specs.Writing.{Writes};
 
 use crate::expressions::write_expression;
 use crate::names::{write_accessor, write_argument_name, write_name, write_separator};
@@ -19,8 +20,7 @@ pub(crate) fn write_inline<S: Drop, T: Texts<S>>(
     texts: &T,
     inline: &InlineExpression<S>,
 ) -> Result<(), AllocError>
-    ensures { OnOk result (string_bytes out.new ≡ onto (string_bytes out.old)
-        (inline_signs level (inline_view S T.text inline.now))) }
+    ensures { Writes result out.old out.new (inline_signs level (inline_view S T.text inline.now)) }
 {
     match inline {
         InlineExpression::StringLiteral { value } => {
@@ -70,8 +70,8 @@ fn write_arguments<S: Drop, T: Texts<S>>(
     texts: &T,
     arguments: &CallArguments<S>,
 ) -> Result<(), AllocError>
-    ensures { OnOk result (string_bytes out.new ≡ onto (string_bytes out.old)
-        (arguments_signs level (arguments_view S T.text arguments.now))) }
+    ensures { Writes result out.old out.new
+        (arguments_signs level (arguments_view S T.text arguments.now)) }
 {
     write_piece(out, level, "(")?;
     write_positional(out, level, texts, &arguments.positional)?;
@@ -87,8 +87,8 @@ fn write_positional<S: Drop, T: Texts<S>>(
     texts: &T,
     arguments: &[InlineExpression<S>],
 ) -> Result<(), AllocError>
-    ensures { OnOk result (string_bytes out.new ≡ onto (string_bytes out.old)
-        (inlines_signs level false (inlines_of (map (inline_view S T.text) arguments.now)))) }
+    ensures { Writes result out.old out.new
+        (inlines_signs level false (inlines_view S T.text arguments.now)) }
 {
     let mut after = false;
     for argument in arguments {
@@ -108,8 +108,8 @@ fn write_all_named<S: Drop, T: Texts<S>>(
     mut after: bool,
     arguments: &[NamedArgument<S>],
 ) -> Result<(), AllocError>
-    ensures { OnOk result (string_bytes out.new ≡ onto (string_bytes out.old)
-        (nameds_signs level after (nameds_of (map (named_view S T.text) arguments.now)))) }
+    ensures { Writes result out.old out.new
+        (nameds_signs level after (nameds_view S T.text arguments.now)) }
 {
     for argument in arguments {
         write_argument_name(out, level, texts, after, &argument.name)?;

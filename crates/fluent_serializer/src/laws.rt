@@ -7,6 +7,6 @@ ghost use Rattle.fluent_grammar.specs.Written.{is_no_junk, written, written_with
 
 /// The written text of a tree without junk is the same by all options.
 pub fn options_are_about_junk()
-    ensures { (entries : List tree.Entry) → IsTrue (list_all is_no_junk entries)
-        → written_with true entries ≡ written entries }
+    ensures { (es : List tree.Entry) → IsTrue (list_all is_no_junk es)
+        → written_with true es ≡ written es }
 {}

@@ -27,7 +27,15 @@ pub struct Options {
     pub with_junk: bool,
 }
 
-/// The text of a tree, without its junk. The only error is that memory runs out.
+/// The text of a tree, without its junk.
+///
+/// ```
+/// let text = serialize(rt.alloc(), &resource)?;
+/// print!(rt; "{text}")?;
+/// ```
+///
+/// # Errors
+/// [`AllocError`] if memory runs out; nothing is left behind.
 pub fn serialize<'s, S: Slice<'s>>(
     alloc: Global,
     resource: &Resource<S>,
@@ -38,13 +46,16 @@ pub fn serialize<'s, S: Slice<'s>>(
     serialize_with_options(alloc, resource, Options::default())
 }
 
-/// The text of a tree, by the options. The only error is that memory runs out.
+/// The text of a tree, by the options.
+///
+/// # Errors
+/// [`AllocError`] if memory runs out; nothing is left behind.
 pub fn serialize_with_options<'s, S: Slice<'s>>(
     alloc: Global,
     resource: &Resource<S>,
     options: Options,
 ) -> Result<String, AllocError>
-    ensures { IfOk result (λ text. string_bytes text
+    ensures { IfOk result (λ out. string_bytes out
         ≡ written_with options.with_junk (resource_view S S.text resource.now)) }
 {
     let mut text = String::new(alloc);

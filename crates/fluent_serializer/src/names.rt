@@ -1,9 +1,10 @@
 //! The names and the keys in expressions, and the signs around them.
 
-ghost use Rattle.std.specs.Prelude.{◌≡◌, ◌+◌, [], ◌∷◌, option_map, OnOk, string_bytes};
+ghost use Rattle.std.specs.Prelude.{◌+◌, [], ◌∷◌, option_map};
 ghost use Rattle.fluent_grammar.specs.Written as written;
-ghost use Rattle.fluent_grammar.specs.Written.{onto, sign, accessor_signs, argument_name_signs, between, key_text, variant_head_signs};
+ghost use Rattle.fluent_grammar.specs.Written.{sign, accessor_signs, argument_name_signs, between, key_text, variant_head_signs};
 ghost use Rattle.fluent_ast.specs.View.{key_of, name_of};
+ghost use Rattle.fluent_serializer.specs.Writing.{Writes};
 
 use crate::pieces::{deeper, write_default_mark, write_new_line, write_piece};
 use fluent_ast::{Identifier, VariantKey};
@@ -17,8 +18,7 @@ pub(crate) fn write_name<S: Drop, T: Texts<S>>(
     texts: &T,
     id: &Identifier<S>,
 ) -> Result<(), AllocError>
-    ensures { OnOk result (string_bytes out.new ≡ onto (string_bytes out.old)
-        (sign level (name_of S T.text id.now) ∷ [])) }
+    ensures { Writes result out.old out.new (sign level (name_of S T.text id.now) ∷ []) }
 {
     write_piece(out, level, texts.as_str(&id.name))
 }
@@ -30,8 +30,8 @@ pub(crate) fn write_accessor<S: Drop, T: Texts<S>>(
     texts: &T,
     attribute: &Option<Identifier<S>>,
 ) -> Result<(), AllocError>
-    ensures { OnOk result (string_bytes out.new ≡ onto (string_bytes out.old)
-        (accessor_signs level (option_map (name_of S T.text) attribute.now))) }
+    ensures { Writes result out.old out.new
+        (accessor_signs level (option_map (name_of S T.text) attribute.now)) }
 {
     match attribute {
         Some(id) => {
@@ -48,8 +48,7 @@ fn write_key<S: Drop, T: Texts<S>>(
     texts: &T,
     key: &VariantKey<S>,
 ) -> Result<(), AllocError>
-    ensures { OnOk result (string_bytes out.new ≡ onto (string_bytes out.old)
-        (sign level (key_text (key_of S T.text key.now)) ∷ [])) }
+    ensures { Writes result out.old out.new (sign level (key_text (key_of S T.text key.now)) ∷ []) }
 {
     match key {
         VariantKey::Identifier { name } => write_piece(out, level, texts.as_str(name)),
@@ -65,8 +64,8 @@ pub(crate) fn write_variant_head<S: Drop, T: Texts<S>>(
     key: &VariantKey<S>,
     default: bool,
 ) -> Result<(), AllocError>
-    ensures { OnOk result (string_bytes out.new ≡ onto (string_bytes out.old)
-        (variant_head_signs level (key_of S T.text key.now) default)) }
+    ensures { Writes result out.old out.new
+        (variant_head_signs level (key_of S T.text key.now) default) }
 {
     let below = deeper(level, 1)?;
     write_new_line(out)?;
@@ -78,8 +77,7 @@ pub(crate) fn write_variant_head<S: Drop, T: Texts<S>>(
 
 /// Writes the mark of a variant of a select at this level, where the variant is the default.
 fn write_mark(out: &mut String, level: usize, default: bool) -> Result<(), AllocError>
-    ensures { OnOk result (string_bytes out.new ≡ onto (string_bytes out.old)
-        (written.mark (level + 1) default)) }
+    ensures { Writes result out.old out.new (written.mark (level + 1) default) }
 {
     if default {
         return write_default_mark(out, level);
@@ -95,8 +93,8 @@ pub(crate) fn write_argument_name<S: Drop, T: Texts<S>>(
     after: bool,
     name: &Identifier<S>,
 ) -> Result<(), AllocError>
-    ensures { OnOk result (string_bytes out.new ≡ onto (string_bytes out.old)
-        (argument_name_signs level after (name_of S T.text name.now))) }
+    ensures { Writes result out.old out.new
+        (argument_name_signs level after (name_of S T.text name.now)) }
 {
     write_separator(out, level, after)?;
     write_name(out, level, texts, name)?;
@@ -105,8 +103,7 @@ pub(crate) fn write_argument_name<S: Drop, T: Texts<S>>(
 
 /// Writes what stands between two arguments, where one was written before.
 pub(crate) fn write_separator(out: &mut String, level: usize, after: bool) -> Result<(), AllocError>
-    ensures { OnOk result (string_bytes out.new ≡ onto (string_bytes out.old)
-        (between level after)) }
+    ensures { Writes result out.old out.new (between level after) }
 {
     if after {
         return write_piece(out, level, ", ");

@@ -2,7 +2,8 @@
 
 ghost use Rattle.std.specs.Prelude.{◌≡◌, ◌+◌, ◌++◌, [], ◌∷◌, false, OnOk, IfOk, string_bytes};
 ghost use Rattle.fluent_grammar.specs.Written as written;
-ghost use Rattle.fluent_grammar.specs.Written.{default_mark, ends_line, indent, indent_before, new_line, onto, sign};
+ghost use Rattle.fluent_grammar.specs.Written.{default_mark, ends_line, indent, new_line, sign};
+ghost use Rattle.fluent_serializer.specs.Writing.{Writes, with_indent};
 
 use std::alloc::AllocError;
 
@@ -48,8 +49,8 @@ fn write_indent(out: &mut String, level: usize) -> Result<(), AllocError>
 /// Writes the indent that a piece takes behind what is written.
 #[inline(always)]
 fn write_indent_before(out: &mut String, level: usize, piece: &str) -> Result<(), AllocError>
-    ensures { OnOk result (string_bytes out.new ≡ string_bytes out.old
-        ++ indent_before (ends_line false (string_bytes out.old)) level piece.now) }
+    ensures { OnOk result (string_bytes out.new
+        ≡ with_indent (string_bytes out.old) level piece.now) }
 {
     if is_at_line_start(out.as_str()) && takes_indent(piece) {
         return write_indent(out, level);
@@ -62,8 +63,7 @@ fn write_indent_before(out: &mut String, level: usize, piece: &str) -> Result<()
 /// It is inlined, so that most of it falls away where the sign is known.
 #[inline(always)]
 pub(crate) fn write_piece(out: &mut String, level: usize, piece: &str) -> Result<(), AllocError>
-    ensures { OnOk result (string_bytes out.new ≡ onto (string_bytes out.old)
-        (sign level piece.now ∷ [])) }
+    ensures { Writes result out.old out.new (sign level piece.now ∷ []) }
 {
     write_indent_before(out, level, piece)?;
     out.push_str(piece)
@@ -71,15 +71,14 @@ pub(crate) fn write_piece(out: &mut String, level: usize, piece: &str) -> Result
 
 #[inline(always)]
 pub(crate) fn write_new_line(out: &mut String) -> Result<(), AllocError>
-    ensures { OnOk result (string_bytes out.new ≡ onto (string_bytes out.old) (new_line ∷ [])) }
+    ensures { Writes result out.old out.new (new_line ∷ []) }
 {
     write_piece(out, 0, "\n")
 }
 
 /// Writes the mark of a default variant below this level, in the place of the last space of the variant's indent.
 pub(crate) fn write_default_mark(out: &mut String, level: usize) -> Result<(), AllocError>
-    ensures { OnOk result (string_bytes out.new ≡ onto (string_bytes out.old)
-        (default_mark (level + 1) ∷ [])) }
+    ensures { Writes result out.old out.new (default_mark (level + 1) ∷ []) }
 {
     write_indent(out, level)?;
     out.push_str("   *")

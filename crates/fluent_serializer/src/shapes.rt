@@ -1,11 +1,12 @@
 //! Which patterns begin on a line of their own.
 
-ghost use Rattle.std.specs.Prelude.{◌≡◌, ℕ, List, [], ◌∷◌, not, ◌&&◌};
+ghost use Rattle.std.specs.Prelude.{◌≡◌, ℕ, List, [], ◌∷◌};
 ghost use Rattle.std.specs.List.{list_any};
 ghost use Rattle.fluent_grammar.specs.Words.{begins_with, dot};
 ghost use Rattle.fluent_grammar.specs.Written as tree;
 ghost use Rattle.fluent_grammar.specs.Written.{holds_line_feed};
 ghost use Rattle.fluent_ast.specs.View.{element_view, elements_of, expression_view, inline_view, pattern_view};
+ghost use Rattle.fluent_serializer.specs.Writing.{begins_on_new_line};
 
 use fluent_ast::{Expression, InlineExpression, Pattern, PatternElement};
 use fluent_slice::Texts;
@@ -96,8 +97,7 @@ fn begins_with_dot<S: Drop, T: Texts<S>>(texts: &T, pattern: &Pattern<S>) -> boo
 
 /// Whether a pattern begins on a line of its own, and not behind a space.
 pub(crate) fn begins_on_new_line<S: Drop, T: Texts<S>>(texts: &T, pattern: &Pattern<S>) -> bool
-    ensures { result ≡ (tree.is_many_lined (pattern_view S T.text pattern.now) && not
-        (tree.begins_with_dot (pattern_view S T.text pattern.now))) }
+    ensures { result ≡ begins_on_new_line (pattern_view S T.text pattern.now) }
 {
     is_many_lined(texts, pattern) && !begins_with_dot(texts, pattern)
 }

@@ -1,9 +1,14 @@
 -- What a run reads and writes.
-use Rattle.std.specs.Prelude.{◌≡◌, ◌⊎◌, ℕ, ◌≤◌, ◌++◌, length, take, Option}
+use Rattle.std.specs.Prelude.{◌≡◌, ◌⊎◌, ℕ, ◌≤◌, ◌++◌, length, take, Option, Result, OnOk, IsErrOf}
 use Rattle.std.specs.Io.KnownBytes.{Consumes, Appends}
 use Rattle.fluent_requests.specs.Text.{Text}
 use Rattle.fluent_requests.specs.Lines.{whole_lines}
 use Rattle.fluent_requests.specs.Frames.{answers_to, answers}
+use Rattle.fluent_serve.specs.Devices.{HasFailed, IsGivenUp}
+use Rattle.fluent_serve.specs.declared.serve.RunError.{RunError}
+use Rattle.fluent_serve.specs.declared.serve.RunError.TheVariants.{Memory, Read, Write}
+use Rattle.fluent_serve.specs.declared.stream.Source.{Ghosts as SourceGhosts}
+use Rattle.fluent_serve.specs.declared.stream.Sink.{Ghosts as SinkGhosts}
 
 -- one text is the other's front
 pub record IsFrontOf (front whole : Text) : Type 0 where
@@ -55,3 +60,23 @@ pub record AnswersFront (d : Devices) (answer : Text → Text) : Type 0 where
   pub given : Text
   pub exchanged : Exchanged d taken given
   pub front : IsFrontOf given (answers answer taken)
+
+-- What the devices have come to, by how a run ended. `failed` says that the reader failed.
+pub record RunsOn (d : Devices) (answer : Text → Text) (failed : Type 0) (bound : ℕ) (result : Result (Unit {0}) RunError) : Type 0 where
+  -- all lines are answered
+  pub ok : OnOk result (AnswersAll d answer)
+  -- the first lines are
+  pub memory : IsErrOf result Memory → AnswersFirst d answer
+  -- all whole lines are, and the reader failed or gave at least so many bytes without an end
+  pub read : IsErrOf result Read → AnswersWhole d answer failed bound
+  -- a front of the answers is written
+  pub write : IsErrOf result Write → AnswersFront d answer
+
+-- so it is of a reader and a writer, each before and after
+abbrev pub Runs : {R W : Type 0} → SourceGhosts R → R → R → SinkGhosts W → W → W → (Text → Text) → ℕ → Result (Unit {0}) RunError → Type 0
+Runs source reader reader' sink writer writer' answer bound result =
+    RunsOn (devices source.remaining reader reader' sink.contents writer writer') answer (HasFailed (source.failures reader) (source.failures reader')) bound result
+
+-- the reader is given up, by its counts before and after
+abbrev pub GivesUp : {R : Type 0} → SourceGhosts R → R → R → ℕ → Type 0
+GivesUp source reader reader' bound = IsGivenUp (source.failures reader) (source.failures reader') (source.given reader) (source.given reader') bound

@@ -4,3 +4,4 @@ pub mod AnswerView
 pub mod Devices
 pub mod Exchange
 pub mod Waiting
+pub mod ErrorTexts

@@ -1,9 +1,8 @@
 //! Answers, and the bytes that they are written as.
-ghost use Rattle.std.specs.Prelude.{◌≡◌, ◌∷◌, [], ◌++◌, OnOk, IfSome, codes, decimal};
-ghost use Rattle.std.specs.List.{flat_map};
+ghost use Rattle.std.specs.Prelude.{OnOk, IfSome};
 ghost use Rattle.fluent_serve.specs.Exchange.{IsFrontOf};
 ghost use Rattle.fluent_requests.specs.Frames.{frame_of, ended};
-ghost use Rattle.fluent_serve.specs.AnswerView.{answer_view, error_texts};
+ghost use Rattle.fluent_serve.specs.AnswerView.{Adds, AddsLines, answer_view, error_texts, head_of};
 
 use itoa::Buffer;
 use std::alloc::{AllocError, Global};
@@ -22,10 +21,13 @@ pub enum Answer<'a, E> {
 
 impl<E: Display> Answer<'_, E> {
     /// Puts the answer's bytes behind `out`: `bad`, `none`, or `ok` with the text's length in bytes and the count of
-    /// errors, the text, and a line for each error. After an error `out` holds its old part and a front of them.
+    /// errors, the text, and a line for each error.
+    ///
+    /// # Errors
+    /// [`AllocError`] if memory runs out; `out` then holds its old bytes and a front of the answer's.
     pub fn push_to(&self, alloc: Global, out: &mut Vec<u8>) -> Result<(), AllocError>
         ensures ok { OnOk result (IfSome (answer_view E.output self.now)
-            (λ answer. out.new.items ≡ out.old.items ++ frame_of answer)) }
+            (λ answer. Adds out.old out.new (frame_of answer))) }
         ensures front { IsFrontOf out.old.items out.new.items }
     {
         match self {
@@ -43,8 +45,7 @@ impl<E: Display> Answer<'_, E> {
 
 /// Puts the line before a text behind `out`.
 fn push_head(out: &mut Vec<u8>, text_len: usize, error_count: usize) -> Result<(), AllocError>
-    ensures ok { OnOk result (out.new.items ≡ out.old.items
-        ++ (codes "ok " ++ (decimal text_len ++ (codes " " ++ ended (decimal error_count))))) }
+    ensures ok { OnOk result (Adds out.old out.new (head_of text_len error_count)) }
     ensures front { IsFrontOf out.old.items out.new.items }
 {
     let mut digits = Buffer::new();
@@ -58,7 +59,7 @@ fn push_head(out: &mut Vec<u8>, text_len: usize, error_count: usize) -> Result<(
 /// Puts a line for each error behind `out`.
 fn push_errors<E: Display>(alloc: Global, out: &mut Vec<u8>, errors: &[E]) -> Result<(), AllocError>
     ensures ok { OnOk result (IfSome (error_texts E.output errors.now)
-        (λ texts. out.new.items ≡ out.old.items ++ flat_map ended texts)) }
+        (AddsLines out.old out.new)) }
     ensures front { IsFrontOf out.old.items out.new.items }
 {
     for error in errors {
@@ -70,7 +71,7 @@ fn push_errors<E: Display>(alloc: Global, out: &mut Vec<u8>, errors: &[E]) -> Re
 /// Puts an error's line behind `out`.
 fn push_error<E: Display>(alloc: Global, out: &mut Vec<u8>, error: &E) -> Result<(), AllocError>
     ensures ok { OnOk result (IfSome (E.output error.now)
-        (λ text. out.new.items ≡ out.old.items ++ ended text)) }
+        (λ text. Adds out.old out.new (ended text))) }
     ensures front { IsFrontOf out.old.items out.new.items }
 {
     let text = error.to_string(alloc)?;

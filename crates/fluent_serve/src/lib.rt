@@ -6,6 +6,7 @@
 
 pub mod answer;
 pub mod cut;
+mod errors;
 pub mod request;
 pub mod serve;
 pub mod stream;

@@ -1,8 +1,8 @@
 //! Request lines: an id, an optional attribute, and arguments, separated by tabs.
 ghost use Rattle.std.specs.Prelude.{◌≡◌, IfOk, option_map, option_copied};
-ghost use Rattle.fluent_requests.specs.Text.{tab, equals, cut_at};
-ghost use Rattle.fluent_requests.specs.Requests.{request_of, argument_of, arguments_of, value_named as value_of_name};
-ghost use Rattle.fluent_serve.specs.RequestView.{request_view, argument_view, arguments_view, parts_behind};
+ghost use Rattle.fluent_requests.specs.Text.{equals, cut_at};
+ghost use Rattle.fluent_requests.specs.Requests.{request_of, argument_of, value_named as value_of_name};
+ghost use Rattle.fluent_serve.specs.RequestView.{request_view, argument_view, arguments_view, arguments_behind, read_view};
 
 use crate::cut::cut;
 use std::alloc::{AllocError, Global};
@@ -18,6 +18,9 @@ pub struct Request<'line> {
 }
 
 /// Reads a line, without its line feed. `None` where it is not UTF-8, or an argument has no equals sign.
+///
+/// # Errors
+/// [`AllocError`] if memory runs out; nothing is left behind.
 pub fn read_request(alloc: Global, line: &[u8]) -> Result<Option<Request<'_>>, AllocError>
     ensures { IfOk result (λ request. option_map request_view request
         ≡ request_of (λ s. s) line.now) }
@@ -42,8 +45,7 @@ fn read_arguments<'line>(
     alloc: Global,
     mut rest: Option<&'line str>,
 ) -> Result<Option<Vec<(&'line str, &'line str)>>, AllocError>
-    ensures { IfOk result (λ arguments. option_map (λ v. arguments_view v.items) arguments
-        ≡ arguments_of (λ s. s) (parts_behind tab (option_copied rest.entry))) }
+    ensures { IfOk result (λ arguments. read_view arguments ≡ arguments_behind rest.entry) }
 {
     let mut arguments = Vec::new(alloc);
     while let Some(text) = rest {

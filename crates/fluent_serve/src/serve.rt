@@ -1,14 +1,11 @@
 //! Serves a stream of request lines.
-ghost use Rattle.std.specs.Prelude.{◌≡◌, ◌<◌, ◌∷◌, ◌++◌, [], length, ℕ, List, MatchOption, Err, IsTrue, ◌↔◌, OnOk, OnErr, IfErr, IsErrOf, ◌^◌};
+ghost use Rattle.std.specs.Prelude.{◌≡◌, ◌<◌, ◌++◌, [], length, ℕ, List, MatchOption, Err, IsTrue, ◌↔◌, OnOk, OnErr, IfErr, IsErrOf, ◌^◌};
 ghost use Rattle.std.specs.Io.KnownBytes.{Appends, IsAtEnd};
-ghost use Rattle.fluent_requests.specs.Text.{line_feed};
-ghost use Rattle.fluent_requests.specs.Lines.{whole_lines, unfinished, unless_empty};
-ghost use Rattle.fluent_requests.specs.Frames.{answers_to};
-ghost use Rattle.fluent_serve.specs.Devices.{HasFailed, IsGivenUp};
-ghost use Rattle.fluent_serve.specs.Exchange.{devices, AnswersAll, AnswersFirst, AnswersWhole, AnswersFront};
+ghost use Rattle.fluent_requests.specs.Lines.{IsUnfinished, unfinished};
+ghost use Rattle.fluent_serve.specs.Devices.{HasFailed};
+ghost use Rattle.fluent_serve.specs.Exchange.{GivesUp, Runs};
+ghost use Rattle.fluent_serve.specs.Waiting.{IsSplitAtLine, PutsBlock, PutsFront, PutsLine, PutsRest, Serves};
 ghost use Rattle.fluent_serve.specs.declared.serve.RunError.TheVariants.{Memory, Read, Write};
-ghost use Rattle.fluent_requests.specs.Lines.{IsUnfinished};
-ghost use Rattle.fluent_serve.specs.Waiting.{Puts, PutsFirst, PutsFront, ServesAll, ServesFirst, ServesWhole, ServesFront};
 
 use crate::stream::{ReadFailed, Sink, Source, WriteFailed};
 use memchr::memchr;
@@ -60,7 +57,10 @@ pub trait Engine {
     /// What is written for a line, given without its line feed.
     ghost reply: { Self → List ℕ → List ℕ };
 
-    /// Puts what is written for `line` behind `out`. After an error `out` is as it was.
+    /// Puts what is written for `line` behind `out`.
+    ///
+    /// # Errors
+    /// [`AllocError`] if memory runs out; the bytes of `out` are unchanged.
     fn reply(&self, alloc: Global, line: &[u8], out: &mut Vec<u8>) -> Result<(), AllocError>
         ensures ok { OnOk result (out.new.items ≡ out.old.items ++ reply self.now line.now) }
         ensures err { OnErr result (out.new.items ≡ out.old.items) };
@@ -73,7 +73,10 @@ struct Waiting {
     output: Vec<u8>,
 }
 
-/// Writes all of `bytes`. After an error a front of them was written.
+/// Writes all of `bytes`.
+///
+/// # Errors
+/// [`WriteFailed`] if the writer fails, or takes none of a piece that isn't empty; a front of `bytes` was written.
 pub fn write_all<W: Sink>(writer: &mut W, bytes: &[u8]) -> Result<(), WriteFailed>
     ensures ok { OnOk result (Appends (W.contents writer.old) (W.contents writer.new) bytes.now) }
     ensures failures { OnOk result (W.failures writer.new ≡ W.failures writer.old) }
@@ -114,19 +117,12 @@ fn answer_line<E: Engine, W: Sink>(
     waiting: &mut Waiting,
     end: &[u8],
 ) -> Result<(), RunError>
-    ensures ok { OnOk result (Puts (W.contents writer.old) waiting.old.output.items
-        (W.contents writer.new) waiting.new.output.items
-        (E.reply engine.now (waiting.old.line.items ++ end.now))) }
+    ensures put { PutsLine W.Sink writer.old writer.new waiting.old waiting.new
+        (E.reply engine.now) end.now result }
     ensures line { OnOk result (waiting.new.line.items ≡ []) }
     ensures failures { OnOk result (W.failures writer.new ≡ W.failures writer.old) }
-    ensures memory { IsErrOf result RunError.Memory
-        → Puts (W.contents writer.old) waiting.old.output.items (W.contents writer.new)
-        waiting.new.output.items [] }
     ensures memory_failures { IsErrOf result RunError.Memory
         → W.failures writer.new ≡ W.failures writer.old }
-    ensures write { IsErrOf result RunError.Write
-        → PutsFront (W.contents writer.old) waiting.old.output.items (W.contents writer.new)
-        (E.reply engine.now (waiting.old.line.items ++ end.now)) }
     ensures failed { IsErrOf result RunError.Write
         → HasFailed (W.failures writer.old) (W.failures writer.new) }
     ensures never_read { IsErrOf result RunError.Read → ⊥ }
@@ -146,8 +142,7 @@ fn answer_line<E: Engine, W: Sink>(
 
 /// What stands before the first line feed, and what stands behind it.
 fn first_line(bytes: &[u8]) -> Option<(&[u8], &[u8])>
-    ensures { MatchOption result (IsUnfinished bytes.now)
-        (λ parts. IsUnfinished parts.0.now × (bytes.now ≡ parts.0.now ++ line_feed ∷ parts.1.now)) }
+    ensures { MatchOption result (IsUnfinished bytes.now) (IsSplitAtLine bytes.now) }
 {
     match memchr(b'\n', bytes) {
         None => None,
@@ -168,22 +163,14 @@ fn answer_block<E: Engine, W: Sink>(
     block: &[u8],
 ) -> Result<(), RunError>
     requires { IsUnfinished waiting.old.line.items }
-    ensures ok { OnOk result (Puts (W.contents writer.old) waiting.old.output.items
-        (W.contents writer.new) waiting.new.output.items
-        (answers_to (E.reply engine.now) (whole_lines (waiting.old.line.items ++ block.now)))) }
+    ensures put { PutsBlock W.Sink writer.old writer.new waiting.old waiting.new
+        (E.reply engine.now) block.now result }
     ensures line { OnOk result (waiting.new.line.items
         ≡ unfinished (waiting.old.line.items ++ block.now)) }
     ensures unfinished { OnOk result (IsUnfinished waiting.new.line.items) }
     ensures failures { OnOk result (W.failures writer.new ≡ W.failures writer.old) }
-    ensures memory { IsErrOf result RunError.Memory
-        → PutsFirst (W.contents writer.old) waiting.old.output.items (W.contents writer.new)
-        waiting.new.output.items
-        (E.reply engine.now) (whole_lines (waiting.old.line.items ++ block.now)) }
     ensures memory_failures { IsErrOf result RunError.Memory
         → W.failures writer.new ≡ W.failures writer.old }
-    ensures write { IsErrOf result RunError.Write
-        → PutsFront (W.contents writer.old) waiting.old.output.items (W.contents writer.new)
-        (answers_to (E.reply engine.now) (whole_lines (waiting.old.line.items ++ block.now))) }
     ensures failed { IsErrOf result RunError.Write
         → HasFailed (W.failures writer.old) (W.failures writer.new) }
     ensures never_read { IsErrOf result RunError.Read → ⊥ }
@@ -199,9 +186,7 @@ fn answer_block<E: Engine, W: Sink>(
 
 /// Answers the line that the input ends in, if it holds a byte.
 fn answer_end<E: Engine>(alloc: Global, engine: &E, waiting: &mut Waiting) -> Result<(), RunError>
-    ensures ok { OnOk result (waiting.new.output.items
-        ≡ waiting.old.output.items ++ answers_to (E.reply engine.now)
-        (unless_empty waiting.old.line.items)) }
+    ensures ok { OnOk result (PutsRest waiting.old waiting.new (E.reply engine.now)) }
     ensures err { OnErr result (waiting.new.output.items ≡ waiting.old.output.items) }
     ensures memory_only { IfErr result (λ error. error ≡ RunError.Memory) }
 {
@@ -225,23 +210,12 @@ fn answer_all<E: Engine, R: Source, W: Sink>(
     requires room { 0 < length block.old }
     requires no_line { waiting.old.line.items ≡ [] }
     requires no_output { waiting.old.output.items ≡ [] }
-    ensures ok { OnOk result (ServesAll
-        (devices R.remaining reader.old reader.new W.contents writer.old writer.new)
-        waiting.new.output.items (E.reply engine.now)) }
+    ensures served { Serves R.Source reader.old reader.new W.Sink writer.old writer.new
+        waiting.new (E.reply engine.now) reads result }
     ensures end { OnOk result (IsAtEnd (R.remaining reader.new)) }
     ensures reads { OnOk result (R.failures reader.new ≡ R.failures reader.old) }
-    ensures memory { IsErrOf result RunError.Memory → ServesFirst
-        (devices R.remaining reader.old reader.new W.contents writer.old writer.new)
-        waiting.new.output.items (E.reply engine.now) }
-    ensures read { IsErrOf result RunError.Read → ServesWhole
-        (devices R.remaining reader.old reader.new W.contents writer.old writer.new)
-        waiting.new.output.items (E.reply engine.now)
-        (HasFailed (R.failures reader.old) (R.failures reader.new)) reads }
-    ensures given_up { IsErrOf result RunError.Read → IsGivenUp (R.failures reader.old)
-        (R.failures reader.new) (R.given reader.old) (R.given reader.new) reads }
-    ensures write { IsErrOf result RunError.Write → ServesFront
-        (devices R.remaining reader.old reader.new W.contents writer.old writer.new)
-        (E.reply engine.now) }
+    ensures given_up { IsErrOf result RunError.Read
+        → GivesUp R.Source reader.old reader.new reads }
     ensures failed { IsErrOf result RunError.Write
         → HasFailed (W.failures writer.old) (W.failures writer.new) }
     ensures kept { (IsErrOf result RunError.Write → ⊥)
@@ -280,23 +254,13 @@ pub fn serve<E: Engine, R: Source, W: Sink>(
     writer: &mut W,
     reads: u64,
 ) -> Result<(), RunError>
-    ensures ok { OnOk result (AnswersAll
-        (devices R.remaining reader.old reader.new W.contents writer.old writer.new)
-        (E.reply engine.now)) }
+    ensures served { Runs R.Source reader.old reader.new W.Sink writer.old writer.new
+        (E.reply engine.now) reads result }
     ensures end { OnOk result (IsAtEnd (R.remaining reader.new)) }
     ensures reads { OnOk result (R.failures reader.new ≡ R.failures reader.old) }
     ensures writes { OnOk result (W.failures writer.new ≡ W.failures writer.old) }
-    ensures memory { IsErrOf result RunError.Memory → AnswersFirst
-        (devices R.remaining reader.old reader.new W.contents writer.old writer.new)
-        (E.reply engine.now) }
-    ensures read { IsErrOf result RunError.Read → AnswersWhole
-        (devices R.remaining reader.old reader.new W.contents writer.old writer.new)
-        (E.reply engine.now) (HasFailed (R.failures reader.old) (R.failures reader.new)) reads }
-    ensures given_up { IsErrOf result RunError.Read → IsGivenUp (R.failures reader.old)
-        (R.failures reader.new) (R.given reader.old) (R.given reader.new) reads }
-    ensures write { IsErrOf result RunError.Write → AnswersFront
-        (devices R.remaining reader.old reader.new W.contents writer.old writer.new)
-        (E.reply engine.now) }
+    ensures given_up { IsErrOf result RunError.Read
+        → GivesUp R.Source reader.old reader.new reads }
     ensures failed { IsErrOf result RunError.Write
         → HasFailed (W.failures writer.old) (W.failures writer.new) }
 {

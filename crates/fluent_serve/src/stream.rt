@@ -29,7 +29,10 @@ pub trait Source {
     ghost given: { Self → ℕ };
 
     /// Fills the front of `buffer`, and gives the count of its bytes: 0 at the end of the input, or where `buffer` is
-    /// empty. After `ReadFailed` no byte was taken.
+    /// empty.
+    ///
+    /// # Errors
+    /// [`ReadFailed`] if the bytes can't be read; none was taken.
     fn read(&mut self, buffer: &mut [u8]) -> Result<usize, ReadFailed>
         ensures bound { IfOk result (λ count. count ≤ length buffer.new) }
         ensures bytes { ReadConsumes (remaining self.old) (remaining self.new) result buffer.new }
@@ -46,7 +49,10 @@ pub trait Sink {
     /// there.
     ghost failures: { Self → ℕ };
 
-    /// Takes bytes from the front of `bytes`, and gives their count. After `WriteFailed` no byte was taken.
+    /// Takes bytes from the front of `bytes`, and gives their count.
+    ///
+    /// # Errors
+    /// [`WriteFailed`] if the bytes can't be written; none was taken.
     fn write(&mut self, bytes: &[u8]) -> Result<usize, WriteFailed>
         ensures bound { IfOk result (λ count. count ≤ length bytes.now) }
         ensures bytes { WriteAppends (contents self.old) (contents self.new) result bytes.now }

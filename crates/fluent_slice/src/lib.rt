@@ -22,7 +22,10 @@ pub trait Slice<'s>: PartialEq + Drop {
         ensures { result.now ≡ text self.now };
 
     /// The part of the text in `range`, whose ends stand in order within the text, each at the boundary of a
-    /// character. The only error is that memory runs out.
+    /// character.
+    ///
+    /// # Errors
+    /// [`AllocError`] if memory runs out; nothing is left behind.
     fn slice(&self, alloc: Global, range: Range<usize>) -> Result<Self, AllocError>
         requires ordered { range.start ≤ range.end }
         requires start_boundary { IsCharBoundary (text self.now) range.start }
@@ -34,7 +37,10 @@ pub trait Slice<'s>: PartialEq + Drop {
     fn trim(&mut self)
         ensures { text self.new ≡ trim_end (text self.old) };
 
-    /// The same text. The only error is that memory runs out.
+    /// The same text.
+    ///
+    /// # Errors
+    /// [`AllocError`] if memory runs out; nothing is left behind.
     fn try_clone(&self, alloc: Global) -> Result<Self, AllocError>
         ensures { IfOk result (λ copy. text copy ≡ text self.now) };
 
@@ -112,6 +118,9 @@ pub trait Texts<S> {
         ensures { result.now ≡ text whole.now };
 
     /// The same as [`Slice::slice`].
+    ///
+    /// # Errors
+    /// [`AllocError`] if memory runs out; nothing is left behind.
     fn slice(&self, whole: &S, alloc: Global, range: Range<usize>) -> Result<S, AllocError>
         requires ordered { range.start ≤ range.end }
         requires start_boundary { IsCharBoundary (text whole.now) range.start }
@@ -124,6 +133,9 @@ pub trait Texts<S> {
         ensures { text cut.new ≡ trim_end (text cut.old) };
 
     /// The same as [`Slice::try_clone`].
+    ///
+    /// # Errors
+    /// [`AllocError`] if memory runs out; nothing is left behind.
     fn try_clone(&self, original: &S, alloc: Global) -> Result<S, AllocError>
         ensures { IfOk result (λ copy. text copy ≡ text original.now) };
 }

@@ -11,3 +11,4 @@ pub use Rattle.fluent_ast.specs.View
 pub use Rattle.fluent_parsed.specs.ErrorView
 pub use Rattle.fluent_parsed.specs.Collected
 pub use Rattle.fluent_unicode.specs.Unescaped
+pub mod ForCallers

@@ -16,6 +16,10 @@ use std::alloc::Global;
 /// Each message and term stays, in its order. Comments stay too, but where junk is gone between a comment and a message,
 /// the message takes it. A source without errors comes back as it is.
 ///
+/// ```
+/// let cleaned = clean(alloc, SOURCE)?; // key1 = Value 1, an empty line, key2={ $x }
+/// ```
+///
 /// # Errors
 /// `CarriageReturn` exactly where the source holds one, before any memory is taken. `Memory` where memory ran out.
 pub fn clean(alloc: Global, source: &str) -> Result<String, CleanError>

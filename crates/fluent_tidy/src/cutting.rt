@@ -9,7 +9,10 @@ ghost use Rattle.fluent_cut.specs.Cut.{cut};
 use fluent_parser::{Error, ParserError, parse};
 use std::alloc::{AllocError, Global};
 
-/// Adds the cut text of a source. The only error is that memory runs out; the text may then have a part of it.
+/// Adds the cut text of a source.
+///
+/// # Errors
+/// [`AllocError`] if memory runs out; the text may then hold a part of the cut text.
 pub fn push_cut(alloc: Global, text: &mut String, source: &str) -> Result<(), AllocError>
     ensures text { OnOk result (string_bytes text.new ≡ string_bytes text.old ++ cut source.now) }
     ensures utf8 { IsUtf8 source.now }

@@ -122,3 +122,9 @@ impl From<FromValueError> for ImportError {
         }
     }
 }
+
+impl std::error::Error for CleanError {}
+
+impl std::error::Error for NormalizeError {}
+
+impl std::error::Error for ImportError {}

@@ -4,9 +4,7 @@ ghost use Rattle.std.specs.Prelude.{◌≡◌, ◌++◌, ◌∷◌, ◌↔◌, [
 ghost use Rattle.std.specs.List.{list_any};
 ghost use Rattle.fluent_grammar.specs.Tiling.{errors, list};
 ghost use Rattle.fluent_cut.specs.Joined.{joined, lists, line_ended, AreUtf8};
-ghost use Rattle.fluent_answers.specs.Sources.{notices_of};
-ghost use Rattle.fluent_value.specs.declared.function.NoFunction.{NoFunction};
-ghost use Rattle.fluent_tidy.specs.Sources.{texts, holds_return};
+ghost use Rattle.fluent_tidy.specs.Sources.{texts, holds_return, notices_in};
 ghost use Rattle.fluent_tidy.specs.declared.error.CleanError.TheVariants.{CarriageReturn};
 
 use crate::cutting::push_cut;
@@ -28,8 +26,8 @@ pub fn join(alloc: Global, sources: &[&str]) -> Result<String, CleanError>
     ensures no_errors { IfOk result (λ text. errors (string_bytes text) ≡ []) }
     ensures same_lists { IfOk result (λ text. list (string_bytes text)
         ≡ lists (texts sources.now)) }
-    ensures same_notices { IfOk result (λ text. notices_of NoFunction (string_bytes text ∷ [])
-        ≡ notices_of NoFunction (texts sources.now)) }
+    ensures same_notices { IfOk result (λ text. notices_in (string_bytes text ∷ [])
+        ≡ notices_in (texts sources.now)) }
     ensures carriage_return { IsErrOf result CarriageReturn ↔ IsTrue
         (list_any holds_return (texts sources.now)) }
 {

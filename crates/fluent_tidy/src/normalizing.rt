@@ -1,7 +1,8 @@
 //! The normal text of a source.
 
-ghost use Rattle.std.specs.Prelude.{◌≡◌, ◌≢◌, ◌↔◌, [], IsTrue, List, ℕ, IfOk, IfErr, IsErrOf, string_bytes};
+ghost use Rattle.std.specs.Prelude.{◌≡◌, ◌≢◌, ◌↔◌, [], IsTrue, IfOk, IfErr, IsErrOf, string_bytes};
 ghost use Rattle.fluent_grammar.specs.Tiling.{tree, list};
+ghost use Rattle.fluent_grammar.specs.Words.{Text};
 ghost use Rattle.fluent_grammar.specs.Written.{written};
 ghost use Rattle.fluent_cut.specs.Cut.{cut};
 ghost use Rattle.fluent_normal.specs.Normal.{IsCanonical, IsNormalText, HasNoNormalText};
@@ -21,6 +22,10 @@ use std::alloc::{AllocError, Global};
 ///
 /// It has the messages and terms of the source, in their order, and is its own normal text.
 ///
+/// ```
+/// let normal = normalize(alloc, &cleaned)?; // key1 = Value 1, key2 = { $x }
+/// ```
+///
 /// # Errors
 /// `CarriageReturn` exactly where the source holds one, before any memory is taken. `NotNormal` where the written text
 /// isn't read back as the tree; this takes one of the five shapes of `docs/normal-text.md`. `Memory` where memory ran
@@ -30,8 +35,8 @@ pub fn normalize(alloc: Global, source: &str) -> Result<String, NormalizeError>
     ensures same_list { IfOk result (λ text. list (string_bytes text) ≡ list source.now) }
     ensures not_normal { IsErrOf result NotNormal → HasNoNormalText source.now }
     ensures shaped { IsErrOf result NotNormal → IsShaped (cut source.now) }
-    ensures own_text { (other : List ℕ) → IsNormalText other source.now
-        → IfOk result (λ text. string_bytes text ≡ source.now) }
+    ensures own_text { (other : Text) → IsNormalText other source.now
+        → IfOk result (λ new. string_bytes new ≡ source.now) }
     ensures carriage_return { IsErrOf result CarriageReturn ↔ IsTrue (holds_return source.now) }
 {
     let text = clean(alloc, source)?;

@@ -11,6 +11,9 @@ use fluent_slice::Slice;
 use std::alloc::{AllocError, Global};
 
 /// The tree of a text, its errors passed over.
+///
+/// # Errors
+/// [`AllocError`] if memory runs out; nothing is left behind.
 pub fn read_tree<'s, S: Slice<'s>>(alloc: Global, text: S) -> Result<Resource<S>, AllocError>
     ensures { IfOk result (λ r. resource_view S S.text r ≡ tree (S.text text)) }
 {
@@ -24,6 +27,9 @@ pub fn read_tree<'s, S: Slice<'s>>(alloc: Global, text: S) -> Result<Resource<S>
 }
 
 /// Whether a text is read as a tree: whole, and as that very tree.
+///
+/// # Errors
+/// [`AllocError`] if memory runs out; nothing is left behind.
 pub fn is_read_as<'s, S: Slice<'s>>(
     alloc: Global,
     text: S,

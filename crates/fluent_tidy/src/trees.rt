@@ -24,6 +24,11 @@ use std::alloc::{AllocError, Global};
 
 /// The JSON tree of the cleaned source, as `docs/json.md` has it, with its version.
 ///
+/// ```
+/// let tree = export(alloc, SOURCE)?;
+/// let imported = import(alloc, &tree)?;
+/// ```
+///
 /// # Errors
 /// `CarriageReturn` exactly where the source holds one, before any memory is taken. `Memory` where memory ran out.
 pub fn export(alloc: Global, source: &str) -> Result<Value, CleanError>

@@ -7,7 +7,10 @@ use std::{fs, io};
 
 /// What the lines of a file say.
 pub trait Lines: Copy {
-    /// Whether what a line says is so. The only error is that memory runs out.
+    /// Whether what a line says is so.
+    ///
+    /// # Errors
+    /// [`AllocError`] if memory runs out; nothing is left behind.
     fn is_right(self, alloc: Global, line: &str) -> Result<bool, AllocError>;
 }
 
@@ -25,6 +28,9 @@ impl<L: Lines> Trial for Line<'_, L> {
 }
 
 /// Tries each line of a file, prints those that are wrong, and counts them all. A file that can't be read is tried once more.
+///
+/// # Errors
+/// [`io::Error`] if the file can't be read, or a line can't be printed; what was printed before stays printed.
 pub fn try_lines<L: Lines>(rt: &HostRuntime, file: &str, lines: L) -> io::Result<Tally> {
     let text = fs::read_to_string(rt, file).or_else(|_| fs::read_to_string(rt, file))?;
     let mut tally = Tally::new();
@@ -39,6 +45,9 @@ pub fn try_lines<L: Lines>(rt: &HostRuntime, file: &str, lines: L) -> io::Result
 }
 
 /// Prints how many trials of a name there were, by this word for them, and how many of them were wrong.
+///
+/// # Errors
+/// [`io::Error`] if the line can't be printed.
 pub fn tell(rt: &HostRuntime, name: &str, trials: &str, tally: Tally) -> io::Result<()> {
     println!(rt; "{name}: {} {trials}, {} wrong", tally.tried, tally.wrong)
 }

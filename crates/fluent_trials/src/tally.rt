@@ -1,6 +1,7 @@
 //! Counts of what was right and what was wrong.
 
-ghost use Rattle.std.specs.Prelude.{◌≡◌, ◌<◌, ◌+◌, ◌^◌, if◌then◌else◌};
+ghost use Rattle.std.specs.Prelude.{◌≡◌, ◌<◌, ◌+◌, ◌^◌};
+ghost use Rattle.fluent_trials.specs.Counts.{wrong_after};
 
 /// How many trials there were, and how many of them were wrong.
 #[derive(Clone, Copy)]
@@ -22,7 +23,7 @@ impl Tally {
     pub fn add(&mut self, is_right: bool)
         ensures tried { self.old.tried + 1 < 2 ^ 32 → self.new.tried ≡ self.old.tried + 1 }
         ensures wrong { self.old.wrong + 1 < 2 ^ 32
-            → self.new.wrong ≡ (if is_right then self.old.wrong else self.old.wrong + 1) }
+            → self.new.wrong ≡ wrong_after is_right self.old.wrong }
     {
         self.tried = self.tried.saturating_add(1);
         if !is_right {

@@ -4,7 +4,10 @@ use std::alloc::{AllocError, Global};
 
 /// What can turn out right or wrong.
 pub trait Trial: Copy {
-    /// Whether it is right. The only error is that memory runs out.
+    /// Whether it is right.
+    ///
+    /// # Errors
+    /// [`AllocError`] if memory runs out; nothing is left behind.
     fn is_right(self, alloc: Global) -> Result<bool, AllocError>;
 }
 

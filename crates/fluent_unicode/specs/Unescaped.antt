@@ -10,5 +10,6 @@ pub record TookPrefix (held now whole : Text) : Type 0 where
   pub holds : now ≡ held ++ taken
   pub split : whole ≡ taken ++ left
 
+-- whether a backslash stands in a text: without one, it stands for itself
 abbrev pub has_backslash : Text → Bool
 has_backslash text = list_any (λ c. c == backslash) text

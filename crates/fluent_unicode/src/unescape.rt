@@ -13,8 +13,11 @@ use std::borrow::CowStr;
 use std::fmt;
 
 /// Writes what the raw text of a string literal stands for: each escape's character in its place. U+FFFD stands for an
-/// escape that has no meaning. After an error, which is the writer's, it took the pieces before the one it refused.
-/// The escapes are those of production `StringLiteral`; `\u` takes four hex digits and `\U` six.
+/// escape that has no meaning. The escapes are those of production `StringLiteral`; `\u` takes four hex digits and `\U`
+/// six.
+///
+/// # Errors
+/// [`fmt::Error`] if the writer refuses a piece; it then holds the pieces before that one.
 pub fn unescape_unicode<W: TextWrite>(w: &mut W, text: &str) -> fmt::Result
     ensures taken { OnOk result (W.text w.new ≡ W.text w.old ++ unescaped text.now) }
     ensures refused { OnErr result (TookPrefix (W.text w.old) (W.text w.new) (unescaped text.now)) }
@@ -31,7 +34,10 @@ pub fn unescape_unicode<W: TextWrite>(w: &mut W, text: &str) -> fmt::Result
 }
 
 /// What the raw text of a string literal stands for, as [`unescape_unicode`] writes it. A text without a backslash is
-/// borrowed, which takes no memory and succeeds; any other is a text of its own. The only error is that memory runs out.
+/// borrowed, which takes no memory and succeeds; any other is a text of its own.
+///
+/// # Errors
+/// [`AllocError`] if memory runs out; nothing is left behind.
 pub fn unescape_unicode_to_string(alloc: Global, text: &str) -> Result<CowStr<'_>, AllocError>
     ensures value { IfOk result (λ cow. cow_str_bytes cow ≡ unescaped text.now) }
     ensures borrowed { IfOk result (λ cow. IsBorrowedStr cow ↔ has_backslash text.now ≡ false) }

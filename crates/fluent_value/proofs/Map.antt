@@ -1,6 +1,6 @@
 -- Arguments are a map: what is found after one was set.
 use Rattle.std.proofs.Common.{◌≡◌, Bool, true, false, ℕ, List, [], ◌∷◌, ◌++◌, map, Some, cond, refl, ap, sym, ◌∙◌}
-use Rattle.std.specs.List.{AllByRecursion}
+use Rattle.std.specs.List.{AllByRecursion, AllZip}
 use Rattle.std.specs.List.Sorted.{IsStrictlySortedBy}
 use Rattle.std.specs.declared.cmp.Ordering.{Ordering}
 use Rattle.std.specs.declared.cmp.Ordering.TheVariants.{Less, Equal, Greater}
@@ -86,3 +86,10 @@ differ x y never = differ_by x y (is_eq (order x y)) refl never
 pub set_last : {S : Type 0} {B : Type 0} (f : B → List ℕ × Value S) (args : List (List ℕ × Value S)) (pairs : List B) (b : B) → all_set args (map f (pairs ++ b ∷ [])) ≡ with_argument (f b).0 (f b).1 (all_set args (map f pairs))
 set_last f args [] b = refl
 set_last f args (p ∷ ps) b = set_last f (with_argument (f p).0 (f p).1 args) ps b
+
+-- two lists that go together still do with one more of each
+pub zip_last : {A B : Type 0} (R : A → B → Type 0) (xs : List A) (ys : List B) (x : A) (y : B) → AllZip R xs ys → R x y → AllZip R (xs ++ x ∷ []) (ys ++ y ∷ [])
+zip_last R [] [] x y all here = (here, tt)
+zip_last R [] (z ∷ zs) x y all here = absurd all
+zip_last R (z ∷ zs) [] x y all here = absurd all
+zip_last R (w ∷ ws) (z ∷ zs) x y all here = (all.0, zip_last R ws zs x y all.1 here)

@@ -1,13 +1,17 @@
 pub mod Value
 pub mod View
 pub mod Matching
+pub mod OptionalText
 pub mod Shown
 pub mod Lent
 pub mod Integers
+pub mod Laws
 pub mod Equality
 pub mod Args
 pub mod ArgsNames
 pub mod ArgsView
+pub mod ArgsSet
 pub mod ArgsLeft
 pub mod ArgsOwned
 pub mod Builtins
+pub mod CallResult

@@ -1,9 +1,8 @@
 //! The functions that every program may have.
 
-ghost use Rattle.std.specs.Prelude.{◌≡◌, IfOk, map};
+ghost use Rattle.std.specs.Prelude.{IfOk};
 ghost use Rattle.fluent_value.specs.Builtins.{number_called};
-ghost use Rattle.fluent_value.specs.ArgsView.{args_view};
-ghost use Rattle.fluent_value.specs.View.{value_view};
+ghost use Rattle.fluent_value.specs.CallResult.{IsCallResult};
 
 use crate::args::FluentArgs;
 use crate::custom::FluentType;
@@ -11,15 +10,16 @@ use crate::value::FluentValue;
 use std::alloc::{AllocError, Global};
 
 /// The first of the values, if it is a number, with the options that the named ones set; else
-/// [`Error`](FluentValue::Error). The only error is that memory runs out.
+/// [`Error`](FluentValue::Error).
+///
+/// # Errors
+/// [`AllocError`] if memory runs out; nothing is left behind.
 pub fn NUMBER<'a, 'n, C: FluentType + Drop>(
     alloc: Global,
     positional: &[FluentValue<'a, C>],
     named: &FluentArgs<'n, C>,
 ) -> Result<FluentValue<'a, C>, AllocError>
-    ensures { IfOk result (λ value. value_view C.meaning value
-        ≡ number_called (map (value_view C.meaning) positional.now)
-        (args_view C.meaning named.now)) }
+    ensures { IfOk result (IsCallResult C.meaning number_called positional.now named.now) }
 {
     let Some(FluentValue::Number(number)) = positional.first() else {
         return Ok(FluentValue::Error);

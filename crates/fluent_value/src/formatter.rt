@@ -1,6 +1,7 @@
 //! Formatters: how a program shows values in its own way.
 
-ghost use Rattle.std.specs.Prelude.{◌≡◌, ℕ, List, Option, None, IfOk, option_map, string_bytes};
+ghost use Rattle.std.specs.Prelude.{◌≡◌, ℕ, List, Option, None, IfOk};
+ghost use Rattle.fluent_value.specs.OptionalText.{optional_bytes};
 ghost use Rattle.fluent_value.specs.Value.{Value};
 ghost use Rattle.fluent_value.specs.View.{value_view};
 
@@ -13,14 +14,17 @@ pub trait ValueFormatter<C: FluentType, M> {
     /// The text of a value, if the formatter has one for it.
     ghost formats: { Self → M → Value C.Meaning → Option (List ℕ) };
 
-    /// The text of a value, if the formatter has one for it. The only error is that memory runs out.
+    /// The text of a value, if the formatter has one for it.
+    ///
+    /// # Errors
+    /// [`AllocError`] if memory runs out; nothing is left behind.
     fn format(
         &self,
         alloc: Global,
         value: &FluentValue<'_, C>,
         plurals: &M,
     ) -> Result<Option<String>, AllocError>
-        ensures { IfOk result (λ text. option_map string_bytes text
+        ensures { IfOk result (λ text. optional_bytes text
             ≡ formats self.now plurals.now (value_view C.meaning value.now)) };
 }
 

@@ -1,9 +1,8 @@
 //! Functions that a program brings.
 
-ghost use Rattle.std.specs.Prelude.{◌≡◌, ℕ, List, IfOk, map};
-ghost use Rattle.fluent_value.specs.ArgsView.{args_view};
+ghost use Rattle.std.specs.Prelude.{ℕ, List, IfOk};
+ghost use Rattle.fluent_value.specs.CallResult.{IsCallResult};
 ghost use Rattle.fluent_value.specs.Value.{Value, error};
-ghost use Rattle.fluent_value.specs.View.{value_view};
 
 use crate::args::FluentArgs;
 use crate::custom::FluentType;
@@ -11,22 +10,31 @@ use crate::value::FluentValue;
 use std::alloc::{AllocError, Global};
 
 /// A function that messages may call.
+///
+/// ```
+/// impl FluentFunction<Day> for IsOpen {
+///     ghost gives = { λ _ values _. is_open values };
+/// ..
+///         Ok(FluentValue::String(CowStr::Borrowed(answer(*day))))
+///     }
+/// }
+/// ```
 pub trait FluentFunction<C: FluentType> {
     /// What it gives for positional values and named arguments.
     ghost gives: { Self → List (Value C.Meaning) → List (List ℕ × Value C.Meaning)
         → Value C.Meaning };
 
-    /// What it gives for these values, [`Error`](FluentValue::Error) where it has no answer. The only error is that memory
-    /// runs out.
+    /// What it gives for these values, [`Error`](FluentValue::Error) if it has no answer.
+    ///
+    /// # Errors
+    /// [`AllocError`] if memory runs out; nothing is left behind.
     fn call<'a, 'n>(
         &self,
         alloc: Global,
         positional: &[FluentValue<'a, C>],
         named: &FluentArgs<'n, C>,
     ) -> Result<FluentValue<'a, C>, AllocError>
-        ensures { IfOk result (λ value. value_view C.meaning value
-            ≡ gives self.now (map (value_view C.meaning) positional.now)
-            (args_view C.meaning named.now)) };
+        ensures { IfOk result (IsCallResult C.meaning (gives self.now) positional.now named.now) };
 }
 
 /// The type that stands in for a program without functions of its own. Its one value gives an error.

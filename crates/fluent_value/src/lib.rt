@@ -28,5 +28,5 @@ pub use formatter::{NoFormatter, ValueFormatter};
 pub use function::{FluentFunction, NoFunction};
 pub use plurals::{EnglishPlurals, MemoizerKind};
 pub use scope::ValueScope;
-pub use transform::TextTransform;
+pub use transform::{NoTransform, TextTransform};
 pub use value::FluentValue;

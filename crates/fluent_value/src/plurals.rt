@@ -11,6 +11,8 @@ use std::alloc::{AllocError, Global};
 use std::borrow::CowStr;
 
 /// A plural source: the plural rules of a language, and how values of a program's own type are shown in it.
+///
+/// The name is that of the Rust crate, whose memoizers keep the formatters that they made. Nothing is cached here.
 pub trait MemoizerKind {
     /// The category of a number by these rules, from its operands.
     ghost category_of: { Self → Plurals };
@@ -22,7 +24,10 @@ pub trait MemoizerKind {
     fn category(&self, rule: PluralRuleType, operands: &PluralOperands) -> PluralCategory
         ensures { result ≡ category_of self.now rule operands.now };
 
-    /// The text of a value of a program's own type. The only error is that memory runs out.
+    /// The text of a value of a program's own type.
+    ///
+    /// # Errors
+    /// [`AllocError`] if memory runs out; nothing is left behind.
     fn stringify_value<C: FluentType>(
         &self,
         alloc: Global,

@@ -1,8 +1,9 @@
 //! What values are compared and shown by.
 
-ghost use Rattle.std.specs.Prelude.{◌≡◌, Bool, false, ℕ, List, Option, IfOk, IsNone, IsOkAnd, option_map, string_bytes};
+ghost use Rattle.std.specs.Prelude.{◌≡◌, Bool, false, ℕ, List, Option, IfOk, IsNone, IsOkAnd};
 ghost use Rattle.std.specs.Cow.{cow_str_bytes};
 ghost use Rattle.fluent_value.specs.Matching.{Plurals};
+ghost use Rattle.fluent_value.specs.OptionalText.{optional_bytes};
 ghost use Rattle.fluent_value.specs.Value.{Value};
 ghost use Rattle.fluent_value.specs.View.{value_view};
 
@@ -27,10 +28,13 @@ pub trait ValueScope<C: FluentType> {
     /// The text of a value of the program's own type.
     ghost shown: { Self → C.Meaning → List ℕ };
 
-    /// The formatter's text of a value, where a formatter is set and answers one. Where none is set it takes no memory.
-    /// The only error is that memory runs out.
+    /// The formatter's text of a value, if a formatter is set and answers one. If none is set the call takes no memory and
+    /// succeeds.
+    ///
+    /// # Errors
+    /// [`AllocError`] if memory runs out; nothing is left behind.
     fn format(&self, value: &FluentValue<'_, C>) -> Result<Option<String>, AllocError>
-        ensures text { IfOk result (λ text. option_map string_bytes text
+        ensures text { IfOk result (λ text. optional_bytes text
             ≡ formatted self.now (value_view C.meaning value.now)) }
         ensures unset { has_formatter self.now ≡ false → IsOkAnd result IsNone };
 
@@ -38,7 +42,10 @@ pub trait ValueScope<C: FluentType> {
     fn category(&self, rule: PluralRuleType, operands: &PluralOperands) -> PluralCategory
         ensures { result ≡ plurals self.now rule operands.now };
 
-    /// The text of a value of the program's own type. The only error is that memory runs out.
+    /// The text of a value of the program's own type.
+    ///
+    /// # Errors
+    /// [`AllocError`] if memory runs out; nothing is left behind.
     fn stringify(&self, custom: &C) -> Result<CowStr<'static>, AllocError>
         ensures { IfOk result (λ text. cow_str_bytes text
             ≡ shown self.now (C.meaning custom.now)) };

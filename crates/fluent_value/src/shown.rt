@@ -3,7 +3,7 @@
 ghost use Rattle.std.specs.Prelude.{◌≡◌, ◌++◌, false, Ok, IfOk, OnOk, OnErr, IsOkAnd};
 ghost use Rattle.std.specs.Cow.{cow_str_bytes, IsBorrowedStr};
 ghost use Rattle.fluent_value.specs.Lent.{IsBorrowedText};
-ghost use Rattle.fluent_value.specs.Shown.{shown_text, plain_text as text_alone};
+ghost use Rattle.fluent_value.specs.Shown.{text_in, plain_text as text_alone};
 ghost use Rattle.fluent_value.specs.View.{value_view};
 ghost use Rattle.fluent_value.specs.declared.value.FluentValue.TheVariants as of;
 
@@ -28,8 +28,7 @@ impl<'a, C: FluentType> FluentValue<'a, C> {
         scope: &S,
     ) -> Result<(), WriteError>
         ensures written { OnOk result (W.text w.new
-            ≡ W.text w.old ++ shown_text (S.formatted scope.now) (S.shown scope.now)
-            (value_view C.meaning self.now)) }
+            ≡ W.text w.old ++ text_in S.formatted S.shown scope.now C.meaning self.now) }
         ensures refused { OnErr result (W.text w.new ≡ W.text w.old) }
     {
         if let Some(formatted) = scope.format(self)? {
@@ -45,12 +44,14 @@ impl<'a, C: FluentType> FluentValue<'a, C> {
         Ok(())
     }
 
-    /// The text that the value is shown as, as [`write`](FluentValue::write) writes it. Where no formatter is set, a
-    /// borrowed text stays borrowed, which takes no memory and succeeds. The only error is that memory runs out.
+    /// The text that the value is shown as, as [`write`](FluentValue::write) writes it. If no formatter is set, a borrowed
+    /// text stays borrowed, which takes no memory and succeeds.
+    ///
+    /// # Errors
+    /// [`AllocError`] if memory runs out; nothing is left behind.
     pub fn as_string<S: ValueScope<C>>(&self, scope: &S) -> Result<CowStr<'a>, AllocError>
         ensures text { IfOk result (λ text. cow_str_bytes text
-            ≡ shown_text (S.formatted scope.now) (S.shown scope.now)
-            (value_view C.meaning self.now)) }
+            ≡ text_in S.formatted S.shown scope.now C.meaning self.now) }
         ensures borrowed { S.has_formatter scope.now ≡ false → IsBorrowedText self.now
             → IsOkAnd result IsBorrowedStr }
     {
@@ -70,12 +71,14 @@ impl<'a, C: FluentType> FluentValue<'a, C> {
 }
 
 impl<'a, C: FluentType + Drop> FluentValue<'a, C> {
-    /// The text that the value is shown as, as [`write`](FluentValue::write) writes it. Where no formatter is set, a text is
-    /// handed back as it is, which takes no memory and succeeds. The only error is that memory runs out.
+    /// The text that the value is shown as, as [`write`](FluentValue::write) writes it. If no formatter is set, a text is
+    /// handed back as it is, which takes no memory and succeeds.
+    ///
+    /// # Errors
+    /// [`AllocError`] if memory runs out; nothing is left behind.
     pub fn into_string<S: ValueScope<C>>(self, scope: &S) -> Result<CowStr<'a>, AllocError>
         ensures text { IfOk result (λ text. cow_str_bytes text
-            ≡ shown_text (S.formatted scope.now) (S.shown scope.now)
-            (value_view C.meaning self.entry)) }
+            ≡ text_in S.formatted S.shown scope.now C.meaning self.entry) }
         ensures handed_back { (text : _) → S.has_formatter scope.now ≡ false
             → self.entry ≡ of.String text → result ≡ Ok text }
     {

@@ -11,7 +11,10 @@ pub trait TextTransform: Drop {
     /// What becomes of a text.
     ghost transformed: { Self → List ℕ → List ℕ };
 
-    /// What becomes of a text. The only error is that memory runs out.
+    /// What becomes of a text.
+    ///
+    /// # Errors
+    /// [`AllocError`] if memory runs out; nothing is left behind.
     fn transform<'t>(&self, alloc: Global, text: &'t str) -> Result<CowStr<'t>, AllocError>
         ensures { IfOk result (λ new. cow_str_bytes new ≡ transformed self.now text.now) };
 }
@@ -21,5 +24,17 @@ impl TextTransform for Box<dyn TextTransform> {
 
     fn transform<'t>(&self, alloc: Global, text: &'t str) -> Result<CowStr<'t>, AllocError> {
         (**self).transform(alloc, text)
+    }
+}
+
+/// The type that stands in for a program without a transform. Its one value leaves each text as it is.
+#[derive(Clone, Copy, Debug, PartialEq, Eq)]
+pub struct NoTransform;
+
+impl TextTransform for NoTransform {
+    ghost transformed = { λ _ text. text };
+
+    fn transform<'t>(&self, _alloc: Global, text: &'t str) -> Result<CowStr<'t>, AllocError> {
+        Ok(CowStr::Borrowed(text))
     }
 }

@@ -8,14 +8,20 @@ ghost use Rattle.fluent_value.specs.Equality.{value_eq-per};
 ghost use Rattle.fluent_value.specs.Value.{number_or_text};
 ghost use Rattle.fluent_value.specs.View.{value_view, value_eq};
 
-use crate::custom::FluentType;
+use crate::custom::{FluentType, NoCustom};
 use fluent_number::FluentNumber;
 use std::alloc::{AllocError, Global};
 use std::borrow::CowStr;
 
 /// A value: an argument of a message, what a function takes or gives, or what a selector is compared by.
+///
+/// ```
+/// args.set("name", "Jane")?;
+/// args.set("count", 3_u32)?;
+/// args.set("amount", FluentValue::try_number("3.5"))?;
+/// ```
 #[derive(Debug, Drop)]
-pub enum FluentValue<'a, C> {
+pub enum FluentValue<'a, C = NoCustom> {
     /// A text.
     String(CowStr<'a>),
     /// A number, and how it is to be shown.
@@ -40,7 +46,10 @@ impl<'a, C: FluentType> FluentValue<'a, C> {
         }
     }
 
-    /// The same value. A borrowed text stays borrowed. The only error is that memory runs out.
+    /// The same value. A borrowed text stays borrowed.
+    ///
+    /// # Errors
+    /// [`AllocError`] if memory runs out; nothing is left behind.
     pub fn try_clone(&self, alloc: Global) -> Result<Self, AllocError>
         ensures { IfOk result (λ copy. value_view C.meaning copy ≡ value_view C.meaning self.now) }
     {
@@ -52,7 +61,10 @@ impl<'a, C: FluentType> FluentValue<'a, C> {
         }
     }
 
-    /// The same value, which borrows nothing. The only error is that memory runs out.
+    /// The same value, which borrows nothing.
+    ///
+    /// # Errors
+    /// [`AllocError`] if memory runs out; nothing is left behind.
     pub fn into_owned<'b>(&self, alloc: Global) -> Result<FluentValue<'b, C>, AllocError>
         ensures { IfOk result (λ copy. value_view C.meaning copy ≡ value_view C.meaning self.now) }
     {

@@ -11,9 +11,11 @@ is_no_name_byte c = not (is_name_byte c)
 abbrev pub is_no_space : ℕ → Bool
 is_no_space c = not (c == space)
 
+-- a line feed
 abbrev pub is_line_feed : ℕ → Bool
 is_line_feed = is_byte line_feed
 
+-- an opening or a closing brace
 abbrev pub is_brace : ℕ → Bool
 is_brace c = c == open_brace || c == close_brace
 

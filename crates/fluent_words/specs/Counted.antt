@@ -16,13 +16,16 @@ pub record Cuts (text : Text) (count : ℕ) : Type 0 where
   pub within : count ≤ length text
   pub boundary : IsUtf8 text → IsCharBoundary text count
 
+-- whether a blank stands at the front: a space or a line end
 abbrev pub is_blank_at : Text → Bool
 is_blank_at [] = false
 is_blank_at (c ∷ cs) = (c == space || c == line_feed) || (c == carriage_return && begins_with line_feed cs)
 
+-- the sign of a comment
 abbrev pub is_sign : ℕ → Bool
 is_sign c = c == number_sign
 
+-- what may stand behind a comment's signs: the end, a space or a line end
 abbrev pub is_comment_line : Text → Bool
 is_comment_line text = (length text == 0 || begins_with space text) || is_some (after_line_end text)
 
@@ -30,10 +33,12 @@ is_comment_line text = (length text == 0 || begins_with space text) || is_some (
 abbrev pub IsLineEnd : Text → ℕ → Type 0
 IsLineEnd text count = after_line_end text ≡ (if count == 0 then None else Some (drop count text))
 
+-- how many bytes the number at the front has, or where its reading stops without a digit
 abbrev pub IsNumber : Text → Result ℕ ℕ → Type 0
 IsNumber text (Ok count) = (number_at text ≡ got (take count text) (drop count text)) × Cuts text count
 IsNumber text (Err count) = (number_at text ≡ refuse r.expected_digit (drop count text)) × Cuts text count
 
+-- how many bytes the text at the front has, or where its reading stops at a closing brace
 abbrev pub IsText : Text → Result ℕ ℕ → Type 0
 IsText text (Ok count) = (text_run text ≡ got (take count text) (drop count text)) × Cuts text count
 IsText text (Err count) = (text_run text ≡ refuse r.unbalanced_closing_brace (drop count text)) × Cuts text count
@@ -54,6 +59,7 @@ before_feed text end = if nat_lt 0 end && slice_index text (end - 1) == carriage
 abbrev pub is_no_brace : ℕ → Bool
 is_no_brace c = not (c == open_brace || c == close_brace)
 
+-- no brace stands anywhere in a text
 abbrev pub is_plain : Text → Bool
 is_plain text = list_all is_no_brace text
 

@@ -8,7 +8,10 @@ ghost use Rattle.fluent_words.specs.Counted.{IsNumber};
 
 use crate::begins_with;
 
-/// How many bytes the number at the front has, or the offset where a digit is missing. Production `NumberLiteral`.
+/// How many bytes the number at the front has. Production `NumberLiteral`.
+///
+/// # Errors
+/// The offset at which a digit is missing, if no number stands there.
 pub fn number_len(text: &[u8]) -> Result<usize, usize>
     ensures { IsNumber text.now result }
 {

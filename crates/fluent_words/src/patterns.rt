@@ -16,8 +16,10 @@ use std::simd::prelude::*;
 /// How many bytes are told sixteen at a time. What is farther is left to `memchr3`, which is slower on short texts.
 const NEAR: usize = 128;
 
-/// The text at the front: up to and with the line feed, or up to an opening brace, a CR LF or the end. An `Err` is the
-/// offset of a closing brace, which no text may have.
+/// How many bytes the text at the front has: up to and with the line feed, or up to an opening brace, a CR LF or the end.
+///
+/// # Errors
+/// The offset of a closing brace, if one comes first: no text may have it.
 pub fn text_len(text: &[u8]) -> Result<usize, usize>
     ensures { IsText text.now result }
 {

@@ -44,3 +44,5 @@ impl From<fmt::Error> for WriteError {
         WriteError::Writer
     }
 }
+
+impl std::error::Error for WriteError {}

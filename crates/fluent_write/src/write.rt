@@ -9,7 +9,10 @@ pub trait TextWrite {
     /// The bytes that the writer holds, in the order of the pieces that it took.
     ghost text: { Self → List ℕ };
 
-    /// Takes a piece behind what was written before, or refuses it whole.
+    /// Takes a piece after what was written before, or refuses it whole.
+    ///
+    /// # Errors
+    /// [`fmt::Error`] if the writer refuses the piece; what it holds is unchanged.
     fn write_str(&mut self, piece: &str) -> fmt::Result
         ensures taken { OnOk result (text self.new ≡ text self.old ++ piece.now) }
         ensures refused { OnErr result (text self.new ≡ text self.old) };

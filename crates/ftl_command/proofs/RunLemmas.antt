@@ -1,8 +1,8 @@
 -- What the program does before it answers.
-use Rattle.std.proofs.Common.{ℕ, ◌+◌, ◌<◌, List, [], ◌∷◌, ◌++◌, length, take, map, get_or, ◌≡◌, Option, Some, None, IsSomeAnd, Result, Ok, Err, IfOk, OnOk, refl}
+use Rattle.std.proofs.Common.{ℕ, ◌+◌, ◌<◌, List, [], ◌∷◌, ◌++◌, length, take, map, get_or, ◌≡◌, Option, Some, None, IsSomeAnd, Result, Ok, Err, IfErr, IfOk, OnOk, refl}
 use Rattle.std.proofs.lemmas.List.{take_more, map-append}
 use denote.Ref.{Bor}
-use Rattle.std.specs.Prelude.{IfSome}
+use Rattle.std.specs.Prelude.{◌≢◌, IfSome, IsErrOf}
 use Rattle.fluent_requests.specs.Text.{Text}
 use Rattle.fluent_serve.specs.Exchange.{Devices, devices_of, AnswersFirst}
 use Rattle.fluent_serve.specs.Texts.{texts}
@@ -10,6 +10,7 @@ use Rattle.ftl_words.specs.Meaning.{Asked, Run, run, check, tidy}
 use Rattle.ftl_command.specs.declared.ended.Ended.{Ended}
 use Rattle.ftl_command.specs.declared.ended.Ended.TheVariants.{Done}
 use Rattle.ftl_command.specs.declared.fault.Fault.{Fault}
+use Rattle.ftl_command.specs.declared.fault.Fault.TheVariants.{Output}
 use Rattle.ftl_command.specs.Files.{AreHeld}
 use Rattle.ftl_command.specs.Plurals.{plurals_asked}
 use Rattle.ftl_command.specs.Program.{OnRun, OnRunBy, AfterMemory, AnswersFirstBy, WithoutInput, line_for}
@@ -96,3 +97,15 @@ kept_input (Some (tidy t)) reader = refl
 pub done_by : (r : Result Ended Fault) (P : Type 0) → IfOk r (λ end. end ≡ Done) → OnOk r P → IfOk r (λ end. (end ≡ Done) × P)
 done_by (Ok end) P is answered = (is, answered)
 done_by (Err fault) P is answered = tt
+
+-- after a fault but `Output` a value is as it was
+pub kept_by : {W : Type 0} {now before : W} (r : Result Ended Fault) (fault : Fault) → IsErrOf r fault → fault ≢ Output → IfErr r (λ e. e ≢ Output → now ≡ before) → now ≡ before
+kept_by r fault is other kept = (rw is at kept) other
+
+-- a fault that doesn't come
+pub never_by : (r : Result Ended Fault) (fault : Fault) → IsErrOf r fault → IfErr r (λ e. e ≢ fault) → ⊥
+never_by r fault is never = (rw is at never) refl
+
+-- only `Output` comes
+pub other_by : (r : Result Ended Fault) (fault : Fault) → IsErrOf r fault → fault ≢ Output → IfErr r (λ e. e ≡ Output) → ⊥
+other_by r fault is other only = other (rw is at only)

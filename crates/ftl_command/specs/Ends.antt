@@ -4,10 +4,13 @@ use Rattle.std.specs.Io.KnownBytes.{Appends}
 use Rattle.fluent_requests.specs.Text.{Text}
 use Rattle.fluent_serve.specs.Devices.{HasFailed}
 use Rattle.fluent_serve.specs.Exchange.{Devices, devices_of}
+use Rattle.fluent_serve.specs.declared.stream.Sink.{Ghosts as SinkGhosts}
+use Rattle.fluent_serve.specs.declared.stream.Source.{Ghosts as SourceGhosts}
 use Rattle.ftl_words.specs.Meaning.{AskForHelp, AskForHelpAlone, command_of}
 use Rattle.ftl_command.specs.declared.ended.Ended.{Ended}
 use Rattle.ftl_command.specs.declared.fault.Fault.{Fault}
 use Rattle.ftl_command.specs.declared.fault.Fault.TheVariants.{CommandLine, Input, Output, Memory}
+use Rattle.ftl_command.specs.declared.folder.Folder.{Ghosts as FolderGhosts}
 use Rattle.ftl_command.specs.Faults.{outcome_status, fault_line, ReachesFile, SaysNoUtf8, SaysUnknown, FailsAsTold, IsBeforeInput}
 use Rattle.ftl_command.specs.Program.{IsDone, AfterMemory, AfterInput, AfterOutput, WithoutInput, WritesFront, files_named, locale_named}
 use Rattle.ftl_command.specs.Refusals.{IsRight}
@@ -24,6 +27,7 @@ abbrev pub seen : {D : Type 0} → (D → Option Text) → (D → ℕ) → D →
 seen bytes failures before after =
     record { before = bytes before; after = bytes after; failures_before = failures before; failures_after = failures after }
 
+-- what a reader and a writer have come to
 abbrev pub exchanged : Seen → Seen → Devices
 exchanged input output = devices_of input.before input.after output.before output.after
 
@@ -73,6 +77,12 @@ pub record Ends (contents : Text → Option Text) (unread_before unread_after : 
   pub input_failed : IsErrOf outcome Input → AfterInput contents (exchanged input output) (HasFailed input.failures_before input.failures_after) (command_of words)
   pub output_cut : IsErrOf outcome Output → AfterOutput contents (exchanged input output) (command_of words)
   pub output_failed : IsErrOf outcome Output → HasFailed output.failures_before output.failures_after
+
+-- so it is on a folder, a reader and two writers, by what they tell
+abbrev pub EndsOn : {F R W V : Type 0} → FolderGhosts F → F → F → SourceGhosts R → R → R → SinkGhosts W → W → W → SinkGhosts V → V → V → List Text → ℕ → Type 0
+EndsOn folders folder folder' source reader reader' sink writer writer' told faults faults' words status =
+    Ends (folders.contents folder) (folders.failures folder) (folders.failures folder') (seen source.remaining source.failures reader reader')
+    (seen sink.contents sink.failures writer writer') (seen told.contents told.failures faults faults') words status
 
 -- the device begins with these bytes, and no call has failed yet
 abbrev pub Begins : Seen → Option Text → Type 0

@@ -4,3 +4,4 @@ pub mod Files
 pub mod Plurals
 pub mod Program
 pub mod Refusals
+pub mod ErrorTexts

@@ -1,13 +1,16 @@
 -- What the program does for its words, and how far it came before a fault.
-use Rattle.std.specs.Prelude.{◌≡◌, List, [], ◌∷◌, ◌++◌, ⊤, false, Option, Some, None, IfSome, IsSomeAnd, option_map}
+use Rattle.std.specs.Prelude.{◌≡◌, List, [], ◌∷◌, ◌++◌, ⊤, false, Option, Some, None, IfSome, IsSomeAnd, option_map, Result, IfOk, OnOk, IsErrOf}
 use Rattle.std.specs.List.{list_any}
 use Rattle.std.specs.Io.KnownBytes.{Appends, IsAtEnd}
 use Rattle.fluent_value.specs.declared.function.NoFunction.{NoFunction}
 use Rattle.fluent_requests.specs.Text.{Text, line_feed}
 use Rattle.fluent_requests.specs.Frames.{answers}
 use Rattle.fluent_answers.specs.Answers.{line_answered}
-use Rattle.fluent_serve.specs.Exchange.{Devices, IsFrontOf, AnswersAll, AnswersFirst, AnswersWhole, AnswersFront}
+use Rattle.fluent_serve.specs.Devices.{HasFailed}
+use Rattle.fluent_serve.specs.Exchange.{Devices, devices, IsFrontOf, AnswersAll, AnswersFirst, AnswersWhole, AnswersFront}
 use Rattle.fluent_serve.specs.Texts.{texts}
+use Rattle.fluent_serve.specs.declared.stream.Sink.{Ghosts as SinkGhosts}
+use Rattle.fluent_serve.specs.declared.stream.Source.{Ghosts as SourceGhosts}
 use Rattle.fluent_run.specs.RunView.{no_text}
 use Rattle.fluent_run.specs.declared.settings.Settings.{Settings}
 use denote.Ref.{Bor}
@@ -29,6 +32,9 @@ use Rattle.ftl_command.specs.Plurals.{category_in, plurals_asked}
 use Rattle.ftl_command.specs.declared.plurals.RunPlurals.{RunPlurals}
 use Rattle.ftl_command.specs.declared.ended.Ended.{Ended}
 use Rattle.ftl_command.specs.declared.ended.Ended.TheVariants.{Done, Found}
+use Rattle.ftl_command.specs.declared.fault.Fault.{Fault}
+use Rattle.ftl_command.specs.declared.fault.Fault.TheVariants.{Input, Output, Memory}
+use Rattle.ftl_command.specs.declared.folder.Folder.{Ghosts as FolderGhosts}
 
 -- ---- a run
 
@@ -63,8 +69,24 @@ AnsweredAlike d plurals r sources = (others : List Text) → tidying.Tidied sour
 abbrev pub OnRunAlike : (Text → Option Text) → Devices → Run → Type 0
 OnRunAlike contents d r = IsSomeAnd (plurals_asked r.locale) (λ plurals. OnTexts contents r.files (AnsweredAlike d plurals r))
 
+-- what a run on files has come to, by how it ended; `failed` says that the input failed
+pub record RunEnds (contents : Text → Option Text) (d : Devices) (failed : Type 0) (r : Run) (result : Result Ended Fault) : Type 0 where
+  pub answered : OnOk result (OnRun contents r (Answered d))
+  -- of whatever the sources are tidied into, what is written is the answers too
+  pub tidied : OnOk result (OnRunAlike contents d r)
+  -- what was answered before a fault stays written
+  pub memory : IsErrOf result Memory → OnRun contents r (AnswersFirst d)
+  pub input : IsErrOf result Input → OnRun contents r (λ line. AnswersWhole d line failed 4294967296)
+  pub output : IsErrOf result Output → OnRun contents r (AnswersFront d)
+
+-- so it is on a folder, a reader and a writer, by what they tell
+abbrev pub RunEndsOn : {F R W : Type 0} → FolderGhosts F → F → SourceGhosts R → R → R → SinkGhosts W → W → W → Run → Result Ended Fault → Type 0
+RunEndsOn folders folder source reader reader' sink writer writer' r result =
+    RunEnds (folders.contents folder) (devices source.remaining reader reader' sink.contents writer writer') (HasFailed (source.failures reader) (source.failures reader')) r result
+
 -- ---- a text that is written
 
+-- a text is written, and nothing else
 abbrev pub Writes : Devices → Text → Type 0
 Writes d text = Appends d.held_before d.held_after text
 
@@ -83,9 +105,23 @@ end_by (b ∷ bs) = Found
 abbrev pub OnReport : (Text → Option Text) → List Text → (Text → Type 0) → Type 0
 OnReport contents files Outcome = OnTexts contents files (λ sources. Outcome (report_text sources))
 
--- the compact JSON text of a cut source's tree, and a line feed
+-- a text is that report
+abbrev pub IsReport : (Text → Option Text) → List Text → Text → Type 0
+IsReport contents files text = OnReport contents files (λ report. text ≡ report)
+
+-- what a check has come to, by how it ended
+pub record CheckEnds {F W : Type 0} (folders : FolderGhosts F) (folder : F) (files : List Text) (sink : SinkGhosts W) (writer writer' : W) (result : Result Ended Fault) : Type 0 where
+  pub checked : IfOk result (λ end. OnReport (folders.contents folder) files (λ text. Appends (sink.contents writer) (sink.contents writer') text × (end ≡ end_by text)))
+  -- a front of the report is written
+  pub output : IsErrOf result Output → OnReport (folders.contents folder) files (WritesFront (sink.contents writer) (sink.contents writer'))
+
+-- the compact JSON text of a value, and a line feed
+abbrev pub data_line : Data → Text
+data_line value = compact_text value ++ line_feed ∷ []
+
+-- that of a cut source's tree
 abbrev pub json_line : Text → Text
-json_line source = compact_text (json (tree (cut source))) ++ line_feed ∷ []
+json_line source = data_line (json (tree (cut source)))
 
 -- a JSON text whose value is imported as a text
 pub record Imports (source text : Text) : Type 0 where
@@ -120,6 +156,12 @@ pub record Tidied (contents : Text → Option Text) (t : Tidy) (Outcome : Text �
   pub text : Text
   pub tidies : Tidies contents t text
   pub outcome : Outcome text
+
+-- what tidying has come to, by how it ended
+pub record TidyEnds {F W : Type 0} (folders : FolderGhosts F) (folder : F) (t : Tidy) (sink : SinkGhosts W) (writer writer' : W) (result : Result Ended Fault) : Type 0 where
+  pub written : OnOk result (Tidied (folders.contents folder) t (Appends (sink.contents writer) (sink.contents writer')))
+  -- a front of the text is written
+  pub output : IsErrOf result Output → Tidied (folders.contents folder) t (WritesFront (sink.contents writer) (sink.contents writer'))
 
 -- ---- what the words ask for; with nothing asked for, help is shown
 
@@ -162,6 +204,20 @@ AfterOutput contents d None = ⊤
 AfterOutput contents d (Some (run r)) = OnRun contents r (AnswersFront d)
 AfterOutput contents d (Some (check files)) = OnReport contents files (WritesFront d.held_before d.held_after)
 AfterOutput contents d (Some (tidy t)) = Tidied contents t (WritesFront d.held_before d.held_after)
+
+-- What a command has come to, by how it ended. `failed` says that the input failed.
+pub record CommandEnds (contents : Text → Option Text) (d : Devices) (failed : Type 0) (asked : Option Asked) (result : Result Ended Fault) : Type 0 where
+  pub done : IfOk result (IsDone contents d asked)
+  pub tidied : OnOk result (IsDoneAlike contents d asked)
+  -- what was written before a fault stays written
+  pub memory : IsErrOf result Memory → AfterMemory contents d asked
+  pub input : IsErrOf result Input → AfterInput contents d failed asked
+  pub output : IsErrOf result Output → AfterOutput contents d asked
+
+-- so it is on a folder, a reader and a writer, by what they tell
+abbrev pub CommandEndsOn : {F R W : Type 0} → FolderGhosts F → F → SourceGhosts R → R → R → SinkGhosts W → W → W → Option Asked → Result Ended Fault → Type 0
+CommandEndsOn folders folder source reader reader' sink writer writer' asked result =
+    CommandEnds (folders.contents folder) (devices source.remaining reader reader' sink.contents writer writer') (HasFailed (source.failures reader) (source.failures reader')) asked result
 
 -- a fact about what commands without input leave as it was
 abbrev pub WithoutInput : Option Asked → Type 0 → Type 0

@@ -1,5 +1,5 @@
 -- Why the program refuses to tidy what its files hold.
-use Rattle.std.specs.Prelude.{◌≡◌, Option, None, Some, IsTrue}
+use Rattle.std.specs.Prelude.{◌≡◌, Option, None, Some, IsTrue, Result, IfErr}
 use Rattle.std.specs.List.{list_any}
 use Rattle.serde_json.specs.Read.{read as read_text}
 use Rattle.fluent_requests.specs.Text.{Text}
@@ -9,7 +9,8 @@ use Rattle.fluent_tidy.specs.Sources.{holds_return}
 use Rattle.fluent_tidy.specs.Trees.{IsNotImported}
 use Rattle.ftl_words.specs.Meaning.{Asked, Tidy, run, check, tidy, clean, normalize, join, export, import}
 use Rattle.ftl_command.specs.Files.{OnFile, OnTexts}
-use Rattle.ftl_command.specs.Program.{OnValue}
+use Rattle.ftl_command.specs.Faults.{IsOfTidying, NamesOneOf, ReachesFile, SaysNoUtf8}
+use Rattle.ftl_command.specs.Program.{OnValue, files_of}
 use Rattle.ftl_command.specs.declared.fault.Fault.{Fault}
 use Rattle.ftl_command.specs.declared.fault.Fault.TheVariants.{CarriageReturn, NotNormal, NotTree, NotJson, CommandLine, UnknownLocale, FileUnreadable, FileNotUtf8, Input, Output, Memory}
 
@@ -58,6 +59,15 @@ IsRightOf contents t (FileNotUtf8 file) = Unit {0}
 IsRightOf contents t Input = Unit {0}
 IsRightOf contents t Output = Unit {0}
 IsRightOf contents t Memory = Unit {0}
+
+-- what is said by the fault that tidying ended with, if it did, is so
+pub record FaultsOn {T : Type 0} (contents : Text → Option Text) (t : Tidy) (result : Result T Fault) : Type 0 where
+  pub of_tidying : IfErr result IsOfTidying
+  pub right : IfErr result (IsRightOf contents t)
+  -- of a file
+  pub named : IfErr result (NamesOneOf (files_of t))
+  pub not_utf8 : IfErr result (SaysNoUtf8 contents)
+  pub reached : IfErr result (ReachesFile contents (files_of t))
 
 -- the fault is no refusal to tidy
 abbrev pub RefusesNothing : Fault → Type 0

@@ -1,10 +1,9 @@
 //! The report on the sources in files.
 ghost use Rattle.std.specs.Prelude.{◌≡◌, ◌≢◌, None, IfOk, IfErr, OnOk, IsErrOf, string_bytes};
-ghost use Rattle.std.specs.Io.KnownBytes.{Appends};
 ghost use Rattle.fluent_serve.specs.Texts.{texts};
 ghost use Rattle.fluent_serve.specs.Devices.{HasFailed};
 ghost use Rattle.ftl_command.specs.Faults.{FailsAsTold, NamesOneOf, ReachesFile, SaysNoUtf8, SaysUnknown, IsOfFiles};
-ghost use Rattle.ftl_command.specs.Program.{OnReport, WritesFront, end_by};
+ghost use Rattle.ftl_command.specs.Program.{CheckEnds, IsReport};
 ghost use Rattle.ftl_command.specs.Refusals.{RefusesNothing};
 
 use crate::borrowed::borrow_texts;
@@ -18,15 +17,17 @@ use ftl_report::check_text;
 use std::alloc::Global;
 
 /// Writes a line for each error of the sources in `files`, and then one for each entry whose id was there.
+///
+/// # Errors
+/// The first fault. After [`Fault::Output`] a front of the report was written, and after another fault nothing.
 pub fn check_files<'words, F: Folder, O: Sink>(
     folder: &mut F,
     alloc: Global,
     files: &[&'words str],
     writer: &mut O,
 ) -> Result<Ended, Fault<'words>>
-    ensures checked { IfOk result (λ end.
-        OnReport (F.contents folder.old) (texts files.now) (λ text.
-        Appends (O.contents writer.old) (O.contents writer.new) text × (end ≡ end_by text))) }
+    ensures ended { CheckEnds F.Folder folder.old (texts files.now)
+        O.Sink writer.old writer.new result }
     ensures writes { OnOk result (O.failures writer.new ≡ O.failures writer.old) }
     ensures refuses { IfErr result RefusesNothing }
     ensures not_words { IfErr result (λ fault. fault ≢ Fault.CommandLine) }
@@ -39,9 +40,6 @@ pub fn check_files<'words, F: Folder, O: Sink>(
     ensures unreadable { IfErr result (FailsAsTold (F.failures folder.old)
         (F.failures folder.new)) }
     ensures unwritten { IfErr result (λ fault. fault ≢ Fault.Output → writer.new ≡ writer.old) }
-    ensures output { IsErrOf result Fault.Output
-        → OnReport (F.contents folder.old) (texts files.now)
-        (WritesFront (O.contents writer.old) (O.contents writer.new)) }
     ensures failed { IsErrOf result Fault.Output
         → HasFailed (O.failures writer.old) (O.failures writer.new) }
 {
@@ -60,8 +58,8 @@ fn report_on<'words, F: Folder>(
     alloc: Global,
     files: &[&'words str],
 ) -> Result<String, Fault<'words>>
-    ensures report { IfOk result (λ text. OnReport (F.contents folder.old) (texts files.now)
-        (λ report. string_bytes text ≡ report)) }
+    ensures report { IfOk result (λ text.
+        IsReport (F.contents folder.old) (texts files.now) (string_bytes text)) }
     ensures fault { IfErr result IsOfFiles }
     ensures named { IfErr result (NamesOneOf (texts files.now)) }
     ensures not_utf8 { IfErr result (SaysNoUtf8 (F.contents folder.old)) }

@@ -1,12 +1,12 @@
 //! The program: its words, its files and its streams.
-ghost use Rattle.std.specs.Prelude.{◌≡◌, ◌≢◌, ◌∷◌, [], None, Contains, IfOk, OnOk, IfErr, IsErrOf};
-ghost use Rattle.fluent_serve.specs.Devices.{HasFailed, IsGivenUp};
-ghost use Rattle.fluent_serve.specs.Exchange.{devices};
+ghost use Rattle.std.specs.Prelude.{◌≡◌, ◌≢◌, ◌∷◌, [], None, Contains, OnOk, IfErr, IsErrOf};
+ghost use Rattle.fluent_serve.specs.Devices.{HasFailed};
+ghost use Rattle.fluent_serve.specs.Exchange.{GivesUp};
 ghost use Rattle.ftl_words.specs.Meaning.{AskForHelp, AskForHelpAlone, command_of, texts};
-ghost use Rattle.ftl_command.specs.Ends.{seen, Ends, EndsOver};
+ghost use Rattle.ftl_command.specs.Ends.{EndsOn, EndsOver};
 ghost use Rattle.ftl_command.specs.Faults.{FailsAsTold, NamesOneOf, ReachesFile, SaysNoUtf8, SaysUnknown};
 ghost use Rattle.ftl_command.specs.Faults.{IsBeforeInput, IsOfLocale};
-ghost use Rattle.ftl_command.specs.Program.{IsDone, IsDoneAlike, AfterMemory, AfterInput, AfterOutput, WithoutInput};
+ghost use Rattle.ftl_command.specs.Program.{CommandEndsOn, WithoutInput};
 ghost use Rattle.ftl_command.specs.Program.{IsRefused, files_named, locale_named};
 ghost use Rattle.ftl_command.specs.Refusals.{IsRight};
 
@@ -72,10 +72,8 @@ pub fn program_on<F: Folder, I: Source, O: Sink, T: Sink>(
     ensures not_help { result ≡ 2 → ¬ AskForHelpAlone (texts words.now) }
     ensures served { result ≡ 0 → command_of (texts words.now) ≡ None
         → AskForHelp (texts words.now) }
-    ensures ended { Ends (F.contents folder.old) (F.failures folder.old) (F.failures folder.new)
-        (seen I.remaining I.failures reader.old reader.new)
-        (seen O.contents O.failures writer.old writer.new)
-        (seen T.contents T.failures faults.old faults.new) (texts words.now) result }
+    ensures ended { EndsOn F.Folder folder.old folder.new I.Source reader.old reader.new
+        O.Sink writer.old writer.new T.Sink faults.old faults.new (texts words.now) result }
 {
     match run_command(folder, alloc, words, reader, writer) {
         Ok(end) => end.status(),
@@ -96,12 +94,10 @@ pub fn run_command<'words, F: Folder, I: Source, O: Sink>(
     reader: &mut I,
     writer: &mut O,
 ) -> Result<Ended, Fault<'words>>
-    ensures done { IfOk result (λ end. IsDone (F.contents folder.old)
-        (devices I.remaining reader.old reader.new O.contents writer.old writer.new)
-        (command_of (texts words.now)) end) }
-    ensures tidied { OnOk result (IsDoneAlike (F.contents folder.old)
-        (devices I.remaining reader.old reader.new O.contents writer.old writer.new)
-        (command_of (texts words.now))) }
+    // What is asked for is done. A run writes what it would write from whatever its sources are tidied into, too. What was written
+    // before a fault stays written.
+    ensures ended { CommandEndsOn F.Folder folder.old I.Source reader.old reader.new
+        O.Sink writer.old writer.new (command_of (texts words.now)) result }
     ensures help { OnOk result (command_of (texts words.now) ≡ None
         → AskForHelp (texts words.now)) }
     ensures opens { OnOk result (F.failures folder.new ≡ F.failures folder.old) }
@@ -125,18 +121,9 @@ pub fn run_command<'words, F: Folder, I: Source, O: Sink>(
     ensures unread { IfErr result (λ fault. IsBeforeInput fault → reader.new ≡ reader.old) }
     ensures unwritten { IfErr result (λ fault. IsBeforeInput fault → writer.new ≡ writer.old) }
 
-    // What was written before another fault stays written.
-    ensures memory { IsErrOf result Fault.Memory → AfterMemory (F.contents folder.old)
-        (devices I.remaining reader.old reader.new O.contents writer.old writer.new)
-        (command_of (texts words.now)) }
-    ensures input { IsErrOf result Fault.Input → AfterInput (F.contents folder.old)
-        (devices I.remaining reader.old reader.new O.contents writer.old writer.new)
-        (HasFailed (I.failures reader.old) (I.failures reader.new)) (command_of (texts words.now)) }
-    ensures given_up { IsErrOf result Fault.Input → IsGivenUp (I.failures reader.old)
-        (I.failures reader.new) (I.given reader.old) (I.given reader.new) 4294967296 }
-    ensures output { IsErrOf result Fault.Output → AfterOutput (F.contents folder.old)
-        (devices I.remaining reader.old reader.new O.contents writer.old writer.new)
-        (command_of (texts words.now)) }
+    // The device that is at fault failed, or the input came to no end.
+    ensures given_up { IsErrOf result Fault.Input
+        → GivesUp I.Source reader.old reader.new 4294967296 }
     ensures failed { IsErrOf result Fault.Output
         → HasFailed (O.failures writer.old) (O.failures writer.new) }
 {

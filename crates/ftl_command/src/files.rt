@@ -8,14 +8,18 @@ use crate::fault::Fault;
 use crate::folder::{FileError, Folder};
 use std::alloc::Global;
 
-/// Reads the files, a text for each, in their order. The first that cannot be read, or is no UTF-8, is the fault.
+/// Reads the files, a text for each, in their order.
+///
+/// # Errors
+/// Of the first file that gives no text: [`Fault::FileUnreadable`] if it can't be read, [`Fault::FileNotUtf8`] if it isn't UTF-8.
+/// [`Fault::Memory`] if memory runs out; nothing is left behind.
 pub fn read_sources<'words, F: Folder>(
     folder: &mut F,
     alloc: Global,
     files: &[&'words str],
 ) -> Result<Vec<String>, Fault<'words>>
-    ensures held { IfOk result (λ sources.
-        AreHeld (F.contents folder.old) (texts files.now) (map string_bytes sources.items)) }
+    ensures held { IfOk result (λ read.
+        AreHeld (F.contents folder.old) (texts files.now) (map string_bytes read.items)) }
     ensures named { IfErr result (NamesOneOf (texts files.now)) }
     ensures fault { IfErr result IsOfFiles }
     ensures not_utf8 { IfErr result (SaysNoUtf8 (F.contents folder.old)) }
@@ -33,6 +37,10 @@ pub fn read_sources<'words, F: Folder>(
 }
 
 /// Reads one file.
+///
+/// # Errors
+/// [`Fault::Memory`] if memory runs out; nothing is left behind. [`Fault::FileUnreadable`] if the file can't be read.
+/// [`Fault::FileNotUtf8`] if it isn't UTF-8.
 pub fn read_source<'words, F: Folder>(
     folder: &mut F,
     alloc: Global,

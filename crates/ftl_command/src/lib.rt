@@ -8,6 +8,7 @@ pub mod borrowed;
 pub mod checking;
 pub mod commands;
 pub mod ended;
+mod errors;
 pub mod fault;
 pub mod files;
 pub mod folder;

@@ -9,7 +9,10 @@ use crate::fault::Fault;
 use fluent_serve::serve::write_all;
 use fluent_serve::stream::Sink;
 
-/// Writes a text. After a fault a front of it was written.
+/// Writes a text.
+///
+/// # Errors
+/// [`Fault::Output`] if the writer fails, or takes none of a piece that isn't empty; a front of the text was written.
 pub fn write_text<'words, O: Sink>(writer: &mut O, text: &str) -> Result<(), Fault<'words>>
     ensures written { OnOk result
         (Appends (O.contents writer.old) (O.contents writer.new) text.now) }
@@ -26,6 +29,9 @@ pub fn write_text<'words, O: Sink>(writer: &mut O, text: &str) -> Result<(), Fau
 }
 
 /// Writes the text of help, and ends with that.
+///
+/// # Errors
+/// [`Fault::Output`] if the writer fails, or takes none of a piece that isn't empty; a front of the text was written.
 pub fn write_help<'words, O: Sink>(writer: &mut O, text: &str) -> Result<Ended, Fault<'words>>
     ensures ended { IfOk result (λ end. end ≡ Ended.Done) }
     ensures written { OnOk result

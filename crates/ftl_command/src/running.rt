@@ -1,11 +1,11 @@
 //! Request lines, answered from the sources in files.
 ghost use Rattle.std.specs.Prelude.{◌≡◌, ◌≢◌, IfOk, IfErr, OnOk, IsErrOf, option_map};
 ghost use Rattle.fluent_serve.specs.Texts.{texts};
-ghost use Rattle.fluent_serve.specs.Devices.{HasFailed, IsGivenUp};
-ghost use Rattle.fluent_serve.specs.Exchange.{devices, AnswersFirst, AnswersWhole, AnswersFront};
+ghost use Rattle.fluent_serve.specs.Devices.{HasFailed};
+ghost use Rattle.fluent_serve.specs.Exchange.{GivesUp};
 ghost use Rattle.ftl_command.specs.Faults.{FailsAsTold, NamesOneOf, ReachesFile, SaysNoUtf8, SaysUnknown};
 ghost use Rattle.ftl_command.specs.Faults.{IsBeforeInput, IsOfLocale};
-ghost use Rattle.ftl_command.specs.Program.{OnRun, OnRunAlike, Answered, run_of};
+ghost use Rattle.ftl_command.specs.Program.{RunEndsOn, run_of};
 ghost use Rattle.ftl_command.specs.Refusals.{RefusesNothing};
 
 use crate::borrowed::borrow_texts;
@@ -32,11 +32,10 @@ pub fn run_files<'words, F: Folder, I: Source, O: Sink>(
     writer: &mut O,
 ) -> Result<Ended, Fault<'words>>
     ensures ended { IfOk result (λ end. end ≡ Ended.Done) }
-    ensures answered { OnOk result (OnRun (F.contents folder.old) (run_of settings locale.entry files.now)
-        (Answered (devices I.remaining reader.old reader.new O.contents writer.old writer.new))) }
-    ensures tidied { OnOk result (OnRunAlike (F.contents folder.old)
-        (devices I.remaining reader.old reader.new O.contents writer.old writer.new)
-        (run_of settings locale.entry files.now)) }
+    // The lines are answered, and as they would be from whatever the sources are tidied into. What was answered before a fault
+    // stays written.
+    ensures ran { RunEndsOn F.Folder folder.old I.Source reader.old reader.new
+        O.Sink writer.old writer.new (run_of settings locale.entry files.now) result }
     ensures reads { OnOk result (I.failures reader.new ≡ I.failures reader.old) }
     ensures writes { OnOk result (O.failures writer.new ≡ O.failures writer.old) }
 
@@ -56,19 +55,9 @@ pub fn run_files<'words, F: Folder, I: Source, O: Sink>(
     ensures unread { IfErr result (λ fault. IsBeforeInput fault → reader.new ≡ reader.old) }
     ensures unwritten { IfErr result (λ fault. IsBeforeInput fault → writer.new ≡ writer.old) }
 
-    // What was answered before another fault stays written.
-    ensures memory { IsErrOf result Fault.Memory
-        → OnRun (F.contents folder.old) (run_of settings locale.entry files.now) (AnswersFirst
-        (devices I.remaining reader.old reader.new O.contents writer.old writer.new)) }
-    ensures input { IsErrOf result Fault.Input
-        → OnRun (F.contents folder.old) (run_of settings locale.entry files.now) (λ line. AnswersWhole
-        (devices I.remaining reader.old reader.new O.contents writer.old writer.new) line
-        (HasFailed (I.failures reader.old) (I.failures reader.new)) 4294967296) }
-    ensures given_up { IsErrOf result Fault.Input → IsGivenUp (I.failures reader.old)
-        (I.failures reader.new) (I.given reader.old) (I.given reader.new) 4294967296 }
-    ensures output { IsErrOf result Fault.Output
-        → OnRun (F.contents folder.old) (run_of settings locale.entry files.now) (AnswersFront
-        (devices I.remaining reader.old reader.new O.contents writer.old writer.new)) }
+    // The device that is at fault failed, or the input came to no end.
+    ensures given_up { IsErrOf result Fault.Input
+        → GivesUp I.Source reader.old reader.new 4294967296 }
     ensures failed { IsErrOf result Fault.Output
         → HasFailed (O.failures writer.old) (O.failures writer.new) }
 {

@@ -1,21 +1,15 @@
 //! What the sources' files are tidied into.
-ghost use Rattle.std.specs.Prelude.{◌≡◌, ◌≢◌, ◌⊎◌, ◌∷◌, ◌++◌, [], Some, None, false, IfOk, OnOk, IfErr, IsErrOf, string_bytes};
-ghost use Rattle.std.specs.Io.KnownBytes.{Appends};
+ghost use Rattle.std.specs.Prelude.{◌≡◌, ◌≢◌, ◌⊎◌, Some, None, false, IfOk, OnOk, IfErr, IsErrOf, string_bytes};
 ghost use Rattle.fluent_serve.specs.Devices.{HasFailed};
 ghost use Rattle.serde_json.specs.Read.{read as read_text};
 ghost use Rattle.serde_json.specs.View.{view};
-ghost use Rattle.serde_json.specs.Written.{compact_text, has_float};
-ghost use Rattle.fluent_cut.specs.Cut.{cut};
-ghost use Rattle.fluent_cut.specs.Joined.{joined};
-ghost use Rattle.fluent_normal.specs.Normal.{IsNormalText};
-ghost use Rattle.fluent_requests.specs.Text.{line_feed};
+ghost use Rattle.serde_json.specs.Written.{has_float};
 ghost use Rattle.fluent_serve.specs.Texts.{texts};
 ghost use Rattle.ftl_words.specs.CommandView.{tidy_view};
 ghost use Rattle.ftl_words.specs.Meaning as asked;
-ghost use Rattle.ftl_command.specs.Faults.{FailsAsTold, NamesOneOf, ReachesFile, SaysNoUtf8, SaysUnknown, IsOfTidying};
-ghost use Rattle.ftl_command.specs.Files.{OnFile};
-ghost use Rattle.ftl_command.specs.Program.{Imports, OnSource, OnSources, Tidies, Tidied, WritesFront, json_line, files_of};
-ghost use Rattle.ftl_command.specs.Refusals.{IsRightOf};
+ghost use Rattle.ftl_command.specs.Faults.{FailsAsTold, NamesOneOf, ReachesFile, SaysNoUtf8, SaysUnknown};
+ghost use Rattle.ftl_command.specs.Program.{Tidies, TidyEnds, data_line, files_of};
+ghost use Rattle.ftl_command.specs.Refusals.{FaultsOn, IsRightOf};
 
 use crate::borrowed::borrow_texts;
 use crate::ended::Ended;
@@ -30,6 +24,9 @@ use serde_json::Value;
 use std::alloc::{AllocError, Global};
 
 /// Writes what the sources' files are tidied into.
+///
+/// # Errors
+/// The first fault. After [`Fault::Output`] a front of the text was written, and after another fault nothing.
 pub fn write_tidied<'words, F: Folder, O: Sink>(
     folder: &mut F,
     alloc: Global,
@@ -37,8 +34,8 @@ pub fn write_tidied<'words, F: Folder, O: Sink>(
     writer: &mut O,
 ) -> Result<Ended, Fault<'words>>
     ensures ended { IfOk result (λ end. end ≡ Ended.Done) }
-    ensures tidied { OnOk result (Tidied (F.contents folder.old) (tidy_view tidy.now)
-        (Appends (O.contents writer.old) (O.contents writer.new))) }
+    ensures tidied { TidyEnds F.Folder folder.old (tidy_view tidy.now)
+        O.Sink writer.old writer.new result }
     ensures writes { OnOk result (O.failures writer.new ≡ O.failures writer.old) }
     ensures named { IfErr result (NamesOneOf (files_of (tidy_view tidy.now))) }
     ensures not_utf8 { IfErr result (SaysNoUtf8 (F.contents folder.old)) }
@@ -51,8 +48,6 @@ pub fn write_tidied<'words, F: Folder, O: Sink>(
     ensures no_locale { IfErr result (SaysUnknown None) }
     ensures not_input { IfErr result (λ fault. fault ≢ Fault.Input) }
     ensures unwritten { IfErr result (λ fault. fault ≢ Fault.Output → writer.new ≡ writer.old) }
-    ensures output { IsErrOf result Fault.Output → Tidied (F.contents folder.old)
-        (tidy_view tidy.now) (WritesFront (O.contents writer.old) (O.contents writer.new)) }
     ensures failed { IsErrOf result Fault.Output
         → HasFailed (O.failures writer.old) (O.failures writer.new) }
 {
@@ -62,18 +57,17 @@ pub fn write_tidied<'words, F: Folder, O: Sink>(
 }
 
 /// The text that the sources' files are tidied into.
+///
+/// # Errors
+/// The first fault; nothing is left behind.
 pub fn tidied_text<'words, F: Folder>(
     folder: &mut F,
     alloc: Global,
     tidy: &Tidy<'words>,
 ) -> Result<String, Fault<'words>>
-    ensures text { IfOk result (λ text. Tidies
-        (F.contents folder.old) (tidy_view tidy.now) (string_bytes text)) }
-    ensures right { IfErr result (IsRightOf (F.contents folder.old) (tidy_view tidy.now)) }
-    ensures fault { IfErr result IsOfTidying }
-    ensures named { IfErr result (NamesOneOf (files_of (tidy_view tidy.now))) }
-    ensures not_utf8 { IfErr result (SaysNoUtf8 (F.contents folder.old)) }
-    ensures reached { IfErr result (ReachesFile (F.contents folder.old) (files_of (tidy_view tidy.now))) }
+    ensures text { IfOk result (λ text.
+        Tidies (F.contents folder.old) (tidy_view tidy.now) (string_bytes text)) }
+    ensures faults { FaultsOn (F.contents folder.old) (tidy_view tidy.now) result }
     ensures opens { OnOk result (F.failures folder.new ≡ F.failures folder.old) }
     ensures unreadable { IfErr result (FailsAsTold (F.failures folder.old)
         (F.failures folder.new)) }
@@ -93,13 +87,9 @@ fn clean_file<'words, F: Folder>(
     alloc: Global,
     file: &'words str,
 ) -> Result<String, Fault<'words>>
-    ensures text { IfOk result (λ text. OnSource (F.contents folder.old) file.now
-        (λ source. string_bytes text ≡ cut source)) }
-    ensures right { IfErr result (IsRightOf (F.contents folder.old) (asked.clean file.now)) }
-    ensures fault { IfErr result IsOfTidying }
-    ensures named { IfErr result (NamesOneOf (file.now ∷ [])) }
-    ensures not_utf8 { IfErr result (SaysNoUtf8 (F.contents folder.old)) }
-    ensures reached { IfErr result (ReachesFile (F.contents folder.old) (file.now ∷ [])) }
+    ensures text { IfOk result (λ text.
+        Tidies (F.contents folder.old) (asked.clean file.now) (string_bytes text)) }
+    ensures faults { FaultsOn (F.contents folder.old) (asked.clean file.now) result }
     ensures opens { OnOk result (F.failures folder.new ≡ F.failures folder.old) }
     ensures unreadable { IfErr result (FailsAsTold (F.failures folder.old)
         (F.failures folder.new)) }
@@ -114,13 +104,9 @@ fn normalize_file<'words, F: Folder>(
     alloc: Global,
     file: &'words str,
 ) -> Result<String, Fault<'words>>
-    ensures text { IfOk result (λ text. OnSource (F.contents folder.old) file.now
-        (λ source. IsNormalText source (string_bytes text))) }
-    ensures right { IfErr result (IsRightOf (F.contents folder.old) (asked.normalize file.now)) }
-    ensures fault { IfErr result IsOfTidying }
-    ensures named { IfErr result (NamesOneOf (file.now ∷ [])) }
-    ensures not_utf8 { IfErr result (SaysNoUtf8 (F.contents folder.old)) }
-    ensures reached { IfErr result (ReachesFile (F.contents folder.old) (file.now ∷ [])) }
+    ensures text { IfOk result (λ text.
+        Tidies (F.contents folder.old) (asked.normalize file.now) (string_bytes text)) }
+    ensures faults { FaultsOn (F.contents folder.old) (asked.normalize file.now) result }
     ensures opens { OnOk result (F.failures folder.new ≡ F.failures folder.old) }
     ensures unreadable { IfErr result (FailsAsTold (F.failures folder.old)
         (F.failures folder.new)) }
@@ -135,14 +121,9 @@ fn join_files<'words, F: Folder>(
     alloc: Global,
     files: &[&'words str],
 ) -> Result<String, Fault<'words>>
-    ensures text { IfOk result (λ text. OnSources (F.contents folder.old) (texts files.now)
-        (λ sources. string_bytes text ≡ joined sources)) }
-    ensures right { IfErr result (IsRightOf (F.contents folder.old)
-        (asked.join (texts files.now))) }
-    ensures fault { IfErr result IsOfTidying }
-    ensures named { IfErr result (NamesOneOf (texts files.now)) }
-    ensures not_utf8 { IfErr result (SaysNoUtf8 (F.contents folder.old)) }
-    ensures reached { IfErr result (ReachesFile (F.contents folder.old) (texts files.now)) }
+    ensures text { IfOk result (λ text.
+        Tidies (F.contents folder.old) (asked.join (texts files.now)) (string_bytes text)) }
+    ensures faults { FaultsOn (F.contents folder.old) (asked.join (texts files.now)) result }
     ensures opens { OnOk result (F.failures folder.new ≡ F.failures folder.old) }
     ensures unreadable { IfErr result (FailsAsTold (F.failures folder.old)
         (F.failures folder.new)) }
@@ -158,13 +139,9 @@ fn export_file<'words, F: Folder>(
     alloc: Global,
     file: &'words str,
 ) -> Result<String, Fault<'words>>
-    ensures text { IfOk result (λ text. OnSource (F.contents folder.old) file.now
-        (λ source. string_bytes text ≡ json_line source)) }
-    ensures right { IfErr result (IsRightOf (F.contents folder.old) (asked.export file.now)) }
-    ensures fault { IfErr result IsOfTidying }
-    ensures named { IfErr result (NamesOneOf (file.now ∷ [])) }
-    ensures not_utf8 { IfErr result (SaysNoUtf8 (F.contents folder.old)) }
-    ensures reached { IfErr result (ReachesFile (F.contents folder.old) (file.now ∷ [])) }
+    ensures text { IfOk result (λ text.
+        Tidies (F.contents folder.old) (asked.export file.now) (string_bytes text)) }
+    ensures faults { FaultsOn (F.contents folder.old) (asked.export file.now) result }
     ensures opens { OnOk result (F.failures folder.new ≡ F.failures folder.old) }
     ensures unreadable { IfErr result (FailsAsTold (F.failures folder.old)
         (F.failures folder.new)) }
@@ -177,8 +154,8 @@ fn export_file<'words, F: Folder>(
 
 /// A tree's value as compact JSON text, and a line feed.
 fn line_of(alloc: Global, value: &Value) -> Result<String, AllocError>
-    ensures { IfOk result (λ text. has_float (view value.now) ≡ false →
-        string_bytes text ≡ compact_text (view value.now) ++ line_feed ∷ []) }
+    ensures { IfOk result (λ text. has_float (view value.now) ≡ false
+        → string_bytes text ≡ data_line (view value.now)) }
 {
     let mut text = value.to_string(alloc)?;
     text.push('\n')?;
@@ -191,13 +168,9 @@ fn import_file<'words, F: Folder>(
     alloc: Global,
     file: &'words str,
 ) -> Result<String, Fault<'words>>
-    ensures text { IfOk result (λ text. OnFile (F.contents folder.old) file.now
-        (λ source. Imports source (string_bytes text))) }
-    ensures right { IfErr result (IsRightOf (F.contents folder.old) (asked.import file.now)) }
-    ensures fault { IfErr result IsOfTidying }
-    ensures named { IfErr result (NamesOneOf (file.now ∷ [])) }
-    ensures not_utf8 { IfErr result (SaysNoUtf8 (F.contents folder.old)) }
-    ensures reached { IfErr result (ReachesFile (F.contents folder.old) (file.now ∷ [])) }
+    ensures text { IfOk result (λ text.
+        Tidies (F.contents folder.old) (asked.import file.now) (string_bytes text)) }
+    ensures faults { FaultsOn (F.contents folder.old) (asked.import file.now) result }
     ensures opens { OnOk result (F.failures folder.new ≡ F.failures folder.old) }
     ensures unreadable { IfErr result (FailsAsTold (F.failures folder.old)
         (F.failures folder.new)) }

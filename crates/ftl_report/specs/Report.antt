@@ -2,7 +2,8 @@
 use Rattle.std.specs.Prelude.{ℕ, ◌+◌, List, [], ◌∷◌, ◌++◌, map, codes, decimal}
 use Rattle.std.specs.List.{flat_map}
 use Rattle.fluent_grammar.specs.Words.{Text}
-use Rattle.fluent_parsed.specs.ErrorView.{ErrorView, kind_name}
+use Rattle.fluent_parsed.specs.ErrorView.{ErrorView, error_view, kind_name}
+use Rattle.fluent_parsed.specs.declared.errors.ParserError.{ParserError}
 use Rattle.fluent_errors.specs.Errors.{Reported}
 use Rattle.fluent_errors.specs.Texts.{bundle_text}
 use Rattle.fluent_requests.specs.Frames.{ended}
@@ -14,6 +15,10 @@ use Rattle.fluent_check.specs.ReportView.{errors_told}
 abbrev pub error_line : ℕ → ErrorView → Text
 error_line number e = ended (codes "source " ++ (decimal number ++ (codes ": bytes " ++ (decimal e.pos.start
     ++ (codes ".." ++ (decimal e.pos.end ++ (codes ": " ++ kind_name e.kind)))))))
+
+-- the errors that were found in the source of this number
+abbrev pub error_lines : ℕ → List ParserError → Text
+error_lines number errors = flat_map (error_line number) (map error_view errors)
 
 -- the errors of sources, which are numbered from this number on
 abbrev pub errors_text : ℕ → List (List ErrorView) → Text

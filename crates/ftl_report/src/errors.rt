@@ -1,10 +1,9 @@
 //! The lines of errors.
 
 ghost use Rattle.std.specs.Prelude.{◌≡◌, ◌++◌, OnOk, map, string_bytes};
-ghost use Rattle.std.specs.List.{flat_map};
 ghost use Rattle.fluent_check.specs.ReportView.{errors_view};
 ghost use Rattle.fluent_parsed.specs.ErrorView.{error_view};
-ghost use Rattle.ftl_report.specs.Report.{error_line, errors_text};
+ghost use Rattle.ftl_report.specs.Report.{error_line, error_lines, errors_text};
 
 use fluent_parsed::ParserError;
 use std::alloc::AllocError;
@@ -27,7 +26,7 @@ fn push_errors_of(
     errors: &[ParserError],
 ) -> Result<(), AllocError>
     ensures { OnOk result (string_bytes text.new
-        ≡ string_bytes text.old ++ flat_map (error_line number) (map error_view errors.now)) }
+        ≡ string_bytes text.old ++ error_lines number errors.now) }
 {
     for error in errors {
         push_error(text, number, error)?;

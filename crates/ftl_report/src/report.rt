@@ -13,7 +13,7 @@ use std::alloc::{AllocError, Global};
 /// found.
 ///
 /// # Errors
-/// Memory ran out.
+/// [`AllocError`] if memory runs out; nothing is left behind.
 pub fn check_text(alloc: Global, sources: &[&str]) -> Result<String, AllocError>
     ensures { IfOk result (λ text. string_bytes text ≡ report_text (texts sources.now)) }
 {

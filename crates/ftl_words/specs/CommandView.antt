@@ -1,11 +1,15 @@
 -- What the code's commands stand for.
-use Rattle.std.specs.Prelude.{option_map}
+use Rattle.std.specs.Prelude.{◌≡◌, List, Option, option_map, Result, IfErr}
+use Rattle.clap.specs.Words.{Row, Text, found_of, rows_of}
+use Rattle.clap.specs.declared.parser.matches.ArgMatches.{ArgMatches}
 use Rattle.ftl_words.specs.Meaning as asked
-use Rattle.ftl_words.specs.Meaning.{Asked, texts}
+use Rattle.ftl_words.specs.Meaning.{Asked, asked_by, texts}
 use Rattle.ftl_words.specs.declared.commands.Command.{Command}
 use Rattle.ftl_words.specs.declared.commands.Command.TheVariants as command
 use Rattle.ftl_words.specs.declared.commands.Tidy.{Tidy}
 use Rattle.ftl_words.specs.declared.commands.Tidy.TheVariants as of
+use Rattle.ftl_words.specs.declared.reading.WordsError.{WordsError}
+use Rattle.ftl_words.specs.declared.reading.WordsError.TheVariants.{Memory}
 
 abbrev pub tidy_view : Tidy → asked.Tidy
 tidy_view (of.Clean file) = asked.clean file.now
@@ -19,3 +23,15 @@ command_view (command.Run isolating overriding locale files) =
     asked.run (record { isolating = isolating; overriding = overriding; locale = option_map (λ l. l.now) locale; files = texts files.items })
 command_view (command.Check files) = asked.check (texts files.items)
 command_view (command.Tidy t) = asked.tidy (tidy_view t)
+
+-- what was found for a command
+abbrev pub found_rows : ArgMatches → List Row
+found_rows found = rows_of (found_of found)
+
+-- what the command of a name asks for, with what was found for it
+abbrev pub asked_with : Text → ArgMatches → Option Asked
+asked_with name found = asked_by (name, found_rows found)
+
+-- the fact holds if the words were refused, and not for want of memory
+abbrev pub IfRefused : {T : Type 0} → Result T WordsError → Type 0 → Type 0
+IfRefused result Fact = IfErr result (λ error. ¬ (error ≡ Memory) → Fact)

@@ -1,3 +1,4 @@
 pub mod Commands
 pub mod Meaning
 pub mod CommandView
+pub mod ErrorTexts

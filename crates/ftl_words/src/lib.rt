@@ -4,6 +4,7 @@
 #![tactic(auto)]
 
 mod commands;
+mod errors;
 mod program;
 mod reading;
 

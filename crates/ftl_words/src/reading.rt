@@ -1,9 +1,9 @@
 //! From words to what they ask for.
 ghost use Rattle.std.specs.Prelude.{◌≡◌, IfOk, IfErr, IsErrOf, Some, None, option_map};
-ghost use Rattle.clap.specs.Words.{found_of, kind_of, rows_of, subcommand_rows_of};
+ghost use Rattle.clap.specs.Words.{kind_of, subcommand_rows_of};
 ghost use Rattle.ftl_words.specs.Meaning.{AskForHelp, AskForHelpAlone, command_of, texts};
-ghost use Rattle.ftl_words.specs.Meaning.{asked_by, asked_of, file_in, files_in, is_given, locale_in};
-ghost use Rattle.ftl_words.specs.CommandView.{command_view};
+ghost use Rattle.ftl_words.specs.Meaning.{asked_of, file_in, files_in, is_given, locale_in};
+ghost use Rattle.ftl_words.specs.CommandView.{asked_with, command_view, found_rows, IfRefused};
 ghost use Rattle.ftl_words.specs.declared.reading.WordsError.TheVariants.{Memory};
 
 use crate::commands::{Command, Tidy};
@@ -41,8 +41,7 @@ pub fn command<'words>(
 ) -> Result<Command<'words>, WordsError>
     ensures command { IfOk result (λ command.
         command_of (texts words.now) ≡ Some (command_view command)) }
-    ensures nothing { IfErr result (λ error. ¬ (error ≡ WordsError.Memory)
-        → command_of (texts words.now) ≡ None) }
+    ensures nothing { IfRefused result (command_of (texts words.now) ≡ None) }
     ensures not_help { IsErrOf result WordsError.Bad → ¬ AskForHelpAlone (texts words.now) }
     ensures help { (text : _) → IsErrOf result (WordsError.Help text)
         → AskForHelp (texts words.now) }
@@ -79,8 +78,7 @@ fn command_met<'words>(
 ) -> Result<Command<'words>, WordsError>
     ensures command { IfOk result (λ command.
         asked_of (subcommand_rows_of matches.now) ≡ Some (command_view command)) }
-    ensures nothing { IfErr result (λ error. ¬ (error ≡ WordsError.Memory)
-        → asked_of (subcommand_rows_of matches.now) ≡ None) }
+    ensures nothing { IfRefused result (asked_of (subcommand_rows_of matches.now) ≡ None) }
     ensures no_help { IfErr result (λ error. (text : _) → ¬ (error ≡ WordsError.Help text)) }
 {
     match matches.subcommand() {
@@ -96,9 +94,8 @@ fn command_named<'words>(
     found: &ArgMatches<'words>,
 ) -> Result<Command<'words>, WordsError>
     ensures command { IfOk result (λ command.
-        asked_by (name.now, rows_of (found_of found.now)) ≡ Some (command_view command)) }
-    ensures nothing { IfErr result (λ error. ¬ (error ≡ WordsError.Memory)
-        → asked_by (name.now, rows_of (found_of found.now)) ≡ None) }
+        asked_with name.now found.now ≡ Some (command_view command)) }
+    ensures nothing { IfRefused result (asked_with name.now found.now ≡ None) }
     ensures no_help { IfErr result (λ error. (text : _) → ¬ (error ≡ WordsError.Help text)) }
 {
     match name {
@@ -122,23 +119,23 @@ fn command_named<'words>(
 
 /// Whether a flag was given.
 fn is_given(found: &ArgMatches<'_>, name: &str) -> bool
-    ensures { result ≡ is_given name.now (rows_of (found_of found.now)) }
+    ensures { result ≡ is_given name.now (found_rows found.now) }
 {
     found.get_str(name) == Some("true")
 }
 
 /// The tag of the locale, if one was given.
 fn locale_in<'words>(found: &ArgMatches<'words>) -> Option<&'words str>
-    ensures { option_map (λ locale. locale.now) result ≡ locale_in (rows_of (found_of found.now)) }
+    ensures { option_map (λ locale. locale.now) result ≡ locale_in (found_rows found.now) }
 {
     found.get_str("locale")
 }
 
 /// The file that was given.
 fn file_in<'words>(found: &ArgMatches<'words>) -> Result<&'words str, WordsError>
-    ensures file { IfOk result (λ file. file_in (rows_of (found_of found.now)) ≡ Some file.now) }
+    ensures file { IfOk result (λ file. file_in (found_rows found.now) ≡ Some file.now) }
     ensures bad { IfErr result (λ error. error ≡ WordsError.Bad) }
-    ensures none { IfErr result (λ _. file_in (rows_of (found_of found.now)) ≡ None) }
+    ensures none { IfErr result (λ _. file_in (found_rows found.now) ≡ None) }
 {
     found.get_str("FILE").ok_or(WordsError::Bad)
 }
@@ -149,7 +146,7 @@ fn files_in<'words>(
     found: &ArgMatches<'words>,
 ) -> Result<Vec<&'words str>, AllocError>
     ensures { IfOk result (λ files.
-        texts files.items ≡ files_in (rows_of (found_of found.now))) }
+        texts files.items ≡ files_in (found_rows found.now)) }
 {
     Vec::from_slice(alloc, found.get_raw("FILE").unwrap_or(&[]))
 }

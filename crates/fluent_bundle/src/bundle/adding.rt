@@ -10,9 +10,16 @@ ghost use Rattle.fluent_resource.specs.ResourceView.{entries_view};
 use super::FluentBundle;
 use fluent_ids::{AddFunctionError, AddResourceError};
 use fluent_resource::FluentResource;
+use fluent_value::{FluentFunction, FluentType, MemoizerKind, ValueFormatter};
 use std::alloc::AllocError;
 
-impl<'r, 's, M, C, F: Drop, G> FluentBundle<'r, 's, M, C, F, G> {
+impl<'r, 's, M, C, F, G, T> FluentBundle<'r, 's, M, C, F, G, T>
+where
+    M: MemoizerKind,
+    C: FluentType,
+    F: FluentFunction<C> + Drop,
+    G: ValueFormatter<C, M>,
+{
     /// Adds the messages and terms of a resource. Where two entries have one id, the first stays, whatever it is and wherever it
     /// comes from.
     ///
@@ -25,7 +32,7 @@ impl<'r, 's, M, C, F: Drop, G> FluentBundle<'r, 's, M, C, F, G> {
             (entries_view resource.now) }
         ensures told { TellsNotices result (bundle_of self.old) (entries_view resource.now) }
     {
-        self.environment.ids.add_resource(resource.tree())
+        self.ids.add_resource(resource.tree())
     }
 
     /// Adds the messages and terms of a resource. Where two entries have one id, the last stays: it replaces a function too.
@@ -40,7 +47,7 @@ impl<'r, 's, M, C, F: Drop, G> FluentBundle<'r, 's, M, C, F, G> {
             ≡ with_entries true (bundle_of self.old) (entries_view resource.now)) }
         ensures refused { OnErr result (bundle_of self.new ≡ bundle_of self.old) }
     {
-        let ids = &mut self.environment.ids;
+        let ids = &mut self.ids;
         ids.add_resource_overriding(resource.tree())
     }
 
@@ -54,7 +61,7 @@ impl<'r, 's, M, C, F: Drop, G> FluentBundle<'r, 's, M, C, F, G> {
         ensures { AddsFunction result (bundle_of self.old) (bundle_of self.new)
             (id.now, ids.function function) }
     {
-        self.environment.ids.add_function(id, function)
+        self.ids.add_function(id, function)
     }
 
     /// Adds the function `NUMBER`.
@@ -66,6 +73,6 @@ impl<'r, 's, M, C, F: Drop, G> FluentBundle<'r, 's, M, C, F, G> {
     pub fn add_builtins(&mut self) -> Result<(), AddFunctionError>
         ensures { AddsFunction result (bundle_of self.old) (bundle_of self.new) number_pair }
     {
-        self.environment.ids.add_builtins()
+        self.ids.add_builtins()
     }
 }

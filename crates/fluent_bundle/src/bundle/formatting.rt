@@ -2,10 +2,10 @@
 
 ghost use Rattle.std.specs.Prelude.{◌≡◌, ◌++◌, IfOk, IsOkAnd, IsSome, OnErr, OnOk};
 ghost use Rattle.std.specs.Cow.{IsBorrowedStr, cow_str_bytes};
-ghost use Rattle.fluent_asking.specs.Asked.{TellsAll, TellsFirst, WritesFirst, asked, handed, lone_text};
-ghost use Rattle.fluent_ast.specs.View.{pattern_view};
+ghost use Rattle.fluent_asking.specs.Asked.{TellsAll, TellsFirst, WritesFirst, lone_text};
+ghost use Rattle.fluent_ast.specs.Borrowed.{elements_of};
 ghost use Rattle.fluent_bundle.specs.Bounds.{TellsTooManyOnce};
-ghost use Rattle.fluent_bundle.specs.BundleView.{IsLent, bundle_of, environment_of};
+ghost use Rattle.fluent_bundle.specs.BundleView.{IsLent, answer_of, bundle_of, shown_answer_of};
 ghost use Rattle.fluent_bundle.specs.Contents.{ShowsAsIs};
 
 use super::FluentBundle;
@@ -21,12 +21,13 @@ use fluent_write::{TextWrite, WriteError};
 use std::alloc::AllocError;
 use std::borrow::CowStr;
 
-impl<'r, 's, M, C, F, G> FluentBundle<'r, 's, M, C, F, G>
+impl<'r, 's, M, C, F, G, T> FluentBundle<'r, 's, M, C, F, G, T>
 where
     M: MemoizerKind,
     C: FluentType + Drop,
     F: FluentFunction<C>,
     G: ValueFormatter<C, M>,
+    T: TextTransform,
 {
     /// Writes what a pattern gives for these arguments, piece by piece. Its errors are put behind those of the list.
     ///
@@ -41,23 +42,19 @@ where
         errors: &mut Vec<FluentError>,
     ) -> Result<(), WriteError>
         ensures wrote { OnOk result (W.text w.new ≡ W.text w.old
-            ++ (asked C.meaning (environment_of C.text F.gives G.formats M.category_of M.stringified
-            transformed self.now) args.entry pattern.now).value) }
+            ++ (answer_of T.TextTransform self.now args.entry pattern.now).value) }
         ensures wrote_first { OnErr result (WritesFirst (W.text w.old) (W.text w.new)
-            (asked C.meaning (environment_of C.text F.gives G.formats M.category_of M.stringified
-            transformed self.now) args.entry pattern.now)) }
+            (answer_of T.TextTransform self.now args.entry pattern.now)) }
         ensures told { OnOk result (TellsAll errors.old errors.new
-            (asked C.meaning (environment_of C.text F.gives G.formats M.category_of M.stringified
-            transformed self.now) args.entry pattern.now)) }
+            (answer_of T.TextTransform self.now args.entry pattern.now)) }
         ensures told_first { OnErr result (TellsFirst errors.old errors.new
-            (asked C.meaning (environment_of C.text F.gives G.formats M.category_of M.stringified
-            transformed self.now) args.entry pattern.now)) }
+            (answer_of T.TextTransform self.now args.entry pattern.now)) }
         ensures told_once { TellsTooManyOnce errors.old errors.new }
     {
         work_is_bounded::<C, F>();
         let lent = self.lent();
         let place = Place {
-            ids: &self.environment.ids,
+            ids: &self.ids,
             context: &lent,
             arguments: args,
         };
@@ -70,6 +67,14 @@ where
     /// A pattern of one text is borrowed from its source where neither a transform nor a formatter is set. That takes no memory
     /// and succeeds.
     ///
+    /// ```
+    /// let message = bundle.get_message("intro").context("no such message")?;
+    /// let pattern = message.value().context("the message has no value")?;
+    /// ..
+    /// let text = bundle.format_pattern(pattern, Some(&args), &mut errors)?;
+    /// println!(rt; "{text}")?; // Welcome, John.
+    /// ```
+    ///
     /// # Errors
     /// Memory ran out. The list then holds the old errors, and behind them the first of the pattern's.
     pub fn format_pattern(
@@ -79,23 +84,20 @@ where
         errors: &mut Vec<FluentError>,
     ) -> Result<CowStr<'s>, AllocError>
         ensures text { IfOk result (λ text. cow_str_bytes text
-            ≡ (handed C.meaning (environment_of C.text F.gives G.formats M.category_of M.stringified
-            transformed self.now) args.entry pattern.now).value) }
+            ≡ (shown_answer_of T.TextTransform self.now args.entry pattern.now).value) }
         ensures told { OnOk result (TellsAll errors.old errors.new
-            (handed C.meaning (environment_of C.text F.gives G.formats M.category_of M.stringified
-            transformed self.now) args.entry pattern.now)) }
+            (shown_answer_of T.TextTransform self.now args.entry pattern.now)) }
         ensures refused { OnErr result (TellsFirst errors.old errors.new
-            (handed C.meaning (environment_of C.text F.gives G.formats M.category_of M.stringified
-            transformed self.now) args.entry pattern.now)) }
+            (shown_answer_of T.TextTransform self.now args.entry pattern.now)) }
         ensures borrowed { ShowsAsIs (bundle_of self.now)
-            → IsSome (lone_text (pattern_view _ (λ s. s.now) pattern.now))
+            → IsSome (lone_text (elements_of pattern.now))
             → IsOkAnd result IsBorrowedStr }
         ensures told_once { TellsTooManyOnce errors.old errors.new }
     {
         work_is_bounded::<C, F>();
         let lent = self.lent();
         let place = Place {
-            ids: &self.environment.ids,
+            ids: &self.ids,
             context: &lent,
             arguments: args,
         };
@@ -104,18 +106,23 @@ where
     }
 }
 
-impl<'r, 's, M, C, F, G> FluentBundle<'r, 's, M, C, F, G> {
+impl<'r, 's, M, C, F, G, T> FluentBundle<'r, 's, M, C, F, G, T>
+where
+    M: MemoizerKind,
+    C: FluentType,
+    F: FluentFunction<C>,
+    G: ValueFormatter<C, M>,
+{
     /// What patterns are resolved in, lent.
-    pub(crate) fn lent(&self) -> Lent<'_, M, G, Box<dyn TextTransform>>
+    pub(crate) fn lent(&self) -> Lent<'_, M, G, T>
         ensures { IsLent (bundle_of self.now) result }
     {
-        let environment = &self.environment;
         Lent {
-            plurals: &environment.plurals,
-            isolating: environment.isolating,
-            transform: environment.transform.as_ref(),
-            formatter: environment.formatter.as_ref(),
-            alloc: environment.alloc,
+            plurals: &self.plurals,
+            isolating: self.isolating,
+            transform: self.transform.as_ref(),
+            formatter: self.formatter.as_ref(),
+            alloc: self.alloc,
         }
     }
 }

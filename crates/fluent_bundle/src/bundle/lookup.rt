@@ -9,35 +9,48 @@ ghost use Rattle.fluent_ids.specs.MessageView.{message_of};
 use super::FluentBundle;
 use fluent_ast::{Message, Term};
 use fluent_ids::{FluentMessage, FunctionRef, GetEntry};
+use fluent_value::{FluentFunction, FluentType, MemoizerKind, ValueFormatter};
 
-impl<'r, 's, M, C, F, G> GetEntry<'s, F> for FluentBundle<'r, 's, M, C, F, G> {
+impl<'r, 's, M, C, F, G, T> GetEntry<'s, F> for FluentBundle<'r, 's, M, C, F, G, T>
+where
+    M: MemoizerKind,
+    C: FluentType,
+    F: FluentFunction<C>,
+    G: ValueFormatter<C, M>,
+{
     ghost ids = { λ bundle. (bundle_of bundle).ids };
 
     fn get_entry_message(&self, id: &str) -> Option<&Message<&'s str>> {
-        self.environment.ids.get_entry_message(id)
+        self.ids.get_entry_message(id)
     }
 
     fn get_entry_term(&self, id: &str) -> Option<&Term<&'s str>> {
-        self.environment.ids.get_entry_term(id)
+        self.ids.get_entry_term(id)
     }
 
     fn get_entry_function(&self, id: &str) -> Option<FunctionRef<'_, F>> {
-        self.environment.ids.get_entry_function(id)
+        self.ids.get_entry_function(id)
     }
 }
 
-impl<'r, 's, M, C, F, G> FluentBundle<'r, 's, M, C, F, G> {
+impl<'r, 's, M, C, F, G, T> FluentBundle<'r, 's, M, C, F, G, T>
+where
+    M: MemoizerKind,
+    C: FluentType,
+    F: FluentFunction<C>,
+    G: ValueFormatter<C, M>,
+{
     /// Whether an id stands for a message.
     pub fn has_message(&self, id: &str) -> bool
         ensures { result ≡ is_some (message_in (find (bundle_of self.now).ids id.now)) }
     {
-        self.environment.ids.has_message(id)
+        self.ids.has_message(id)
     }
 
     /// The message of an id.
     pub fn get_message(&self, id: &str) -> Option<FluentMessage<'r, 's>>
         ensures { option_map message_of result ≡ message_in (find (bundle_of self.now).ids id.now) }
     {
-        self.environment.ids.get_message(id)
+        self.ids.get_message(id)
     }
 }

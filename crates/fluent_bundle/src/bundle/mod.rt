@@ -1,65 +1,78 @@
-//! The bundle, and one that holds nothing yet.
+//! The bundle.
 
-ghost use Rattle.std.specs.Prelude.{◌≡◌, map, option_map, string_bytes};
-ghost use Rattle.fluent_bundle.specs.BundleView.{bundle_of};
-ghost use Rattle.fluent_bundle.specs.Contents.{empty};
-ghost use Rattle.fluent_plurals.specs.Plurals.{plurals_of};
+ghost use Rattle.std.specs.Prelude.{◌≡◌};
 
 mod adding;
 mod formatting;
 mod lookup;
+mod making;
 mod scope;
 mod settings;
 
-use fluent_environment::Environment;
 use fluent_ids::FluentIds;
 use fluent_plurals::LanguagePlurals;
+use fluent_value::{
+    EnglishPlurals, FluentFunction, FluentType, MemoizerKind, NoCustom, NoFormatter, NoFunction,
+    NoTransform, TextTransform, ValueFormatter,
+};
 use std::alloc::Global;
 use std::marker::PhantomData;
 
 /// The messages and terms of resources and the functions of a program, with what patterns are resolved by.
 ///
-/// `M` is the plural source, `C` the program's own type of values, `F` the type of its functions and `G` that of its
-/// formatter. The resources are borrowed for `'r`, and their sources for `'s`.
+/// `M` is the plural source, `C` the program's own type of values, `F` the type of its functions, `G` that of its formatter and
+/// `T` that of its transform. The resources are borrowed for `'r`, and their sources for `'s`: both have to outlive the bundle.
+///
+/// A program that brings no types of its own uses [`EnglishBundle`] or [`LanguageBundle`]. A function can return these, and a
+/// struct can hold them. If `T` isn't named, the transform is boxed; such a bundle stays in the function that makes it, and in
+/// those that it is lent to as `&`.
+///
+/// ```
+/// let mut bundle = LanguageBundle::for_tag(alloc, "en-US").context("unknown locale")?;
+/// ..
+/// bundle.add_resource(&resource)?;
+/// ```
 #[derive(Drop)]
-pub struct FluentBundle<'r, 's, M, C, F, G> {
+pub struct FluentBundle<'r, 's, M, C, F, G, T = Box<dyn TextTransform>>
+where
+    M: MemoizerKind,
+    C: FluentType,
+    F: FluentFunction<C>,
+    G: ValueFormatter<C, M>,
+{
     /// The locales, as texts that nothing here interprets.
     pub locales: Vec<String>,
-    pub(crate) environment: Environment<'r, 's, M, F, G>,
+    pub(crate) ids: FluentIds<'r, 's, F>,
+    pub(crate) plurals: M,
+    pub(crate) isolating: bool,
+    pub(crate) transform: Option<T>,
+    pub(crate) formatter: Option<G>,
+    pub(crate) alloc: Global,
     custom: PhantomData<C>,
+    // With it what the types mean is part of the bundle's own type, and contracts need not name it. A boxed transform has no such
+    // meaning of its type alone, so `T` has no bound here.
+    ghost categories: { M.category_of ≡ M.category_of },
 }
 
-impl<'r, 's, M, C, F, G> FluentBundle<'r, 's, M, C, F, G> {
-    /// A bundle without messages, terms and functions, with isolation, and without a transform and a formatter. It takes no
-    /// memory.
-    pub fn new(alloc: Global, locales: Vec<String>, plurals: M) -> Self
-        ensures { bundle_of result ≡ empty (map string_bytes locales.items) plurals }
-    {
-        FluentBundle {
-            locales,
-            environment: Environment {
-                ids: FluentIds::new(alloc),
-                plurals,
-                isolating: true,
-                transform: None,
-                formatter: None,
-                alloc,
-            },
-            custom: PhantomData,
-        }
-    }
-}
+/// A bundle by English plural rules, for a program that brings no values, functions, formatter or transform of its own.
+pub type EnglishBundle<'r, 's> = FluentBundle<
+    'r,
+    's,
+    EnglishPlurals,
+    NoCustom,
+    NoFunction,
+    NoFormatter,
+    NoTransform,
+>;
 
-impl<'r, 's, C, F, G> FluentBundle<'r, 's, LanguagePlurals, C, F, G> {
-    /// A new bundle with the plural rules of the first of its locales that has any, or `None` if none has.
-    ///
-    /// Otherwise it is that of [`new`](Self::new). No other language stands in for locales without rules: a program that has such
-    /// a locale names the rules itself, say those of [`LanguagePlurals::root`].
-    pub fn for_locales(alloc: Global, locales: Vec<String>) -> Option<Self>
-        ensures { option_map bundle_of result ≡ option_map (empty (map string_bytes locales.items))
-            (plurals_of (map string_bytes locales.items)) }
-    {
-        let plurals = LanguagePlurals::of_locales(&locales)?;
-        Some(FluentBundle::new(alloc, locales, plurals))
-    }
-}
+/// A bundle by the plural rules of any language, for a program that brings no values, functions, formatter or transform of its
+/// own.
+pub type LanguageBundle<'r, 's> = FluentBundle<
+    'r,
+    's,
+    LanguagePlurals,
+    NoCustom,
+    NoFunction,
+    NoFormatter,
+    NoTransform,
+>;

@@ -6,14 +6,17 @@ ghost use Rattle.fluent_environment.specs.Settings.{formatted_by};
 
 use super::FluentBundle;
 use fluent_number::{PluralCategory, PluralOperands, PluralRuleType};
-use fluent_value::{FluentType, FluentValue, MemoizerKind, ValueFormatter, ValueScope};
+use fluent_value::{
+    FluentFunction, FluentType, FluentValue, MemoizerKind, ValueFormatter, ValueScope,
+};
 use std::alloc::{AllocError, Global};
 use std::borrow::CowStr;
 
-impl<'r, 's: 'r, M, C, F, G> ValueScope<C> for FluentBundle<'r, 's, M, C, F, G>
+impl<'r, 's: 'r, M, C, F, G, T> ValueScope<C> for FluentBundle<'r, 's, M, C, F, G, T>
 where
     M: MemoizerKind,
     C: FluentType,
+    F: FluentFunction<C>,
     G: ValueFormatter<C, M>,
 {
     ghost has_formatter = { λ bundle. is_some (bundle_of bundle).formatter };
@@ -26,18 +29,21 @@ where
     ghost shown = { λ bundle. M.stringified (bundle_of bundle).plurals C.Meaning C.text };
 
     fn format(&self, value: &FluentValue<'_, C>) -> Result<Option<String>, AllocError> {
-        self.environment.format(value)
+        match &self.formatter {
+            Some(formatter) => formatter.format(self.alloc, value, &self.plurals),
+            None => Ok(None),
+        }
     }
 
     fn category(&self, rule: PluralRuleType, operands: &PluralOperands) -> PluralCategory {
-        self.environment.plurals.category(rule, operands)
+        self.plurals.category(rule, operands)
     }
 
     fn stringify(&self, custom: &C) -> Result<CowStr<'static>, AllocError> {
-        self.environment.stringify(custom)
+        self.plurals.stringify_value(self.alloc, custom)
     }
 
     fn alloc(&self) -> Global {
-        self.environment.alloc
+        self.alloc
     }
 }

@@ -1,15 +1,14 @@
 //! Patterns that a program resolves by itself, placeable by placeable.
 
-ghost use Rattle.std.specs.Prelude.{◌≡◌, [], IfOk, None, OnErr, OnOk, map, option_copied, option_map};
+ghost use Rattle.std.specs.Prelude.{◌≡◌, [], IfOk, None, OnErr, OnOk, map, option_map};
 ghost use Rattle.fluent_asking.specs.Called.{called_of};
-ghost use Rattle.fluent_ast.specs.View.{arguments_view, expression_view, inline_view, maybe_arguments, pattern_view};
+ghost use Rattle.fluent_ast.specs.Borrowed.{elements_of};
 ghost use Rattle.fluent_bundle.specs.Bounds.{IsWithinWork, enters_by_arguments, enters_by_expression, enters_by_pattern};
-ghost use Rattle.fluent_bundle.specs.BundleView.{environment_of};
-ghost use Rattle.fluent_bundle.specs.ScopeView.{Keeps, path_of, place_of, state_of};
+ghost use Rattle.fluent_bundle.specs.ScopeSteps.{Finds, TellsSome, Writes, WritesSome};
+ghost use Rattle.fluent_bundle.specs.ScopeSteps.{call_arguments, given, placeable, reference, unknown_reference};
+ghost use Rattle.fluent_bundle.specs.ScopeView.{Keeps, path_of, state_of};
 ghost use Rattle.fluent_errors.specs.View.{bundle_view, resolver_view};
-ghost use Rattle.fluent_meaning.specs.Refused.{TellsSome, WritesSome};
 ghost use Rattle.fluent_meaning.specs.Substitution as s;
-ghost use Rattle.fluent_meaning.specs.Told.{Finds, Writes};
 ghost use Rattle.fluent_progress.specs.Telling.{fresh, with_error};
 
 mod parts;
@@ -21,7 +20,8 @@ use fluent_ast::{CallArguments, Expression, InlineExpression, Pattern};
 use fluent_errors::{FluentError, ResolverError};
 use fluent_meaning::laws::work_is_bounded;
 use fluent_value::{
-    FluentArgs, FluentFunction, FluentType, FluentValue, MemoizerKind, ValueFormatter,
+    FluentArgs, FluentFunction, FluentType, FluentValue, MemoizerKind, TextTransform,
+    ValueFormatter,
 };
 use fluent_write::{TextWrite, WriteError};
 use std::alloc::AllocError;
@@ -30,10 +30,30 @@ use std::alloc::AllocError;
 /// request, and what resolving has come to so far.
 ///
 /// A call that was refused leaves a scope that can be called again.
+///
+/// ```
+/// let mut scope = Scope::new(bundle, Some(args), Some(&mut errors));
+/// for element in &pattern.elements {
+///     match element {
+///         PatternElement::TextElement { value } => text.push_str(value)?,
+///         PatternElement::Placeable { expression } => {
+///             text.push('[')?;
+///             scope.maybe_track(&mut text, pattern, expression)?;
+///             text.push(']')?;
+///         }
+///     }
+/// }
+/// ```
 #[derive(Drop)]
-pub struct Scope<'b, 'r, 's, 'a, M, C, F, G> {
+pub struct Scope<'b, 'r, 's, 'a, M, C, F, G, T = Box<dyn TextTransform>>
+where
+    M: MemoizerKind,
+    C: FluentType,
+    F: FluentFunction<C>,
+    G: ValueFormatter<C, M>,
+{
     /// Where messages, terms and functions come from.
-    pub bundle: &'b FluentBundle<'r, 's, M, C, F, G>,
+    pub bundle: &'b FluentBundle<'r, 's, M, C, F, G, T>,
     /// The list that errors are told to. Without one they are dropped.
     pub errors: Option<&'b mut Vec<FluentError>>,
     /// Whether one placeable more was to be opened than may be. Every pattern then stops before its next element.
@@ -45,11 +65,17 @@ pub struct Scope<'b, 'r, 's, 'a, M, C, F, G> {
     root: Option<&'r Pattern<&'s str>>,
 }
 
-impl<'b, 'r, 's, 'a, M, C, F, G> Scope<'b, 'r, 's, 'a, M, C, F, G> {
+impl<'b, 'r, 's, 'a, M, C, F, G, T> Scope<'b, 'r, 's, 'a, M, C, F, G, T>
+where
+    M: MemoizerKind,
+    C: FluentType,
+    F: FluentFunction<C>,
+    G: ValueFormatter<C, M>,
+{
     /// A scope in which nothing was resolved yet: no placeable is counted, no pattern entered, and the path is empty. Errors
     /// are told behind those that the list holds. It takes no memory.
     pub fn new(
-        bundle: &'b FluentBundle<'r, 's, M, C, F, G>,
+        bundle: &'b FluentBundle<'r, 's, M, C, F, G, T>,
         args: Option<&'b FluentArgs<'a, C>>,
         errors: Option<&'b mut Vec<FluentError>>,
     ) -> Self
@@ -90,8 +116,7 @@ impl<'b, 'r, 's, 'a, M, C, F, G> Scope<'b, 'r, 's, 'a, M, C, F, G> {
     /// # Errors
     /// Memory ran out. Nothing has changed then.
     pub fn add_error(&mut self, error: ResolverError) -> Result<(), AllocError>
-        ensures told { OnOk result (state_of self.new
-            ≡ with_error (resolver_view error) (state_of self.old)) }
+        ensures told { OnOk result (state_of self.new ≡ with_error (resolver_view error) (state_of self.old)) }
         ensures refused { OnErr result (state_of self.new ≡ state_of self.old) }
         ensures path { path_of self.new ≡ path_of self.old }
         ensures kept { Keeps self.old self.new }
@@ -103,12 +128,13 @@ impl<'b, 'r, 's, 'a, M, C, F, G> Scope<'b, 'r, 's, 'a, M, C, F, G> {
     }
 }
 
-impl<'b, 'r, 's, 'a, M, C, F, G> Scope<'b, 'r, 's, 'a, M, C, F, G>
+impl<'b, 'r, 's, 'a, M, C, F, G, T> Scope<'b, 'r, 's, 'a, M, C, F, G, T>
 where
     M: MemoizerKind,
     C: FluentType + Drop,
     F: FluentFunction<C>,
     G: ValueFormatter<C, M>,
+    T: TextTransform,
 {
     /// Writes a placeable of a pattern that the caller opened: it isn't counted, and gets no isolation marks. The first pattern
     /// that is tracked stays on the path from then on, so that a reference to it is one to itself.
@@ -122,25 +148,17 @@ where
         pattern: &'r Pattern<&'s str>,
         expression: &'r Expression<&'s str>,
     ) -> Result<(), WriteError>
-        ensures wrote { OnOk result (Writes (W.text w.old) (W.text w.new) (state_of self.old)
-            (state_of self.new) (s.unmarked_written (environment_of C.text F.gives G.formats
-            M.category_of M.stringified transformed self.old.bundle.now)
-            (pattern_view _ (λ s. s.now) pattern.now)
-            (expression_view _ (λ s. s.now) expression.now) (place_of C.meaning self.old))) }
-        ensures refused { OnErr result (WritesSome (W.text w.old) (W.text w.new) (state_of self.old)
-            (state_of self.new) (s.unmarked_written (environment_of C.text F.gives G.formats
-            M.category_of M.stringified transformed self.old.bundle.now)
-            (pattern_view _ (λ s. s.now) pattern.now)
-            (expression_view _ (λ s. s.now) expression.now) (place_of C.meaning self.old))) }
-        ensures bounded { IsWithinWork self.old self.new (enters_by_expression self.old
-            (expression_view _ (λ s. s.now) expression.now)) }
-        ensures path { OnOk result (path_of self.new
-            ≡ s.rooted_path (pattern_view _ (λ s. s.now) pattern.now) (path_of self.old)) }
+        ensures wrote { OnOk result (Writes W.text w.old w.new self.old self.new (placeable T.TextTransform
+            pattern.now expression.now)) }
+        ensures refused { OnErr result (WritesSome W.text w.old w.new self.old self.new (placeable T.TextTransform
+            pattern.now expression.now)) }
+        ensures bounded { IsWithinWork self.old self.new (enters_by_expression self.old expression.now) }
+        ensures path { OnOk result (path_of self.new ≡ s.rooted_path (elements_of pattern.now) (path_of self.old)) }
         ensures path_left { OnErr result (path_of self.new ≡ path_of self.old) }
         ensures kept { Keeps self.old self.new }
     {
         work_is_bounded::<C, F>();
-        let mut piece = String::new(self.bundle.environment.alloc);
+        let mut piece = String::new(self.bundle.alloc);
         self.write_opened(&mut piece, pattern, expression)?;
         w.write_str(piece.as_str())?;
         self.stay_in(pattern);
@@ -159,23 +177,16 @@ where
         pattern: &'r Pattern<&'s str>,
         inline: &'r InlineExpression<&'s str>,
     ) -> Result<(), WriteError>
-        ensures wrote { OnOk result (Writes (W.text w.old) (W.text w.new) (state_of self.old)
-            (state_of self.new) (s.reference_written
-            (environment_of C.text F.gives G.formats M.category_of M.stringified transformed
-            self.old.bundle.now) (inline_view _ (λ s. s.now) inline.now)
-            (pattern_view _ (λ s. s.now) pattern.now) (place_of C.meaning self.old))) }
-        ensures refused { OnErr result (WritesSome (W.text w.old) (W.text w.new) (state_of self.old)
-            (state_of self.new) (s.reference_written
-            (environment_of C.text F.gives G.formats M.category_of M.stringified transformed
-            self.old.bundle.now) (inline_view _ (λ s. s.now) inline.now)
-            (pattern_view _ (λ s. s.now) pattern.now) (place_of C.meaning self.old))) }
-        ensures bounded { IsWithinWork self.old self.new (enters_by_pattern self.old
-            (pattern_view _ (λ s. s.now) pattern.now)) }
+        ensures wrote { OnOk result (Writes W.text w.old w.new self.old self.new (reference T.TextTransform
+            inline.now pattern.now)) }
+        ensures refused { OnErr result (WritesSome W.text w.old w.new self.old self.new (reference T.TextTransform
+            inline.now pattern.now)) }
+        ensures bounded { IsWithinWork self.old self.new (enters_by_pattern self.old pattern.now) }
         ensures path { path_of self.new ≡ path_of self.old }
         ensures kept { Keeps self.old self.new }
     {
         work_is_bounded::<C, F>();
-        let mut piece = String::new(self.bundle.environment.alloc);
+        let mut piece = String::new(self.bundle.alloc);
         self.write_referred(&mut piece, pattern, inline)?;
         w.write_str(piece.as_str())?;
         Ok(())
@@ -191,18 +202,14 @@ where
         w: &mut W,
         inline: &InlineExpression<&'s str>,
     ) -> Result<(), WriteError>
-        ensures wrote { OnOk result (Writes (W.text w.old) (W.text w.new) (state_of self.old)
-            (state_of self.new) (s.missed_written (environment_of C.text F.gives G.formats
-            M.category_of M.stringified transformed self.old.bundle.now)
-            (inline_view _ (λ s. s.now) inline.now))) }
-        ensures refused { OnErr result (WritesSome (W.text w.old) (W.text w.new) (state_of self.old)
-            (state_of self.new) (s.missed_written (environment_of C.text F.gives G.formats
-            M.category_of M.stringified transformed self.old.bundle.now)
-            (inline_view _ (λ s. s.now) inline.now))) }
+        ensures wrote { OnOk result (Writes W.text w.old w.new self.old self.new (unknown_reference T.TextTransform
+            inline.now)) }
+        ensures refused { OnErr result (WritesSome W.text w.old w.new self.old self.new
+            (unknown_reference T.TextTransform inline.now)) }
         ensures path { path_of self.new ≡ path_of self.old }
         ensures kept { Keeps self.old self.new }
     {
-        let mut piece = String::new(self.bundle.environment.alloc);
+        let mut piece = String::new(self.bundle.alloc);
         self.write_missed(&mut piece, inline)?;
         w.write_str(piece.as_str())?;
         Ok(())
@@ -216,24 +223,16 @@ where
         &mut self,
         arguments: Option<&'r CallArguments<&'s str>>,
     ) -> Result<(Vec<FluentValue<'s, C>>, FluentArgs<'s, C>), AllocError>
-        ensures found { IfOk result (λ found. Finds (called_of C.meaning found) (state_of self.old)
-            (state_of self.new) (s.arguments_found (environment_of C.text F.gives G.formats
-            M.category_of M.stringified transformed self.old.bundle.now)
-            (maybe_arguments (option_map (arguments_view _ (λ s. s.now))
-            (option_copied arguments.entry))) (place_of C.meaning self.old))) }
-        ensures refused { OnErr result (TellsSome (state_of self.old) (state_of self.new)
-            (s.arguments_found (environment_of C.text F.gives G.formats M.category_of M.stringified
-            transformed self.old.bundle.now) (maybe_arguments
-            (option_map (arguments_view _ (λ s. s.now)) (option_copied arguments.entry)))
-            (place_of C.meaning self.old) (state_of self.old).budget)) }
-        ensures bounded { IsWithinWork self.old self.new (enters_by_arguments self.old
-            (maybe_arguments (option_map (arguments_view _ (λ s. s.now))
-            (option_copied arguments.entry)))) }
+        ensures found { IfOk result (λ found. Finds (called_of C.meaning found) self.old self.new
+            (call_arguments T.TextTransform (given arguments.entry))) }
+        ensures refused { OnErr result (TellsSome self.old self.new (call_arguments T.TextTransform (given arguments.entry))) }
+        ensures bounded { IsWithinWork self.old self.new (enters_by_arguments self.old (given
+            arguments.entry)) }
         ensures path { path_of self.new ≡ path_of self.old }
         ensures kept { Keeps self.old self.new }
     {
         work_is_bounded::<C, F>();
-        let alloc = self.bundle.environment.alloc;
+        let alloc = self.bundle.alloc;
         match arguments {
             Some(arguments) => self.find_arguments(arguments),
             None => Ok(none_given(alloc)),

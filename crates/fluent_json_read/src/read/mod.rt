@@ -1,10 +1,10 @@
 //! From a JSON value to the tree that has it.
 
-ghost use Rattle.std.specs.Prelude.{◌≡◌, List, IfOk, IfErr};
+ghost use Rattle.std.specs.Prelude.{◌≡◌, List, IfOk};
 ghost use Rattle.serde_json.specs.Data.{string};
 ghost use Rattle.serde_json.specs.View.{view, items_view};
 ghost use Rattle.fluent_grammar.specs.Tree.{Entry as PlainEntry};
-ghost use Rattle.fluent_json_objects.specs.Objects.{message, term};
+ghost use Rattle.fluent_json_read.specs.Given.{IfShape, message_of, term_of};
 ghost use Rattle.fluent_json_values.specs.Json.{HasValue, HasNoTree, HasNone, each, or_null, json_pattern, json_attribute, json_comment, json_entry};
 ghost use Rattle.fluent_json_values.specs.Parts.{plain, lines_json, entries_json, attributes_json, attribute_json, maybe_pattern_json, maybe_comment_json, entry_json};
 
@@ -30,7 +30,7 @@ use std::alloc::Global;
 pub fn from_value(alloc: Global, value: &Value) -> Result<Resource<String>, FromValueError>
     ensures ok { IfOk result (λ resource. HasValue (plain resource) (view value.now)) }
     ensures inverse { (tree : List PlainEntry) → HasValue tree (view value.now)
-        → IfOk result (λ resource. plain resource ≡ tree) }
+        → IfOk result (λ read. plain read ≡ tree) }
     ensures shape { result ≡ Err FromValueError.Shape → HasNoTree (view value.now) }
 {
     read_resource(alloc, value)
@@ -39,7 +39,7 @@ pub fn from_value(alloc: Global, value: &Value) -> Result<Resource<String>, From
 /// The tree, of a value with a version or without.
 fn read_resource(alloc: Global, value: &Value) -> Result<Resource<String>, FromValueError>
     ensures ok { IfOk result (λ resource. HasValue (plain resource) (view value.now)) }
-    ensures shape { IfErr result (λ e. e ≡ FromValueError.Shape → HasNoTree (view value.now)) }
+    ensures shape { IfShape result (HasNoTree (view value.now)) }
 {
     if let Some(values) = parts::resource(value) {
         return read_body(alloc, values);
@@ -57,8 +57,7 @@ fn read_resource(alloc: Global, value: &Value) -> Result<Resource<String>, FromV
 fn read_body(alloc: Global, values: &[Value]) -> Result<Resource<String>, FromValueError>
     ensures ok { IfOk result (λ resource. entries_json resource.body.items
         ≡ items_view values.now) }
-    ensures shape { IfErr result (λ e. e ≡ FromValueError.Shape
-        → HasNone (each json_entry) (items_view values.now)) }
+    ensures shape { IfShape result (HasNone (each json_entry) (items_view values.now)) }
 {
     let mut body = Vec::new(alloc);
     for value in values {
@@ -69,8 +68,7 @@ fn read_body(alloc: Global, values: &[Value]) -> Result<Resource<String>, FromVa
 
 fn read_entry(alloc: Global, value: &Value) -> Result<Entry<String>, FromValueError>
     ensures ok { IfOk result (λ entry. entry_json entry ≡ view value.now) }
-    ensures shape { IfErr result (λ e. e ≡ FromValueError.Shape
-        → HasNone json_entry (view value.now)) }
+    ensures shape { IfShape result (HasNone json_entry (view value.now)) }
 {
     if let Some((id, pattern, attributes, comment)) = parts::message(value) {
         return read_message(alloc, id, pattern, attributes, comment);
@@ -106,10 +104,9 @@ fn read_message(
     comment: &Value,
 ) -> Result<Entry<String>, FromValueError>
     ensures ok { IfOk result (λ entry. entry_json entry
-        ≡ message (view id.now) (view pattern.now) (items_view attributes.now) (view comment.now)) }
-    ensures shape { IfErr result (λ e. e ≡ FromValueError.Shape
-        → HasNone json_entry (message (view id.now) (view pattern.now) (items_view attributes.now)
-        (view comment.now))) }
+        ≡ message_of id.now pattern.now attributes.now comment.now) }
+    ensures shape { IfShape result (HasNone json_entry
+        (message_of id.now pattern.now attributes.now comment.now)) }
 {
     let id = read_identifier(alloc, id)?;
     let value = read_maybe_pattern(alloc, pattern)?;
@@ -132,10 +129,9 @@ fn read_term(
     comment: &Value,
 ) -> Result<Entry<String>, FromValueError>
     ensures ok { IfOk result (λ entry. entry_json entry
-        ≡ term (view id.now) (view pattern.now) (items_view attributes.now) (view comment.now)) }
-    ensures shape { IfErr result (λ e. e ≡ FromValueError.Shape
-        → HasNone json_entry (term (view id.now) (view pattern.now) (items_view attributes.now)
-        (view comment.now))) }
+        ≡ term_of id.now pattern.now attributes.now comment.now) }
+    ensures shape { IfShape result (HasNone json_entry
+        (term_of id.now pattern.now attributes.now comment.now)) }
 {
     let id = read_identifier(alloc, id)?;
     let value = read_pattern(alloc, pattern)?;
@@ -155,8 +151,7 @@ fn read_maybe_pattern(
     value: &Value,
 ) -> Result<Option<Pattern<String>>, FromValueError>
     ensures ok { IfOk result (λ pattern. maybe_pattern_json pattern ≡ view value.now) }
-    ensures shape { IfErr result (λ e. e ≡ FromValueError.Shape
-        → HasNone (or_null json_pattern) (view value.now)) }
+    ensures shape { IfShape result (HasNone (or_null json_pattern) (view value.now)) }
 {
     if value.is_null() {
         return Ok(None);
@@ -170,8 +165,7 @@ fn read_maybe_comment(
     value: &Value,
 ) -> Result<Option<Comment<String>>, FromValueError>
     ensures ok { IfOk result (λ comment. maybe_comment_json comment ≡ view value.now) }
-    ensures shape { IfErr result (λ e. e ≡ FromValueError.Shape
-        → HasNone (or_null json_comment) (view value.now)) }
+    ensures shape { IfShape result (HasNone (or_null json_comment) (view value.now)) }
 {
     if value.is_null() {
         return Ok(None);
@@ -189,8 +183,7 @@ fn read_attributes(
 ) -> Result<Vec<Attribute<String>>, FromValueError>
     ensures ok { IfOk result (λ attributes. attributes_json attributes.items
         ≡ items_view values.now) }
-    ensures shape { IfErr result (λ e. e ≡ FromValueError.Shape
-        → HasNone (each json_attribute) (items_view values.now)) }
+    ensures shape { IfShape result (HasNone (each json_attribute) (items_view values.now)) }
 {
     let mut attributes = Vec::new(alloc);
     for value in values {
@@ -201,8 +194,7 @@ fn read_attributes(
 
 fn read_attribute(alloc: Global, value: &Value) -> Result<Attribute<String>, FromValueError>
     ensures ok { IfOk result (λ attribute. attribute_json attribute ≡ view value.now) }
-    ensures shape { IfErr result (λ e. e ≡ FromValueError.Shape
-        → HasNone json_attribute (view value.now)) }
+    ensures shape { IfShape result (HasNone json_attribute (view value.now)) }
 {
     let Some((id, pattern)) = parts::attribute(value) else {
         return Err(FromValueError::Shape);
@@ -214,8 +206,7 @@ fn read_attribute(alloc: Global, value: &Value) -> Result<Attribute<String>, Fro
 
 fn read_lines(alloc: Global, values: &[Value]) -> Result<Vec<String>, FromValueError>
     ensures ok { IfOk result (λ lines. lines_json lines.items ≡ items_view values.now) }
-    ensures shape { IfErr result (λ e. e ≡ FromValueError.Shape
-        → HasNone (each string) (items_view values.now)) }
+    ensures shape { IfShape result (HasNone (each string) (items_view values.now)) }
 {
     let mut lines = Vec::new(alloc);
     for value in values {

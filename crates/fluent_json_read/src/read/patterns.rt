@@ -2,9 +2,10 @@
 //!
 //! Each function gives the part of a tree that has the value, or `Shape` where no part of that kind has it.
 
-ghost use Rattle.std.specs.Prelude.{◌≡◌, IfOk, IfErr};
+ghost use Rattle.std.specs.Prelude.{◌≡◌, IfOk};
 ghost use Rattle.serde_json.specs.View.{view, items_view};
-ghost use Rattle.fluent_json_objects.specs.Objects.{placeable, function_reference, message_reference, term_reference, identifier};
+ghost use Rattle.fluent_json_objects.specs.Objects.{placeable, function_reference, message_reference, identifier};
+ghost use Rattle.fluent_json_read.specs.Given.{IfShape, term_reference_of};
 ghost use Rattle.fluent_json_values.specs.Json.{HasNone, or_null, json_key, json_pattern, json_elements, json_expression, json_variants, json_inline, json_arguments, json_maybe_arguments, json_positional, json_named};
 ghost use Rattle.fluent_json_values.specs.Parts.{accessor_json, maybe_arguments_json, identifier_json, key_json, pattern_json, element_json, json_element, expression_json, inline_json, variant_json, json_variant, variants_json, elements_json, arguments_json, positional_json, named_json, json_one_named, nameds_json};
 
@@ -22,8 +23,7 @@ pub(super) fn read_identifier(
     value: &Value,
 ) -> Result<Identifier<String>, FromValueError>
     ensures ok { IfOk result (λ id. identifier_json id ≡ view value.now) }
-    ensures shape { IfErr result (λ e. e ≡ FromValueError.Shape
-        → HasNone identifier (view value.now)) }
+    ensures shape { IfShape result (HasNone identifier (view value.now)) }
 {
     let Some(name) = parts::identifier(value) else {
         return Err(FromValueError::Shape);
@@ -35,8 +35,7 @@ pub(super) fn read_identifier(
 /// An identifier, or None for null.
 fn read_accessor(alloc: Global, value: &Value) -> Result<Option<Identifier<String>>, FromValueError>
     ensures ok { IfOk result (λ id. accessor_json id ≡ view value.now) }
-    ensures shape { IfErr result (λ e. e ≡ FromValueError.Shape
-        → HasNone (or_null identifier) (view value.now)) }
+    ensures shape { IfShape result (HasNone (or_null identifier) (view value.now)) }
 {
     if value.is_null() {
         return Ok(None);
@@ -46,8 +45,7 @@ fn read_accessor(alloc: Global, value: &Value) -> Result<Option<Identifier<Strin
 
 fn read_key(alloc: Global, value: &Value) -> Result<VariantKey<String>, FromValueError>
     ensures ok { IfOk result (λ key. key_json key ≡ view value.now) }
-    ensures shape { IfErr result (λ e. e ≡ FromValueError.Shape
-        → HasNone json_key (view value.now)) }
+    ensures shape { IfShape result (HasNone json_key (view value.now)) }
 {
     if let Some(name) = parts::identifier(value) {
         let name = String::from_str(alloc, name)?;
@@ -63,8 +61,7 @@ fn read_key(alloc: Global, value: &Value) -> Result<VariantKey<String>, FromValu
 #[cycle(read)]
 pub(super) fn read_pattern(alloc: Global, value: &Value) -> Result<Pattern<String>, FromValueError>
     ensures ok { IfOk result (λ pattern. pattern_json pattern ≡ view value.now) }
-    ensures shape { IfErr result (λ e. e ≡ FromValueError.Shape
-        → HasNone json_pattern (view value.now)) }
+    ensures shape { IfShape result (HasNone json_pattern (view value.now)) }
 {
     let Some(elements) = parts::pattern(value) else {
         return Err(FromValueError::Shape);
@@ -79,8 +76,7 @@ fn read_elements(
     values: &[Value],
 ) -> Result<Vec<PatternElement<String>>, FromValueError>
     ensures ok { IfOk result (λ elements. elements_json elements.items ≡ items_view values.now) }
-    ensures shape { IfErr result (λ e. e ≡ FromValueError.Shape
-        → HasNone json_elements (items_view values.now)) }
+    ensures shape { IfShape result (HasNone json_elements (items_view values.now)) }
 {
     let mut elements = Vec::new(alloc);
     for value in values {
@@ -92,8 +88,7 @@ fn read_elements(
 #[cycle(read)]
 fn read_element(alloc: Global, value: &Value) -> Result<PatternElement<String>, FromValueError>
     ensures ok { IfOk result (λ element. element_json element ≡ view value.now) }
-    ensures shape { IfErr result (λ e. e ≡ FromValueError.Shape
-        → HasNone json_element (view value.now)) }
+    ensures shape { IfShape result (HasNone json_element (view value.now)) }
 {
     if let Some(text) = parts::text_element(value) {
         let value = String::from_str(alloc, text)?;
@@ -109,8 +104,7 @@ fn read_element(alloc: Global, value: &Value) -> Result<PatternElement<String>, 
 #[cycle(read)]
 fn read_expression(alloc: Global, value: &Value) -> Result<Expression<String>, FromValueError>
     ensures ok { IfOk result (λ expression. expression_json expression ≡ view value.now) }
-    ensures shape { IfErr result (λ e. e ≡ FromValueError.Shape
-        → HasNone json_expression (view value.now)) }
+    ensures shape { IfShape result (HasNone json_expression (view value.now)) }
 {
     if let Some((selector, variants)) = parts::select(value) {
         let selector = read_inline(alloc, selector)?;
@@ -123,8 +117,7 @@ fn read_expression(alloc: Global, value: &Value) -> Result<Expression<String>, F
 #[cycle(read)]
 fn read_variants(alloc: Global, values: &[Value]) -> Result<Vec<Variant<String>>, FromValueError>
     ensures ok { IfOk result (λ variants. variants_json variants.items ≡ items_view values.now) }
-    ensures shape { IfErr result (λ e. e ≡ FromValueError.Shape
-        → HasNone json_variants (items_view values.now)) }
+    ensures shape { IfShape result (HasNone json_variants (items_view values.now)) }
 {
     let mut variants = Vec::new(alloc);
     for value in values {
@@ -136,8 +129,7 @@ fn read_variants(alloc: Global, values: &[Value]) -> Result<Vec<Variant<String>>
 #[cycle(read)]
 fn read_variant(alloc: Global, value: &Value) -> Result<Variant<String>, FromValueError>
     ensures ok { IfOk result (λ variant. variant_json variant ≡ view value.now) }
-    ensures shape { IfErr result (λ e. e ≡ FromValueError.Shape
-        → HasNone json_variant (view value.now)) }
+    ensures shape { IfShape result (HasNone json_variant (view value.now)) }
 {
     let Some((key, pattern, default)) = parts::variant(value) else {
         return Err(FromValueError::Shape);
@@ -154,8 +146,7 @@ fn read_variant(alloc: Global, value: &Value) -> Result<Variant<String>, FromVal
 #[cycle(read)]
 fn read_inline(alloc: Global, value: &Value) -> Result<InlineExpression<String>, FromValueError>
     ensures ok { IfOk result (λ inline. inline_json inline ≡ view value.now) }
-    ensures shape { IfErr result (λ e. e ≡ FromValueError.Shape
-        → HasNone json_inline (view value.now)) }
+    ensures shape { IfShape result (HasNone json_inline (view value.now)) }
 {
     if let Some(text) = parts::string_literal(value) {
         let value = String::from_str(alloc, text)?;
@@ -191,8 +182,7 @@ fn read_nested(
     expression: &Value,
 ) -> Result<InlineExpression<String>, FromValueError>
     ensures ok { IfOk result (λ inline. inline_json inline ≡ placeable (view expression.now)) }
-    ensures shape { IfErr result (λ e. e ≡ FromValueError.Shape
-        → HasNone json_inline (placeable (view expression.now))) }
+    ensures shape { IfShape result (HasNone json_inline (placeable (view expression.now))) }
 {
     let expression = Box::new(alloc, read_expression(alloc, expression)?)?;
     Ok(InlineExpression::Placeable { expression })
@@ -206,8 +196,8 @@ fn read_message_reference(
 ) -> Result<InlineExpression<String>, FromValueError>
     ensures ok { IfOk result (λ inline. inline_json inline
         ≡ message_reference (view id.now) (view attribute.now)) }
-    ensures shape { IfErr result (λ e. e ≡ FromValueError.Shape
-        → HasNone json_inline (message_reference (view id.now) (view attribute.now))) }
+    ensures shape { IfShape result (HasNone json_inline (message_reference (view id.now)
+        (view attribute.now))) }
 {
     let id = read_identifier(alloc, id)?;
     let attribute = read_accessor(alloc, attribute)?;
@@ -223,8 +213,8 @@ fn read_function_reference(
 ) -> Result<InlineExpression<String>, FromValueError>
     ensures ok { IfOk result (λ inline. inline_json inline
         ≡ function_reference (view id.now) (view arguments.now)) }
-    ensures shape { IfErr result (λ e. e ≡ FromValueError.Shape
-        → HasNone json_inline (function_reference (view id.now) (view arguments.now))) }
+    ensures shape { IfShape result (HasNone json_inline (function_reference (view id.now)
+        (view arguments.now))) }
 {
     let id = read_identifier(alloc, id)?;
     let arguments = read_arguments(alloc, arguments)?;
@@ -240,10 +230,9 @@ fn read_term_reference(
     arguments: &Value,
 ) -> Result<InlineExpression<String>, FromValueError>
     ensures ok { IfOk result (λ inline. inline_json inline
-        ≡ term_reference (view id.now) (view attribute.now) (view arguments.now)) }
-    ensures shape { IfErr result (λ e. e ≡ FromValueError.Shape
-        → HasNone json_inline (term_reference (view id.now) (view attribute.now)
-        (view arguments.now))) }
+        ≡ term_reference_of id.now attribute.now arguments.now) }
+    ensures shape { IfShape result (HasNone json_inline
+        (term_reference_of id.now attribute.now arguments.now)) }
 {
     let id = read_identifier(alloc, id)?;
     let attribute = read_accessor(alloc, attribute)?;
@@ -262,8 +251,7 @@ fn read_maybe_arguments(
     value: &Value,
 ) -> Result<Option<CallArguments<String>>, FromValueError>
     ensures ok { IfOk result (λ arguments. maybe_arguments_json arguments ≡ view value.now) }
-    ensures shape { IfErr result (λ e. e ≡ FromValueError.Shape
-        → HasNone json_maybe_arguments (view value.now)) }
+    ensures shape { IfShape result (HasNone json_maybe_arguments (view value.now)) }
 {
     if value.is_null() {
         return Ok(None);
@@ -274,8 +262,7 @@ fn read_maybe_arguments(
 #[cycle(read)]
 fn read_arguments(alloc: Global, value: &Value) -> Result<CallArguments<String>, FromValueError>
     ensures ok { IfOk result (λ arguments. arguments_json arguments ≡ view value.now) }
-    ensures shape { IfErr result (λ e. e ≡ FromValueError.Shape
-        → HasNone json_arguments (view value.now)) }
+    ensures shape { IfShape result (HasNone json_arguments (view value.now)) }
 {
     let Some((positional, named)) = parts::call_arguments(value) else {
         return Err(FromValueError::Shape);
@@ -292,8 +279,7 @@ fn read_positional(
 ) -> Result<Vec<InlineExpression<String>>, FromValueError>
     ensures ok { IfOk result (λ positional. positional_json positional.items
         ≡ items_view values.now) }
-    ensures shape { IfErr result (λ e. e ≡ FromValueError.Shape
-        → HasNone json_positional (items_view values.now)) }
+    ensures shape { IfShape result (HasNone json_positional (items_view values.now)) }
 {
     let mut positional = Vec::new(alloc);
     for value in values {
@@ -308,8 +294,7 @@ fn read_all_named(
     values: &[Value],
 ) -> Result<Vec<NamedArgument<String>>, FromValueError>
     ensures ok { IfOk result (λ named. nameds_json named.items ≡ items_view values.now) }
-    ensures shape { IfErr result (λ e. e ≡ FromValueError.Shape
-        → HasNone json_named (items_view values.now)) }
+    ensures shape { IfShape result (HasNone json_named (items_view values.now)) }
 {
     let mut named = Vec::new(alloc);
     for value in values {
@@ -321,8 +306,7 @@ fn read_all_named(
 #[cycle(read)]
 fn read_named(alloc: Global, value: &Value) -> Result<NamedArgument<String>, FromValueError>
     ensures ok { IfOk result (λ argument. named_json argument ≡ view value.now) }
-    ensures shape { IfErr result (λ e. e ≡ FromValueError.Shape
-        → HasNone json_one_named (view value.now)) }
+    ensures shape { IfShape result (HasNone json_one_named (view value.now)) }
 {
     let Some((name, inner)) = parts::named_argument(value) else {
         return Err(FromValueError::Shape);

@@ -1370,8 +1370,8 @@ arguments::named_values-returns-in_err-value-clause-refused g n c =
     let inner : TellsSome u v1 (s.value_found env (view arg).value here u.budget) = subst (λ k. TellsSome u v1 (s.value_found env k here u.budget)) (sym is_value) (subst (λ p. TellsSome u v1 (s.value_found env out_value p u.budget)) same c.in_err-value.ensures.refused) in
     on-err _ (tells-as (ap (λ x. mapped (all_set []) (s.named_found env x here b)) whole) (named-refused env here xs ys (view arg) c.loop-argument.invariant.found inner))
 
-pub arguments::named_values-returns-in_err-set-clause-refused : goal.arguments::named_values-returns-in_err-set-clause-refused
-arguments::named_values-returns-in_err-set-clause-refused g n c =
+pub arguments::named_values-returns-in_err-set_value-clause-refused : goal.arguments::named_values-returns-in_err-set_value-clause-refused
+arguments::named_values-returns-in_err-set_value-clause-refused g n c =
     let env = resolved_in g.E.Context.environment c.args.place.now in
     let seen = place_view g.C.FluentType.meaning c.args.place.now c.args.locals in
     let here = seen c.args.progress.now in
@@ -1423,7 +1423,7 @@ arguments::named_values-loop-argument-preserved g n c =
     let more = named-one env here xs (view arg) c.loop-argument.invariant.found one in
     let grown = map-up-to view items i arg c.loop-argument-test.true c.argument-item.is in
     let step = finds-as (λ x. mapped (all_set []) (s.named_found env (nameds_of (xs ++ view arg ∷ [])) here x)) (λ x. mapped (all_set []) (s.named_found env (nameds_of (map view (take (i + 1) items))) here x)) (ap (λ zs. mapped (all_set []) (s.named_found env (nameds_of zs) here b)) grown) more in
-    let put = c.in_ok-set.ensures.ok ∙ ap (λ k. with_argument k value (args_view g.C.FluentType.meaning c.loop-argument.values)) (sym is_name) in
+    let put = c.in_ok-set_value.ensures.ok ∙ ap (λ k. with_argument k value (args_view g.C.FluentType.meaning c.loop-argument.values)) (sym is_name) in
     record { found = record { value = put ∙ step.value; state = step.state }; path = c.in_ok-value.ensures.path ∙ c.loop-argument.invariant.path }
 
 pub arguments::named_values-value_of-requires : goal.arguments::named_values-value_of-requires

@@ -1,12 +1,10 @@
 //! Making, asking and changing arguments.
 
-ghost use Rattle.std.specs.Prelude.{◌≡◌, [], MatchResult, IfOk, OnOk, OnErr, IsOk, IsSome, length, option_map, option_copied};
-ghost use Rattle.std.specs.declared.cmp.Ordering.TheVariants.{Less, Equal, Greater};
-ghost use Rattle.std.specs.Cow.{cow_str_bytes};
-ghost use Rattle.std.specs.List.{HoldsAt};
-ghost use Rattle.std.specs.List.Sorted.{IsPartitionPoint, IsSearchInRange};
-ghost use Rattle.fluent_value.specs.Args.{with_argument, argument, order};
-ghost use Rattle.fluent_value.specs.ArgsNames.{name_of};
+ghost use Rattle.std.specs.Prelude.{◌≡◌, [], IfOk, OnOk, OnErr, IsOk, length, option_map, option_copied};
+ghost use Rattle.std.specs.List.Sorted.{IsSearchInRange};
+ghost use Rattle.fluent_value.specs.Args.{argument};
+ghost use Rattle.fluent_value.specs.ArgsNames.{IsPlaceOf};
+ghost use Rattle.fluent_value.specs.ArgsSet.{HasName, SetsPair, SetsConverted};
 ghost use Rattle.fluent_value.specs.ArgsView.{args_view};
 ghost use Rattle.fluent_value.specs.View.{value_view};
 
@@ -26,7 +24,10 @@ impl<'args, C: FluentType> FluentArgs<'args, C> {
         }
     }
 
-    /// No arguments, with room for so many of them. The error is that memory was refused.
+    /// No arguments, with room for so many of them.
+    ///
+    /// # Errors
+    /// [`AllocError`] if memory runs out; nothing is left behind.
     pub fn with_capacity(alloc: Global, capacity: usize) -> Result<Self, AllocError>
         ensures { IfOk result (λ args. args_view C.meaning args ≡ []) }
     {
@@ -49,9 +50,7 @@ impl<'args, C: FluentType> FluentArgs<'args, C> {
     /// Where the name stands, or where it would.
     fn place(&self, name: &str) -> Result<usize, usize>
         ensures range { IsSearchInRange result (length self.now.arguments.items) }
-        ensures place { MatchResult result (HoldsAt (λ it. order (name_of it) name.now ≡ Equal)
-            self.now.arguments.items) (IsPartitionPoint (λ it. order (name_of it) name.now ≡ Less)
-            (λ it. order (name_of it) name.now ≡ Greater) self.now.arguments.items) }
+        ensures place { IsPlaceOf name.now self.now.arguments.items result }
     {
         self.arguments
             .binary_search_by(|argument| argument.name.as_str().cmp(name))
@@ -59,20 +58,38 @@ impl<'args, C: FluentType> FluentArgs<'args, C> {
 }
 
 impl<'args, C: FluentType + Drop> FluentArgs<'args, C> {
-    /// Gives a name a value, in the place of the one that it has, if it has one; then it takes no memory and succeeds. The
-    /// error is that memory was refused; the arguments are then unchanged.
-    pub fn set(
+    /// Gives a name a value, in the place of the one that it has, if it has one; then it takes no memory and succeeds. A name
+    /// is whatever converts to a [`CowStr`], and a value whatever converts to a [`FluentValue`]: `args.set("count", 3)`.
+    ///
+    /// # Errors
+    /// [`AllocError`] if memory runs out; the arguments are unchanged.
+    pub fn set<K: Into<CowStr<'args>>, V: Into<FluentValue<'args, C>>>(
+        &mut self,
+        name: K,
+        value: V,
+    ) -> Result<(), AllocError>
+        ensures ok { OnOk result (SetsConverted K.converts V.converts C.meaning self.old self.new
+            (name, value)) }
+        ensures refused { OnErr result (args_view C.meaning self.new ≡ args_view C.meaning self.old) }
+        ensures succeeds { (it : _) × K.converts name it
+            × (HasName C.meaning self.old it → IsOk result) }
+    {
+        self.set_value(name.into(), value.into())
+    }
+
+    /// Gives a name a value, as [`set`](FluentArgs::set) does, without a conversion. Code that is generic in the program's type
+    /// of values sets a [`FluentValue`] by this call: no proof covers an identity conversion at a type that isn't known.
+    ///
+    /// # Errors
+    /// [`AllocError`] if memory runs out; the arguments are unchanged.
+    pub fn set_value(
         &mut self,
         name: CowStr<'args>,
         value: FluentValue<'args, C>,
     ) -> Result<(), AllocError>
-        ensures ok { OnOk result (args_view C.meaning self.new
-            ≡ with_argument (cow_str_bytes name.entry) (value_view C.meaning value.entry)
-            (args_view C.meaning self.old)) }
-        ensures refused { OnErr result (args_view C.meaning self.new
-            ≡ args_view C.meaning self.old) }
-        ensures succeeds { IsSome (argument (cow_str_bytes name.entry)
-            (args_view C.meaning self.old)) → IsOk result }
+        ensures ok { OnOk result (SetsPair C.meaning self.old self.new (name.entry, value.entry)) }
+        ensures refused { OnErr result (args_view C.meaning self.new ≡ args_view C.meaning self.old) }
+        ensures succeeds { HasName C.meaning self.old name.entry → IsOk result }
     {
         match self.place(name.as_str()) {
             Ok(index) => self.arguments[index].value = value,

@@ -10,6 +10,7 @@ mod iter;
 mod options;
 mod pairs;
 
+use crate::custom::NoCustom;
 use crate::value::FluentValue;
 pub use into_iter::IntoIter;
 pub use iter::Iter;
@@ -23,8 +24,13 @@ struct Argument<'args, C> {
 }
 
 /// The arguments of a message: values by their names, in the order of the names' bytes.
+///
+/// ```
+/// let mut args = FluentArgs::new(alloc);
+/// args.set("name", "John")?;
+/// ```
 #[derive(Debug, Drop)]
-pub struct FluentArgs<'args, C> {
+pub struct FluentArgs<'args, C = NoCustom> {
     arguments: Vec<Argument<'args, C>>,
     ghost ascending: { IsAscending (names_of arguments.items) } by { Prim.hlevel props },
 }

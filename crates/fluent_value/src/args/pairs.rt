@@ -1,10 +1,8 @@
 //! Arguments from pairs of a name and a value.
 
-ghost use Rattle.std.specs.Prelude.{◌≡◌, [], List, map, IfOk};
-ghost use Rattle.std.specs.Cow.{cow_str_bytes};
-ghost use Rattle.std.specs.Iterator.{IsFinite, Drains};
-ghost use Rattle.fluent_value.specs.Args.{all_set};
-ghost use Rattle.fluent_value.specs.ArgsView.{args_view, pair_view};
+ghost use Rattle.std.specs.Prelude.{IfOk};
+ghost use Rattle.std.specs.Iterator.{IsFinite};
+ghost use Rattle.fluent_value.specs.ArgsSet.{DrainsInto};
 
 use super::FluentArgs;
 use crate::custom::FluentType;
@@ -14,15 +12,18 @@ use std::borrow::CowStr;
 
 impl<'args, C: FluentType + Drop> FluentArgs<'args, C> {
     /// The arguments that these pairs of a name and a value give, set one after the other: of a name that comes twice the
-    /// last value stands. The error is that memory was refused.
-    pub fn from_pairs<I: Iterator<Item = (CowStr<'args>, FluentValue<'args, C>)>>(
-        alloc: Global,
-        pairs: I,
-    ) -> Result<Self, AllocError>
+    /// last value stands. Names and values are what [`set`](FluentArgs::set) takes.
+    ///
+    /// # Errors
+    /// [`AllocError`] if memory runs out; nothing is left behind.
+    pub fn from_pairs<
+        K: Into<CowStr<'args>>,
+        V: Into<FluentValue<'args, C>>,
+        I: Iterator<Item = (K, V)>,
+    >(alloc: Global, pairs: I) -> Result<Self, AllocError>
         requires can { I.can_next pairs }
         requires ends { IsFinite (I.remaining pairs) }
-        ensures { IfOk result (λ args. (items : List _) × Drains I.next_gives pairs items
-            × (args_view C.meaning args ≡ all_set [] (map (pair_view C.meaning) items))) }
+        ensures { IfOk result (DrainsInto K.converts V.converts I.next_gives pairs C.meaning) }
     {
         let mut args = FluentArgs::new(alloc);
         'pairs: for (name, value) in pairs {

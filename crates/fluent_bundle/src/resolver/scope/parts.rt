@@ -1,18 +1,13 @@
 //! What each call of a scope is made of: the scope's own part is handed on, and put back at the end.
 
-ghost use Rattle.std.specs.Prelude.{◌≡◌, IfOk, None, OnErr, OnOk, is_some, map, option_map, string_bytes};
-ghost use Rattle.fluent_errors.specs.Errors.{unknown};
-ghost use Rattle.fluent_errors.specs.View.{bundle_view, reference_view};
-ghost use Rattle.fluent_ast.specs.View.{arguments_view, expression_view, inline_view, pattern_view};
+ghost use Rattle.std.specs.Prelude.{◌≡◌, IfOk, None, OnErr, OnOk, Some, is_some, map, option_map, string_bytes};
+ghost use Rattle.fluent_errors.specs.View.{bundle_view};
+ghost use Rattle.fluent_ast.specs.Borrowed.{elements_of};
 ghost use Rattle.fluent_asking.specs.Called.{called_of};
-ghost use Rattle.fluent_bundle.specs.BundleView.{environment_of};
-ghost use Rattle.fluent_bundle.specs.ScopeView.{Keeps, path_of, place_of, root_of, state_of};
-ghost use Rattle.fluent_grammar.specs.Tree as t;
-ghost use Rattle.fluent_meaning.specs.Fallback.{braced, inline_fallback};
-ghost use Rattle.fluent_meaning.specs.Refused.{TellsSome};
-ghost use Rattle.fluent_meaning.specs.Steps.{faulty};
+ghost use Rattle.fluent_bundle.specs.ScopeSteps.{Finds, TellsSome, Writes};
+ghost use Rattle.fluent_bundle.specs.ScopeSteps.{call_arguments, fallback, given, placeable, reference, unknown_reference};
+ghost use Rattle.fluent_bundle.specs.ScopeView.{Keeps, path_of, root_of, state_of};
 ghost use Rattle.fluent_meaning.specs.Substitution as s;
-ghost use Rattle.fluent_meaning.specs.Told.{Finds, Writes};
 ghost use Rattle.fluent_progress.specs.Views as v;
 ghost use Rattle.fluent_progress.specs.Views.{state};
 
@@ -23,7 +18,8 @@ use fluent_errors::{FluentError, ReferenceKind, ResolverError};
 use fluent_progress::fallback::write_inline_braced;
 use fluent_progress::{Place, Progress};
 use fluent_value::{
-    FluentArgs, FluentFunction, FluentType, FluentValue, MemoizerKind, ValueFormatter,
+    FluentArgs, FluentFunction, FluentType, FluentValue, MemoizerKind, TextTransform,
+    ValueFormatter,
 };
 use std::alloc::{AllocError, Global};
 use std::mem;
@@ -33,7 +29,7 @@ fn path<'r, 's>(
     alloc: Global,
     root: Option<&'r Pattern<&'s str>>,
 ) -> Result<Vec<&'r Pattern<&'s str>>, AllocError>
-    ensures { IfOk result (λ path. map (λ x. pattern_view _ (λ s. s.now) x.now) path.items
+    ensures { IfOk result (λ path. map (λ x. elements_of x.now) path.items
         ≡ root_of root.entry) }
 {
     let mut path = Vec::new(alloc);
@@ -56,7 +52,13 @@ fn taken(alloc: Global, list: &mut Option<&mut Vec<FluentError>>) -> Option<Vec<
     }
 }
 
-impl<'b, 'r, 's, 'a, M, C, F, G> Scope<'b, 'r, 's, 'a, M, C, F, G> {
+impl<'b, 'r, 's, 'a, M, C, F, G, T> Scope<'b, 'r, 's, 'a, M, C, F, G, T>
+where
+    M: MemoizerKind,
+    C: FluentType,
+    F: FluentFunction<C>,
+    G: ValueFormatter<C, M>,
+{
     /// What resolving has come to, taken out of the scope. The only error is that memory runs out; nothing has changed then.
     fn progress(&mut self) -> Result<Progress<'r, 's>, AllocError>
         ensures state { IfOk result (λ progress. state progress ≡ state_of self.old) }
@@ -65,7 +67,7 @@ impl<'b, 'r, 's, 'a, M, C, F, G> Scope<'b, 'r, 's, 'a, M, C, F, G> {
         ensures path_left { path_of self.new ≡ path_of self.old }
         ensures kept { Keeps self.old self.new }
     {
-        let alloc = self.bundle.environment.alloc;
+        let alloc = self.bundle.alloc;
         let path = path(alloc, self.root)?;
         let errors = taken(alloc, &mut self.errors);
         Ok(Progress {
@@ -79,8 +81,8 @@ impl<'b, 'r, 's, 'a, M, C, F, G> Scope<'b, 'r, 's, 'a, M, C, F, G> {
 
     /// Puts back what resolving has come to.
     fn put_back(&mut self, progress: Progress<'r, 's>)
-        ensures state { is_some self.old.errors ≡ is_some progress.entry.errors
-            → state_of self.new ≡ state progress.entry }
+        ensures state { is_some self.old.errors ≡ is_some progress.entry.errors → state_of self.new
+            ≡ state progress.entry }
         ensures path { path_of self.new ≡ path_of self.old }
         ensures kept { Keeps self.old self.new }
     {
@@ -97,7 +99,7 @@ impl<'b, 'r, 's, 'a, M, C, F, G> Scope<'b, 'r, 's, 'a, M, C, F, G> {
 
     /// The first pattern that is tracked stays on the path.
     pub(super) fn stay_in(&mut self, pattern: &'r Pattern<&'s str>)
-        ensures path { path_of self.new ≡ s.rooted_path (pattern_view _ (λ s. s.now) pattern.now)
+        ensures path { path_of self.new ≡ s.rooted_path (elements_of pattern.now)
             (path_of self.old) }
         ensures state { state_of self.new ≡ state_of self.old }
         ensures kept { Keeps self.old self.new }
@@ -114,13 +116,9 @@ impl<'b, 'r, 's, 'a, M, C, F, G> Scope<'b, 'r, 's, 'a, M, C, F, G> {
         inline: &InlineExpression<&'s str>,
         kind: ReferenceKind,
     ) -> Result<(), AllocError>
-        ensures wrote { OnOk result (Writes (string_bytes out.old) (string_bytes out.new)
-            (state_of self.old) (state_of self.new) (faulty
-            (braced (inline_fallback (inline_view _ (λ s. s.now) inline.now)))
-            (unknown (reference_view kind)))) }
-        ensures refused { OnErr result (TellsSome (state_of self.old) (state_of self.new)
-            (faulty (braced (inline_fallback (inline_view _ (λ s. s.now) inline.now)))
-            (unknown (reference_view kind)) (state_of self.old).budget)) }
+        ensures wrote { OnOk result (Writes string_bytes out.old out.new self.old self.new (fallback
+            kind inline.now)) }
+        ensures refused { OnErr result (TellsSome self.old self.new (fallback kind inline.now)) }
         ensures path { path_of self.new ≡ path_of self.old }
         ensures kept { Keeps self.old self.new }
     {
@@ -129,12 +127,13 @@ impl<'b, 'r, 's, 'a, M, C, F, G> Scope<'b, 'r, 's, 'a, M, C, F, G> {
     }
 }
 
-impl<'b, 'r, 's, 'a, M, C, F, G> Scope<'b, 'r, 's, 'a, M, C, F, G>
+impl<'b, 'r, 's, 'a, M, C, F, G, T> Scope<'b, 'r, 's, 'a, M, C, F, G, T>
 where
     M: MemoizerKind,
     C: FluentType + Drop,
     F: FluentFunction<C>,
     G: ValueFormatter<C, M>,
+    T: TextTransform,
 {
     /// Writes a placeable that was opened before. The only error is that memory runs out.
     pub(super) fn write_opened(
@@ -143,16 +142,9 @@ where
         pattern: &'r Pattern<&'s str>,
         expression: &'r Expression<&'s str>,
     ) -> Result<(), AllocError>
-        ensures wrote { OnOk result (Writes (string_bytes out.old) (string_bytes out.new)
-            (state_of self.old) (state_of self.new) (s.unmarked_written
-            (environment_of C.text F.gives G.formats M.category_of M.stringified transformed
-            self.old.bundle.now) (pattern_view _ (λ s. s.now) pattern.now)
-            (expression_view _ (λ s. s.now) expression.now) (place_of C.meaning self.old))) }
-        ensures refused { OnErr result (TellsSome (state_of self.old) (state_of self.new)
-            (s.unmarked_written (environment_of C.text F.gives G.formats M.category_of M.stringified
-            transformed self.old.bundle.now) (pattern_view _ (λ s. s.now) pattern.now)
-            (expression_view _ (λ s. s.now) expression.now) (place_of C.meaning self.old)
-            (state_of self.old).budget)) }
+        ensures wrote { OnOk result (Writes string_bytes out.old out.new self.old self.new
+            (placeable T.TextTransform pattern.now expression.now)) }
+        ensures refused { OnErr result (TellsSome self.old self.new (placeable T.TextTransform pattern.now expression.now)) }
         ensures path { path_of self.new ≡ path_of self.old }
         ensures kept { Keeps self.old self.new }
     {
@@ -160,7 +152,7 @@ where
         let bundle = self.bundle;
         let lent = bundle.lent();
         let place = Place {
-            ids: &bundle.environment.ids,
+            ids: &bundle.ids,
             context: &lent,
             arguments: self.arguments,
         };
@@ -176,16 +168,9 @@ where
         pattern: &'r Pattern<&'s str>,
         inline: &'r InlineExpression<&'s str>,
     ) -> Result<(), AllocError>
-        ensures wrote { OnOk result (Writes (string_bytes out.old) (string_bytes out.new)
-            (state_of self.old) (state_of self.new) (s.reference_written
-            (environment_of C.text F.gives G.formats M.category_of M.stringified transformed
-            self.old.bundle.now) (inline_view _ (λ s. s.now) inline.now)
-            (pattern_view _ (λ s. s.now) pattern.now) (place_of C.meaning self.old))) }
-        ensures refused { OnErr result (TellsSome (state_of self.old) (state_of self.new)
-            (s.reference_written (environment_of C.text F.gives G.formats M.category_of
-            M.stringified transformed self.old.bundle.now) (inline_view _ (λ s. s.now) inline.now)
-            (pattern_view _ (λ s. s.now) pattern.now) (place_of C.meaning self.old)
-            (state_of self.old).budget)) }
+        ensures wrote { OnOk result (Writes string_bytes out.old out.new self.old self.new
+            (reference T.TextTransform inline.now pattern.now)) }
+        ensures refused { OnErr result (TellsSome self.old self.new (reference T.TextTransform inline.now pattern.now)) }
         ensures path { path_of self.new ≡ path_of self.old }
         ensures kept { Keeps self.old self.new }
     {
@@ -193,7 +178,7 @@ where
         let bundle = self.bundle;
         let lent = bundle.lent();
         let place = Place {
-            ids: &bundle.environment.ids,
+            ids: &bundle.ids,
             context: &lent,
             arguments: self.arguments,
         };
@@ -208,18 +193,13 @@ where
         out: &mut String,
         inline: &InlineExpression<&'s str>,
     ) -> Result<(), AllocError>
-        ensures wrote { OnOk result (Writes (string_bytes out.old) (string_bytes out.new)
-            (state_of self.old) (state_of self.new) (s.missed_written
-            (environment_of C.text F.gives G.formats M.category_of M.stringified transformed
-            self.old.bundle.now) (inline_view _ (λ s. s.now) inline.now))) }
-        ensures refused { OnErr result (TellsSome (state_of self.old) (state_of self.new)
-            (s.missed_written (environment_of C.text F.gives G.formats M.category_of M.stringified
-            transformed self.old.bundle.now) (inline_view _ (λ s. s.now) inline.now)
-            (state_of self.old).budget)) }
+        ensures wrote { OnOk result (Writes string_bytes out.old out.new self.old self.new
+            (unknown_reference T.TextTransform inline.now)) }
+        ensures refused { OnErr result (TellsSome self.old self.new (unknown_reference T.TextTransform inline.now)) }
         ensures path { path_of self.new ≡ path_of self.old }
         ensures kept { Keeps self.old self.new }
     {
-        match ReferenceKind::of(self.bundle.environment.alloc, inline)? {
+        match ReferenceKind::of(self.bundle.alloc, inline)? {
             Some(kind) => self.write_unknown(out, inline, kind),
             None => write_inline_braced(out, inline),
         }
@@ -230,16 +210,9 @@ where
         &mut self,
         arguments: &'r CallArguments<&'s str>,
     ) -> Result<(Vec<FluentValue<'s, C>>, FluentArgs<'s, C>), AllocError>
-        ensures found { IfOk result (λ found. Finds (called_of C.meaning found) (state_of self.old)
-            (state_of self.new) (s.arguments_found (environment_of C.text F.gives G.formats
-            M.category_of M.stringified transformed self.old.bundle.now)
-            (t.with_arguments (arguments_view _ (λ s. s.now) arguments.now))
-            (place_of C.meaning self.old))) }
-        ensures refused { OnErr result (TellsSome (state_of self.old) (state_of self.new)
-            (s.arguments_found (environment_of C.text F.gives G.formats M.category_of M.stringified
-            transformed self.old.bundle.now) (t.with_arguments
-            (arguments_view _ (λ s. s.now) arguments.now)) (place_of C.meaning self.old)
-            (state_of self.old).budget)) }
+        ensures found { IfOk result (λ found. Finds (called_of C.meaning found) self.old self.new
+            (call_arguments T.TextTransform (given (Some arguments.entry)))) }
+        ensures refused { OnErr result (TellsSome self.old self.new (call_arguments T.TextTransform (given (Some arguments.entry)))) }
         ensures path { path_of self.new ≡ path_of self.old }
         ensures kept { Keeps self.old self.new }
     {
@@ -247,7 +220,7 @@ where
         let bundle = self.bundle;
         let lent = bundle.lent();
         let place = Place {
-            ids: &bundle.environment.ids,
+            ids: &bundle.ids,
             context: &lent,
             arguments: self.arguments,
         };

@@ -6,14 +6,17 @@ ghost use Rattle.fluent_environment.specs.Settings.{formatted_by};
 
 use super::Scope;
 use fluent_number::{PluralCategory, PluralOperands, PluralRuleType};
-use fluent_value::{FluentType, FluentValue, MemoizerKind, ValueFormatter, ValueScope};
+use fluent_value::{
+    FluentFunction, FluentType, FluentValue, MemoizerKind, ValueFormatter, ValueScope,
+};
 use std::alloc::{AllocError, Global};
 use std::borrow::CowStr;
 
-impl<'b, 'r, 's, 'a, M, C, F, G> ValueScope<C> for Scope<'b, 'r, 's, 'a, M, C, F, G>
+impl<'b, 'r, 's, 'a, M, C, F, G, T> ValueScope<C> for Scope<'b, 'r, 's, 'a, M, C, F, G, T>
 where
     M: MemoizerKind,
     C: FluentType,
+    F: FluentFunction<C>,
     G: ValueFormatter<C, M>,
 {
     ghost has_formatter = { λ scope. is_some (bundle_of scope.bundle.now).formatter };
@@ -26,18 +29,18 @@ where
     ghost shown = { λ scope. M.stringified (bundle_of scope.bundle.now).plurals C.Meaning C.text };
 
     fn format(&self, value: &FluentValue<'_, C>) -> Result<Option<String>, AllocError> {
-        self.bundle.environment.format(value)
+        self.bundle.format(value)
     }
 
     fn category(&self, rule: PluralRuleType, operands: &PluralOperands) -> PluralCategory {
-        self.bundle.environment.plurals.category(rule, operands)
+        self.bundle.plurals.category(rule, operands)
     }
 
     fn stringify(&self, custom: &C) -> Result<CowStr<'static>, AllocError> {
-        self.bundle.environment.stringify(custom)
+        self.bundle.stringify(custom)
     }
 
     fn alloc(&self) -> Global {
-        self.bundle.environment.alloc
+        self.bundle.alloc
     }
 }

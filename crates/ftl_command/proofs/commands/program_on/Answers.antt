@@ -9,7 +9,7 @@ returns-in-Ok-clause-ended g c = record {
   outcome = Ok c.in-Ok.end;
   exact = c.status.ensures;
   reports = (refl, refl);
-  done = c.in-Ok.ensures.done;
+  done = c.in-Ok.ensures.ended.done;
   help = c.in-Ok.ensures.help;
   opens = c.in-Ok.ensures.opens;
   reads = c.in-Ok.ensures.reads;
@@ -50,9 +50,9 @@ returns-in-Err-clause-ended g c = record {
   right = c.in-Err.ensures.right;
   unread = λ before. untouched g.I.Source.remaining g.I.Source.failures (c.in-Err.ensures.unread before);
   unwritten = λ before. untouched g.O.Sink.contents g.O.Sink.failures (c.in-Err.ensures.unwritten before);
-  memory_out = c.in-Err.ensures.memory;
-  input_failed = c.in-Err.ensures.input;
-  output_cut = c.in-Err.ensures.output;
+  memory_out = c.in-Err.ensures.ended.memory;
+  input_failed = c.in-Err.ensures.ended.input;
+  output_cut = c.in-Err.ensures.ended.output;
   output_failed = c.in-Err.ensures.failed;
 }
 

@@ -1,7 +1,9 @@
-use Rattle.std.proofs.Common.{rules}
+use Rattle.std.proofs.Common.{ap}
 use Rattle.ftl_words.specs.Meaning.{command_of, texts}
 use Rattle.ftl_command.proofs.Refusals.{memory_is_right}
-use Rattle.ftl_command.proofs.RunLemmas.{done_by, first_by, kept_input, nothing_done}
+use Rattle.fluent_serve.proofs.Outcomes.{on_ok_always}
+use Rattle.ftl_command.specs.declared.fault.Fault.TheVariants.{Input, Memory}
+use Rattle.ftl_command.proofs.RunLemmas.{done_by, first_by, kept_by, kept_input, never_by, nothing_done, other_by}
 use Rattle.ftl_command.proofs.commands.run_command.Goals as goal
 
 pub returns-in-Ok-Run-clause-named : goal.returns-in-Ok-Run-clause-named
@@ -16,21 +18,8 @@ pub returns-in-Ok-Tidy-clause-named : goal.returns-in-Ok-Tidy-clause-named
 returns-in-Ok-Tidy-clause-named g c =
     rw (c.in-Ok-Tidy.ensures.command, c.in-Ok-Tidy.field-0-is) c.write_tidied.ensures.named
 
-pub returns-in-Err-Help-clause-done : goal.returns-in-Err-Help-clause-done
-returns-in-Err-Help-clause-done g c =
-    rw (c.in-Err-Help.ensures.nothing (λ memory. absurd cc)) c.write_help.ensures.ended
-
-pub returns-in-Err-Help-clause-output : goal.returns-in-Err-Help-clause-output
-returns-in-Err-Help-clause-output g c = λ output.
-    rw (c.in-Err-Help.ensures.nothing (λ memory. absurd cc)) (search rules)
-
 pub returns-in-Err-Memory-clause-no_input : goal.returns-in-Err-Memory-clause-no_input
 returns-in-Err-Memory-clause-no_input g c = kept_input (command_of (texts c.args.words.now)) _
-
-pub returns-in-Err-Memory-clause-memory : goal.returns-in-Err-Memory-clause-memory
-returns-in-Err-Memory-clause-memory g c = λ memory.
-    nothing_done (g.F.Folder.contents c.args.folder.now) (g.I.Source.remaining c.args.reader.now) (g.O.Sink.contents c.args.writer.now)
-    (command_of (texts c.args.words.now))
 
 pub returns-in-Err-Memory-clause-right : goal.returns-in-Err-Memory-clause-right
 returns-in-Err-Memory-clause-right g c = memory_is_right (g.F.Folder.contents c.args.folder.now) (command_of (texts c.args.words.now))
@@ -59,24 +48,55 @@ pub returns-in-Ok-Tidy-clause-unknown : goal.returns-in-Ok-Tidy-clause-unknown
 returns-in-Ok-Tidy-clause-unknown g c =
     rw (c.in-Ok-Tidy.ensures.command, c.in-Ok-Tidy.field-0-is) c.write_tidied.ensures.no_locale
 
-pub returns-in-Ok-Run-clause-memory : goal.returns-in-Ok-Run-clause-memory
-returns-in-Ok-Run-clause-memory g c = λ memory.
-    rw (c.in-Ok-Run.ensures.command, c.in-Ok-Run.field-0-is)
-    (first_by _ _ _ _ (rw c.deref.ensures.value at (c.run_files.ensures.memory memory)))
+pub returns-in-Ok-Run-clause-ended : goal.returns-in-Ok-Run-clause-ended
+returns-in-Ok-Run-clause-ended g c =
+    let files = c.deref.ensures.value in
+    rw (c.in-Ok-Run.ensures.command, c.in-Ok-Run.field-0-is) (record {
+      done = done_by c.run_files.result _ c.run_files.ensures.ended (rw files at c.run_files.ensures.ran.answered);
+      tidied = rw files at c.run_files.ensures.ran.tidied;
+      memory = λ memory. first_by _ _ _ _ (rw files at (c.run_files.ensures.ran.memory memory));
+      input = λ input. rw files at (c.run_files.ensures.ran.input input);
+      output = λ output. rw files at (c.run_files.ensures.ran.output output);
+    })
 
-pub returns-in-Ok-Run-clause-done : goal.returns-in-Ok-Run-clause-done
-returns-in-Ok-Run-clause-done g c =
-    rw (c.in-Ok-Run.ensures.command, c.in-Ok-Run.field-0-is)
-    (done_by c.run_files.result _ c.run_files.ensures.ended (rw c.deref.ensures.value at c.run_files.ensures.answered))
+pub returns-in-Ok-Check-clause-ended : goal.returns-in-Ok-Check-clause-ended
+returns-in-Ok-Check-clause-ended g c =
+    let files = c.deref-in-Ok-Check.ensures.value in
+    rw (c.in-Ok-Check.ensures.command, c.in-Ok-Check.field-0-is) (record {
+      done = rw files at c.check_files.ensures.ended.checked;
+      tidied = on_ok_always c.check_files.result tt;
+      memory = λ memory. ap g.O.Sink.contents (kept_by c.check_files.result Memory memory (λ same. absurd cc) c.check_files.ensures.unwritten);
+      input = λ input. never_by c.check_files.result Input input c.check_files.ensures.not_input;
+      output = λ output. rw files at (c.check_files.ensures.ended.output output);
+    })
 
-pub returns-in-Ok-Run-clause-tidied : goal.returns-in-Ok-Run-clause-tidied
-returns-in-Ok-Run-clause-tidied g c =
-    rw (c.in-Ok-Run.ensures.command, c.in-Ok-Run.field-0-is) (rw c.deref.ensures.value at c.run_files.ensures.tidied)
+pub returns-in-Ok-Tidy-clause-ended : goal.returns-in-Ok-Tidy-clause-ended
+returns-in-Ok-Tidy-clause-ended g c =
+    rw (c.in-Ok-Tidy.ensures.command, c.in-Ok-Tidy.field-0-is) (record {
+      done = done_by c.write_tidied.result _ c.write_tidied.ensures.ended c.write_tidied.ensures.tidied.written;
+      tidied = on_ok_always c.write_tidied.result tt;
+      memory = λ memory. ap g.O.Sink.contents (kept_by c.write_tidied.result Memory memory (λ same. absurd cc) c.write_tidied.ensures.unwritten);
+      input = λ input. never_by c.write_tidied.result Input input c.write_tidied.ensures.not_input;
+      output = λ output. c.write_tidied.ensures.tidied.output output;
+    })
 
-pub returns-in-Ok-Run-clause-input : goal.returns-in-Ok-Run-clause-input
-returns-in-Ok-Run-clause-input g c = λ input.
-    rw (c.in-Ok-Run.ensures.command, c.in-Ok-Run.field-0-is) (rw c.deref.ensures.value at (c.run_files.ensures.input input))
+pub returns-in-Err-Help-clause-ended : goal.returns-in-Err-Help-clause-ended
+returns-in-Err-Help-clause-ended g c =
+    rw (c.in-Err-Help.ensures.nothing (λ memory. absurd cc)) (record {
+      done = c.write_help.ensures.ended;
+      tidied = on_ok_always c.write_help.result tt;
+      memory = λ memory. absurd (other_by c.write_help.result Memory memory (λ same. absurd cc) c.write_help.ensures.fault);
+      input = λ input. other_by c.write_help.result Input input (λ same. absurd cc) c.write_help.ensures.fault;
+      output = λ output. tt;
+    })
 
-pub returns-in-Ok-Run-clause-output : goal.returns-in-Ok-Run-clause-output
-returns-in-Ok-Run-clause-output g c = λ output.
-    rw (c.in-Ok-Run.ensures.command, c.in-Ok-Run.field-0-is) (rw c.deref.ensures.value at (c.run_files.ensures.output output))
+pub returns-in-Err-Memory-clause-ended : goal.returns-in-Err-Memory-clause-ended
+returns-in-Err-Memory-clause-ended g c = record {
+  done = tt;
+  tidied = tt;
+  memory = λ memory.
+      nothing_done (g.F.Folder.contents c.args.folder.now) (g.I.Source.remaining c.args.reader.now) (g.O.Sink.contents c.args.writer.now)
+      (command_of (texts c.args.words.now));
+  input = λ input. absurd cc;
+  output = λ output. absurd cc;
+}

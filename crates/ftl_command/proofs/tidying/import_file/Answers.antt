@@ -1,4 +1,5 @@
-use Rattle.std.proofs.Common.{rules, ◌≡◌, ap, sym, ◌∙◌, string_bytes, Err, Some}
+use Rattle.std.proofs.Common.{arith, rules, ◌≡◌, ap, sym, ◌∙◌, string_bytes, Err, Some}
+use Rattle.std.proofs.lemmas.Grind.{common_steps}
 use Rattle.serde_json.specs.View.{view}
 use Rattle.serde_json.specs.Read.{read as read_text}
 use Rattle.ftl_words.specs.Meaning.{import}
@@ -7,8 +8,8 @@ use Rattle.ftl_command.specs.Refusals.{IsRightOf}
 use Rattle.ftl_command.proofs.Refusals.{import_is_right}
 use Rattle.ftl_command.proofs.tidying.import_file.Goals as goal
 
-pub returns-in_err-import-clause-right : goal.returns-in_err-import-clause-right
-returns-in_err-import-clause-right g c =
+pub returns-in_err-import-clause-faults : goal.returns-in_err-import-clause-faults
+returns-in_err-import-clause-faults g c =
     let contents = g.F.Folder.contents c.args.folder.now in
     let source = string_bytes c.in_ok-source.source in
     let held = c.in_ok-source.ensures.held in
@@ -19,4 +20,10 @@ returns-in_err-import-clause-right g c =
     import_is_right contents (import c.args.file.now) error
     (λ is. record { source = source; held = held; outcome = record { value = value; read = read; outcome = c.import.ensures.not_normal (c.in_err-import.was ∙ ap Err is) } })
     (λ is. record { source = source; held = held; outcome = record { value = value; read = read; outcome = c.import.ensures.shape (c.in_err-import.was ∙ ap Err is) } }) in
-    search rules
+    record {
+      of_tidying = first_of (search rules, grind (arith, common_steps));
+      right = search rules;
+      named = first_of (search rules, grind (arith, common_steps));
+      not_utf8 = first_of (search rules, grind (arith, common_steps));
+      reached = first_of (search rules, grind (arith, common_steps));
+    }

@@ -1,5 +1,3 @@
-use Rattle.std.proofs.Common.{Bor, List, ℕ}
-use Rattle.fluent_ast.specs.View.{inline_view, pattern_view}
 use Rattle.fluent_meaning.proofs.Refusals.{counts-all}
 use Rattle.fluent_progress.proofs.Telling.{on-err}
 use Rattle.fluent_asking.proofs.Pieces.{piece-missing, piece-refused}
@@ -15,15 +13,15 @@ returns-in_err-write_str-clause-refused g c =
 
 pub returns-in_err-write_referred-clause-bounded : goal.returns-in_err-write_referred-clause-bounded
 returns-in_err-write_referred-clause-bounded g c =
-    reference-within c.args.self.now c.write_referred.new.self g.C.FluentType.text g.F.FluentFunction.gives g.G.ValueFormatter.formats g.M.MemoizerKind.category_of g.M.MemoizerKind.stringified (λ z. (goal.TextTransform-dyn g z).transformed z.1) g.C.FluentType.meaning c.work_is_bounded.ensures.entered c.work_is_bounded.ensures.opened (inline_view (Bor (List ℕ)) (λ s. s.now) c.args.inline.now) (pattern_view (Bor (List ℕ)) (λ s. s.now) c.args.pattern.now)
+    reference-within c.args.self.now c.write_referred.new.self g.T.TextTransform c.work_is_bounded.ensures.entered c.work_is_bounded.ensures.opened c.args.inline.now c.args.pattern.now
     c.in_err-write_referred.ensures.refused.counts
 
 pub returns-in_err-write_str-clause-bounded : goal.returns-in_err-write_str-clause-bounded
 returns-in_err-write_str-clause-bounded g c =
-    reference-within c.args.self.now c.write_referred.new.self g.C.FluentType.text g.F.FluentFunction.gives g.G.ValueFormatter.formats g.M.MemoizerKind.category_of g.M.MemoizerKind.stringified (λ z. (goal.TextTransform-dyn g z).transformed z.1) g.C.FluentType.meaning c.work_is_bounded.ensures.entered c.work_is_bounded.ensures.opened (inline_view (Bor (List ℕ)) (λ s. s.now) c.args.inline.now) (pattern_view (Bor (List ℕ)) (λ s. s.now) c.args.pattern.now)
+    reference-within c.args.self.now c.write_referred.new.self g.T.TextTransform c.work_is_bounded.ensures.entered c.work_is_bounded.ensures.opened c.args.inline.now c.args.pattern.now
     (counts-all _ c.in_ok-write_referred.ensures.wrote.state)
 
 pub returns-clause-bounded : goal.returns-clause-bounded
 returns-clause-bounded g c =
-    reference-within c.args.self.now c.write_referred.new.self g.C.FluentType.text g.F.FluentFunction.gives g.G.ValueFormatter.formats g.M.MemoizerKind.category_of g.M.MemoizerKind.stringified (λ z. (goal.TextTransform-dyn g z).transformed z.1) g.C.FluentType.meaning c.work_is_bounded.ensures.entered c.work_is_bounded.ensures.opened (inline_view (Bor (List ℕ)) (λ s. s.now) c.args.inline.now) (pattern_view (Bor (List ℕ)) (λ s. s.now) c.args.pattern.now)
+    reference-within c.args.self.now c.write_referred.new.self g.T.TextTransform c.work_is_bounded.ensures.entered c.work_is_bounded.ensures.opened c.args.inline.now c.args.pattern.now
     (counts-all _ c.in_ok-write_referred.ensures.wrote.state)

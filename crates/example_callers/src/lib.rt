@@ -1,0 +1,10 @@
+//! Callers of the public libraries, with contracts of their own: each module has what a program may want to know of one library.
+//!
+//! The pages `CALLING.md` of the libraries quote them.
+#![tactic(auto)]
+
+pub mod desk;
+pub mod json;
+pub mod number;
+pub mod plurals;
+pub mod syntax;

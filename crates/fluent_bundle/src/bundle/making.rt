@@ -1,0 +1,80 @@
+//! New bundles, which hold nothing yet.
+
+ghost use Rattle.std.specs.Prelude.{◌≡◌, [], map, option_map, string_bytes};
+ghost use Rattle.fluent_bundle.specs.BundleView.{bundle_of};
+ghost use Rattle.fluent_bundle.specs.Contents.{empty, english_plurals};
+ghost use Rattle.fluent_plurals.specs.Plurals.{plurals_for, plurals_of};
+
+use super::FluentBundle;
+use fluent_ids::FluentIds;
+use fluent_plurals::LanguagePlurals;
+use fluent_value::{EnglishPlurals, FluentFunction, FluentType, MemoizerKind, ValueFormatter};
+use std::alloc::Global;
+use std::marker::PhantomData;
+
+impl<'r, 's, M, C, F, G, T> FluentBundle<'r, 's, M, C, F, G, T>
+where
+    M: MemoizerKind,
+    C: FluentType,
+    F: FluentFunction<C>,
+    G: ValueFormatter<C, M>,
+{
+    /// A bundle without messages, terms and functions, with isolation, and without a transform and a formatter. It takes no
+    /// memory.
+    pub fn new(alloc: Global, locales: Vec<String>, plurals: M) -> Self
+        ensures { bundle_of result ≡ empty (map string_bytes locales.items) plurals }
+    {
+        FluentBundle {
+            locales,
+            ids: FluentIds::new(alloc),
+            plurals,
+            isolating: true,
+            transform: None,
+            formatter: None,
+            alloc,
+            custom: PhantomData,
+        }
+    }
+}
+
+impl<'r, 's, C, F, G, T> FluentBundle<'r, 's, EnglishPlurals, C, F, G, T>
+where
+    C: FluentType,
+    F: FluentFunction<C>,
+    G: ValueFormatter<C, EnglishPlurals>,
+{
+    /// A new bundle with English plural rules and without locales. It takes no memory.
+    pub fn english(alloc: Global) -> Self
+        ensures { bundle_of result ≡ empty [] english_plurals }
+    {
+        FluentBundle::new(alloc, Vec::new(alloc), EnglishPlurals)
+    }
+}
+
+impl<'r, 's, C, F, G, T> FluentBundle<'r, 's, LanguagePlurals, C, F, G, T>
+where
+    C: FluentType,
+    F: FluentFunction<C>,
+    G: ValueFormatter<C, LanguagePlurals>,
+{
+    /// A new bundle without locales, with the plural rules of the language that a tag such as `pl` or `pt-PT` names, or `None` if
+    /// none are known. It takes no memory.
+    pub fn for_tag(alloc: Global, tag: &str) -> Option<Self>
+        ensures { option_map bundle_of result ≡ option_map (empty []) (plurals_for tag.now) }
+    {
+        let plurals = LanguagePlurals::for_tag(tag)?;
+        Some(FluentBundle::new(alloc, Vec::new(alloc), plurals))
+    }
+
+    /// A new bundle with the plural rules of the first of its locales that has any, or `None` if none has.
+    ///
+    /// Otherwise it is that of [`new`](Self::new). No other language stands in for locales without rules: a program that has such
+    /// a locale names the rules itself, say those of [`LanguagePlurals::root`].
+    pub fn for_locales(alloc: Global, locales: Vec<String>) -> Option<Self>
+        ensures { option_map bundle_of result ≡ option_map (empty (map string_bytes locales.items))
+            (plurals_of (map string_bytes locales.items)) }
+    {
+        let plurals = LanguagePlurals::of_locales(&locales)?;
+        Some(FluentBundle::new(alloc, locales, plurals))
+    }
+}

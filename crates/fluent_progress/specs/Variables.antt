@@ -1,0 +1,70 @@
+-- Variables: their values, and what is written and reported if there is none.
+use Rattle.std.specs.Prelude.{◌≡◌, true, IfOk, Option, OnOk, Result, option_map}
+use Rattle.fluent_ast.specs.Borrowed.{name_of}
+use Rattle.fluent_ast.specs.declared.Identifier.{Identifier}
+use Rattle.fluent_grammar.specs.Words.{Text}
+use Rattle.fluent_meaning.specs.Environment.{Environment, value_text}
+use Rattle.fluent_meaning.specs.Steps.{Budget, Done}
+use Rattle.fluent_meaning.specs.Substitution as s
+use Rattle.fluent_meaning.specs.Told.{after}
+use Rattle.fluent_progress.specs.Resolves.{FindsOnOk}
+use Rattle.fluent_progress.specs.Results.{given_text}
+use Rattle.fluent_progress.specs.Views.{args_or_none, given_args, place_view, resolved_in, state}
+use Rattle.fluent_progress.specs.declared.place.Place.{Place}
+use Rattle.fluent_progress.specs.declared.progress.Progress.{Progress}
+use Rattle.fluent_value.specs.Args.{argument}
+use Rattle.fluent_value.specs.ArgsView.{args_view}
+use Rattle.fluent_value.specs.Value.{Value}
+use Rattle.fluent_value.specs.View.{value_view}
+use Rattle.fluent_value.specs.declared.args.FluentArgs.{FluentArgs}
+use Rattle.fluent_value.specs.declared.value.FluentValue.{FluentValue}
+use denote.Ref.{Bor}
+
+module _ {S F : Type 0} (env : Environment S F) (id : Text) (place : s.Place S) where
+  -- a variable, looked up and written
+  abbrev pub written_variable : Budget → Done Text
+  written_variable = s.variable_written env id (s.variable env id place) place
+
+  -- the value of a variable that is looked up
+  abbrev pub found_variable : Budget → Done (Value S)
+  found_variable = s.variable_found env id (s.variable env id place) place
+
+module _ {C S : Type 0} (meaning : C → S) where
+  -- the value of the argument of this name
+  abbrev pub argument_of : FluentArgs C → Text → Option (Value S)
+  argument_of arguments id = argument id (args_view meaning arguments)
+
+  -- its text, or nothing if there is no such argument
+  abbrev pub argument_text : {F E : Type 0} → (E → Environment S F) → E → FluentArgs C → Text → Text
+  argument_text environment context arguments id = given_text (value_text (environment context)) (argument_of arguments id)
+
+  -- on Ok the result is a copy of this value, if there is one
+  abbrev pub Copies : {X : Type 0} → Result (Option (FluentValue C)) X → Option (Value S) → Type 0
+  Copies result value = IfOk result (λ copy. option_map (value_view meaning) copy ≡ value)
+
+  -- the value of the variable of this name: inside a term one of the term's arguments, else one of the request's
+  abbrev pub variable_of : {F E : Type 0} → Place C F E → Option (Bor (FluentArgs C)) → Text → Option (Value S)
+  variable_of place locals id = argument id (s.locals_or (args_or_none meaning (given_args meaning place.arguments)) (given_args meaning locals))
+
+  module _ {F E : Type 0} (environment : E → Environment S F) where
+    -- its text, or nothing if there is no such variable
+    abbrev pub variable_text : Place C F E → Option (Bor (FluentArgs C)) → Text → Text
+    variable_text place locals id = given_text (value_text (environment place.context.now)) (variable_of place locals id)
+
+    -- on Ok a missing variable was reported, if it was missed outside a term
+    abbrev pub ReportsMissing : {T X : Type 0} → Result T X → Place C F E → Option (Bor (FluentArgs C)) → Progress → Progress → Text → Type 0
+    ReportsMissing result place locals old new id =
+        OnOk result (state new ≡ after (state old) (s.missing_variable (resolved_in environment place) true id (place_view meaning place locals old) (state old).budget))
+
+    module _ (place : Place C F E) (locals : Option (Bor (FluentArgs C))) (id : Identifier (Bor Text)) where
+      -- a variable of the place is written
+      abbrev pub variable_step : Progress → Budget → Done Text
+      variable_step progress = written_variable (resolved_in environment place) (name_of id) (place_view meaning place locals progress)
+
+      -- the value of a variable of the place is found
+      abbrev pub variable_value_step : Progress → Budget → Done (Value S)
+      variable_value_step progress = found_variable (resolved_in environment place) (name_of id) (place_view meaning place locals progress)
+
+    -- a call found the value of a variable
+    abbrev pub FindsVariable : {X : Type 0} → Result (FluentValue C) X → Place C F E → Option (Bor (FluentArgs C)) → Progress → Progress → Identifier (Bor Text) → Type 0
+    FindsVariable result place locals old new id = FindsOnOk (value_view meaning) result old new (variable_value_step place locals id)

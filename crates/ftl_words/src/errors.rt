@@ -1,0 +1,23 @@
+//! The text of why words are no command.
+
+ghost use Rattle.std.specs.Prelude.{Some};
+ghost use Rattle.ftl_words.specs.ErrorTexts.{words_text};
+
+use crate::reading::WordsError;
+use std::error::Error;
+use std::fmt;
+
+/// The text of help is the one that was asked for.
+impl fmt::Display for WordsError {
+    ghost output = { λ error. Some (words_text error) };
+
+    fn fmt<W: fmt::Write>(&self, f: &mut fmt::Formatter<W>) -> fmt::Result {
+        f.write_str(match self {
+            WordsError::Memory => "out of memory",
+            WordsError::Bad => "bad command line",
+            WordsError::Help(text) => text.as_str(),
+        })
+    }
+}
+
+impl Error for WordsError {}

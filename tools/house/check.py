@@ -1,0 +1,267 @@
+#!/usr/bin/env python3
+"""Holds the pages and the doc comments against the sources.
+
+    tools/house/check.py [ROOT]
+
+Each block of code in a page or in the doc comment of a public crate is cut from an example; each link leads to a file and a
+heading that are there; no line of prose in a page is wider than 120 columns; no page has words that the glossary leaves out;
+each call in a shell block of a page prints what follows it there; each public call that can fail says how, under `# Errors`;
+no clause is longer than 200 characters, and at most 90 are longer than 120. Prints what isn't so, then how many of these seven
+checks passed and failed, and ends with 1 if one failed. The calls need the built program, `crates/ftl/out/ftl`: without it
+they are skipped.
+"""
+import re
+import shutil
+import subprocess
+import sys
+import tempfile
+from pathlib import Path
+
+ROOT = Path(sys.argv[1] if len(sys.argv) > 1 else Path(__file__).parents[2]).resolve()
+PAGES = [ROOT / 'README.md', ROOT / 'CONTRIBUTING.md', *sorted(ROOT.glob('docs/**/*.md')), *sorted(ROOT.glob('crates/*/CALLING.md'))]
+SOURCES = sorted(ROOT.glob('crates/*/src/**/*.rt'))
+# Crates of rows, benchmarks and examples are programs of their own: nobody calls them.
+PRIVATE = re.compile(r'(_rows|_vectors|_trials|_bench)$|^(example_|all_rows)|^fluent_rows$')
+LONGEST_CLAUSE, LONG_CLAUSE, LONG_CLAUSES = 200, 120, 90
+WIDEST = 120
+PROGRAM = ROOT / 'crates/ftl/out/ftl'
+GLOSSARY = ROOT / 'docs/glossary.md'
+# Where a block of code is cut from, by the language of its fence. In a doc comment a fence names none.
+EXAMPLES = {
+    '': 'crates/example_*/src/**/*.rt',
+    'rust': 'crates/example_*/src/**/*.rt',
+    'c': 'examples/c/*.c',
+    'python': 'examples/python/*.py',
+}
+
+
+def place_of(path, line=None):
+    name = path.relative_to(ROOT)
+    return f'{name}:{line}' if line else str(name)
+
+
+def crate_of(path):
+    return path.relative_to(ROOT / 'crates').parts[0]
+
+
+def fenced_blocks(lines):
+    """The fenced blocks, as (line number, language, lines)."""
+    start, language, block = None, '', []
+    for number, line in enumerate(lines, 1):
+        if not line.startswith('```'):
+            block.append(line)
+        elif start is None:
+            start, language, block = number, line[3:], []
+        else:
+            yield start, language, block
+            start = None
+
+
+def indented_blocks(lines):
+    """The indented blocks, as (line number, lines without their indent)."""
+    start, block, is_fenced = 1, [], False
+    for number, line in enumerate([*lines, '.'], 1):
+        is_fenced ^= line.startswith('```')
+        if not is_fenced and (line.startswith('    ') or (block and not line)):
+            block.append(line[4:])
+        else:
+            if block:
+                yield start, block
+            start, block = number + 1, []
+
+
+def doc_lines(path):
+    """The lines of a source's doc comments, each other line empty."""
+    return [re.sub(r'^\s*//[/!] ?', '', line) if re.match(r'\s*//[/!]', line) else '' for line in path.read_text().split('\n')]
+
+
+def without_comments(lines):
+    return [re.sub(r'(^|\s)// .*$|^\s*//$', '', line) for line in lines]
+
+
+def squeezed(lines):
+    """Code without its comments and its layout, which a formatter chooses."""
+    return re.sub(r'\s+', '', '\n'.join(without_comments(lines))).replace(',)', ')').replace(',}', '}')
+
+
+def stretches(block):
+    """The stretches of a block, which `..` on a line of its own parts."""
+    stretch = []
+    for line in [*block, '..']:
+        if line.strip() == '..':
+            yield squeezed(stretch)
+            stretch = []
+        else:
+            stretch.append(line)
+
+
+def wrong_quotes():
+    examples = {language: [squeezed(path.read_text().split('\n')) for path in ROOT.glob(files)] for language, files in EXAMPLES.items()}
+    quoted = [(page, page.read_text().split('\n')) for page in PAGES]
+    quoted += [(path, doc_lines(path)) for path in SOURCES if not PRIVATE.search(crate_of(path))]
+    for path, lines in quoted:
+        for number, language, block in fenced_blocks(lines):
+            for stretch in stretches(block) if language in examples else ():
+                if not any(stretch in example for example in examples[language]):
+                    yield f'{place_of(path, number)}: no example has this code'
+
+
+def headings(page):
+    names = re.findall(r'^#+ (.*)$', page.read_text(), re.M)
+    return [re.sub(r'[^\w\- ]', '', name.lower()).replace(' ', '-') for name in names]
+
+
+def prose_of(page):
+    """The lines of a page that are no code, as (line number, line)."""
+    is_fenced = False
+    for number, line in enumerate(page.read_text().split('\n'), 1):
+        is_fenced ^= line.startswith('```')
+        if not is_fenced and not line.startswith('    '):
+            yield number, line
+
+
+def wrong_links():
+    for page in PAGES:
+        for number, line in prose_of(page):
+            for link in re.findall(r'\]\(([^)\s]+)\)', line):
+                path, _, heading = link.partition('#')
+                target = (page.parent / path).resolve() if path else page
+                if not target.exists():
+                    yield f'{place_of(page, number)}: no such file: {link}'
+                elif heading and heading not in headings(target):
+                    yield f'{place_of(page, number)}: no such heading: {link}'
+
+
+def wide_prose():
+    for page in PAGES:
+        for number, line in prose_of(page):
+            if len(line) > WIDEST and not line.startswith('|'):
+                yield f'{place_of(page, number)}: {len(line)} columns'
+
+
+def words_left_out():
+    """The words of the first column of the glossary's first table of words to leave out."""
+    table = GLOSSARY.read_text().partition('## Words to leave out')[2].partition('`tools/')[0]
+    rows = re.findall(r'^\| ([^|]+) \|', table, re.M)[1:]
+    return [word for row in rows for word in row.split(', ')]
+
+
+def wrong_words():
+    left_out = re.compile(r'\b(' + '|'.join(map(re.escape, words_left_out())) + r')\b', re.I)
+    for page in PAGES:
+        for number, line in prose_of(page) if page != GLOSSARY else ():
+            for word in left_out.findall(re.sub(r'`[^`]*`|\]\([^)]*\)', '', line)):
+                yield f'{place_of(page, number)}: the glossary leaves out "{word}"'
+
+
+def calls_of(block):
+    """The calls of a shell block, as (call, what it prints)."""
+    calls = []
+    for line in block:
+        if line.startswith('$ '):
+            calls.append((line[2:], []))
+        elif calls:
+            calls[-1][1].append(line)
+    return [(call, '\n'.join(lines).rstrip('\n')) for call, lines in calls]
+
+
+def printed_by(call, status, folder):
+    """What a call prints after one that ended with this status, and the status that it ends with itself."""
+    ended = subprocess.run(['bash', '-c', f'(exit {status}); {call}'], cwd=folder, stdin=subprocess.DEVNULL,
+                           stdout=subprocess.PIPE, stderr=subprocess.STDOUT)
+    return ended.stdout.decode(errors='replace').rstrip('\n'), ended.returncode
+
+
+def wrong_calls(page, folder):
+    """Makes the calls of a page in this folder. `cat FILE` of a file that isn't there makes it."""
+    status = 0
+    for number, block in indented_blocks(page.read_text().split('\n')):
+        for call, shown in calls_of(block):
+            made = re.fullmatch(r'cat (\S+)', call)
+            if made and not (folder / made.group(1)).exists():
+                (folder / made.group(1)).write_text(shown + '\n')
+                continue
+            printed, status = printed_by(call, status, folder)
+            if printed != shown:
+                yield f'{place_of(page, number)}: `{call}` prints\n{printed}'
+
+
+def wrong_outputs():
+    for page in PAGES:
+        with tempfile.TemporaryDirectory() as name:
+            folder = Path(name)
+            (folder / 'ftl').symlink_to(PROGRAM)
+            shutil.copytree(ROOT / 'examples', folder / 'examples')
+            yield from wrong_calls(page, folder)
+
+
+def signature_of(lines, start):
+    """The signature that begins at a line, up to its clauses or its body."""
+    text = ''
+    for line in lines[start:]:
+        if text and re.match(r'\s*(ensures|requires|where|ghost|\{)', line):
+            break
+        text += line
+        if re.search(r'[{;]\s*$', line):
+            break
+    return text
+
+
+def fallible_calls(path):
+    """The public calls of a source that can fail, as (line number, name, doc comment)."""
+    lines, is_in_trait = path.read_text().split('\n'), False
+    for start, line in enumerate(lines):
+        is_in_trait = line.startswith('pub trait') or (is_in_trait and line != '}')
+        called = re.match(r'\s*pub (?:unsafe )?(?:extern "C" )?fn (\w+)', line) or (is_in_trait and re.match(r'    fn (\w+)', line))
+        if called and 'Result' in signature_of(lines, start).rpartition('->')[2] and '->' in signature_of(lines, start):
+            first = start
+            while re.match(r'\s*(///|#\[)', lines[first - 1]):
+                first -= 1
+            yield start + 1, called.group(1), '\n'.join(lines[first:start])
+
+
+def silent_calls():
+    for path in SOURCES:
+        if not PRIVATE.search(crate_of(path)):
+            for number, name, doc in fallible_calls(path):
+                if '# Errors' not in doc:
+                    yield f'{place_of(path, number)}: `{name}` has no `# Errors`'
+
+
+def clauses_of(path):
+    """The clauses of a source, each on one line, as (line number, clause)."""
+    text = path.read_text()
+    for opened in re.finditer(r'^[ \t]*(?:ensures|requires)\b[^{\n]*\{', text, re.M):
+        end, depth = opened.end(), 1
+        while depth:
+            depth += {'{': 1, '}': -1}.get(text[end], 0)
+            end += 1
+        yield text.count('\n', 0, opened.start()) + 1, ' '.join(text[opened.start():end].split())
+
+
+def long_clauses():
+    long = 0
+    for path in SOURCES:
+        for number, clause in clauses_of(path):
+            if len(clause) > LONGEST_CLAUSE:
+                yield f'{place_of(path, number)}: a clause of {len(clause)} characters'
+            long += len(clause) > LONG_CLAUSE
+    if long > LONG_CLAUSES:
+        yield f'{long} clauses are longer than {LONG_CLAUSE} characters'
+
+
+def main():
+    failed, checks = 0, [wrong_quotes, wrong_links, wide_prose, wrong_words, silent_calls, long_clauses]
+    if PROGRAM.exists():
+        checks.append(wrong_outputs)
+    else:
+        print(f'{place_of(PROGRAM)} is not built: the calls of shell blocks are skipped')
+    for check in checks:
+        faults = list(check())
+        print(*faults, sep='\n', end='\n' if faults else '')
+        failed += bool(faults)
+    print(f'{len(checks) - failed} passed, {failed} failed')
+    sys.exit(failed > 0)
+
+
+main()
