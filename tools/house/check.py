@@ -30,7 +30,7 @@ GLOSSARY = ROOT / 'docs/glossary.md'
 EXAMPLES = {
     '': 'crates/example_*/src/**/*.rt',
     'rust': 'crates/example_*/src/**/*.rt',
-    'c': 'examples/c/*.c',
+    'c': '*s/c/*.c',
     'python': 'examples/python/*.py',
 }
 

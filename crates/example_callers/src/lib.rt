@@ -3,6 +3,7 @@
 //! The pages `CALLING.md` of the libraries quote them.
 #![tactic(auto)]
 
+pub mod bundle;
 pub mod desk;
 pub mod json;
 pub mod number;

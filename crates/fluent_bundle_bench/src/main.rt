@@ -13,10 +13,7 @@ mod asking;
 mod formatting;
 
 use anyhow::{Result, bail};
-use fluent_bundle::{
-    EnglishPlurals, FluentArgs, FluentBundle, FluentResource, FluentValue, NoCustom, NoFormatter,
-    NoFunction,
-};
+use fluent_bundle::{EnglishBundle, FluentArgs, FluentResource, FluentValue, NoCustom};
 use std::alloc::Global;
 use std::borrow::CowStr;
 use std::{env, fs};
@@ -24,7 +21,7 @@ use std::{env, fs};
 /// How often each is done. The least time counts.
 const ROUNDS: usize = 5;
 
-type Bundle<'r, 's> = FluentBundle<'r, 's, EnglishPlurals, NoCustom, NoFunction, NoFormatter>;
+type Bundle<'r, 's> = EnglishBundle<'r, 's>;
 
 type Args = FluentArgs<'static, NoCustom>;
 

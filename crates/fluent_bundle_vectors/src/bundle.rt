@@ -4,7 +4,7 @@ ghost use Rattle.fluent_value.specs.Value.{none};
 
 use fluent_bundle::{
     EnglishPlurals, FluentArgs, FluentBundle, FluentFunction, FluentResource, FluentValue,
-    NoCustom, NoFormatter, ResourceError,
+    NoCustom, NoFormatter, NoTransform, ResourceError,
 };
 use std::alloc::{AllocError, Global};
 
@@ -28,7 +28,15 @@ impl FluentFunction<NoCustom> for Function {
     }
 }
 
-pub type Bundle<'r, 's> = FluentBundle<'r, 's, EnglishPlurals, NoCustom, Function, NoFormatter>;
+pub type Bundle<'r, 's> = FluentBundle<
+    'r,
+    's,
+    EnglishPlurals,
+    NoCustom,
+    Function,
+    NoFormatter,
+    NoTransform,
+>;
 
 /// A resource, also where parts of its source are no entries. Where memory is refused, it is read once more.
 pub fn read(alloc: Global, source: &'static str) -> Option<FluentResource<'static>> {

@@ -1,22 +1,28 @@
-//! Fluent for programs in Rust and C: the texts of messages, by [`fluent_answer`]; what a source is made of, in numbers;
-//! and its tree as text, written back or as JSON. Each call makes the one of `fluent_calls` that does it.
+//! Fluent for programs in Rust and C: the texts of messages, from a bundle that is kept ([`fluent_bundle_new`]) or from sources, line
+//! by line ([`fluent_answer`]); what a source is made of, in numbers; and its tree as text, written back or as JSON. Each call makes
+//! the one of `fluent_calls` that does it.
 //!
-//! A text is handed out in memory of the library, which the caller frees by [`fluent_free_text`]. A program that calls
+//! A text is handed out in memory of the library, which the caller frees by [`fluent_free_text`]; a bundle is freed by
+//! [`fluent_bundle_free`]. A program that calls
 //! the library links C's `malloc`, `realloc` and `free`, as `bench/syntax/run.sh` does. `fluent_c.h` beside
 //! this crate's folder `src` declares the calls for C.
 #![tactic(auto)]
 
-ghost use Rattle.std.specs.Prelude.{◌≡◌, ◌≢◌, IsUtf8, None};
+ghost use Rattle.std.specs.Prelude.{◌≡◌, ◌≢◌, true, IsSome, IsSomeAnd, IsUtf8, None};
 ghost use Rattle.serde_json.specs.Written.{compact_text};
 ghost use Rattle.fluent_syntax.specs.Tiling.{tree, errors, runtime_tree, runtime_errors};
 ghost use Rattle.fluent_syntax.specs.Written.{written_with};
 ghost use Rattle.fluent_json.specs.Json.{json};
-ghost use Rattle.fluent_calls.specs.Answering.{AreUtf8, HoldsOther, IsAnswer, plurals_in};
+ghost use Rattle.ftl_report.specs.Report.{report_text};
+ghost use Rattle.fluent_calls.specs.Answering.{texts_of, AreUtf8, HoldsOther, IsAnswer, plurals_in};
+ghost use Rattle.fluent_calls.specs.Arguments.{AreTaken, HoldsBad};
+ghost use Rattle.fluent_calls.specs.Bundles.{AreNames, HasNoMessage, HasNoPattern, HasOther, HoldReply, Keeps, KeepsNone, KeepsSame, catalog_in, pattern_in, reply_in};
 ghost use Rattle.fluent_calls.specs.Counts.{Counted};
-ghost use Rattle.fluent_calls.specs.Made.{Holds, HoldsNone};
+ghost use Rattle.fluent_calls.specs.Made.{Holds, HoldsNone, HoldsSame};
 
 use fluent_calls::{
-    FluentCounts, FluentSource, FluentText, Form, Reading, answer, count, hand_out,
+    FluentArgument, FluentBundle, FluentCounts, FluentSource, FluentText, Form, Reading, answer,
+    bundle_errors, bundle_format, bundle_free, bundle_has, bundle_new, count, hand_out,
 };
 use std::alloc::Global;
 
@@ -118,4 +124,116 @@ pub extern "C" fn fluent_free_text(alloc: Global, made: &mut FluentText)
     ensures { HoldsNone made.new }
 {
     made.clear(alloc);
+}
+
+/// Reads sources, and keeps a bundle of them, which answers as [`fluent_answer`] does.
+///
+/// The sources are copied. The settings, the locale and the answers are those of [`fluent_answer`]: if the sources were read, `made`
+/// keeps the bundle, and what it kept before is freed; else `made` is unchanged.
+#[unsafe(no_mangle)]
+pub extern "C" fn fluent_bundle_new(
+    alloc: Global,
+    sources: &[FluentSource<'_>],
+    locale: &[u8],
+    isolating: bool,
+    overriding: bool,
+    made: &mut FluentBundle,
+) -> u32
+    ensures made { result ≡ 0 → IsSomeAnd (catalog_in locale.now isolating overriding
+        (texts_of sources.now)) (Keeps made.new) }
+    ensures utf8 { result ≡ 0 → AreUtf8 sources.now }
+    ensures not_utf8 { result ≡ 1 → HoldsOther sources.now }
+    ensures unknown { result ≡ 3 → plurals_in locale.now ≡ None }
+    ensures unchanged { result ≢ 0 → made.new ≡ made.old }
+{
+    bundle_new(alloc, sources, locale, isolating, overriding, made)
+}
+
+/// Hands out what a message of a bundle gives for arguments: its value, or its first attribute of a name, and the value for the empty
+/// name.
+///
+/// The answer is [`FLUENT_READ`](fluent_calls::FLUENT_READ) also if errors came up: then `text` holds the text and `errors` a line
+/// for each error, or none if nothing came up, and what they held before is freed.
+///
+/// The answer is [`FLUENT_NOT_UTF8`](fluent_calls::FLUENT_NOT_UTF8) if the id, a name or a text isn't UTF-8,
+/// [`FLUENT_BAD_ARGUMENT`](fluent_calls::FLUENT_BAD_ARGUMENT) if an argument's kind isn't known or its decimal is no number,
+/// [`FLUENT_NO_MESSAGE`](fluent_calls::FLUENT_NO_MESSAGE) if there is no message of the id,
+/// [`FLUENT_NO_PATTERN`](fluent_calls::FLUENT_NO_PATTERN) if the message lacks the value or the attribute,
+/// [`FLUENT_NO_BUNDLE`](fluent_calls::FLUENT_NO_BUNDLE) if there is no bundle, and
+/// [`FLUENT_NO_MEMORY`](fluent_calls::FLUENT_NO_MEMORY) otherwise: then both texts hold what they held. The bundle is as it was in
+/// each case.
+#[unsafe(no_mangle)]
+pub extern "C" fn fluent_bundle_format<'a>(
+    alloc: Global,
+    bundle: &mut FluentBundle,
+    id: &'a [u8],
+    attribute: &'a [u8],
+    arguments: &[FluentArgument<'a>],
+    text: &mut FluentText,
+    errors: &mut FluentText,
+) -> u32
+    ensures answered { result ≡ 0 → IsSomeAnd (reply_in bundle.old id.now attribute.now
+        arguments.now) (HoldReply text.new errors.new) }
+    ensures bundle { result ≡ 0 → bundle.old.held ≡ true }
+    ensures names { result ≡ 0 → AreNames id.now attribute.now }
+    ensures taken { result ≡ 0 → AreTaken arguments.now }
+    ensures not_utf8 { result ≡ 1 → HasOther id.now attribute.now arguments.now }
+    ensures no_message { result ≡ 4 → HasNoMessage bundle.old id.now }
+    ensures no_pattern { result ≡ 5 → HasNoPattern bundle.old id.now attribute.now }
+    ensures bad { result ≡ 6 → HoldsBad arguments.now }
+    ensures no_bundle { result ≡ 7 → KeepsNone bundle.old }
+    ensures kept { KeepsSame bundle.new bundle.old }
+    ensures unchanged { result ≢ 0
+        → HoldsSame text.new text.old × HoldsSame errors.new errors.old }
+{
+    bundle_format(alloc, bundle, id, attribute, arguments, text, errors)
+}
+
+/// Whether a bundle has what is asked for: a message's value, or its first attribute of a name, and the value for the empty name.
+///
+/// The answers are those of [`fluent_bundle_format`], and it takes no memory.
+#[unsafe(no_mangle)]
+pub extern "C" fn fluent_bundle_has<'a>(
+    alloc: Global,
+    bundle: &mut FluentBundle,
+    id: &'a [u8],
+    attribute: &'a [u8],
+) -> u32
+    ensures found { result ≡ 0 → IsSome (pattern_in bundle.old id.now attribute.now) }
+    ensures bundle { result ≡ 0 → bundle.old.held ≡ true }
+    ensures not_utf8 { result ≡ 1 → ¬ (AreNames id.now attribute.now) }
+    ensures no_message { result ≡ 4 → HasNoMessage bundle.old id.now }
+    ensures no_pattern { result ≡ 5 → HasNoPattern bundle.old id.now attribute.now }
+    ensures no_bundle { result ≡ 7 → KeepsNone bundle.old }
+    ensures kept { KeepsSame bundle.new bundle.old }
+{
+    bundle_has(alloc, bundle, id, attribute)
+}
+
+/// Hands out what a check of a bundle's sources reports, as the command `ftl check` does: a line for each error and for each message
+/// or term whose id was there before it, or the empty text.
+///
+/// The answer is [`FLUENT_READ`](fluent_calls::FLUENT_READ), [`FLUENT_NO_BUNDLE`](fluent_calls::FLUENT_NO_BUNDLE) if there is no
+/// bundle, or [`FLUENT_NO_MEMORY`](fluent_calls::FLUENT_NO_MEMORY): then `report` holds what it held.
+#[unsafe(no_mangle)]
+pub extern "C" fn fluent_bundle_errors(
+    alloc: Global,
+    bundle: &mut FluentBundle,
+    report: &mut FluentText,
+) -> u32
+    ensures told { result ≡ 0 → Holds report.new (report_text bundle.old.catalog.sources) }
+    ensures bundle { result ≡ 0 → bundle.old.held ≡ true }
+    ensures no_bundle { result ≡ 7 → KeepsNone bundle.old }
+    ensures kept { KeepsSame bundle.new bundle.old }
+    ensures unchanged { result ≢ 0 → HoldsSame report.new report.old }
+{
+    bundle_errors(alloc, bundle, report)
+}
+
+/// Frees a bundle, if there is one. There is none then.
+#[unsafe(no_mangle)]
+pub extern "C" fn fluent_bundle_free(alloc: Global, bundle: &mut FluentBundle)
+    ensures { KeepsNone bundle.new }
+{
+    bundle_free(alloc, bundle);
 }

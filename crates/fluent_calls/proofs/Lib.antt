@@ -2,3 +2,4 @@ mod Values
 mod Steps
 mod Texts
 mod Sources
+mod Given

@@ -7,3 +7,5 @@ pub mod Made
 pub mod Texts
 pub mod Forms
 pub mod Answering
+pub mod Arguments
+pub mod Bundles

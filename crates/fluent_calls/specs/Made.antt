@@ -9,3 +9,7 @@ Holds t text = (t.held ≡ true) × (t.text ≡ text)
 -- there is no text
 abbrev pub HoldsNone : FluentText → Type 0
 HoldsNone t = t.held ≡ false
+
+-- one text holds what another holds
+abbrev pub HoldsSame : FluentText → FluentText → Type 0
+HoldsSame now before = (now.held ≡ before.held) × (before.held ≡ true → now.text ≡ before.text)

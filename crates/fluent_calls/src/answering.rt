@@ -21,7 +21,7 @@ pub struct FluentSource<'s> {
 
 /// Why request lines aren't answered.
 #[derive(Clone, Copy)]
-enum Refusal {
+pub(crate) enum Refusal {
     /// Memory ran out.
     Memory = 1,
     /// A source isn't UTF-8.
@@ -39,7 +39,7 @@ impl From<AllocError> for Refusal {
 }
 
 /// Whether each source is UTF-8.
-fn are_utf8(sources: &[FluentSource<'_>]) -> bool
+pub(crate) fn are_utf8(sources: &[FluentSource<'_>]) -> bool
     ensures utf8 { IsTrue result → AreUtf8 sources.now }
     ensures not_utf8 { result ≡ false → HoldsOther sources.now }
 {
@@ -63,7 +63,10 @@ fn is_utf8(source: &FluentSource<'_>) -> bool
 }
 
 /// The texts of sources, if each is UTF-8.
-fn read_sources<'s>(alloc: Global, sources: &[FluentSource<'s>]) -> Result<Vec<&'s str>, Refusal>
+pub(crate) fn read_sources<'s>(
+    alloc: Global,
+    sources: &[FluentSource<'s>],
+) -> Result<Vec<&'s str>, Refusal>
     ensures read { IfOk result (λ read. texts read.items ≡ texts_of sources.now) }
     ensures utf8 { OnOk result (AreUtf8 sources.now) }
     ensures not_utf8 { IfErr result (λ refusal. refusal ≡ NotUtf8 → HoldsOther sources.now) }
@@ -95,7 +98,7 @@ fn read_source<'s>(source: &FluentSource<'s>, read: &mut Vec<&'s str>) -> Result
 }
 
 /// The plural rules that the tag of a locale names, and those of English for the empty tag.
-fn plurals_of(locale: &[u8]) -> Option<LanguagePlurals>
+pub(crate) fn plurals_of(locale: &[u8]) -> Option<LanguagePlurals>
     ensures { result ≡ plurals_in locale.now }
 {
     if locale.is_empty() {

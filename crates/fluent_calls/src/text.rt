@@ -29,6 +29,8 @@ impl Model for FluentText {
     ghost also_owns = { λ t. text_owns t.held t.owner t.bytes t.len t.text };
 }
 
+unsafe impl Send for FluentText {}
+
 impl FluentText {
     /// No text.
     pub fn none() -> FluentText
@@ -43,7 +45,7 @@ impl FluentText {
     }
 
     /// The text of a vector in a box, whose first byte and length these are.
-    fn holding(bytes: *const u8, len: usize, owner: Loose<Vec<u8>, Global>) -> FluentText
+    pub(crate) fn holding(bytes: *const u8, len: usize, owner: Loose<Vec<u8>, Global>) -> FluentText
         requires { (vec_ptr owner.value ≡ bytes) × (vec_len owner.value ≡ len) }
         ensures { (result.held ≡ true) × (result.text ≡ vec_items owner.value) }
     {
@@ -57,7 +59,7 @@ impl FluentText {
     }
 
     /// The vector's box, if there is a text.
-    fn take(self, alloc: Global) -> Option<Loose<Vec<u8>, Global>>
+    pub(crate) fn take(self, alloc: Global) -> Option<Loose<Vec<u8>, Global>>
         ensures { MatchOption result (self.held ≡ false)
             (λ owner. vec_items owner.value ≡ self.text) }
     {

@@ -1,5 +1,8 @@
 -- What a pattern gives when it is resolved, as an answer tells it.
-use Rattle.std.proofs.Common.{◌≡◌, false, List, [], ◌∷◌, ◌++◌, Some, None, map, refl, ap, ◌∙◌}
+use Rattle.std.proofs.Common.{◌≡◌, false, ℕ, ◌+◌, ◌<◌, List, [], ◌∷◌, ◌++◌, Some, None, length, get_or, take, map, refl, ap, sym, ◌∙◌, append-nil}
+use Rattle.std.proofs.lemmas.Grind.{flat_map-append}
+use Rattle.std.proofs.lemmas.List.{take_more}
+use Rattle.std.specs.List.{flat_map}
 use Rattle.fluent_answers.specs.Answers.{told}
 use Rattle.fluent_errors.specs.Errors.{Reported, Unresolved, unresolved}
 use Rattle.fluent_errors.specs.Texts.{resolver_text}
@@ -55,3 +58,9 @@ resolved env args es place held now s t errors at_outset nothing start wrote lis
 pub line-texts : (lines : List ErrorLine) → error_texts (λ l. Some (line_of l)) lines ≡ Some (map line_of lines)
 line-texts [] = refl
 line-texts (l ∷ ls) = ap (and_text (Some (line_of l))) (line-texts ls)
+
+-- one line more
+pub lines-next : {X : Type 0} (line : X → Text) (xs : List X) (k : ℕ) (d x : X) → k < length xs → x ≡ get_or xs k d → flat_map line (take k xs) ++ line x ≡ flat_map line (take (k + 1) xs)
+lines-next line xs k d x inside is =
+    ap (λ y. flat_map line (take k xs) ++ line y) is
+    ∙ sym (ap (flat_map line) (take_more xs k d inside) ∙ flat_map-append line (take k xs) (get_or xs k d ∷ []) ∙ ap (λ s. flat_map line (take k xs) ++ s) (append-nil (line (get_or xs k d))))

@@ -1,5 +1,5 @@
 -- What lines are answered from, as plain data.
-use Rattle.std.specs.Prelude.{Bool, List, [], ◌∷◌, Option, None, map, option_map}
+use Rattle.std.specs.Prelude.{◌≡◌, Bool, List, [], ◌∷◌, Option, None, map, option_map}
 use denote.Ref.{Bor}
 use Rattle.fluent_answers.specs.Answers.{line_from, pattern_asked, told}
 use Rattle.fluent_ast.specs.View.{pattern_view}
@@ -16,6 +16,8 @@ use Rattle.fluent_requests.specs.Frames.{Reply, frame_of, ok}
 use Rattle.fluent_requests.specs.Requests.{Request}
 use Rattle.fluent_resource.specs.declared.resource.FluentResource.{FluentResource}
 use Rattle.fluent_run.specs.declared.desk.Desk.{Desk}
+use Rattle.fluent_run.specs.declared.reply.Reply as code
+use Rattle.fluent_run.specs.ReplyView.{reply_view}
 use Rattle.fluent_run.specs.RunView.{no_text}
 use Rattle.fluent_serve.specs.RequestView.{request_view}
 use Rattle.fluent_serve.specs.declared.request.Request.{Request as Read}
@@ -60,6 +62,10 @@ arguments_view args = args_view (λ c. tt) args
 abbrev pub valued : Text × Text → Text × Value (Unit {0})
 valued pair = (pair.0, number_or_text pair.1)
 
+-- what a message gives for these arguments: its value, or its first attribute of a name
+abbrev pub message_reply : {S F : Type 0} → Environment S F → Text → Option Text → List (Text × Value S) → Option Reply
+message_reply env id attribute args = option_map (λ es. told (answer_written env args es)) (pattern_asked attribute (env.find id))
+
 -- By what a plural source means, its categories and how it shows values.
 module _ {M : Type 0} (category_of : M → Plurals) (stringified : M → (S : Type 0) → (S → Text) → S → Text) where
   -- What stays the same while lines are answered. There are no functions but `NUMBER`, no formatter and no transform.
@@ -77,6 +83,10 @@ module _ {M : Type 0} (category_of : M → Plurals) (stringified : M → (S : Ty
   -- what a pattern gives for these arguments
   abbrev pub reply_by : Desk M → List (Text × Value (Unit {0})) → Elements → Reply
   reply_by desk args es = told (answer_written (environment_in desk) args es)
+
+  -- this is what a message gives for these arguments, by what a desk has
+  abbrev pub IsFormatted : Desk M → Text → Option Text → FluentArgs NoCustom → Option code.Reply → Type 0
+  IsFormatted desk id attribute args reply = option_map reply_view reply ≡ message_reply (environment_in desk) id attribute (arguments_view args)
 
   -- and for those of a request, the last of a name counting
   abbrev pub reply_for : Desk M → Request Text → Elements → Reply

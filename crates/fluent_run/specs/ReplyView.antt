@@ -2,6 +2,7 @@
 use Rattle.std.specs.Prelude.{map, string_bytes}
 use denote.Ref.{Bor}
 use Rattle.fluent_answers.specs.Answers.{told}
+use Rattle.fluent_ast.specs.Borrowed.{elements_of}
 use Rattle.fluent_ast.specs.declared.Pattern.{Pattern}
 use Rattle.fluent_errors.specs.Errors.{Reported, overriding, damaged, unresolved}
 use Rattle.fluent_errors.specs.Texts.{bundle_text, resolver_text}
@@ -12,7 +13,6 @@ use Rattle.fluent_meaning.specs.Substitution.{answer_written}
 use Rattle.fluent_progress.specs.Views.{args_or_none, given_args, resolved_in}
 use Rattle.fluent_progress.specs.declared.place.Place.{Place}
 use Rattle.fluent_requests.specs.Frames as frames
-use Rattle.fluent_run.specs.DeskView.{elements_of}
 use Rattle.fluent_run.specs.declared.reply.ErrorLine.{ErrorLine}
 use Rattle.fluent_run.specs.declared.reply.Reply.{Reply}
 

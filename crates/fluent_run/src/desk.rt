@@ -1,9 +1,11 @@
 //! Answers request lines from the messages and terms of sources.
 
-ghost use Rattle.std.specs.Prelude.{◌≡◌, IfOk, OnOk};
-ghost use Rattle.fluent_meaning.specs.Ids.{attribute_named};
+ghost use Rattle.std.specs.Prelude.{◌≡◌, IfOk, OnOk, is_some, option_copied};
+ghost use Rattle.fluent_answers.specs.Answers.{pattern_asked};
+ghost use Rattle.fluent_meaning.specs.Ids.{attribute_named, find};
+ghost use Rattle.fluent_ids.specs.Found.{message_in};
 ghost use Rattle.fluent_ids.specs.MessageView.{message_of};
-ghost use Rattle.fluent_run.specs.DeskView.{asked_of, desk_ids, elements_found, ids_added, line_frame, reply_frame, reply_to};
+ghost use Rattle.fluent_run.specs.DeskView.{asked_of, desk_ids, elements_found, IsFormatted, ids_added, line_frame, reply_frame, reply_to};
 ghost use Rattle.fluent_run.specs.ReplyView.{reply_view};
 ghost use Rattle.fluent_serve.specs.AnswerView.{Adds};
 ghost use Rattle.fluent_serve.specs.Exchange.{IsFrontOf};
@@ -26,7 +28,7 @@ use std::alloc::{AllocError, Global};
 
 /// What lines are answered from: the ids of the sources, the plural source, and whether placeables stand between isolation marks.
 #[derive(Drop)]
-pub(crate) struct Desk<'b, 'r, 's, M> {
+pub struct Desk<'b, 'r, 's, M> {
     ids: FluentIds<'r, 's, NoFunction>,
     plurals: &'b M,
     isolating: bool,
@@ -37,7 +39,7 @@ impl<'b, 'r, 's, M: MemoizerKind> Desk<'b, 'r, 's, M> {
     ///
     /// # Errors
     /// [`AllocError`] if memory runs out; nothing is left behind.
-    pub(crate) fn new(
+    pub fn new(
         alloc: Global,
         resources: &'r [FluentResource<'s>],
         settings: Settings,
@@ -60,11 +62,55 @@ impl<'b, 'r, 's, M: MemoizerKind> Desk<'b, 'r, 's, M> {
     fn pattern_of(&self, request: &Request<'_>) -> Option<&'r Pattern<&'s str>>
         ensures { elements_found result ≡ asked_of self.now (request_view request.now) }
     {
-        let message = self.ids.get_message(request.id)?;
-        match request.attribute {
+        self.pattern_named(request.id, request.attribute)
+    }
+
+    /// The pattern of a message's value, or of its first attribute of a name.
+    fn pattern_named(&self, id: &str, attribute: Option<&str>) -> Option<&'r Pattern<&'s str>>
+        ensures { elements_found result
+            ≡ pattern_asked (option_copied attribute.entry) (find (desk_ids self.now) id.now) }
+    {
+        let message = self.ids.get_message(id)?;
+        match attribute {
             None => message.value(),
             Some(name) => attribute_value(&message, name),
         }
+    }
+
+    /// Whether an id is that of a message.
+    pub fn has_message(&self, id: &str) -> bool
+        ensures { result ≡ is_some (message_in (find (desk_ids self.now) id.now)) }
+    {
+        self.ids.has_message(id)
+    }
+
+    /// Whether a message has a value, or an attribute of a name.
+    pub fn has(&self, id: &str, attribute: Option<&str>) -> bool
+        ensures { result ≡ is_some
+            (pattern_asked (option_copied attribute.entry) (find (desk_ids self.now) id.now)) }
+    {
+        self.pattern_named(id, attribute).is_some()
+    }
+
+    /// What a message gives for these arguments: its value, or its first attribute of a name. `None` if there is no such
+    /// message, value or attribute.
+    ///
+    /// # Errors
+    /// [`AllocError`] if memory runs out; nothing is left behind.
+    pub fn format(
+        &self,
+        alloc: Global,
+        id: &str,
+        attribute: Option<&str>,
+        arguments: &FluentArgs<'_, NoCustom>,
+    ) -> Result<Option<Reply>, AllocError>
+        ensures { IfOk result (IsFormatted M.category_of M.stringified self.now id.now
+            (option_copied attribute.entry) arguments.now) }
+    {
+        let Some(pattern) = self.pattern_named(id, attribute) else {
+            return Ok(None);
+        };
+        Ok(Some(self.reply_to(alloc, pattern, arguments)?))
     }
 
     /// What a pattern gives for these arguments.

@@ -14,7 +14,9 @@ mod reply;
 mod settings;
 
 pub use answering::run;
+pub use desk::Desk;
 pub use fluent_serve::serve::RunError;
 pub use fluent_serve::stream::{FromRead, FromWrite, Sink, Source};
 pub use memory::answers;
+pub use reply::Reply;
 pub use settings::Settings;

@@ -1,11 +1,12 @@
 //! The text of a pattern, and the errors that came up while it was made.
 
-ghost use Rattle.std.specs.Prelude.{◌≡◌, ◌++◌, IfOk, List, OnOk, Some, map};
+ghost use Rattle.std.specs.Prelude.{◌≡◌, ◌++◌, IfOk, List, OnOk, Some, map, string_bytes};
+ghost use Rattle.std.specs.List.{flat_map};
 ghost use Rattle.fluent_errors.specs.Errors.{Reported};
 ghost use Rattle.fluent_errors.specs.View.{bundle_view};
 ghost use Rattle.fluent_progress.specs.Views.{state};
-ghost use Rattle.fluent_requests.specs.Frames.{frame_of, ok};
-ghost use Rattle.fluent_run.specs.ReplyView.{line_of, reply_view, resolved_reply};
+ghost use Rattle.fluent_requests.specs.Frames.{ended, frame_of, ok};
+ghost use Rattle.fluent_run.specs.ReplyView.{error_text, line_of, reply_view, resolved_reply};
 ghost use Rattle.fluent_serve.specs.Exchange.{IsFrontOf};
 
 use fluent_ast::Pattern;
@@ -19,9 +20,11 @@ use std::fmt;
 
 /// A text, and the errors that came up while it was made, in their order.
 #[derive(Debug, Drop)]
-pub(crate) struct Reply {
-    pub(crate) text: String,
-    pub(crate) errors: Vec<FluentError>,
+pub struct Reply {
+    /// The text, which is there in spite of the errors.
+    pub text: String,
+    /// What came up.
+    pub errors: Vec<FluentError>,
 }
 
 /// An error as an answer tells it: what went wrong, without the words that say that it was resolving that went wrong.
@@ -85,6 +88,21 @@ impl Reply {
         Answer::Text { text, errors }.push_to(alloc, out)
     }
 
+    /// A line for each error, as an answer has them. It is empty if nothing came up, and takes no memory then.
+    ///
+    /// # Errors
+    /// [`AllocError`] if memory runs out; nothing is left behind.
+    pub fn errors_text(&self, alloc: Global) -> Result<String, AllocError>
+        ensures { IfOk result (λ text. string_bytes text
+            ≡ flat_map ended (reply_view self.now).errors) }
+    {
+        let mut text = String::new(alloc);
+        for error in &self.errors {
+            push_line(&mut text, error)?;
+        }
+        Ok(text)
+    }
+
     /// The errors, as an answer tells them.
     ///
     /// # Errors
@@ -98,4 +116,12 @@ impl Reply {
         }
         Ok(lines)
     }
+}
+
+/// Puts the line of an error behind `text`.
+fn push_line(text: &mut String, error: &FluentError) -> Result<(), AllocError>
+    ensures { OnOk result (string_bytes text.new
+        ≡ string_bytes text.old ++ ended (error_text (bundle_view error.now))) }
+{
+    writeln!(text, "{}", ErrorLine(error))
 }

@@ -5,6 +5,7 @@
 //! The rows of `memory.jsonl` are tried also where an allocation is refused. The files stand in `crates/all_rows/data/requests`.
 #![tactic(auto)]
 
+mod bundles;
 mod calls;
 mod case;
 mod cuts;
@@ -18,6 +19,7 @@ mod script;
 mod writes;
 
 use anyhow::Result;
+use bundles::try_bundles;
 use calls::try_calls;
 use endless::try_endless;
 use fluent_trials::tell;
@@ -39,6 +41,7 @@ pub fn try_all(rt: &HostRuntime) -> Result<()> {
         try_endless(rt.alloc()),
     )?;
     tell(rt, "calls for C", "runs", try_calls(rt.alloc()))?;
+    tell(rt, "bundles for C", "runs", try_bundles(rt.alloc()))?;
     Ok(())
 }
 

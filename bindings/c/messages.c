@@ -1,0 +1,83 @@
+/* Shows the messages of a mail program: reads them once, and asks for each when it is needed.
+ *
+ * Build and run it by run.sh beside this file.
+ */
+#include <stdio.h>
+#include <string.h>
+
+#include "fluent_c.h"
+
+static const char SOURCE[] =
+    "hello-world = Hello, world!\n"
+    "welcome = Welcome, { $name }.\n"
+    "unread = { $count ->\n"
+    "    [one] One message is unread.\n"
+    "   *[other] { $count } messages are unread.\n"
+    "}\n"
+    "login = Log in\n"
+    "    .title = Log in as { $name }\n";
+
+/* What is kept from call to call: the bundle, and the memory that answers are written to. */
+struct Messages {
+    struct FluentBundle bundle;
+    struct FluentText text;
+    struct FluentText errors;
+};
+
+static const uint8_t *bytes_of(const char *text) { return (const uint8_t *)text; }
+
+static struct FluentArgument text_argument(const char *name, const char *text) {
+    return (struct FluentArgument){
+        .name = bytes_of(name), .name_len = strlen(name), .text = bytes_of(text), .text_len = strlen(text), .kind = FLUENT_TEXT};
+}
+
+static struct FluentArgument integer_argument(const char *name, int64_t integer) {
+    return (struct FluentArgument){
+        .name = bytes_of(name), .name_len = strlen(name), .text = bytes_of(""), .integer = integer, .kind = FLUENT_INTEGER};
+}
+
+static uint32_t read_messages(struct Messages *messages, const char *source) {
+    const struct FluentSource sources[] = {{bytes_of(source), strlen(source)}};
+    const char *locale = "en-GB";
+    return fluent_bundle_new(sources, 1, bytes_of(locale), strlen(locale), false, false, &messages->bundle);
+}
+
+/* Prints a message's value, or its attribute if its name isn't empty, and gives what the call answered. */
+static uint32_t print_message(
+    struct Messages *messages, const char *id, const char *attribute, const struct FluentArgument *arguments, size_t count) {
+    /* A pointer is needed where there are no arguments, too. */
+    static const struct FluentArgument none = {0};
+    uint32_t answered = fluent_bundle_format(
+        &messages->bundle, bytes_of(id), strlen(id), bytes_of(attribute), strlen(attribute), count ? arguments : &none, count,
+        &messages->text, &messages->errors);
+    if (answered != FLUENT_READ) {
+        printf("(%s: %u)\n", id, answered);
+        return answered;
+    }
+    printf("%.*s\n", (int)messages->text.len, (const char *)messages->text.bytes);
+    if (messages->errors.held)
+        printf("  error: %.*s", (int)messages->errors.len, (const char *)messages->errors.bytes);
+    return answered;
+}
+
+static void free_messages(struct Messages *messages) {
+    fluent_bundle_free(&messages->bundle);
+    fluent_free_text(&messages->text);
+    fluent_free_text(&messages->errors);
+}
+
+int main(void) {
+    struct Messages messages = {{0}, {0}, {0}};
+    if (read_messages(&messages, SOURCE) != FLUENT_READ)
+        return 1;
+    const struct FluentArgument jane[] = {text_argument("name", "Jane")};
+    const struct FluentArgument three[] = {integer_argument("count", 3)};
+    print_message(&messages, "hello-world", "", NULL, 0);
+    print_message(&messages, "welcome", "", jane, 1);
+    print_message(&messages, "unread", "", three, 1);
+    print_message(&messages, "login", "title", jane, 1);
+    print_message(&messages, "welcome", "", NULL, 0);
+    uint32_t absent = print_message(&messages, "nothing", "", NULL, 0);
+    free_messages(&messages);
+    return absent == FLUENT_NO_MESSAGE && !messages.bundle.held ? 0 : 1;
+}

@@ -1,0 +1,10 @@
+#!/bin/sh
+# Makes the shared library of the static one, beside the module, and runs the module's tests.
+set -eu
+here=$(cd "$(dirname "$0")" && pwd)
+root=$(cd "$here/../.." && pwd)
+. "$root/bindings/library.sh"
+cc -shared -o "$here/kozhvadi/libfluent_c.so" -Wl,--whole-archive "$library/libfluent_c.a" -Wl,--no-whole-archive \
+    -L "$kit" -llibc_c
+cd "$here"
+python3 -m unittest discover -s tests -t .

@@ -1,0 +1,88 @@
+//! What `fluent_c.h` declares.
+
+pub const FLUENT_READ: u32 = 0;
+pub const FLUENT_NO_MEMORY: u32 = 2;
+pub const FLUENT_UNKNOWN_LOCALE: u32 = 3;
+pub const FLUENT_NO_MESSAGE: u32 = 4;
+
+pub const FLUENT_TEXT: u32 = 0;
+pub const FLUENT_DECIMAL: u32 = 1;
+pub const FLUENT_INTEGER: u32 = 2;
+pub const FLUENT_UNSIGNED: u32 = 3;
+
+#[repr(C)]
+pub struct FluentSource {
+    pub text: *const u8,
+    pub len: usize,
+}
+
+#[repr(C)]
+#[derive(Default)]
+pub struct FluentCounts {
+    pub messages: usize,
+    pub terms: usize,
+    pub comments: usize,
+    pub junk: usize,
+    pub errors: usize,
+}
+
+#[repr(C)]
+pub struct FluentText {
+    pub held: bool,
+    pub bytes: *const u8,
+    pub len: usize,
+    pub owner: *mut u8,
+}
+
+#[repr(C)]
+pub struct FluentBundle {
+    pub held: bool,
+    pub sources: *mut u8,
+    pub read: *mut u8,
+    pub desk: *mut u8,
+}
+
+#[repr(C)]
+pub struct FluentArgument {
+    pub name: *const u8,
+    pub name_len: usize,
+    pub text: *const u8,
+    pub text_len: usize,
+    pub integer: i64,
+    pub unsigned_integer: u64,
+    pub kind: u32,
+}
+
+extern "C" {
+    pub fn fluent_parse(text: *const u8, len: usize, counts: *mut FluentCounts) -> u32;
+    pub fn fluent_bundle_new(
+        sources: *const FluentSource,
+        count: usize,
+        locale: *const u8,
+        locale_len: usize,
+        isolating: bool,
+        overriding: bool,
+        made: *mut FluentBundle,
+    ) -> u32;
+    pub fn fluent_bundle_format(
+        bundle: *mut FluentBundle,
+        id: *const u8,
+        id_len: usize,
+        attribute: *const u8,
+        attribute_len: usize,
+        arguments: *const FluentArgument,
+        argument_count: usize,
+        text: *mut FluentText,
+        errors: *mut FluentText,
+    ) -> u32;
+    pub fn fluent_bundle_has(
+        bundle: *mut FluentBundle,
+        id: *const u8,
+        id_len: usize,
+        attribute: *const u8,
+        attribute_len: usize,
+    ) -> u32;
+    pub fn fluent_bundle_errors(bundle: *mut FluentBundle, report: *mut FluentText) -> u32;
+    pub fn fluent_bundle_free(bundle: *mut FluentBundle);
+    pub fn fluent_free_text(text: *mut FluentText);
+}

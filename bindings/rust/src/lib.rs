@@ -1,0 +1,44 @@
+//! Fluent is a system for the messages of a program, in which a translation says what its language needs.
+//!
+//! This package has the names and the manners of the crate `fluent-bundle`, so that a program which formats messages changes its `use`
+//! lines and little else. The texts come from a library whose every answer is proved; this package only hands them over.
+//!
+//! - [`FluentResource`] holds a source: messages and terms.
+//! - [`FluentBundle`] holds resources, and formats their messages.
+//! - [`FluentMessage`] is a message of a bundle.
+//! - [`FluentArgs`] are the arguments of a message.
+//!
+//! ```
+//! use kozhvadi::{FluentArgs, FluentBundle, FluentResource};
+//!
+//! let source = String::from("intro = Welcome, { $name }.\n");
+//! let resource = FluentResource::try_new(source).expect("The source has an error.");
+//! let mut bundle = FluentBundle::new(vec!["en-US"]);
+//! bundle.add_resource(resource).expect("A message was there before.");
+//!
+//! let mut args = FluentArgs::new();
+//! args.set("name", "John");
+//! let message = bundle.get_message("intro").expect("There is no message.");
+//! let pattern = message.value().expect("The message has no value.");
+//! let mut errors = vec![];
+//! let text = bundle.format_pattern(pattern, Some(&args), &mut errors);
+//! assert_eq!(text, "Welcome, \u{2068}John\u{2069}.");
+//! assert!(errors.is_empty());
+//! ```
+#![warn(missing_docs)]
+
+mod args;
+mod bundle;
+mod c;
+mod errors;
+mod message;
+mod resource;
+mod text;
+mod value;
+
+pub use args::FluentArgs;
+pub use bundle::FluentBundle;
+pub use errors::{EntryKind, FluentError, ParserError, ResolverError};
+pub use message::{FluentAttribute, FluentMessage, Pattern};
+pub use resource::FluentResource;
+pub use value::{FluentNumber, FluentValue};

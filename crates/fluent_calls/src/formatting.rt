@@ -1,0 +1,119 @@
+//! The text of a message, from a bundle that is kept.
+
+ghost use Rattle.std.specs.Prelude.{◌≡◌, ◌≢◌, true, IfOk, IsSomeAnd, MatchResult};
+ghost use Rattle.fluent_run.specs.ReplyView.{reply_view};
+ghost use Rattle.fluent_calls.specs.Arguments.{AreTaken, HoldsBad};
+ghost use Rattle.fluent_calls.specs.Bundles.{AreNames, HasNoMessage, HasNoPattern, HasOther, HoldReply, HoldsLines, KeepsNone, KeepsSame, reply_in};
+ghost use Rattle.fluent_calls.specs.Made.{HoldsSame};
+
+use crate::arguments::{ArgumentRefusal, FluentArgument, arguments_of};
+use crate::filling::fill;
+use crate::names::names_of;
+use crate::text::FluentText;
+use crate::{
+    FLUENT_BAD_ARGUMENT, FLUENT_NO_BUNDLE, FLUENT_NO_MEMORY, FLUENT_NO_MESSAGE, FLUENT_NO_PATTERN,
+    FLUENT_NOT_UTF8, FLUENT_READ,
+};
+use fluent_kept::{Answer, FluentBundle, Question};
+use fluent_run::Reply;
+use std::alloc::{AllocError, Global};
+
+/// A line for each error of a reply, or no text if there are none.
+///
+/// # Errors
+/// [`AllocError`] if memory runs out; nothing is left behind.
+fn error_lines(alloc: Global, reply: &Reply) -> Result<FluentText, AllocError>
+    ensures { IfOk result (λ made. HoldsLines made (reply_view reply.now).errors) }
+{
+    if reply.errors.is_empty() {
+        return Ok(FluentText::none());
+    }
+    let lines = reply.errors_text(alloc)?;
+    FluentText::of(alloc, lines.into_bytes())
+}
+
+/// Hands out a reply.
+///
+/// # Errors
+/// [`AllocError`] if memory runs out; the texts hold what they held.
+fn hand_out(
+    alloc: Global,
+    reply: Reply,
+    text: &mut FluentText,
+    errors: &mut FluentText,
+) -> Result<(), AllocError>
+    ensures { MatchResult result (λ _. HoldReply text.new errors.new (reply_view reply))
+        (λ _. HoldsSame text.new text.old × HoldsSame errors.new errors.old) }
+{
+    let lines = error_lines(alloc, &reply)?;
+    match fill(text, alloc, reply.text.into_bytes()) {
+        Ok(()) => {
+            errors.put(alloc, lines);
+            Ok(())
+        }
+        Err(error) => {
+            let _freed = lines.into_bytes(alloc);
+            Err(error)
+        }
+    }
+}
+
+/// Hands out what a message of a bundle gives for arguments: its value, or its first attribute of a name, and the value for the empty
+/// name.
+///
+/// The answer is [`FLUENT_READ`] also if errors came up: then `text` holds the text and `errors` a line for each error, or none if
+/// nothing came up, and what they held before is freed. If there was a text in `text`, an answer without an error takes no other
+/// memory than that of the text.
+///
+/// The answer is [`FLUENT_NOT_UTF8`] if the id, a name or a text isn't UTF-8, [`FLUENT_BAD_ARGUMENT`] if an argument's kind isn't known
+/// or its decimal is no number, [`FLUENT_NO_MESSAGE`] if there is no message of the id, [`FLUENT_NO_PATTERN`] if the message lacks the
+/// value or the attribute, [`FLUENT_NO_BUNDLE`] if there is no bundle, and [`FLUENT_NO_MEMORY`] otherwise: then both texts hold what
+/// they held. The bundle is as it was in each case.
+pub fn bundle_format<'a>(
+    alloc: Global,
+    bundle: &mut FluentBundle,
+    id: &'a [u8],
+    attribute: &'a [u8],
+    arguments: &[FluentArgument<'a>],
+    text: &mut FluentText,
+    errors: &mut FluentText,
+) -> u32
+    ensures answered { result ≡ 0 → IsSomeAnd (reply_in bundle.old id.now attribute.now
+        arguments.now) (HoldReply text.new errors.new) }
+    ensures bundle { result ≡ 0 → bundle.old.held ≡ true }
+    ensures names { result ≡ 0 → AreNames id.now attribute.now }
+    ensures taken { result ≡ 0 → AreTaken arguments.now }
+    ensures not_utf8 { result ≡ 1 → HasOther id.now attribute.now arguments.now }
+    ensures no_message { result ≡ 4 → HasNoMessage bundle.old id.now }
+    ensures no_pattern { result ≡ 5 → HasNoPattern bundle.old id.now attribute.now }
+    ensures bad { result ≡ 6 → HoldsBad arguments.now }
+    ensures no_bundle { result ≡ 7 → KeepsNone bundle.old }
+    ensures kept { KeepsSame bundle.new bundle.old }
+    ensures unchanged { result ≢ 0
+        → HoldsSame text.new text.old × HoldsSame errors.new errors.old }
+{
+    let Some((id, attribute)) = names_of(id, attribute) else {
+        return FLUENT_NOT_UTF8;
+    };
+    let arguments = match arguments_of(alloc, arguments) {
+        Ok(arguments) => arguments,
+        Err(ArgumentRefusal::NotUtf8) => return FLUENT_NOT_UTF8,
+        Err(ArgumentRefusal::NoValue) => return FLUENT_BAD_ARGUMENT,
+        Err(ArgumentRefusal::Memory) => return FLUENT_NO_MEMORY,
+    };
+    let question = Question::Format {
+        id,
+        attribute,
+        arguments,
+    };
+    match bundle.ask(alloc, &question) {
+        Some(Answer::Reply(reply)) => match hand_out(alloc, reply, text, errors) {
+            Ok(()) => FLUENT_READ,
+            Err(_) => FLUENT_NO_MEMORY,
+        },
+        Some(Answer::NoMessage) => FLUENT_NO_MESSAGE,
+        Some(Answer::NoPattern) => FLUENT_NO_PATTERN,
+        Some(_) => FLUENT_NO_MEMORY,
+        None => FLUENT_NO_BUNDLE,
+    }
+}

@@ -1,0 +1,38 @@
+-- A desk over what was read of a catalog answers from the catalog's environment.
+use Rattle.std.proofs.Common.{◌≡◌, Bool, List, [], ◌∷◌, map, None, ap, ◌∙◌}
+use Rattle.fluent_answers.specs.Sources.{ids_of}
+use Rattle.fluent_check.proofs.InTurn.{all_by_id-read}
+use Rattle.fluent_grammar.specs.Tiling.{runtime_tree}
+use Rattle.fluent_meaning.specs.Environment.{Environment}
+use Rattle.fluent_meaning.specs.Ids.{Ids, find, number_pair, with_ids}
+use Rattle.fluent_plurals.specs.Plurals.{plurals_by}
+use Rattle.fluent_plurals.specs.declared.plurals.LanguagePlurals.{LanguagePlurals}
+use Rattle.fluent_resource.specs.ResourceView.{entries_view}
+use Rattle.fluent_resource.specs.declared.resource.FluentResource.{FluentResource}
+use Rattle.fluent_run.specs.DeskView.{desk_ids, ids_added}
+use Rattle.fluent_run.specs.RunView.{no_text}
+use Rattle.fluent_value.specs.Value.{error}
+use Rattle.fluent_value.specs.declared.function.NoFunction.{NoFunction}
+use Rattle.fluent_kept.specs.Catalogs.{Catalog, catalog_environment, desk_environment}
+use Rattle.fluent_kept.specs.declared.desk.KeptDesk.{KeptDesk}
+
+-- an environment, by what makes it
+abbrev environment-of : Ids NoFunction → Bool → LanguagePlurals → Environment (Unit {0}) NoFunction
+environment-of ids isolating plurals = record {
+  find = find ids;
+  call = λ f values pairs. error;
+  isolating = isolating;
+  transformed = λ s. s;
+  formatted = λ v. None;
+  plurals = plurals_by plurals;
+  shown = no_text;
+}
+
+pub environment-same : (desk : KeptDesk) (catalog : Catalog) (resources : List FluentResource) → map entries_view resources ≡ map runtime_tree catalog.sources →
+    desk_ids desk.desk ≡ ids_added catalog.settings.overriding resources → desk.desk.plurals.now ≡ catalog.plurals → desk.desk.isolating ≡ catalog.settings.isolating →
+    desk_environment desk ≡ catalog_environment catalog
+environment-same desk catalog resources read ids by isolating =
+    let overriding = catalog.settings.overriding in
+    ap (λ x. environment-of x desk.desk.isolating desk.desk.plurals.now) (ids ∙ ap (with_ids overriding (number_pair ∷ [])) (all_by_id-read resources catalog.sources read))
+    ∙ ap (λ x. environment-of (ids_of overriding catalog.sources) x desk.desk.plurals.now) isolating
+    ∙ ap (λ x. environment-of (ids_of overriding catalog.sources) catalog.settings.isolating x) by

@@ -1,0 +1,10 @@
+mod Values
+mod Steps
+mod Heaps
+mod Made
+mod Rows
+mod Tokens
+mod BundleMade
+mod Environments
+mod HandleMade
+mod Crossing

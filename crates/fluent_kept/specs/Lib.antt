@@ -1,0 +1,4 @@
+pub mod Catalogs
+pub mod Answers
+pub mod Kept
+pub mod Handle

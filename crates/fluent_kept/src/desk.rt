@@ -1,0 +1,153 @@
+//! What answers questions, from what is read of sources.
+
+ghost use Rattle.std.specs.Prelude.{◌≡◌, IfOk, IfSome, option_copied, string_bytes};
+ghost use Rattle.ftl_report.specs.Report.{report_text};
+ghost use Rattle.fluent_run.specs.DeskView.{arguments_view};
+ghost use Rattle.fluent_kept.specs.Catalogs.{Catalog, IsDeskFor, IsDeskOf, catalog_of, desk_environment};
+ghost use Rattle.fluent_kept.specs.Answers.{Answers, IsAnswer, IsFound, IsMissing, IsReply};
+
+use crate::loose::Loose;
+use crate::question::{Answer, Question};
+use crate::resources::Resources;
+use crate::sources::{Sources, borrow_texts};
+use fluent_plurals::LanguagePlurals;
+use fluent_run::Desk;
+use fluent_value::{FluentArgs, NoCustom};
+use ftl_report::check_text;
+use std::alloc::{AllocError, Global};
+
+/// What answers questions. It refers to what was read, and to the sources.
+#[derive(Drop)]
+pub(crate) struct KeptDesk<'r, 's> {
+    sources: &'s Sources,
+    desk: Desk<'s, 'r, 's, LanguagePlurals>,
+}
+
+impl<'r, 's> KeptDesk<'r, 's> {
+    /// What answers from what was read.
+    ///
+    /// # Errors
+    /// [`AllocError`] if memory runs out; nothing is left behind.
+    fn new(alloc: Global, read: &'r Resources<'s>) -> Result<Self, AllocError>
+        ensures { IfOk result (IsDeskFor read.now) }
+    {
+        let sources = read.sources;
+        let desk = Desk::new(alloc, &read.list, sources.settings, &sources.plurals)?;
+        Ok(KeptDesk { sources, desk })
+    }
+
+    /// What a message gives for these arguments.
+    fn format(
+        &self,
+        alloc: Global,
+        id: &str,
+        attribute: Option<&str>,
+        arguments: &FluentArgs<'_, NoCustom>,
+    ) -> Answer
+        ensures { IsReply (desk_environment self.now) id.now (option_copied attribute.entry)
+            (arguments_view arguments.now) result }
+    {
+        match self.desk.format(alloc, id, attribute, arguments) {
+            Ok(Some(reply)) => Answer::Reply(reply),
+            Ok(None) => self.missing(id),
+            Err(_) => Answer::Memory,
+        }
+    }
+
+    /// Why a message has nothing to give.
+    fn missing(&self, id: &str) -> Answer
+        ensures { IsMissing (desk_environment self.now) id.now result }
+    {
+        if self.desk.has_message(id) {
+            Answer::NoPattern
+        } else {
+            Answer::NoMessage
+        }
+    }
+
+    /// Whether a message has a value, or an attribute of a name.
+    fn has(&self, id: &str, attribute: Option<&str>) -> Answer
+        ensures { IsFound (desk_environment self.now) id.now (option_copied attribute.entry) result }
+    {
+        if self.desk.has(id, attribute) {
+            Answer::Found
+        } else {
+            self.missing(id)
+        }
+    }
+
+    /// What a check of the sources reports.
+    ///
+    /// # Errors
+    /// [`AllocError`] if memory runs out; nothing is left behind.
+    fn report(&self, alloc: Global) -> Result<String, AllocError>
+        ensures { IfOk result (λ text. string_bytes text
+            ≡ report_text (catalog_of self.now.sources.now).sources) }
+    {
+        let texts = borrow_texts(alloc, &self.sources.texts)?;
+        check_text(alloc, &texts)
+    }
+
+    /// The answer to a question.
+    fn answer(&self, alloc: Global, question: &Question<'_>) -> Answer
+        ensures { IsAnswer (desk_environment self.now)
+            (catalog_of self.now.sources.now).sources question.now result }
+    {
+        match question {
+            Question::Format {
+                id,
+                attribute,
+                arguments,
+            } => self.format(alloc, *id, *attribute, arguments),
+            Question::Has { id, attribute } => self.has(*id, *attribute),
+            Question::Report => match self.report(alloc) {
+                Ok(text) => Answer::Report(text),
+                Err(_) => Answer::Memory,
+            },
+        }
+    }
+}
+
+/// What answers from what was read, in a box.
+///
+/// # Errors
+/// [`AllocError`] if memory runs out; nothing is left behind.
+fn try_lay<'r, 's>(
+    alloc: Global,
+    read: &'r Resources<'s>,
+) -> Result<Box<KeptDesk<'r, 's>>, AllocError>
+    ensures { IfOk result (λ desk. IsDeskFor read.now desk.value) }
+{
+    let desk = KeptDesk::new(alloc, read)?;
+    Ok(Box::new(alloc, desk)?)
+}
+
+/// What answers from what was read, or `None` if memory runs out.
+pub(crate) fn lay_out<'r, 's>(
+    alloc: Global,
+    read: &'r Resources<'s>,
+) -> Option<Loose<KeptDesk<'r, 's>, Global>>
+    ensures { IfSome result (λ desk. IsDeskFor read.now desk.value) }
+{
+    match try_lay(alloc, read) {
+        Ok(desk) => Some(Loose::of(desk)),
+        Err(_) => None,
+    }
+}
+
+/// The answer to a question, of whatever catalog the desk is one.
+pub(crate) fn asked<'r, 's>(
+    desk: &mut KeptDesk<'r, 's>,
+    alloc: Global,
+    question: &Question<'_>,
+) -> Answer
+    ensures { (catalog : Catalog) → IsDeskOf desk.old catalog
+        → Answers catalog question.now result × IsDeskOf desk.new catalog }
+{
+    desk.answer(alloc, question)
+}
+
+/// Frees a desk.
+pub(crate) fn discard_desk<'r, 's>(desk: Loose<KeptDesk<'r, 's>, Global>) {
+    let _ = desk.into_box();
+}

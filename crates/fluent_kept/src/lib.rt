@@ -1,0 +1,20 @@
+//! A bundle that lasts: sources, what is read of them, and what answers from that, kept together behind pointers.
+//!
+//! A [`FluentBundle`] owns all of it and borrows nothing, so a program in C can keep one from call to call.
+#![tactic(auto)]
+
+mod bundle;
+mod desk;
+mod handle;
+mod loose;
+mod question;
+mod resources;
+mod shelf;
+mod sources;
+mod threads;
+
+pub use bundle::Bundle;
+pub use handle::FluentBundle;
+pub use question::{Answer, Question};
+pub use sources::Sources;
+pub use threads::bundles_are_send;

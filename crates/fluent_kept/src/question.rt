@@ -1,0 +1,39 @@
+//! What a bundle is asked, and what it answers.
+
+use fluent_run::Reply;
+use fluent_value::{FluentArgs, NoCustom};
+
+/// What a bundle is asked.
+#[derive(Drop)]
+pub enum Question<'a> {
+    /// What a message gives for these arguments: its value, or its first attribute of a name.
+    Format {
+        id: &'a str,
+        attribute: Option<&'a str>,
+        arguments: FluentArgs<'a, NoCustom>,
+    },
+    /// Whether a message has a value, or an attribute of a name.
+    Has {
+        id: &'a str,
+        attribute: Option<&'a str>,
+    },
+    /// What a check of the sources reports.
+    Report,
+}
+
+/// What a bundle answers.
+#[derive(Drop)]
+pub enum Answer {
+    /// Memory ran out.
+    Memory,
+    /// There is no message of the id.
+    NoMessage,
+    /// The message has no value, or no attribute of the name.
+    NoPattern,
+    /// There is what was asked for.
+    Found,
+    /// What the message gives.
+    Reply(Reply),
+    /// A line for each error and for each entry whose id was there before it.
+    Report(String),
+}

@@ -1,0 +1,33 @@
+//! The sources that a bundle keeps, and how they are asked.
+
+ghost use Rattle.std.specs.Prelude.{◌≡◌, IfOk, map, string_bytes};
+ghost use Rattle.fluent_serve.specs.Texts.{texts};
+
+use fluent_plurals::LanguagePlurals;
+use fluent_run::Settings;
+use std::alloc::{AllocError, Global};
+
+/// The texts of sources, in their order, and the settings and plural rules by which they are asked.
+#[derive(Drop)]
+pub struct Sources {
+    /// The texts of the sources.
+    pub texts: Vec<String>,
+    /// How answers are made.
+    pub settings: Settings,
+    /// The rules by which variants are chosen.
+    pub plurals: LanguagePlurals,
+}
+
+/// The texts, borrowed, in their order.
+///
+/// # Errors
+/// [`AllocError`] if memory runs out; nothing is left behind.
+pub(crate) fn borrow_texts(alloc: Global, owned: &[String]) -> Result<Vec<&str>, AllocError>
+    ensures { IfOk result (λ borrowed. texts borrowed.items ≡ map string_bytes owned.now) }
+{
+    let mut borrowed = Vec::with_capacity(alloc, owned.len())?;
+    for text in owned {
+        borrowed.push(text.as_str())?;
+    }
+    Ok(borrowed)
+}
