@@ -1,46 +1,117 @@
 #!/bin/sh
 # Runs the proved program `ftl` on these words, in the caller's folder and on its streams, and ends with its status.
-# Proves and builds it first where it is not there or its sources changed. Ends with 126 where that fails.
+# Takes the program that this script, `rt run` or the gate built. If there is none, or a source of it is younger, proves and
+# builds it first, and says on a terminal how far that is. Ends with 126 if that fails.
 set -eu
 
 root=$(dirname -- "$(readlink -f -- "$0")")
 crate=$root/crates/ftl
 program=$crate/out/ftl
-built=$crate/out/ftl.built # as old as the sources that the program was built from
+built=$crate/out/ftl.built # as old as the sources from which this script built the program
 
-# Whether nothing that the program is made of is younger than the last build.
-is_built() {
-    [ -x "$program" ] && [ -e "$built" ] &&
-        [ -z "$(find "$root/crates.txt" "$root"/crates/*/src "$root"/crates/*/specs "$root"/crates/*/proofs \
-            -newer "$built" 2>/dev/null)" ]
+# What proving takes: memory for each crate that is proved at a time, and disk, in GB.
+memory_needed=3
+disk_needed=10
+
+fail() {
+    echo "ftl: $*" >&2
+    exit 126
 }
 
-# Proves and builds the program, and tries it on the run that is stored beside it. The crates that it stands on are proved side by
-# side: one more at a time than there are processors, since those that wait for another one count too. With more of them each
-# takes longer, and so does the chain of those that stand on one another.
-build() (
-    mkdir -p "$crate/out" && : >"$built.new"
-    jobs=$(($(nproc) + 1))
-    [ "$jobs" -le 8 ] || jobs=8 # which have been seen to fit into 24 GB of memory
-    cd "$crate" && rt all check --jobs "$jobs" &&
-        rt run -- run data/hello.ftl <stdin &&
-        mv -f "$built.new" "$built"
+# The crates of the program, a line each: `ftl` and what crates.txt says that it uses.
+crates() {
+    awk '
+        { sub(/#.*/, "") }
+        /:/ { split($0, half, ":"); split(half[1], word, " "); uses[word[1]] = half[2] }
+        END { list("ftl") }
+        function list(name, names, count, at) {
+            if (!(name in uses) || name in listed) return
+            listed[name]
+            print name
+            count = split(uses[name], names, " ")
+            for (at = 1; at <= count; at++) list(names[at])
+        }' "$root/crates.txt"
+}
+
+# Whether the program is there, and no source of its crates is younger.
+is_built() (
+    cd "$root/crates"
+    since=$built
+    [ -e "$since" ] || since=$program
+    # shellcheck disable=SC2046 # no name of a crate has a space
+    set -- $(crates | sed 's|.*|&/src &/specs &/proofs|')
+    [ -x "$program" ] && [ -z "$(find ../crates.txt "$@" -newer "$since" 2>/dev/null)" ]
 )
 
-if ! is_built; then
-    if [ -t 2 ]; then
-        echo 'ftl: proving and building the program, once' >&2
+memory_left() {
+    awk '/^MemAvailable:/ { print int($2 / 1000000) }' /proc/meminfo
+}
+
+disk_left() {
+    df -Pk "$root" | awk 'NR == 2 { print int($4 / 1000000) }'
+}
+
+# How many crates are proved at a time: one more than there are processors, since those that wait for another one count too,
+# but not more than the memory bears. With more of them each takes longer, and so does the longest chain.
+jobs() {
+    at_once=$(($(nproc) + 1))
+    bearable=$(($(memory_left) / memory_needed))
+    echo $((at_once < bearable ? at_once : bearable))
+}
+
+# Proves and builds the program, and tries it on the run that is stored next to it.
+build() (
+    cd "$crate"
+    mkdir -p out && : >"$built.new"
+    rt all check --jobs "$(jobs)" && rt run -- run data/hello.ftl <stdin && mv -f "$built.new" "$built"
+)
+
+# Says how far the build is that writes this log, until the script ends or is done with it.
+watch() {
+    begun=$(date +%s)
+    while kill -0 "$$" 2>/dev/null; do
+        proved=$(grep '^== ' "$1" | grep -cv summary || :)
+        minutes=$((($(date +%s) - begun) / 60))
+        printf '\rftl: proving and building the program, once: %s of %s crates, %s minutes ' "$proved" "$2" "$minutes"
+        sleep 1
+    done
+}
+
+# Proves and builds the program if there is room for it.
+provide() {
+    count=$(crates | wc -l)
+    command -v rt >/dev/null || fail "the program isn't built, and there is no command rt to prove its $count crates"
+    memory=$(memory_left) disk=$(disk_left)
+    if [ "$memory" -lt "$memory_needed" ] || [ "$disk" -lt "$disk_needed" ]; then
+        fail "the program isn't built; to prove its $count crates takes $memory_needed GB of memory and $disk_needed GB of disk," \
+            "and $memory and $disk are free"
     fi
+
     log=$(mktemp)
-    trap 'rm -f "$log"' EXIT
-    if ! build >"$log" 2>&1; then
+    watcher=
+    trap 'rm -f "$log"; [ -z "$watcher" ] || kill "$watcher" 2>/dev/null' EXIT
+    trap 'exit 130' INT
+    trap 'exit 143' TERM
+    if [ -t 2 ]; then
+        watch "$log" "$count" >&2 &
+        watcher=$!
+    fi
+    status=0
+    build >"$log" 2>&1 || status=$?
+    if [ -n "$watcher" ]; then
+        kill "$watcher" 2>/dev/null
+        watcher=
+        echo >&2
+    fi
+    if [ "$status" -ne 0 ]; then
         cat "$log" >&2
-        echo 'ftl: the program was not built' >&2
-        exit 126
+        fail 'the program was not built'
     fi
     rm -f "$log"
-    trap - EXIT
-fi
+    trap - EXIT INT TERM
+}
+
+is_built || provide
 
 # Placeables that nest deep take stack: as much of it as the system lets this process have.
 ulimit -s "$(ulimit -H -s)" 2>/dev/null || :

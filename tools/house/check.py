@@ -4,7 +4,8 @@
     tools/house/check.py [ROOT]
 
 Each block of code in a page or in the doc comment of a public crate is cut from an example; each link leads to a file and a
-heading that are there; no line of prose in a page is wider than 120 columns; no page has words that the glossary leaves out;
+heading that are there, and each page that a comment names is there; no line of prose in a page is wider than 120 columns;
+no page has words that the glossary leaves out;
 each call in a shell block of a page prints what follows it there; each public call that can fail says how, under `# Errors`;
 no clause is longer than 200 characters, and at most 90 are longer than 120. Prints what isn't so, then how many of these seven
 checks passed and failed, and ends with 1 if one failed. The calls need the built program, `crates/ftl/out/ftl`: without it
@@ -18,7 +19,7 @@ import tempfile
 from pathlib import Path
 
 ROOT = Path(sys.argv[1] if len(sys.argv) > 1 else Path(__file__).parents[2]).resolve()
-PAGES = [ROOT / 'README.md', ROOT / 'CONTRIBUTING.md', *sorted(ROOT.glob('docs/**/*.md')), *sorted(ROOT.glob('crates/*/CALLING.md'))]
+PAGES = [page for files in ('*.md', 'docs/**/*.md', 'crates/*/CALLING.md') for page in sorted(ROOT.glob(files))]
 SOURCES = sorted(ROOT.glob('crates/*/src/**/*.rt'))
 # Crates of rows, benchmarks and examples are programs of their own: nobody calls them.
 PRIVATE = re.compile(r'(_rows|_vectors|_trials|_bench)$|^(example_|all_rows)|^fluent_rows$')
@@ -26,6 +27,8 @@ LONGEST_CLAUSE, LONG_CLAUSE, LONG_CLAUSES = 200, 120, 90
 WIDEST = 120
 PROGRAM = ROOT / 'crates/ftl/out/ftl'
 GLOSSARY = ROOT / 'docs/glossary.md'
+# What names pages by their paths in comments.
+NAMING = ['crates/*/src/**/*.rt', 'crates/*/specs/**/*.antt', 'crates/*/*.h', 'crates/*/CALLING.md', 'bench/**/*.sh', 'bench/**/*.py']
 # Where a block of code is cut from, by the language of its fence. In a doc comment a fence names none.
 EXAMPLES = {
     '': 'crates/example_*/src/**/*.rt',
@@ -121,7 +124,7 @@ def prose_of(page):
 
 
 def wrong_links():
-    for page in PAGES:
+    for page in [*PAGES, *sorted(ROOT.glob('bindings/**/*.md'))]:
         for number, line in prose_of(page):
             for link in re.findall(r'\]\(([^)\s]+)\)', line):
                 path, _, heading = link.partition('#')
@@ -130,6 +133,10 @@ def wrong_links():
                     yield f'{place_of(page, number)}: no such file: {link}'
                 elif heading and heading not in headings(target):
                     yield f'{place_of(page, number)}: no such heading: {link}'
+    for path in (path for files in NAMING for path in sorted(ROOT.glob(files))):
+        for name in re.findall(r'\bdocs/[\w/-]+\.md\b', path.read_text()):
+            if not (ROOT / name).exists():
+                yield f'{place_of(path)}: no such page: {name}'
 
 
 def wide_prose():

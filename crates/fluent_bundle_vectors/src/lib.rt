@@ -2,7 +2,7 @@
 //! answered, or left behind, something else than they must. Errors are told, copied and compared.
 //!
 //! A call that is refused memory has to leave its bundle as it was, and is made once more. So the same counts are printed with
-//! any one allocation refused: see `docs/CHECKS.md`.
+//! any one allocation refused: see `docs/inside/validation.md`.
 #![tactic(auto)]
 
 mod attributes;

@@ -2,10 +2,9 @@
 //! by line ([`fluent_answer`]); what a source is made of, in numbers; and its tree as text, written back or as JSON. Each call makes
 //! the one of `fluent_calls` that does it.
 //!
-//! A text is handed out in memory of the library, which the caller frees by [`fluent_free_text`]; a bundle is freed by
-//! [`fluent_bundle_free`]. A program that calls
-//! the library links C's `malloc`, `realloc` and `free`, as `bench/syntax/run.sh` does. `fluent_c.h` beside
-//! this crate's folder `src` declares the calls for C.
+//! A text that is returned is in memory of the library, which the caller frees by [`fluent_free_text`]; a bundle is freed by
+//! [`fluent_bundle_free`]. A program that calls the library links C's `malloc`, `realloc` and `free`, as `bindings/c/run.sh` does.
+//! `fluent_c.h`, next to this crate's folder `src`, declares the calls for C.
 #![tactic(auto)]
 
 ghost use Rattle.std.specs.Prelude.{◌≡◌, ◌≢◌, true, IsSome, IsSomeAnd, IsUtf8, None};

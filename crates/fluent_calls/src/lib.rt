@@ -1,7 +1,7 @@
 //! What the calls for C do, for callers in Rattle too: `fluent_c` exports each of them, and tests make them here.
 //!
-//! A text is handed out in memory of the library, which the caller frees by [`FluentText::clear`]. A bundle is kept in memory of the
-//! library too, from [`bundle_new`] to [`bundle_free`].
+//! A text that is returned is in memory of the library, which the caller frees by [`FluentText::clear`]. A bundle is kept in
+//! memory of the library too, from [`bundle_new`] to [`bundle_free`].
 #![tactic(auto)]
 
 mod answering;

@@ -3,7 +3,7 @@
 //! but laws, and a source of a thousand messages. The files stand in `crates/all_rows/data/tidying`.
 //!
 //! Where memory is refused, a row is tried once more, and any other answer must be right. So the same counts are printed with
-//! any one allocation refused: see `docs/CHECKS.md`.
+//! any one allocation refused: see `docs/inside/validation.md`.
 #![tactic(auto)]
 
 mod answering;

@@ -18,7 +18,7 @@ pub struct FluentIds<'r, 's, F> {
 }
 
 impl<'r, 's, F> FluentIds<'r, 's, F> {
-    /// No ids. It takes no memory.
+    /// No ids. It doesn't allocate.
     pub fn new(alloc: Global) -> Self
         ensures { ids_view F result ≡ [] }
     {

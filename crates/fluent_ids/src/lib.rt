@@ -4,7 +4,7 @@
 //!
 //! [`FluentIds`] holds what each id stands for. Its keys are slices of the sources; only functions, which come from no source,
 //! have copies of theirs. Contracts speak of it through its plain map, the pairs of ids and meanings of `fluent_meaning`. A
-//! [`FluentMessage`] and a [`FluentAttribute`] are a message and an attribute as they are handed out to programs.
+//! [`FluentMessage`] and a [`FluentAttribute`] are a message and an attribute as programs get them.
 
 mod add;
 mod attribute;

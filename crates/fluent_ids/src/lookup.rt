@@ -12,7 +12,7 @@ use crate::ids::FluentIds;
 use crate::message::FluentMessage;
 use fluent_ast::{Message, Term};
 
-/// What has messages, terms and functions by their ids. No call takes memory.
+/// What has messages, terms and functions by their ids. No call allocates.
 pub trait GetEntry<'s, F> {
     ghost ids: { Self → Ids F };
 

@@ -1,4 +1,4 @@
-//! Messages, as they are handed out.
+//! Messages, as they are returned.
 
 ghost use Rattle.std.specs.Prelude.{◌≡◌, option_map, option_copied, map};
 ghost use Rattle.fluent_ast.specs.View.{message_view, pattern_view};

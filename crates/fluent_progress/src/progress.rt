@@ -1,4 +1,4 @@
-//! What resolving has come to so far.
+//! The state of the resolver.
 
 ghost use Rattle.std.specs.Prelude.{◌≡◌, [], false, true, IfOk, OnErr, OnOk, map, option_map};
 ghost use Rattle.fluent_errors.specs.View.{bundle_view, resolver_view};
@@ -14,10 +14,10 @@ use std::alloc::{AllocError, Global};
 /// How many placeables one answer may open.
 const MOST_PLACEABLES: u8 = 100;
 
-/// What resolving has come to so far, handed on from step to step.
+/// The state of the resolver, passed from step to step.
 #[derive(Drop)]
 pub struct Progress<'r, 's> {
-    /// The errors told so far, where they are wanted.
+    /// The errors reported so far, if they are wanted.
     pub errors: Option<Vec<FluentError>>,
     /// How many placeables were counted, at most 255.
     pub placeables: u8,
@@ -30,8 +30,8 @@ pub struct Progress<'r, 's> {
 }
 
 impl Progress<'_, '_> {
-    /// What an answer starts with: these errors, told before and where they are wanted, and nothing counted or entered. It
-    /// takes no memory.
+    /// What an answer starts with: these errors, reported earlier, if they are wanted, and nothing counted or entered. It
+    /// doesn't allocate.
     pub fn new(alloc: Global, errors: Option<Vec<FluentError>>) -> Self
         ensures state { state result ≡ fresh (option_map (λ es. map bundle_view es.items) errors) }
         ensures path { path_of result ≡ [] }
@@ -45,7 +45,7 @@ impl Progress<'_, '_> {
         }
     }
 
-    /// The errors told so far, where they are wanted.
+    /// The errors reported so far, if they are wanted.
     pub fn into_errors(self) -> Option<Vec<FluentError>>
         ensures { result ≡ self.entry.errors }
     {

@@ -101,7 +101,7 @@ pub fn write_opened<'b, 'r, 's, 'a, C: FluentType + Drop, F, E: Context<C, F>>(
     close(out, progress, expression)
 }
 
-/// Writes what a reference comes to: the pattern that it means, or its fallback.
+/// Writes what a reference gives: the pattern that it means, or its fallback.
 #[cycle(resolving)]
 pub(crate) fn write_target<'b, 'r, 's, 'a, C: FluentType + Drop, F, E: Context<C, F>>(
     out: &mut String,

@@ -19,18 +19,18 @@ use std::alloc::Global;
 const READS: u64 = 4_294_967_296;
 
 /// Answers each line of the input from the messages and terms of `sources`, in their order, and writes nothing else: see
-/// `docs/protocol.md`. The function `NUMBER` is there before them, and what is no entry is passed over. Variants are chosen by
+/// `docs/protocol.md`. The function `NUMBER` comes before them, and junk is passed over. Variants are chosen by
 /// `plurals`.
 ///
-/// The input is read in blocks of at most 8,192 bytes, and each line is answered as soon as it is whole. An answer is computed
-/// whole before its first byte is written.
+/// The input is read in blocks of at most 8,192 bytes, and each line is answered as soon as it is complete. An answer is
+/// complete before its first byte is written.
 ///
 /// # Errors
-/// After each of them but [`RunError::Write`] whole answers were written.
-/// - [`RunError::Memory`] where memory runs out. The answers to the first lines were written.
-/// - [`RunError::Read`] where the reader fails, or doesn't end within 4,294,967,296 calls of `read`. The answers to all whole lines
-///   that came were written.
-/// - [`RunError::Write`] where the writer fails, or takes none of a piece that isn't empty. A front of the answers was written.
+/// After each of them but [`RunError::Write`] complete answers were written.
+/// - [`RunError::Memory`] if memory runs out. The answers to the first lines were written.
+/// - [`RunError::Read`] if the reader fails, or doesn't end within 4,294,967,296 calls of `read`. The answers to all complete
+///   lines that came were written.
+/// - [`RunError::Write`] if the writer fails, or takes none of a piece that isn't empty. A beginning of the answers was written.
 pub fn run<M: MemoizerKind, R: Source, W: Sink>(
     alloc: Global,
     sources: &[&str],

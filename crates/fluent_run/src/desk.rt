@@ -138,7 +138,7 @@ impl<'b, 'r, 's, M: MemoizerKind> Desk<'b, 'r, 's, M> {
         resolve(&place, pattern)
     }
 
-    /// Puts the answer to a request that asks for a pattern behind `out`. After an error a front of it may stand there.
+    /// Appends the answer to a request that asks for a pattern. After an error `out` may end in a beginning of it.
     fn push_reply(
         &self,
         alloc: Global,
@@ -155,7 +155,7 @@ impl<'b, 'r, 's, M: MemoizerKind> Desk<'b, 'r, 's, M> {
         reply.push_to(alloc, out)
     }
 
-    /// Puts what is written for `line` behind `out`. After an error a front of it may stand there.
+    /// Appends what is written for `line`. After an error `out` may end in a beginning of it.
     fn push_answer(&self, alloc: Global, line: &[u8], out: &mut Vec<u8>) -> Result<(), AllocError>
         ensures ok { OnOk result (Adds out.old out.new
             (line_frame M.MemoizerKind self.now line.now)) }

@@ -73,7 +73,7 @@ fn told_by(alloc: Global, progress: Progress<'_, '_>) -> Vec<FluentError>
 }
 
 impl Reply {
-    /// Puts the answer that tells the reply behind `out`.
+    /// Appends the frame of the reply.
     ///
     /// # Errors
     /// [`AllocError`] if memory runs out; `out` then holds its old bytes and a front of the answer's.
@@ -88,7 +88,7 @@ impl Reply {
         Answer::Text { text, errors }.push_to(alloc, out)
     }
 
-    /// A line for each error, as an answer has them. It is empty if nothing came up, and takes no memory then.
+    /// A line for each error, as an answer has them. It is empty if nothing came up, and isn't allocated then.
     ///
     /// # Errors
     /// [`AllocError`] if memory runs out; nothing is left behind.
@@ -118,7 +118,7 @@ impl Reply {
     }
 }
 
-/// Puts the line of an error behind `text`.
+/// Appends the line of an error to `text`.
 fn push_line(text: &mut String, error: &FluentError) -> Result<(), AllocError>
     ensures { OnOk result (string_bytes text.new
         ≡ string_bytes text.old ++ ended (error_text (bundle_view error.now))) }

@@ -40,7 +40,7 @@ pub fn read_request(alloc: Global, line: &[u8]) -> Result<Option<Request<'_>>, A
     }))
 }
 
-/// The arguments of what stands behind a line's first tab, if there is one. `None` where one has no equals sign.
+/// The arguments of what follows a line's first tab, if there is one. `None` if one has no equals sign.
 fn read_arguments<'line>(
     alloc: Global,
     mut rest: Option<&'line str>,

@@ -57,7 +57,7 @@ pub trait Engine {
     /// What is written for a line, given without its line feed.
     ghost reply: { Self → List ℕ → List ℕ };
 
-    /// Puts what is written for `line` behind `out`.
+    /// Appends what is written for `line` to `out`.
     ///
     /// # Errors
     /// [`AllocError`] if memory runs out; the bytes of `out` are unchanged.
@@ -140,7 +140,7 @@ fn answer_line<E: Engine, W: Sink>(
     Ok(())
 }
 
-/// What stands before the first line feed, and what stands behind it.
+/// What is before the first line feed, and what is after it.
 fn first_line(bytes: &[u8]) -> Option<(&[u8], &[u8])>
     ensures { MatchOption result (IsUnfinished bytes.now) (IsSplitAtLine bytes.now) }
 {
@@ -154,7 +154,7 @@ fn first_line(bytes: &[u8]) -> Option<(&[u8], &[u8])>
     }
 }
 
-/// Answers each line that ends in `block`, and keeps what stands behind the last of them.
+/// Answers each line that ends in `block`, and keeps what follows the last of them.
 fn answer_block<E: Engine, W: Sink>(
     alloc: Global,
     engine: &E,

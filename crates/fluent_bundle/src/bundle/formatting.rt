@@ -29,11 +29,11 @@ where
     G: ValueFormatter<C, M>,
     T: TextTransform,
 {
-    /// Writes what a pattern gives for these arguments, piece by piece. Its errors are put behind those of the list.
+    /// Writes what a pattern gives for these arguments, piece by piece. Appends its errors to the list.
     ///
     /// # Errors
     /// [`Writer`](WriteError::Writer) if the writer refuses a piece, [`Memory`](WriteError::Memory) if memory runs out. The
-    /// writer then took a beginning of the text, and the list holds the old errors, and behind them the first of the pattern's.
+    /// writer then took a beginning of the text, and the list holds the old errors, and after them the first of the pattern's.
     pub fn write_pattern<W: TextWrite>(
         &self,
         w: &mut W,
@@ -61,10 +61,10 @@ where
         write_answer(w, &place, pattern, errors)
     }
 
-    /// What a pattern gives for these arguments. Its errors are put behind those of the list. The formatter, where one is set, is
-    /// asked once more, for the whole text.
+    /// The text of a pattern for these arguments. Appends its errors to the list. If a formatter is set, it is asked once more,
+    /// for the complete text.
     ///
-    /// A pattern of one text is borrowed from its source where neither a transform nor a formatter is set. That takes no memory
+    /// A pattern of one text is borrowed from its source if neither a transform nor a formatter is set. That doesn't allocate,
     /// and succeeds.
     ///
     /// ```
@@ -76,7 +76,7 @@ where
     /// ```
     ///
     /// # Errors
-    /// Memory ran out. The list then holds the old errors, and behind them the first of the pattern's.
+    /// [`AllocError`] if memory runs out. The list then holds the old errors, and after them the first of the pattern's.
     pub fn format_pattern(
         &self,
         pattern: &'r Pattern<&'s str>,

@@ -1,4 +1,4 @@
-//! Asking a bundle for its messages, terms and functions. No call takes memory.
+//! Asking a bundle for its messages, terms and functions. No call allocates.
 
 ghost use Rattle.std.specs.Prelude.{◌≡◌, is_some, option_map};
 ghost use Rattle.fluent_bundle.specs.BundleView.{bundle_of};

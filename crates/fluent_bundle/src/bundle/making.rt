@@ -43,7 +43,7 @@ where
     F: FluentFunction<C>,
     G: ValueFormatter<C, EnglishPlurals>,
 {
-    /// A new bundle with English plural rules and without locales. It takes no memory.
+    /// A new bundle with English plural rules and without locales. It doesn't allocate.
     pub fn english(alloc: Global) -> Self
         ensures { bundle_of result ≡ empty [] english_plurals }
     {
@@ -58,7 +58,7 @@ where
     G: ValueFormatter<C, LanguagePlurals>,
 {
     /// A new bundle without locales, with the plural rules of the language that a tag such as `pl` or `pt-PT` names, or `None` if
-    /// none are known. It takes no memory.
+    /// none are known. It doesn't allocate.
     pub fn for_tag(alloc: Global, tag: &str) -> Option<Self>
         ensures { option_map bundle_of result ≡ option_map (empty []) (plurals_for tag.now) }
     {

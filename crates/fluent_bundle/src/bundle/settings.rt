@@ -1,4 +1,4 @@
-//! The settings of a bundle. Changing one takes no memory, and changes nothing else.
+//! The settings of a bundle. Changing one doesn't allocate, and changes nothing else.
 
 ghost use Rattle.std.specs.Prelude.{◌≡◌};
 ghost use Rattle.fluent_bundle.specs.BundleView.{bundle_of};

@@ -27,7 +27,7 @@ use fluent_write::{TextWrite, WriteError};
 use std::alloc::AllocError;
 
 /// What the placeables of a pattern are resolved in, by a program that writes the pattern by itself: a bundle, the arguments of a
-/// request, and what resolving has come to so far.
+/// request, and the state of the resolver.
 ///
 /// A call that was refused leaves a scope that can be called again.
 ///
@@ -54,7 +54,7 @@ where
 {
     /// Where messages, terms and functions come from.
     pub bundle: &'b FluentBundle<'r, 's, M, C, F, G, T>,
-    /// The list that errors are told to. Without one they are dropped.
+    /// The list that errors are appended to. Without one they are dropped.
     pub errors: Option<&'b mut Vec<FluentError>>,
     /// Whether one placeable more was to be opened than may be. Every pattern then stops before its next element.
     pub dirty: bool,
@@ -73,7 +73,7 @@ where
     G: ValueFormatter<C, M>,
 {
     /// A scope in which nothing was resolved yet: no placeable is counted, no pattern entered, and the path is empty. Errors
-    /// are told behind those that the list holds. It takes no memory.
+    /// are appended to those that the list holds. It doesn't allocate.
     pub fn new(
         bundle: &'b FluentBundle<'r, 's, M, C, F, G, T>,
         args: Option<&'b FluentArgs<'a, C>>,
@@ -111,10 +111,10 @@ where
         self.entered
     }
 
-    /// Tells an error, where the scope has a list.
+    /// Reports an error, if the scope has a list.
     ///
     /// # Errors
-    /// Memory ran out. Nothing has changed then.
+    /// [`AllocError`] if memory runs out; nothing is changed then.
     pub fn add_error(&mut self, error: ResolverError) -> Result<(), AllocError>
         ensures told { OnOk result (state_of self.new ≡ with_error (resolver_view error) (state_of self.old)) }
         ensures refused { OnErr result (state_of self.new ≡ state_of self.old) }
@@ -141,7 +141,7 @@ where
     ///
     /// # Errors
     /// [`Writer`](WriteError::Writer) if the writer refuses the text, [`Memory`](WriteError::Memory) if memory runs out. The
-    /// writer then took nothing of it, the path is as it was, and behind the old errors stand the first of the placeable's.
+    /// writer then took nothing of it, the path is as it was, and the old errors are followed by the first of the placeable's.
     pub fn maybe_track<W: TextWrite>(
         &mut self,
         w: &mut W,
@@ -165,12 +165,12 @@ where
         Ok(())
     }
 
-    /// Writes a pattern that an expression refers to. Where a pattern of the same content is on the path, that is told as
+    /// Writes a pattern that an expression refers to. If a pattern of the same content is on the path, that is reported as
     /// [`Cyclic`](ResolverError::Cyclic), and the expression's fallback is written in braces.
     ///
     /// # Errors
     /// [`Writer`](WriteError::Writer) if the writer refuses the text, [`Memory`](WriteError::Memory) if memory runs out. The
-    /// writer then took nothing of it, and behind the old errors stand the first of the pattern's.
+    /// writer then took nothing of it, and the old errors are followed by the first of the pattern's.
     pub fn track<W: TextWrite>(
         &mut self,
         w: &mut W,
@@ -192,11 +192,11 @@ where
         Ok(())
     }
 
-    /// Tells what an expression refers to as unknown, where it refers to anything, and writes its fallback in braces.
+    /// Reports what an expression refers to as unknown, if it refers to anything, and writes its fallback in braces.
     ///
     /// # Errors
     /// [`Writer`](WriteError::Writer) if the writer refuses the text, [`Memory`](WriteError::Memory) if memory runs out. The
-    /// writer then took nothing of it; the error was told or not.
+    /// writer then took nothing of it; the error was reported or not.
     pub fn write_ref_error<W: TextWrite>(
         &mut self,
         w: &mut W,
@@ -218,7 +218,7 @@ where
     /// The values of a call's arguments: positional ones in order, and those with a name. Without arguments both are empty.
     ///
     /// # Errors
-    /// Memory ran out. Behind the old errors then stand the first of the arguments'.
+    /// [`AllocError`] if memory runs out. The old errors are then followed by the first of the arguments'.
     pub fn get_arguments(
         &mut self,
         arguments: Option<&'r CallArguments<&'s str>>,
