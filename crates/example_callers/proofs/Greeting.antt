@@ -16,7 +16,6 @@ use Rattle.fluent_value.specs.declared.custom.FluentType.{Ghosts as Custom}
 use Rattle.fluent_value.specs.declared.formatter.ValueFormatter.{Ghosts as Formatter}
 use Rattle.fluent_value.specs.declared.function.FluentFunction.{Ghosts as Function}
 use Rattle.fluent_value.specs.declared.plurals.MemoizerKind.{Ghosts as PluralSource}
-use Rattle.fluent_value.specs.declared.transform.TextTransform.{Ghosts as Transform}
 use Rattle.fluent_bundle.specs.Adding.{with_entries}
 use Rattle.fluent_bundle.specs.BundleView.{bundle_of, environment_of}
 use Rattle.fluent_bundle.specs.Contents.{Contents, empty}
@@ -58,21 +57,21 @@ shows : {S F : Type 0} (ids : Text → Option (Meaning F)) (call : F → List (V
 unfolding same_elements expression_with elements_with pattern_at pattern_written encoded
 shows ids call plurals shown name = simp append_assoc
 
-module _ {M C F G T S : Type 0} (m : PluralSource M) (k : Custom C S) (f : Function F C S) (g : Formatter G C M S) (t : Transform T) where
+module _ {M C F G T S : Type 0} (m : PluralSource M) (k : Custom C S) (f : Function F C S) (g : Formatter G C M S) (t : T → Text → Text) where
   -- what patterns are resolved in, by what a bundle holds
   abbrev environment_by : Contents M F G T → Environment S F
   environment_by held = record {
     find = find held.ids;
     call = f.gives;
     isolating = held.isolating;
-    transformed = transformed_by t.transformed held.transform;
+    transformed = transformed_by t held.transform;
     formatted = formatted_by g.formats held.plurals held.formatter;
     plurals = m.category_of held.plurals;
     shown = m.stringified held.plurals S k.text;
   }
 
 -- what a bundle with the message gives for the pattern and the name
-pub greeted : {M C F G T S : Type 0} {m : PluralSource M} {k : Custom C S} {f : Function F C S} {g : Formatter G C M S} (t : Transform T)
+pub greeted : {M C F G T S : Type 0} {m : PluralSource M} {k : Custom C S} {f : Function F C S} {g : Formatter G C M S} (t : T → Text → Text)
     (bundle : FluentBundle M C F G T S m k f g) (locales : List Text) (plurals : M) (args : List (Text × Value S)) (es : Elements) (name : Text) →
     bundle_of bundle ≡ welcoming locales plurals → args ≡ (codes "name", text name) ∷ [] → es ≡ welcome_pattern →
     (answer_handed (environment_of t bundle) args es).value ≡ greeting_text name

@@ -1,5 +1,5 @@
 -- What a pattern gives a request, and which of its errors are told.
-use Rattle.std.specs.Prelude.{◌≡◌, List, ◌++◌, map, IsSome, OnErr, OnOk, Option, None, Result, Some}
+use Rattle.std.specs.Prelude.{◌≡◌, List, ◌++◌, map, IfOk, IsSome, OnErr, OnOk, Option, None, Result, Some}
 use Rattle.std.specs.Cow.{cow_str_bytes}
 use Rattle.std.specs.Global.{Global}
 use Rattle.std.specs.declared.borrow.CowStr.{CowStr}
@@ -17,8 +17,7 @@ use Rattle.fluent_meaning.specs.Environment.{Environment}
 use Rattle.fluent_meaning.specs.Refused.{Begins}
 use Rattle.fluent_meaning.specs.Steps.{Done}
 use Rattle.fluent_meaning.specs.Substitution.{answer_handed, answer_written}
-use Rattle.fluent_progress.specs.Views.{args_or_none, given_args, resolved_in}
-use Rattle.fluent_progress.specs.declared.place.Place.{Place}
+use Rattle.fluent_progress.specs.Views.{args_or_none, given_args}
 use Rattle.fluent_value.specs.Shown.{shown_text}
 use Rattle.fluent_value.specs.Value as v
 use Rattle.fluent_value.specs.declared.args.FluentArgs.{FluentArgs}
@@ -42,6 +41,14 @@ pub record WritesFirst (held now : Text) (answer : Done Text) : Type 0 where
   pub written : Text
   pub first : Begins written answer.value
   pub text : now ≡ held ++ written
+
+-- on Ok this is an answer's text
+abbrev pub GivesText : {E : Type 0} → Result (CowStr Global) E → Done Text → Type 0
+GivesText result answer = IfOk result (λ text. cow_str_bytes text ≡ answer.value)
+
+-- on Ok an answer's errors are reported
+abbrev pub ReportsAll : {A T E : Type 0} → Result T E → Vec FluentError → Vec FluentError → Done A → Type 0
+ReportsAll result old new answer = OnOk result (TellsAll old new answer)
 
 -- on Err the first of an answer's errors are reported
 abbrev pub ReportsFirst : {A T E : Type 0} → Result T E → Vec FluentError → Vec FluentError → Done A → Type 0
@@ -71,10 +78,6 @@ module _ {C S F : Type 0} (meaning : C → S) (env : Environment S F) (args : Op
   -- what of it is handed out: the whole text as a value is shown
   abbrev pub handed : Done Text
   handed = answer_handed env (args_or_none meaning (given_args meaning args)) (pattern_view _ (λ s. s.now) pattern)
-
--- what a pattern writes at a place
-abbrev pub answer : {C S F E : Type 0} → (C → S) → (E → Environment S F) → Place C F E → Pattern (Bor Text) → Done Text
-answer meaning environment place pattern = asked meaning (resolved_in environment place) place.arguments pattern
 
 -- the pattern is one text
 abbrev pub IsText : Pattern (Bor Text) → Type 0

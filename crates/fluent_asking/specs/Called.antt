@@ -1,17 +1,19 @@
 -- The arguments of a call, as plain data.
-use Rattle.std.specs.Prelude.{[], map, None, Result}
+use Rattle.std.specs.Prelude.{[], map, Result}
 use Rattle.std.specs.Global.{Vec}
 use Rattle.fluent_ast.specs.declared.CallArguments.{CallArguments}
 use Rattle.fluent_grammar.specs.Words.{Text}
-use Rattle.fluent_meaning.specs.Environment.{Environment}
 use Rattle.fluent_meaning.specs.Substitution as s
 use Rattle.fluent_progress.specs.Resolves.{FindsOnOk}
+use Rattle.fluent_progress.specs.declared.context.Context.{Ghosts as Context}
 use Rattle.fluent_progress.specs.declared.place.Place.{Place}
 use Rattle.fluent_progress.specs.declared.progress.Progress.{Progress}
 use Rattle.fluent_resolver.specs.Steps.{arguments_step}
 use Rattle.fluent_value.specs.ArgsView.{args_view}
 use Rattle.fluent_value.specs.View.{value_view}
 use Rattle.fluent_value.specs.declared.args.FluentArgs.{FluentArgs}
+use Rattle.fluent_value.specs.declared.custom.FluentType.{Ghosts as Custom}
+use Rattle.fluent_value.specs.declared.scope.ValueScope.{Ghosts as Scope}
 use Rattle.fluent_value.specs.declared.value.FluentValue.{FluentValue}
 use denote.Ref.{Bor}
 
@@ -23,7 +25,7 @@ called_of meaning found = record { positional = map (value_view meaning) found.0
 abbrev pub no_arguments : {S : Type 0} → s.Called S
 no_arguments = record { positional = []; named = [] }
 
--- a call found the values of arguments, outside of terms
-abbrev pub FindsArguments : {C S F E X : Type 0} → (C → S) → (E → Environment S F) → Result (Vec (FluentValue C) × FluentArgs C) X → Place C F E → Progress → Progress → CallArguments (Bor Text) → Type 0
-FindsArguments meaning environment result place old new arguments =
-    FindsOnOk (called_of meaning) result old new (arguments_step meaning environment place None arguments)
+module _ {C F E S : Type 0} {c : Custom C S} {e : Context E C F S} {v : Scope E C S} where
+  -- a call found the values of arguments
+  abbrev pub FindsArguments : {X : Type 0} → Result (Vec (FluentValue C) × FluentArgs C) X → Place C F E S c e v → Progress → Progress → CallArguments (Bor Text) → Type 0
+  FindsArguments result place old new arguments = FindsOnOk (called_of c.meaning) result old new (arguments_step place arguments)

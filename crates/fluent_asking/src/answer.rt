@@ -1,11 +1,12 @@
 //! What a pattern gives a request.
 
-ghost use Rattle.std.specs.Prelude.{◌≡◌, false, IfOk, IsOkAnd, List, OnOk, Some, option_copied, string_bytes};
-ghost use Rattle.std.specs.Cow.{IsBorrowedStr, cow_str_bytes};
-ghost use Rattle.fluent_asking.specs.Asked.{IsText, ReportsFirst, Shows, TellsAll, WritesStart, WritesWhole, answer, lone_text, told};
+ghost use Rattle.std.specs.Prelude.{◌≡◌, false, IfOk, IsOkAnd, List, Some, option_copied, string_bytes};
+ghost use Rattle.std.specs.Cow.{IsBorrowedStr};
+ghost use Rattle.fluent_asking.specs.Asked.{GivesText, IsText, ReportsAll, ReportsFirst, Shows, WritesStart, WritesWhole, lone_text, told};
 ghost use Rattle.fluent_ast.specs.Borrowed.{elements_of};
 ghost use Rattle.fluent_errors.specs.Errors.{Reported};
 ghost use Rattle.fluent_progress.specs.Views.{state};
+ghost use Rattle.fluent_resolver.specs.Steps.{answer};
 
 use crate::written::write_pieces;
 use fluent_ast::{Pattern, PatternElement};
@@ -30,12 +31,9 @@ pub fn answer<'b, 'r, 's, 'a, C: FluentType + Drop, F, E: Context<C, F>>(
     pattern: &'r Pattern<&'s str>,
     errors: &mut Vec<FluentError>,
 ) -> Result<CowStr<'s>, AllocError>
-    ensures text { IfOk result (λ text. cow_str_bytes text
-        ≡ (answer C.meaning E.environment place.now pattern.now).value) }
-    ensures told { OnOk result (TellsAll errors.old errors.new
-        (answer C.meaning E.environment place.now pattern.now)) }
-    ensures refused { ReportsFirst result errors.old errors.new
-        (answer C.meaning E.environment place.now pattern.now) }
+    ensures text { GivesText result (answer place.now pattern.now) }
+    ensures told { ReportsAll result errors.old errors.new (answer place.now pattern.now) }
+    ensures refused { ReportsFirst result errors.old errors.new (answer place.now pattern.now) }
     ensures borrowed { E.has_transform place.now.context.now ≡ false → IsText pattern.now
         → IsOkAnd result IsBorrowedStr }
 {
@@ -62,18 +60,15 @@ fn resolved<'b, 'r, 's, 'a, C: FluentType + Drop, F, E: Context<C, F>>(
     pattern: &'r Pattern<&'s str>,
     errors: &mut Vec<FluentError>,
 ) -> Result<String, AllocError>
-    ensures text { IfOk result (λ text. string_bytes text
-        ≡ (answer C.meaning E.environment place.now pattern.now).value) }
-    ensures told { OnOk result (TellsAll errors.old errors.new
-        (answer C.meaning E.environment place.now pattern.now)) }
-    ensures refused { ReportsFirst result errors.old errors.new
-        (answer C.meaning E.environment place.now pattern.now) }
+    ensures text { IfOk result (λ text. string_bytes text ≡ (answer place.now pattern.now).value) }
+    ensures told { ReportsAll result errors.old errors.new (answer place.now pattern.now) }
+    ensures refused { ReportsFirst result errors.old errors.new (answer place.now pattern.now) }
 {
     let alloc = place.context.alloc();
     let mut text = String::with_capacity(alloc, ROOM)?;
     let list = mem::replace(errors, Vec::new(alloc));
     let mut progress = Progress::new(alloc, Some(list));
-    let written = write_pattern(&mut text, place, None, &mut progress, pattern);
+    let written = write_pattern(&mut text, place, &mut progress, pattern);
     put_back(errors, progress);
     written?;
     Ok(text)
@@ -94,14 +89,10 @@ where
     W: TextWrite,
     C: FluentType + Drop,
     E: Context<C, F>,
-    ensures wrote { WritesWhole W.text result w.old w.new
-        (answer C.meaning E.environment place.now pattern.now) }
-    ensures wrote_first { WritesStart W.text result w.old w.new
-        (answer C.meaning E.environment place.now pattern.now) }
-    ensures told { OnOk result (TellsAll errors.old errors.new
-        (answer C.meaning E.environment place.now pattern.now)) }
-    ensures told_first { ReportsFirst result errors.old errors.new
-        (answer C.meaning E.environment place.now pattern.now) }
+    ensures wrote { WritesWhole W.text result w.old w.new (answer place.now pattern.now) }
+    ensures wrote_first { WritesStart W.text result w.old w.new (answer place.now pattern.now) }
+    ensures told { ReportsAll result errors.old errors.new (answer place.now pattern.now) }
+    ensures told_first { ReportsFirst result errors.old errors.new (answer place.now pattern.now) }
 {
     let alloc = place.context.alloc();
     let list = mem::replace(errors, Vec::new(alloc));
@@ -113,8 +104,7 @@ where
 
 /// Puts the errors that were reported back where they were taken from.
 fn put_back(errors: &mut Vec<FluentError>, progress: Progress<'_, '_>)
-    ensures { (list : List Reported) → (state progress.entry).errors ≡ Some list
-        → told errors.new ≡ list }
+    ensures { (list : List Reported) → (state progress.entry).errors ≡ Some list → told errors.new ≡ list }
 {
     if let Some(list) = progress.into_errors() {
         *errors = list;
@@ -130,8 +120,7 @@ pub fn hand_out<'s, C: FluentType + Drop, V: ValueScope<C>>(
     text: CowStr<'s>,
 ) -> Result<CowStr<'s>, AllocError>
     ensures text { IfOk result (Shows (V.formatted scope.now) (V.shown scope.now) text.entry) }
-    ensures borrowed { V.has_formatter scope.now ≡ false → IsBorrowedStr text.entry
-        → IsOkAnd result IsBorrowedStr }
+    ensures borrowed { V.has_formatter scope.now ≡ false → IsBorrowedStr text.entry → IsOkAnd result IsBorrowedStr }
 {
     let value: FluentValue<'s, C> = FluentValue::String(text);
     value.into_string(scope)

@@ -1,9 +1,9 @@
-//! What the calls of a scope are made of: steps at a place, outside of terms.
+//! What the calls of a scope are made of: steps at a place.
 
-ghost use Rattle.std.specs.Prelude.{◌≡◌, None};
+ghost use Rattle.std.specs.Prelude.{◌≡◌};
 ghost use Rattle.fluent_asking.specs.Called.{FindsArguments, called_of, no_arguments};
-ghost use Rattle.fluent_progress.specs.Resolves.{TellsOnErr, WritesOnOk};
-ghost use Rattle.fluent_resolver.specs.Steps.{arguments_step, opened_step, reference_step};
+ghost use Rattle.fluent_progress.specs.Resolves.{TellsOnErr, Writes};
+ghost use Rattle.fluent_resolver.specs.Steps.{arguments_step, inside, reference};
 
 use fluent_ast::{CallArguments, Expression, InlineExpression, Pattern};
 use fluent_progress::{Context, Place, Progress};
@@ -23,12 +23,11 @@ pub fn opened<'b, 'r, 's, 'a, C: FluentType + Drop, F, E: Context<C, F>>(
     pattern: &'r Pattern<&'s str>,
     expression: &'r Expression<&'s str>,
 ) -> Result<(), AllocError>
-    ensures wrote { WritesOnOk result out.old out.new progress.old progress.new
-        (opened_step C.meaning E.environment place.now None pattern.now expression.now) }
-    ensures refused { TellsOnErr result progress.old progress.new
-        (opened_step C.meaning E.environment place.now None pattern.now expression.now) }
+    ensures wrote { Writes result out.old out.new progress.old progress.new
+        (inside place.now pattern.now expression.now) }
+    ensures refused { TellsOnErr result progress.old progress.new (inside place.now pattern.now expression.now) }
 {
-    write_opened(out, place, None, progress, pattern, expression)
+    write_opened(out, place, progress, pattern, expression)
 }
 
 /// Writes a pattern that an expression refers to.
@@ -42,12 +41,11 @@ pub fn referred<'b, 'r, 's, 'a, C: FluentType + Drop, F, E: Context<C, F>>(
     inline: &'r InlineExpression<&'s str>,
     pattern: &'r Pattern<&'s str>,
 ) -> Result<(), AllocError>
-    ensures wrote { WritesOnOk result out.old out.new progress.old progress.new
-        (reference_step C.meaning E.environment place.now None inline.now pattern.now) }
-    ensures refused { TellsOnErr result progress.old progress.new
-        (reference_step C.meaning E.environment place.now None inline.now pattern.now) }
+    ensures wrote { Writes result out.old out.new progress.old progress.new
+        (reference place.now inline.now pattern.now) }
+    ensures refused { TellsOnErr result progress.old progress.new (reference place.now inline.now pattern.now) }
 {
-    write_referred(out, place, None, progress, inline, pattern)
+    write_referred(out, place, progress, inline, pattern)
 }
 
 /// The values of a call's arguments, positional ones first.
@@ -59,13 +57,11 @@ pub fn values<'b, 'r, 's, 'a, C: FluentType + Drop, F, E: Context<C, F>>(
     progress: &mut Progress<'r, 's>,
     arguments: &'r CallArguments<&'s str>,
 ) -> Result<(Vec<FluentValue<'s, C>>, FluentArgs<'s, C>), AllocError>
-    ensures found { FindsArguments C.meaning E.environment result place.now progress.old progress.new
-        arguments.now }
-    ensures refused { TellsOnErr result progress.old progress.new
-        (arguments_step C.meaning E.environment place.now None arguments.now) }
+    ensures found { FindsArguments result place.now progress.old progress.new arguments.now }
+    ensures refused { TellsOnErr result progress.old progress.new (arguments_step place.now arguments.now) }
 {
-    let positional = positional_values(place, None, progress, &arguments.positional)?;
-    let named = named_values(place, None, progress, &arguments.named)?;
+    let positional = positional_values(place, progress, &arguments.positional)?;
+    let named = named_values(place, progress, &arguments.named)?;
     Ok((positional, named))
 }
 

@@ -1,8 +1,8 @@
 //! Patterns that are written to a program's own writer, piece by piece.
 
-ghost use Rattle.std.specs.Prelude.{◌≡◌, ◌++◌, None, OnErr, OnOk, false};
-ghost use Rattle.fluent_asking.specs.Pieces.{WritesOnOk, WritesSomeOnErr};
-ghost use Rattle.fluent_resolver.specs.Steps.{pattern_step, placeable_step};
+ghost use Rattle.std.specs.Prelude.{◌≡◌, ◌++◌, OnErr, OnOk, false};
+ghost use Rattle.fluent_asking.specs.Pieces.{StartsPiece, Writes, WritesPiece, WritesSome};
+ghost use Rattle.fluent_resolver.specs.Steps.{pattern_step};
 
 use fluent_ast::{Expression, Pattern, PatternElement};
 use fluent_progress::{Context, Place, Progress};
@@ -25,10 +25,9 @@ where
     W: TextWrite,
     C: FluentType + Drop,
     E: Context<C, F>,
-    ensures wrote { WritesOnOk W.text result w.old w.new progress.old progress.new
-        (pattern_step C.meaning E.environment place.now None pattern.now) }
-    ensures refused { WritesSomeOnErr W.text result w.old w.new progress.old progress.new
-        (pattern_step C.meaning E.environment place.now None pattern.now) }
+    ensures wrote { Writes W.text result w.old w.new progress.old progress.new (pattern_step place.now pattern.now) }
+    ensures refused { WritesSome W.text result w.old w.new progress.old progress.new
+        (pattern_step place.now pattern.now) }
 {
     for element in &pattern.elements {
         if progress.dirty {
@@ -50,8 +49,7 @@ fn write_text<W: TextWrite, C: FluentType, F, E: Context<C, F>>(
     context: &E,
     text: &str,
 ) -> Result<(), WriteError>
-    ensures wrote { OnOk result (W.text w.new ≡ W.text w.old
-        ++ (E.environment context.now).transformed text.now) }
+    ensures wrote { OnOk result (W.text w.new ≡ W.text w.old ++ (E.environment context.now).transformed text.now) }
     ensures refused { OnErr result (W.text w.new ≡ W.text w.old) }
 {
     let text = context.transform(text)?;
@@ -72,14 +70,12 @@ where
     C: FluentType + Drop,
     E: Context<C, F>,
     requires { progress.now.dirty ≡ false }
-    ensures wrote { WritesOnOk W.text result w.old w.new progress.old progress.new
-        (placeable_step C.meaning E.environment place.now None whole.now expression.now) }
-    ensures refused { WritesSomeOnErr W.text result w.old w.new progress.old progress.new
-        (placeable_step C.meaning E.environment place.now None whole.now expression.now) }
+    ensures wrote { WritesPiece W.text result w.old w.new progress.old progress.new place.now whole.now expression.now }
+    ensures refused { StartsPiece W.text result w.old w.new progress.old progress.new place.now whole.now expression.now }
     ensures path { OnOk result (progress.new.path.items ≡ progress.old.path.items) }
 {
     let mut piece = String::new(place.context.alloc());
-    write_placeable(&mut piece, place, None, progress, whole, expression)?;
+    write_placeable(&mut piece, place, progress, whole, expression)?;
     w.write_str(piece.as_str())?;
     Ok(())
 }

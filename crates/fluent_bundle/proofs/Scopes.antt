@@ -27,7 +27,6 @@ use Rattle.fluent_value.specs.declared.custom.FluentType.{Ghosts as Custom}
 use Rattle.fluent_value.specs.declared.formatter.ValueFormatter.{Ghosts as Formatter}
 use Rattle.fluent_value.specs.declared.function.FluentFunction.{Ghosts as Function}
 use Rattle.fluent_value.specs.declared.plurals.MemoizerKind.{Ghosts as PluralSource}
-use Rattle.fluent_value.specs.declared.transform.TextTransform.{Ghosts as Transform}
 use Rattle.fluent_bundle.specs.declared.resolver.scope.Scope.{Scope}
 
 byte_again : (n : ℕ) → in_byte (in_byte n) ≡ in_byte n
@@ -81,7 +80,7 @@ module _ {M C F G T S : Type 0} {m : PluralSource M} {c : Custom C S} {f : Funct
       ∙ some-map (λ (es : Vec FluentError). map bundle_view es.items) q.errors
 
 module _ {M C F G T S : Type 0} {m : PluralSource M} {c : Custom C S} {f : Function F C S} {g : Formatter G C M S}
-    (t : Transform T) (old mid end : Scope M C F G T S m c f g) (kept : Keeps old mid)
+    (t : T → Text → Text) (old mid end : Scope M C F G T S m c f g) (kept : Keeps old mid)
     (lent : Lent M G T) (is_lent : IsLent (bundle_of mid.bundle.now) lent)
     (p q : Progress) (walked : v.path_of p ≡ path_of old) (taken : state p ≡ state_of old)
     (put : is_some mid.errors ≡ is_some q.errors → state_of end ≡ state q) where

@@ -21,13 +21,12 @@ use Rattle.fluent_meaning.specs.Work.{placeables_of, times_too_many}
 use Rattle.fluent_meaning.specs.WorkLaws.{EntersWithinBound, Opens, OpensWithinBudget, times_shut}
 use Rattle.fluent_bundle.proofs.Scopes.{scope-within}
 use Rattle.fluent_bundle.specs.Bounds.{IsWithinWork, TellsTooManyOnce, enters_by_arguments, enters_by_expression, enters_by_pattern, ids_in, may_count, times_reported}
-use Rattle.fluent_bundle.specs.ScopeSteps.{call_arguments, environment_in, placeable, reference}
+use Rattle.fluent_bundle.specs.ScopeSteps.{call_arguments, environment_in, inside, reference}
 use Rattle.fluent_bundle.specs.ScopeView.{place_of, state_of}
 use Rattle.fluent_value.specs.declared.custom.FluentType.{Ghosts as Custom}
 use Rattle.fluent_value.specs.declared.formatter.ValueFormatter.{Ghosts as Formatter}
 use Rattle.fluent_value.specs.declared.function.FluentFunction.{Ghosts as Function}
 use Rattle.fluent_value.specs.declared.plurals.MemoizerKind.{Ghosts as PluralSource}
-use Rattle.fluent_value.specs.declared.transform.TextTransform.{Ghosts as Transform}
 use Rattle.fluent_bundle.specs.declared.resolver.scope.Scope.{Scope}
 
 -- ---- placeables
@@ -65,7 +64,7 @@ module _ {M C F G T S : Type 0} {m : PluralSource M} {c : Custom C S} {f : Funct
     entered_stay = subst (λ n. n ≤ (state_of new).entered) (scope-within old).entered h.entered_stay;
   }
 
-  module _ (t : Transform T) (enters : EntersWithinBound S F) (opens : OpensWithinBudget S F) where
+  module _ (t : T → Text → Text) (enters : EntersWithinBound S F) (opens : OpensWithinBudget S F) where
     abbrev env : Environment S F
     env = environment_in t old
 
@@ -80,10 +79,10 @@ module _ {M C F G T S : Type 0} {m : PluralSource M} {c : Custom C S} {f : Funct
         let inline = inline_view _ (λ s. s.now) i in let es = pattern_view _ (λ s. s.now) p in
         step-within (reference t i p old budget) (enters_by_pattern old p) h ((opens env).references inline es here budget) ((enters env (ids_in old)).references inline es here budget)
 
-    pub expression-within : (p : Pattern (Bor Text)) (e : Expression (Bor Text)) → CountsSome (state_of old) (state_of new) (placeable t p e old budget) → IsWithinWork old new (enters_by_expression old e)
+    pub expression-within : (p : Pattern (Bor Text)) (e : Expression (Bor Text)) → CountsSome (state_of old) (state_of new) (inside t p e old budget) → IsWithinWork old new (enters_by_expression old e)
     expression-within p e h =
         let whole = pattern_view _ (λ s. s.now) p in let inner = expression_view _ (λ s. s.now) e in
-        step-within (placeable t p e old budget) (enters_by_expression old e) h ((opens env).unmarked whole inner here budget) ((enters env (ids_in old)).unmarked whole inner here budget)
+        step-within (inside t p e old budget) (enters_by_expression old e) h ((opens env).unmarked whole inner here budget) ((enters env (ids_in old)).unmarked whole inner here budget)
 
     pub arguments-within : (args : MaybeArguments) → CountsSome (state_of old) (state_of new) (call_arguments t args old budget) → IsWithinWork old new (enters_by_arguments old args)
     arguments-within args h =

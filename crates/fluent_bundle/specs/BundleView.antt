@@ -8,7 +8,6 @@ use Rattle.fluent_value.specs.declared.custom.FluentType.{Ghosts as Custom}
 use Rattle.fluent_value.specs.declared.formatter.ValueFormatter.{Ghosts as Formatter}
 use Rattle.fluent_value.specs.declared.function.FluentFunction.{Ghosts as Function}
 use Rattle.fluent_value.specs.declared.plurals.MemoizerKind.{Ghosts as PluralSource}
-use Rattle.fluent_value.specs.declared.transform.TextTransform.{Ghosts as Transform}
 use Rattle.fluent_meaning.specs.Environment as plain
 use Rattle.fluent_meaning.specs.Ids.{find}
 use Rattle.fluent_meaning.specs.Steps.{Done}
@@ -34,24 +33,24 @@ module _ {M C F G T S : Type 0} {m : PluralSource M} {c : Custom C S} {f : Funct
   }
 
   -- what patterns are resolved in
-  abbrev pub environment_of : Transform T → FluentBundle M C F G T S m c f g → plain.Environment S F
+  abbrev pub environment_of : (T → Text → Text) → FluentBundle M C F G T S m c f g → plain.Environment S F
   environment_of t bundle = let held = bundle_of bundle in record {
     find = find held.ids;
     call = f.gives;
     isolating = held.isolating;
-    transformed = transformed_by t.transformed held.transform;
+    transformed = transformed_by t held.transform;
     formatted = formatted_by g.formats held.plurals held.formatter;
     plurals = m.category_of held.plurals;
     shown = m.stringified held.plurals S c.text;
   }
 
   -- what a pattern writes for these arguments, or for none
-  abbrev pub answer_of : Transform T → FluentBundle M C F G T S m c f g → Option (Bor (FluentArgs C)) → Pattern (Bor Text) → Done Text
-  answer_of t bundle args pattern = asked c.meaning (environment_of t bundle) args pattern
+  abbrev pub answer : (T → Text → Text) → FluentBundle M C F G T S m c f g → Option (Bor (FluentArgs C)) → Pattern (Bor Text) → Done Text
+  answer t bundle args pattern = asked c.meaning (environment_of t bundle) args pattern
 
   -- what of it is handed out: the whole text as a value is shown
-  abbrev pub shown_answer_of : Transform T → FluentBundle M C F G T S m c f g → Option (Bor (FluentArgs C)) → Pattern (Bor Text) → Done Text
-  shown_answer_of t bundle args pattern = handed c.meaning (environment_of t bundle) args pattern
+  abbrev pub handout : (T → Text → Text) → FluentBundle M C F G T S m c f g → Option (Bor (FluentArgs C)) → Pattern (Bor Text) → Done Text
+  handout t bundle args pattern = handed c.meaning (environment_of t bundle) args pattern
 
 -- what a bundle holds is lent
 pub record IsLent {M F G T : Type 0} (held : Contents M F G T) (lent : Lent M G T) : Type 0 where

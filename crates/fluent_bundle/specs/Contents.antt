@@ -1,8 +1,13 @@
 -- What a bundle holds.
-use Rattle.std.specs.Prelude.{◌≡◌, Bool, false, true, List, [], Option, None, is_some}
+use Rattle.std.specs.Prelude.{◌≡◌, Bool, false, true, List, [], Option, None, String, is_some, map, string_bytes}
+use Rattle.std.specs.Global.{Global, Vec}
 use Rattle.fluent_grammar.specs.Words.{Text}
 use Rattle.fluent_meaning.specs.Ids.{Ids}
 use Rattle.fluent_value.specs.declared.plurals.EnglishPlurals.{EnglishPlurals}
+
+-- the bytes of the texts of a list
+abbrev pub texts_of : Vec (String Global) → List Text
+texts_of texts = map string_bytes texts.items
 
 -- M is the plural source, F a function of the program, G a formatter and T a transform.
 pub record Contents (M F G T : Type 0) : Type 0 where

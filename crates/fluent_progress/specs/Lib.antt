@@ -1,3 +1,4 @@
+pub mod Functions
 pub mod Views
 pub mod LentView
 pub mod Telling

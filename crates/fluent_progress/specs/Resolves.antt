@@ -9,7 +9,7 @@ use Rattle.fluent_grammar.specs.Words.{Text}
 use Rattle.fluent_meaning.specs.Fallback.{braced, inline_fallback}
 use Rattle.fluent_meaning.specs.Refused.{TellsSome}
 use Rattle.fluent_meaning.specs.Steps.{Budget, Done, faulty}
-use Rattle.fluent_meaning.specs.Told.{Finds, Writes}
+use Rattle.fluent_meaning.specs.Told as told
 use Rattle.fluent_progress.specs.Views.{state}
 use Rattle.fluent_progress.specs.declared.progress.Progress.{Progress}
 use denote.Ref.{Bor}
@@ -19,12 +19,12 @@ abbrev pub Appends : {T E : Type 0} → Result T E → String Global → String 
 Appends result old new text = OnOk result (string_bytes new ≡ string_bytes old ++ text)
 
 -- on Ok the step was written after what was there before
-abbrev pub WritesOnOk : {T E : Type 0} → Result T E → String Global → String Global → Progress → Progress → (Progress → Budget → Done Text) → Type 0
-WritesOnOk result held now old new step = OnOk result (Writes (string_bytes held) (string_bytes now) (state old) (state new) (step old))
+abbrev pub Writes : {T E : Type 0} → Result T E → String Global → String Global → Progress → Progress → (Progress → Budget → Done Text) → Type 0
+Writes result held now old new step = OnOk result (told.Writes (string_bytes held) (string_bytes now) (state old) (state new) (step old))
 
 -- on Ok what the step finds is in the result
 abbrev pub FindsOnOk : {T E V : Type 0} → (T → V) → Result T E → Progress → Progress → (Progress → Budget → Done V) → Type 0
-FindsOnOk view result old new step = IfOk result (λ found. Finds (view found) (state old) (state new) (step old))
+FindsOnOk view result old new step = IfOk result (λ found. told.Finds (view found) (state old) (state new) (step old))
 
 -- on Err the first of the step's errors are reported
 abbrev pub TellsOnErr : {A T E : Type 0} → Result T E → Progress → Progress → (Progress → Budget → Done A) → Type 0

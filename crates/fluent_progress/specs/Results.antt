@@ -4,12 +4,9 @@ use Rattle.fluent_ast.specs.Borrowed.{elements_of, name_of, variants_of}
 use Rattle.fluent_ast.specs.declared.Identifier.{Identifier}
 use Rattle.fluent_ast.specs.declared.Pattern.{Pattern}
 use Rattle.fluent_ast.specs.declared.Variant.{Variant}
-use Rattle.fluent_environment.specs.Settings.{result_of}
 use Rattle.fluent_grammar.specs.Tree.{Elements, Expression}
 use Rattle.fluent_grammar.specs.Words.{Text}
-use Rattle.fluent_ids.specs.EntryView.{function_meaning}
 use Rattle.fluent_ids.specs.IdsView.{ids_view}
-use Rattle.fluent_ids.specs.declared.entry.FunctionRef.{FunctionRef}
 use Rattle.fluent_meaning.specs.Choice.{chosen, first_match}
 use Rattle.fluent_meaning.specs.Environment.{Environment}
 use Rattle.fluent_meaning.specs.Fallback.{braced, fallback}
@@ -17,6 +14,7 @@ use Rattle.fluent_meaning.specs.Ids.{Meaning, number_function, function, message
 use Rattle.fluent_meaning.specs.Steps.{Budget, is_shut, may_open}
 use Rattle.fluent_meaning.specs.Substitution as s
 use Rattle.fluent_progress.specs.Views.{resolved_in}
+use Rattle.fluent_progress.specs.declared.context.Context.{Ghosts as Context}
 use Rattle.fluent_progress.specs.declared.place.Place.{Place}
 use Rattle.fluent_value.specs.ArgsView.{args_view}
 use Rattle.fluent_value.specs.Builtins.{number_called}
@@ -24,6 +22,8 @@ use Rattle.fluent_value.specs.Matching.{Plurals}
 use Rattle.fluent_value.specs.Value.{Value}
 use Rattle.fluent_value.specs.View.{value_view}
 use Rattle.fluent_value.specs.declared.args.FluentArgs.{FluentArgs}
+use Rattle.fluent_value.specs.declared.custom.FluentType.{Ghosts as Custom}
+use Rattle.fluent_value.specs.declared.scope.ValueScope.{Ghosts as Scope}
 use Rattle.fluent_value.specs.declared.value.FluentValue.{FluentValue}
 use denote.Ref.{Bor}
 
@@ -55,17 +55,13 @@ module _ {C S F : Type 0} (meaning : C → S) where
   abbrev pub result_text : Environment S F → Text → FluentValue C → Text
   result_text env id value = (s.result_written env id (value_view meaning value) (may_open 0)).value
 
-  -- on Ok this is what a function gives for these arguments
-  abbrev pub GivesResult : {X : Type 0} → Environment S F → Result (FluentValue C) X → FunctionRef F → List (FluentValue C) → FluentArgs C → Type 0
-  GivesResult env result callee positional named =
-      IfOk result (λ value. value_view meaning value ≡ result_of env.call (function_meaning F callee) (map (value_view meaning) positional) (args_view meaning named))
-
+module _ {C F E S : Type 0} {c : Custom C S} {e : Context E C F S} {v : Scope E C S} where
   -- on Ok this is what the function of an id gives for these arguments, if the id stands for one
-  abbrev pub GivesCall : {E X : Type 0} → (E → Environment S F) → Result (Option (FluentValue C)) X → Place C F E → Text → List (FluentValue C) → FluentArgs C → Type 0
-  GivesCall environment result place id positional named =
-      IfOk result (λ value. option_map (value_view meaning) value ≡ function_result (resolved_in environment place) (find (ids_view F place.ids.now) id) (map (value_view meaning) positional) (args_view meaning named))
+  abbrev pub GivesCall : {X : Type 0} → Result (Option (FluentValue C)) X → Place C F E S c e v → Text → List (FluentValue C) → FluentArgs C → Type 0
+  GivesCall result place id positional named =
+      IfOk result (λ value. option_map (value_view c.meaning) value ≡ function_result (resolved_in place) (find (ids_view F place.ids.now) id) (map (value_view c.meaning) positional) (args_view c.meaning named))
 
-module _ {C F E : Type 0} (place : Place C F E) (id : Identifier (Bor Text)) (attribute : Option (Identifier (Bor Text))) where
+module _ {C F E S : Type 0} {c : Custom C S} {e : Context E C F S} {v : Scope E C S} (place : Place C F E S c e v) (id : Identifier (Bor Text)) (attribute : Option (Identifier (Bor Text))) where
   -- what a message reference means
   abbrev pub message_meant : s.Target
   message_meant = s.message_target (name_of id) (option_map name_of attribute) (find (ids_view F place.ids.now) (name_of id))

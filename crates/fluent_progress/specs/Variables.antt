@@ -10,6 +10,7 @@ use Rattle.fluent_meaning.specs.Told.{after}
 use Rattle.fluent_progress.specs.Resolves.{FindsOnOk}
 use Rattle.fluent_progress.specs.Results.{given_text}
 use Rattle.fluent_progress.specs.Views.{args_or_none, given_args, place_view, resolved_in, state}
+use Rattle.fluent_progress.specs.declared.context.Context.{Ghosts as Context}
 use Rattle.fluent_progress.specs.declared.place.Place.{Place}
 use Rattle.fluent_progress.specs.declared.progress.Progress.{Progress}
 use Rattle.fluent_value.specs.Args.{argument}
@@ -17,6 +18,8 @@ use Rattle.fluent_value.specs.ArgsView.{args_view}
 use Rattle.fluent_value.specs.Value.{Value}
 use Rattle.fluent_value.specs.View.{value_view}
 use Rattle.fluent_value.specs.declared.args.FluentArgs.{FluentArgs}
+use Rattle.fluent_value.specs.declared.custom.FluentType.{Ghosts as Custom}
+use Rattle.fluent_value.specs.declared.scope.ValueScope.{Ghosts as Scope}
 use Rattle.fluent_value.specs.declared.value.FluentValue.{FluentValue}
 use denote.Ref.{Bor}
 
@@ -42,29 +45,28 @@ module _ {C S : Type 0} (meaning : C → S) where
   abbrev pub Copies : {X : Type 0} → Result (Option (FluentValue C)) X → Option (Value S) → Type 0
   Copies result value = IfOk result (λ copy. option_map (value_view meaning) copy ≡ value)
 
+module _ {C F E S : Type 0} {c : Custom C S} {e : Context E C F S} {v : Scope E C S} where
   -- the value of the variable of this name: inside a term one of the term's arguments, else one of the request's
-  abbrev pub variable_of : {F E : Type 0} → Place C F E → Option (Bor (FluentArgs C)) → Text → Option (Value S)
-  variable_of place locals id = argument id (s.locals_or (args_or_none meaning (given_args meaning place.arguments)) (given_args meaning locals))
+  abbrev pub variable_of : Place C F E S c e v → Text → Option (Value S)
+  variable_of place id = argument id (s.locals_or (args_or_none c.meaning (given_args c.meaning place.arguments)) (given_args c.meaning place.locals))
 
-  module _ {F E : Type 0} (environment : E → Environment S F) where
-    -- its text, or nothing if there is no such variable
-    abbrev pub variable_text : Place C F E → Option (Bor (FluentArgs C)) → Text → Text
-    variable_text place locals id = given_text (value_text (environment place.context.now)) (variable_of place locals id)
+  -- its text, or nothing if there is no such variable
+  abbrev pub variable_text : Place C F E S c e v → Text → Text
+  variable_text place id = given_text (value_text (e.environment place.context.now)) (variable_of place id)
 
-    -- on Ok a missing variable was reported, if it was missed outside a term
-    abbrev pub ReportsMissing : {T X : Type 0} → Result T X → Place C F E → Option (Bor (FluentArgs C)) → Progress → Progress → Text → Type 0
-    ReportsMissing result place locals old new id =
-        OnOk result (state new ≡ after (state old) (s.missing_variable (resolved_in environment place) true id (place_view meaning place locals old) (state old).budget))
+  -- on Ok a missing variable was reported, if it was missed outside a term
+  abbrev pub ReportsMissing : {T X : Type 0} → Result T X → Place C F E S c e v → Progress → Progress → Text → Type 0
+  ReportsMissing result place old new id =
+      OnOk result (state new ≡ after (state old) (s.missing_variable (resolved_in place) true id (place_view place old) (state old).budget))
 
-    module _ (place : Place C F E) (locals : Option (Bor (FluentArgs C))) (id : Identifier (Bor Text)) where
-      -- a variable of the place is written
-      abbrev pub variable_step : Progress → Budget → Done Text
-      variable_step progress = written_variable (resolved_in environment place) (name_of id) (place_view meaning place locals progress)
+  -- a variable of the place is written
+  abbrev pub variable_step : Place C F E S c e v → Identifier (Bor Text) → Progress → Budget → Done Text
+  variable_step place id progress = written_variable (resolved_in place) (name_of id) (place_view place progress)
 
-      -- the value of a variable of the place is found
-      abbrev pub variable_value_step : Progress → Budget → Done (Value S)
-      variable_value_step progress = found_variable (resolved_in environment place) (name_of id) (place_view meaning place locals progress)
+  -- the value of a variable of the place is found
+  abbrev pub variable_value_step : Place C F E S c e v → Identifier (Bor Text) → Progress → Budget → Done (Value S)
+  variable_value_step place id progress = found_variable (resolved_in place) (name_of id) (place_view place progress)
 
-    -- a call found the value of a variable
-    abbrev pub FindsVariable : {X : Type 0} → Result (FluentValue C) X → Place C F E → Option (Bor (FluentArgs C)) → Progress → Progress → Identifier (Bor Text) → Type 0
-    FindsVariable result place locals old new id = FindsOnOk (value_view meaning) result old new (variable_value_step place locals id)
+  -- a call found the value of a variable
+  abbrev pub FindsVariable : {X : Type 0} → Result (FluentValue C) X → Place C F E S c e v → Progress → Progress → Identifier (Bor Text) → Type 0
+  FindsVariable result place old new id = FindsOnOk (value_view c.meaning) result old new (variable_value_step place id)

@@ -12,6 +12,7 @@ use Rattle.fluent_meaning.specs.Environment.{Environment}
 use Rattle.fluent_meaning.specs.Ids.{find}
 use Rattle.fluent_meaning.specs.Substitution as s
 use Rattle.fluent_meaning.specs.Told.{State, budget_of, capped, in_byte}
+use Rattle.fluent_progress.specs.declared.context.Context.{Ghosts as Context}
 use Rattle.fluent_progress.specs.declared.place.Place.{Place}
 use Rattle.fluent_progress.specs.declared.progress.Progress.{Progress}
 use Rattle.fluent_progress.specs.declared.target.Target.{Target}
@@ -19,6 +20,8 @@ use Rattle.fluent_progress.specs.declared.target.Target.TheVariants as target
 use Rattle.fluent_value.specs.ArgsView.{args_view}
 use Rattle.fluent_value.specs.Value.{Value}
 use Rattle.fluent_value.specs.declared.args.FluentArgs.{FluentArgs}
+use Rattle.fluent_value.specs.declared.custom.FluentType.{Ghosts as Custom}
+use Rattle.fluent_value.specs.declared.scope.ValueScope.{Ghosts as Scope}
 
 -- the patterns that are being written, the last one entered last
 abbrev pub path_of : Progress → List Elements
@@ -52,22 +55,31 @@ module _ {C S : Type 0} (meaning : C → S) where
   args_or_none None = []
   args_or_none (Some args) = args
 
-  -- what is handed down, with a term's own arguments
-  abbrev pub place_view : {F E : Type 0} → Place C F E → Option (Bor (FluentArgs C)) → Progress → s.Place S
-  place_view place locals progress = record {
-    arguments = args_or_none (given_args place.arguments);
-    locals = given_args locals;
+module _ {C F E S : Type 0} {c : Custom C S} {e : Context E C F S} {v : Scope E C S} where
+  -- what is handed down
+  abbrev pub place_view : Place C F E S c e v → Progress → s.Place S
+  place_view place progress = record {
+    arguments = args_or_none c.meaning (given_args c.meaning place.arguments);
+    locals = given_args c.meaning place.locals;
     path = path_of progress;
   }
 
--- what patterns are resolved in, with the messages and terms that are handed down
-abbrev pub resolved_in : {C S F E : Type 0} → (E → Environment S F) → Place C F E → Environment S F
-resolved_in environment place = let env = environment place.context.now in record {
-  find = find (ids_view _ place.ids.now);
-  call = env.call;
-  isolating = env.isolating;
-  transformed = env.transformed;
-  formatted = env.formatted;
-  plurals = env.plurals;
-  shown = env.shown;
-}
+  -- the same, while no pattern is being written
+  abbrev pub start_of : Place C F E S c e v → s.Place S
+  start_of place = record {
+    arguments = args_or_none c.meaning (given_args c.meaning place.arguments);
+    locals = given_args c.meaning place.locals;
+    path = [];
+  }
+
+  -- what patterns are resolved in, with the messages and terms that are handed down
+  abbrev pub resolved_in : Place C F E S c e v → Environment S F
+  resolved_in place = let env = e.environment place.context.now in record {
+    find = find (ids_view _ place.ids.now);
+    call = env.call;
+    isolating = env.isolating;
+    transformed = env.transformed;
+    formatted = env.formatted;
+    plurals = env.plurals;
+    shown = env.shown;
+  }

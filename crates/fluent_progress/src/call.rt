@@ -19,7 +19,7 @@ impl<'b, 'r, 's, 'a, C: FluentType, F, E: Context<C, F>> Place<'b, 'r, 's, 'a, C
         positional: &[FluentValue<'v, C>],
         named: &FluentArgs<'n, C>,
     ) -> Result<Option<FluentValue<'v, C>>, AllocError>
-        ensures { GivesCall C.meaning E.environment result self.now id.now positional.now named.now }
+        ensures { GivesCall result self.now id.now positional.now named.now }
     {
         let function = match self.ids.get(id) {
             Some(Entry::Function(function)) => FunctionRef::Own(function),

@@ -3,7 +3,7 @@
 ghost use Rattle.std.specs.Prelude.{◌≡◌, Bool, false, IfOk, IsOkAnd};
 ghost use Rattle.std.specs.Cow.{cow_str_bytes, IsBorrowedStr};
 ghost use Rattle.fluent_meaning.specs.Environment.{Environment, value_text};
-ghost use Rattle.fluent_progress.specs.Results.{GivesResult};
+ghost use Rattle.fluent_progress.specs.Functions.{GivesResult};
 ghost use Rattle.fluent_value.specs.Shown.{shown_text};
 ghost use Rattle.fluent_value.specs.Value.{Value};
 

@@ -5,7 +5,7 @@ ghost use Rattle.fluent_ast.specs.Borrowed.{expression_of, inline_of};
 ghost use Rattle.fluent_errors.specs.View.{resolver_view};
 ghost use Rattle.fluent_meaning.specs.Fallback.{braced, fallback, inline_fallback, with_attribute};
 ghost use Rattle.fluent_meaning.specs.Work.{times_too_many};
-ghost use Rattle.fluent_progress.specs.Resolves.{Appends, TellsOnErr, WritesOnOk, fallback_step};
+ghost use Rattle.fluent_progress.specs.Resolves.{Appends, TellsOnErr, Writes, fallback_step};
 ghost use Rattle.fluent_progress.specs.Results.{found_name};
 
 use crate::progress::Progress;
@@ -122,7 +122,7 @@ pub fn fall_back(
     error: ResolverError,
 ) -> Result<(), AllocError>
     requires { times_too_many (resolver_view error ∷ []) ≡ 0 }
-    ensures wrote { WritesOnOk result out.old out.new progress.old progress.new
+    ensures wrote { Writes result out.old out.new progress.old progress.new
         (fallback_step inline.now error) }
     ensures refused { TellsOnErr result progress.old progress.new
         (fallback_step inline.now error) }

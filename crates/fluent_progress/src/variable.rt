@@ -3,8 +3,8 @@
 ghost use Rattle.std.specs.Prelude.{◌≡◌, ◌∷◌, is_some, IfOk, OnErr};
 ghost use Rattle.fluent_grammar.specs.Words.{dollar};
 ghost use Rattle.fluent_meaning.specs.Fallback.{braced};
-ghost use Rattle.fluent_progress.specs.Resolves.{Appends, TellsOnErr, WritesOnOk};
-ghost use Rattle.fluent_progress.specs.Variables.{Copies, FindsVariable, ReportsMissing, argument_of, argument_text, variable_value_step, variable_of, variable_step, variable_text};
+ghost use Rattle.fluent_progress.specs.Resolves.{Appends, TellsOnErr, Writes};
+ghost use Rattle.fluent_progress.specs.Variables.{Copies, FindsVariable, ReportsMissing, argument_of, argument_text, variable_of, variable_step, variable_text, variable_value_step};
 ghost use Rattle.fluent_progress.specs.Views.{state};
 
 use crate::context::Context;
@@ -32,8 +32,7 @@ fn write_argument<C: FluentType, F, E: Context<C, F>>(
     arguments: &FluentArgs<'_, C>,
     id: &str,
 ) -> Result<bool, AllocError>
-    ensures given { IfOk result (λ is_given. is_given
-        ≡ is_some (argument_of C.meaning arguments.now id.now)) }
+    ensures given { IfOk result (λ is_given. is_given ≡ is_some (argument_of C.meaning arguments.now id.now)) }
     ensures text { Appends result out.old out.new
         (argument_text C.meaning E.environment context.now arguments.now id.now) }
 {
@@ -77,18 +76,11 @@ fn owned<'v, C: FluentType>(
 impl<'b, 'r, 's, 'a, C: FluentType, F, E: Context<C, F>> Place<'b, 'r, 's, 'a, C, F, E> {
     /// Writes the value of a variable if it has one, inside a term that of one of its arguments, else that of one of the
     /// request's, and answers whether it has one.
-    fn write_given(
-        &self,
-        out: &mut String,
-        locals: Option<&FluentArgs<'s, C>>,
-        id: &str,
-    ) -> Result<bool, AllocError>
-        ensures given { IfOk result (λ is_given. is_given
-            ≡ is_some (variable_of C.meaning self.now locals.entry id.now)) }
-        ensures text { Appends result out.old out.new
-            (variable_text C.meaning E.environment self.now locals.entry id.now) }
+    fn write_given(&self, out: &mut String, id: &str) -> Result<bool, AllocError>
+        ensures given { IfOk result (λ is_given. is_given ≡ is_some (variable_of self.now id.now)) }
+        ensures text { Appends result out.old out.new (variable_text self.now id.now) }
     {
-        match (locals, self.arguments) {
+        match (self.locals, self.arguments) {
             (Some(locals), _) => write_argument(out, self.context, locals, id),
             (None, Some(arguments)) => write_argument(out, self.context, arguments, id),
             (None, None) => Ok(false),
@@ -97,15 +89,11 @@ impl<'b, 'r, 's, 'a, C: FluentType, F, E: Context<C, F>> Place<'b, 'r, 's, 'a, C
 
     /// A copy of the value of a variable: inside a term of one of its arguments, else of one of the request's, which then borrows
     /// nothing.
-    fn variable_copy(
-        &self,
-        locals: Option<&FluentArgs<'s, C>>,
-        id: &str,
-    ) -> Result<Option<FluentValue<'s, C>>, AllocError>
-        ensures { Copies C.meaning result (variable_of C.meaning self.now locals.entry id.now) }
+    fn variable_copy(&self, id: &str) -> Result<Option<FluentValue<'s, C>>, AllocError>
+        ensures { Copies C.meaning result (variable_of self.now id.now) }
     {
         let alloc = self.context.alloc();
-        match (locals, self.arguments) {
+        match (self.locals, self.arguments) {
             (Some(locals), _) => copied(alloc, locals, id),
             (None, Some(arguments)) => owned(alloc, arguments, id),
             (None, None) => Ok(None),
@@ -113,18 +101,12 @@ impl<'b, 'r, 's, 'a, C: FluentType, F, E: Context<C, F>> Place<'b, 'r, 's, 'a, C
     }
 
     /// Reports that a variable is missing, outside terms alone.
-    fn tell_missing(
-        &self,
-        locals: Option<&FluentArgs<'s, C>>,
-        progress: &mut Progress<'r, 's>,
-        id: &str,
-    ) -> Result<(), AllocError>
-        ensures told { ReportsMissing C.meaning E.environment result self.now locals.entry
-            progress.old progress.new id.now }
+    fn tell_missing(&self, progress: &mut Progress<'r, 's>, id: &str) -> Result<(), AllocError>
+        ensures told { ReportsMissing result self.now progress.old progress.new id.now }
         ensures refused { OnErr result (state progress.new ≡ state progress.old) }
         ensures path { progress.new.path ≡ progress.old.path }
     {
-        if locals.is_some() {
+        if self.locals.is_some() {
             return Ok(());
         }
         let id = String::from_str(self.context.alloc(), id)?;
@@ -138,20 +120,17 @@ impl<'b, 'r, 's, 'a, C: FluentType, F, E: Context<C, F>> Place<'b, 'r, 's, 'a, C
     pub fn write_variable(
         &self,
         out: &mut String,
-        locals: Option<&FluentArgs<'s, C>>,
         progress: &mut Progress<'r, 's>,
         id: &Identifier<&str>,
     ) -> Result<(), AllocError>
-        ensures wrote { WritesOnOk result out.old out.new progress.old progress.new
-            (variable_step C.meaning E.environment self.now locals.entry id.now) }
-        ensures refused { TellsOnErr result progress.old progress.new
-            (variable_step C.meaning E.environment self.now locals.entry id.now) }
+        ensures wrote { Writes result out.old out.new progress.old progress.new (variable_step self.now id.now) }
+        ensures refused { TellsOnErr result progress.old progress.new (variable_step self.now id.now) }
         ensures path { progress.new.path ≡ progress.old.path }
     {
-        if self.write_given(out, locals, id.name)? {
+        if self.write_given(out, id.name)? {
             return Ok(());
         }
-        self.tell_missing(locals, progress, id.name)?;
+        self.tell_missing(progress, id.name)?;
         write_name(out, id.name)
     }
 
@@ -161,20 +140,17 @@ impl<'b, 'r, 's, 'a, C: FluentType, F, E: Context<C, F>> Place<'b, 'r, 's, 'a, C
     /// [`AllocError`] if memory runs out; the progress is unchanged.
     pub fn variable_value(
         &self,
-        locals: Option<&FluentArgs<'s, C>>,
         progress: &mut Progress<'r, 's>,
         id: &Identifier<&str>,
     ) -> Result<FluentValue<'s, C>, AllocError>
-        ensures found { FindsVariable C.meaning E.environment result self.now locals.entry
-            progress.old progress.new id.now }
-        ensures refused { TellsOnErr result progress.old progress.new
-            (variable_value_step C.meaning E.environment self.now locals.entry id.now) }
+        ensures found { FindsVariable result self.now progress.old progress.new id.now }
+        ensures refused { TellsOnErr result progress.old progress.new (variable_value_step self.now id.now) }
         ensures path { progress.new.path ≡ progress.old.path }
     {
-        match self.variable_copy(locals, id.name)? {
+        match self.variable_copy(id.name)? {
             Some(value) => Ok(value),
             None => {
-                self.tell_missing(locals, progress, id.name)?;
+                self.tell_missing(progress, id.name)?;
                 Ok(FluentValue::Error)
             }
         }

@@ -1,2 +1,9 @@
 pub mod Parts
 pub mod Calls
+pub mod Places
+pub mod Shapes
+pub mod Elements
+pub mod Functions
+pub mod Terms
+pub mod Selects
+pub mod ArgumentLists

@@ -16,19 +16,16 @@ use std::borrow::CowStr;
 #[cycle(resolving)]
 pub(crate) fn call_result<'b, 'r, 's, 'a, C: FluentType + Drop, F, E: Context<C, F>>(
     place: &Place<'b, 'r, 's, 'a, C, F, E>,
-    locals: Option<&FluentArgs<'s, C>>,
     progress: &mut Progress<'r, 's>,
     id: &'r Identifier<&'s str>,
     arguments: &'r CallArguments<&'s str>,
 ) -> Result<Option<FluentValue<'s, C>>, AllocError>
-    ensures found { Calls C.meaning E.environment result place.now locals.entry
-        progress.old progress.new id.now arguments.now }
-    ensures refused { TellsOnErr result progress.old progress.new
-        (call_step C.meaning E.environment place.now locals.entry id.now arguments.now) }
+    ensures found { Calls result place.now progress.old progress.new id.now arguments.now }
+    ensures refused { TellsOnErr result progress.old progress.new (call_step place.now id.now arguments.now) }
     ensures path { OnOk result (progress.new.path.items ≡ progress.old.path.items) }
 {
-    let positional = positional_values(place, locals, progress, &arguments.positional)?;
-    let named = named_values(place, locals, progress, &arguments.named)?;
+    let positional = positional_values(place, progress, &arguments.positional)?;
+    let named = named_values(place, progress, &arguments.named)?;
     place.call(id.name, &positional, &named)
 }
 
@@ -36,20 +33,17 @@ pub(crate) fn call_result<'b, 'r, 's, 'a, C: FluentType + Drop, F, E: Context<C,
 #[cycle(resolving)]
 pub(crate) fn own_arguments<'b, 'r, 's, 'a, C: FluentType + Drop, F, E: Context<C, F>>(
     place: &Place<'b, 'r, 's, 'a, C, F, E>,
-    locals: Option<&FluentArgs<'s, C>>,
     progress: &mut Progress<'r, 's>,
     arguments: &'r Option<CallArguments<&'s str>>,
 ) -> Result<FluentArgs<'s, C>, AllocError>
-    ensures found { FindsOwn C.meaning E.environment result place.now locals.entry
-        progress.old progress.new arguments.now }
-    ensures refused { TellsOnErr result progress.old progress.new
-        (own_step C.meaning E.environment place.now locals.entry arguments.now) }
+    ensures found { FindsOwn result place.now progress.old progress.new arguments.now }
+    ensures refused { TellsOnErr result progress.old progress.new (own_step place.now arguments.now) }
     ensures path { OnOk result (progress.new.path.items ≡ progress.old.path.items) }
 {
     match arguments {
         Some(arguments) => {
-            drop(positional_values(place, locals, progress, &arguments.positional)?);
-            named_values(place, locals, progress, &arguments.named)
+            drop(positional_values(place, progress, &arguments.positional)?);
+            named_values(place, progress, &arguments.named)
         }
         None => Ok(FluentArgs::new(place.context.alloc())),
     }
@@ -62,19 +56,16 @@ pub(crate) fn own_arguments<'b, 'r, 's, 'a, C: FluentType + Drop, F, E: Context<
 #[cycle(resolving)]
 pub fn positional_values<'b, 'r, 's, 'a, C: FluentType + Drop, F, E: Context<C, F>>(
     place: &Place<'b, 'r, 's, 'a, C, F, E>,
-    locals: Option<&FluentArgs<'s, C>>,
     progress: &mut Progress<'r, 's>,
     arguments: &'r Vec<InlineExpression<&'s str>>,
 ) -> Result<Vec<FluentValue<'s, C>>, AllocError>
-    ensures found { FindsValues C.meaning E.environment result place.now locals.entry
-        progress.old progress.new arguments.now }
-    ensures refused { TellsOnErr result progress.old progress.new
-        (positional_step C.meaning E.environment place.now locals.entry arguments.now) }
+    ensures found { FindsValues result place.now progress.old progress.new arguments.now }
+    ensures refused { TellsOnErr result progress.old progress.new (positional_step place.now arguments.now) }
     ensures path { OnOk result (progress.new.path.items ≡ progress.old.path.items) }
 {
     let mut values = Vec::with_capacity(place.context.alloc(), arguments.len())?;
     for argument in arguments {
-        values.push(value_of(place, locals, progress, argument)?)?;
+        values.push(value_of(place, progress, argument)?)?;
     }
     Ok(values)
 }
@@ -86,19 +77,16 @@ pub fn positional_values<'b, 'r, 's, 'a, C: FluentType + Drop, F, E: Context<C, 
 #[cycle(resolving)]
 pub fn named_values<'b, 'r, 's, 'a, C: FluentType + Drop, F, E: Context<C, F>>(
     place: &Place<'b, 'r, 's, 'a, C, F, E>,
-    locals: Option<&FluentArgs<'s, C>>,
     progress: &mut Progress<'r, 's>,
     arguments: &'r Vec<NamedArgument<&'s str>>,
 ) -> Result<FluentArgs<'s, C>, AllocError>
-    ensures found { FindsNamed C.meaning E.environment result place.now locals.entry
-        progress.old progress.new arguments.now }
-    ensures refused { TellsOnErr result progress.old progress.new
-        (named_step C.meaning E.environment place.now locals.entry arguments.now) }
+    ensures found { FindsNamed result place.now progress.old progress.new arguments.now }
+    ensures refused { TellsOnErr result progress.old progress.new (named_step place.now arguments.now) }
     ensures path { OnOk result (progress.new.path.items ≡ progress.old.path.items) }
 {
     let mut values = FluentArgs::new(place.context.alloc());
     for argument in arguments {
-        let value = value_of(place, locals, progress, &argument.value)?;
+        let value = value_of(place, progress, &argument.value)?;
         values.set_value(CowStr::Borrowed(argument.name.name), value)?;
     }
     Ok(values)

@@ -2,9 +2,9 @@
 
 ghost use Rattle.std.specs.Prelude.{◌≡◌, OnOk};
 ghost use Rattle.fluent_ast.specs.Borrowed.{inline_of};
-ghost use Rattle.fluent_progress.specs.Resolves.{TellsOnErr, WritesOnOk};
+ghost use Rattle.fluent_progress.specs.Resolves.{TellsOnErr, Writes};
 ghost use Rattle.fluent_resolver.specs.Finds.{Chooses};
-ghost use Rattle.fluent_resolver.specs.Steps.{call_of, choice_step, expression_step, inline_step, select_step, term_reference_of};
+ghost use Rattle.fluent_resolver.specs.Steps.{call_of, choice_step, expression_step, inline_step, select, term_reference_of};
 
 use crate::arguments::{call_result, own_arguments};
 use crate::pattern::{write_pattern, write_target};
@@ -16,7 +16,7 @@ use fluent_progress::text::write_literal;
 use fluent_progress::value::{write_number, write_result};
 use fluent_progress::variant::chosen;
 use fluent_progress::{Context, Place, Progress};
-use fluent_value::{FluentArgs, FluentType};
+use fluent_value::FluentType;
 use std::alloc::AllocError;
 
 /// Writes an expression.
@@ -27,21 +27,18 @@ use std::alloc::AllocError;
 pub fn write_expression<'b, 'r, 's, 'a, C: FluentType + Drop, F, E: Context<C, F>>(
     out: &mut String,
     place: &Place<'b, 'r, 's, 'a, C, F, E>,
-    locals: Option<&FluentArgs<'s, C>>,
     progress: &mut Progress<'r, 's>,
     expression: &'r Expression<&'s str>,
 ) -> Result<(), AllocError>
-    ensures wrote { WritesOnOk result out.old out.new progress.old progress.new
-        (expression_step C.meaning E.environment place.now locals.entry expression.now) }
-    ensures refused { TellsOnErr result progress.old progress.new
-        (expression_step C.meaning E.environment place.now locals.entry expression.now) }
+    ensures wrote { Writes result out.old out.new progress.old progress.new (expression_step place.now expression.now) }
+    ensures refused { TellsOnErr result progress.old progress.new (expression_step place.now expression.now) }
     ensures path { OnOk result (progress.new.path.items ≡ progress.old.path.items) }
 {
     match expression {
         Expression::Select { selector, variants } => {
-            write_select(out, place, locals, progress, selector, variants)
+            write_select(out, place, progress, selector, variants)
         }
-        Expression::Inline(inline) => write_inline(out, place, locals, progress, inline),
+        Expression::Inline(inline) => write_inline(out, place, progress, inline),
     }
 }
 
@@ -50,21 +47,19 @@ pub fn write_expression<'b, 'r, 's, 'a, C: FluentType + Drop, F, E: Context<C, F
 fn write_select<'b, 'r, 's, 'a, C: FluentType + Drop, F, E: Context<C, F>>(
     out: &mut String,
     place: &Place<'b, 'r, 's, 'a, C, F, E>,
-    locals: Option<&FluentArgs<'s, C>>,
     progress: &mut Progress<'r, 's>,
     selector: &'r InlineExpression<&'s str>,
     variants: &'r Vec<Variant<&'s str>>,
 ) -> Result<(), AllocError>
-    ensures wrote { WritesOnOk result out.old out.new progress.old progress.new
-        (select_step C.meaning E.environment place.now locals.entry selector.now variants.now) }
-    ensures refused { TellsOnErr result progress.old progress.new
-        (select_step C.meaning E.environment place.now locals.entry selector.now variants.now) }
+    ensures wrote { Writes result out.old out.new progress.old progress.new
+        (select place.now selector.now variants.now) }
+    ensures refused { TellsOnErr result progress.old progress.new (select place.now selector.now variants.now) }
     ensures path { OnOk result (progress.new.path.items ≡ progress.old.path.items) }
 {
-    match choose(place, locals, progress, selector, variants)? {
+    match choose(place, progress, selector, variants)? {
         Some(pattern) => {
             progress.count_entry();
-            write_pattern(out, place, locals, progress, pattern)
+            write_pattern(out, place, progress, pattern)
         }
         None => progress.add_error(ResolverError::MissingDefault),
     }
@@ -74,18 +69,15 @@ fn write_select<'b, 'r, 's, 'a, C: FluentType + Drop, F, E: Context<C, F>>(
 #[cycle(resolving)]
 fn choose<'b, 'r, 's, 'a, C: FluentType + Drop, F, E: Context<C, F>>(
     place: &Place<'b, 'r, 's, 'a, C, F, E>,
-    locals: Option<&FluentArgs<'s, C>>,
     progress: &mut Progress<'r, 's>,
     selector: &'r InlineExpression<&'s str>,
     variants: &'r Vec<Variant<&'s str>>,
 ) -> Result<Option<&'r Pattern<&'s str>>, AllocError>
-    ensures found { Chooses C.meaning E.environment result place.now locals.entry
-        progress.old progress.new selector.now variants.now }
-    ensures refused { TellsOnErr result progress.old progress.new
-        (choice_step C.meaning E.environment place.now locals.entry selector.now variants.now) }
+    ensures found { Chooses result place.now progress.old progress.new selector.now variants.now }
+    ensures refused { TellsOnErr result progress.old progress.new (choice_step place.now selector.now variants.now) }
     ensures path { OnOk result (progress.new.path.items ≡ progress.old.path.items) }
 {
-    let value = value_of(place, locals, progress, selector)?;
+    let value = value_of(place, progress, selector)?;
     Ok(chosen(place.context, &value, variants))
 }
 
@@ -97,38 +89,31 @@ fn choose<'b, 'r, 's, 'a, C: FluentType + Drop, F, E: Context<C, F>>(
 pub fn write_inline<'b, 'r, 's, 'a, C: FluentType + Drop, F, E: Context<C, F>>(
     out: &mut String,
     place: &Place<'b, 'r, 's, 'a, C, F, E>,
-    locals: Option<&FluentArgs<'s, C>>,
     progress: &mut Progress<'r, 's>,
     inline: &'r InlineExpression<&'s str>,
 ) -> Result<(), AllocError>
-    ensures wrote { WritesOnOk result out.old out.new progress.old progress.new
-        (inline_step C.meaning E.environment place.now locals.entry inline.now) }
-    ensures refused { TellsOnErr result progress.old progress.new
-        (inline_step C.meaning E.environment place.now locals.entry inline.now) }
+    ensures wrote { Writes result out.old out.new progress.old progress.new (inline_step place.now inline.now) }
+    ensures refused { TellsOnErr result progress.old progress.new (inline_step place.now inline.now) }
     ensures path { OnOk result (progress.new.path.items ≡ progress.old.path.items) }
 {
     match inline {
         InlineExpression::StringLiteral { value } => write_literal(out, *value),
         InlineExpression::NumberLiteral { value } => write_number(out, place.context, *value),
         InlineExpression::FunctionReference { id, arguments } => {
-            write_call(out, place, locals, progress, inline, id, arguments)
+            write_call(out, place, progress, inline, id, arguments)
         }
         InlineExpression::MessageReference { id, attribute } => {
             let target = place.message_target(id, attribute)?;
-            write_target(out, place, locals, progress, inline, target)
+            write_target(out, place, progress, inline, target)
         }
         InlineExpression::TermReference {
             id,
             attribute,
             arguments,
-        } => write_term(
-            out, place, locals, progress, inline, id, attribute, arguments,
-        ),
-        InlineExpression::VariableReference { id } => {
-            place.write_variable(out, locals, progress, id)
-        }
+        } => write_term(out, place, progress, inline, id, attribute, arguments),
+        InlineExpression::VariableReference { id } => { place.write_variable(out, progress, id) }
         InlineExpression::Placeable { expression } => {
-            write_expression(out, place, locals, progress, expression)
+            write_expression(out, place, progress, expression)
         }
     }
 }
@@ -138,20 +123,17 @@ pub fn write_inline<'b, 'r, 's, 'a, C: FluentType + Drop, F, E: Context<C, F>>(
 fn write_call<'b, 'r, 's, 'a, C: FluentType + Drop, F, E: Context<C, F>>(
     out: &mut String,
     place: &Place<'b, 'r, 's, 'a, C, F, E>,
-    locals: Option<&FluentArgs<'s, C>>,
     progress: &mut Progress<'r, 's>,
     inline: &'r InlineExpression<&'s str>,
     id: &'r Identifier<&'s str>,
     arguments: &'r CallArguments<&'s str>,
 ) -> Result<(), AllocError>
     requires { inline_of inline.now ≡ call_of id.now arguments.now }
-    ensures wrote { WritesOnOk result out.old out.new progress.old progress.new
-        (inline_step C.meaning E.environment place.now locals.entry inline.now) }
-    ensures refused { TellsOnErr result progress.old progress.new
-        (inline_step C.meaning E.environment place.now locals.entry inline.now) }
+    ensures wrote { Writes result out.old out.new progress.old progress.new (inline_step place.now inline.now) }
+    ensures refused { TellsOnErr result progress.old progress.new (inline_step place.now inline.now) }
     ensures path { OnOk result (progress.new.path.items ≡ progress.old.path.items) }
 {
-    match call_result(place, locals, progress, id, arguments)? {
+    match call_result(place, progress, id, arguments)? {
         Some(result) => write_result(out, place.context, id.name, &result),
         None => {
             let id = String::from_str(place.context.alloc(), id.name)?;
@@ -166,7 +148,6 @@ fn write_call<'b, 'r, 's, 'a, C: FluentType + Drop, F, E: Context<C, F>>(
 fn write_term<'b, 'r, 's, 'a, C: FluentType + Drop, F, E: Context<C, F>>(
     out: &mut String,
     place: &Place<'b, 'r, 's, 'a, C, F, E>,
-    locals: Option<&FluentArgs<'s, C>>,
     progress: &mut Progress<'r, 's>,
     inline: &'r InlineExpression<&'s str>,
     id: &'r Identifier<&'s str>,
@@ -174,13 +155,17 @@ fn write_term<'b, 'r, 's, 'a, C: FluentType + Drop, F, E: Context<C, F>>(
     arguments: &'r Option<CallArguments<&'s str>>,
 ) -> Result<(), AllocError>
     requires { inline_of inline.now ≡ term_reference_of id.now attribute.now arguments.now }
-    ensures wrote { WritesOnOk result out.old out.new progress.old progress.new
-        (inline_step C.meaning E.environment place.now locals.entry inline.now) }
-    ensures refused { TellsOnErr result progress.old progress.new
-        (inline_step C.meaning E.environment place.now locals.entry inline.now) }
+    ensures wrote { Writes result out.old out.new progress.old progress.new (inline_step place.now inline.now) }
+    ensures refused { TellsOnErr result progress.old progress.new (inline_step place.now inline.now) }
     ensures path { OnOk result (progress.new.path.items ≡ progress.old.path.items) }
 {
-    let own = own_arguments(place, locals, progress, arguments)?;
+    let own = own_arguments(place, progress, arguments)?;
     let target = place.term_target(id, attribute)?;
-    write_target(out, place, Some(&own), progress, inline, target)
+    let term = Place {
+        ids: place.ids,
+        context: place.context,
+        arguments: place.arguments,
+        locals: Some(&own),
+    };
+    write_target(out, &term, progress, inline, target)
 }

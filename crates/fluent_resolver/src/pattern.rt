@@ -1,8 +1,8 @@
 //! Patterns, their placeables, and references to them.
 
 ghost use Rattle.std.specs.Prelude.{◌≡◌, false, OnOk};
-ghost use Rattle.fluent_progress.specs.Resolves.{TellsOnErr, WritesOnOk};
-ghost use Rattle.fluent_resolver.specs.Steps.{opened_step, pattern_step, placeable_step, reference_step, target_step};
+ghost use Rattle.fluent_progress.specs.Resolves.{TellsOnErr, Writes};
+ghost use Rattle.fluent_resolver.specs.Steps.{inside, pattern_step, placeable, reference, outcome};
 
 use crate::expression::write_expression;
 use fluent_ast::{Expression, InlineExpression, Pattern, PatternElement};
@@ -11,7 +11,7 @@ use fluent_progress::fallback::fall_back;
 use fluent_progress::marks::{close, is_isolated, write_back, write_front};
 use fluent_progress::text::write_text;
 use fluent_progress::{Context, Place, Progress, Target};
-use fluent_value::{FluentArgs, FluentType};
+use fluent_value::FluentType;
 use std::alloc::AllocError;
 
 /// Writes a pattern.
@@ -22,14 +22,11 @@ use std::alloc::AllocError;
 pub fn write_pattern<'b, 'r, 's, 'a, C: FluentType + Drop, F, E: Context<C, F>>(
     out: &mut String,
     place: &Place<'b, 'r, 's, 'a, C, F, E>,
-    locals: Option<&FluentArgs<'s, C>>,
     progress: &mut Progress<'r, 's>,
     pattern: &'r Pattern<&'s str>,
 ) -> Result<(), AllocError>
-    ensures wrote { WritesOnOk result out.old out.new progress.old progress.new
-        (pattern_step C.meaning E.environment place.now locals.entry pattern.now) }
-    ensures refused { TellsOnErr result progress.old progress.new
-        (pattern_step C.meaning E.environment place.now locals.entry pattern.now) }
+    ensures wrote { Writes result out.old out.new progress.old progress.new (pattern_step place.now pattern.now) }
+    ensures refused { TellsOnErr result progress.old progress.new (pattern_step place.now pattern.now) }
     ensures path { OnOk result (progress.new.path.items ≡ progress.old.path.items) }
 {
     for element in &pattern.elements {
@@ -39,7 +36,7 @@ pub fn write_pattern<'b, 'r, 's, 'a, C: FluentType + Drop, F, E: Context<C, F>>(
         match element {
             PatternElement::TextElement { value } => write_text(out, place.context, *value)?,
             PatternElement::Placeable { expression } => {
-                write_placeable(out, place, locals, progress, pattern, expression)?
+                write_placeable(out, place, progress, pattern, expression)?
             }
         }
     }
@@ -54,16 +51,14 @@ pub fn write_pattern<'b, 'r, 's, 'a, C: FluentType + Drop, F, E: Context<C, F>>(
 pub fn write_placeable<'b, 'r, 's, 'a, C: FluentType + Drop, F, E: Context<C, F>>(
     out: &mut String,
     place: &Place<'b, 'r, 's, 'a, C, F, E>,
-    locals: Option<&FluentArgs<'s, C>>,
     progress: &mut Progress<'r, 's>,
     whole: &'r Pattern<&'s str>,
     expression: &'r Expression<&'s str>,
 ) -> Result<(), AllocError>
     requires { progress.now.dirty ≡ false }
-    ensures wrote { WritesOnOk result out.old out.new progress.old progress.new
-        (placeable_step C.meaning E.environment place.now locals.entry whole.now expression.now) }
-    ensures refused { TellsOnErr result progress.old progress.new
-        (placeable_step C.meaning E.environment place.now locals.entry whole.now expression.now) }
+    ensures wrote { Writes result out.old out.new progress.old progress.new
+        (placeable place.now whole.now expression.now) }
+    ensures refused { TellsOnErr result progress.old progress.new (placeable place.now whole.now expression.now) }
     ensures path { OnOk result (progress.new.path.items ≡ progress.old.path.items) }
 {
     if !progress.open_placeable()? {
@@ -71,7 +66,7 @@ pub fn write_placeable<'b, 'r, 's, 'a, C: FluentType + Drop, F, E: Context<C, F>
     }
     let is_isolated = is_isolated(place.context, whole, expression);
     write_front(out, is_isolated)?;
-    write_opened(out, place, locals, progress, whole, expression)?;
+    write_opened(out, place, progress, whole, expression)?;
     write_back(out, is_isolated)
 }
 
@@ -84,19 +79,17 @@ pub fn write_placeable<'b, 'r, 's, 'a, C: FluentType + Drop, F, E: Context<C, F>
 pub fn write_opened<'b, 'r, 's, 'a, C: FluentType + Drop, F, E: Context<C, F>>(
     out: &mut String,
     place: &Place<'b, 'r, 's, 'a, C, F, E>,
-    locals: Option<&FluentArgs<'s, C>>,
     progress: &mut Progress<'r, 's>,
     whole: &'r Pattern<&'s str>,
     expression: &'r Expression<&'s str>,
 ) -> Result<(), AllocError>
-    ensures wrote { WritesOnOk result out.old out.new progress.old progress.new
-        (opened_step C.meaning E.environment place.now locals.entry whole.now expression.now) }
-    ensures refused { TellsOnErr result progress.old progress.new
-        (opened_step C.meaning E.environment place.now locals.entry whole.now expression.now) }
+    ensures wrote { Writes result out.old out.new progress.old progress.new
+        (inside place.now whole.now expression.now) }
+    ensures refused { TellsOnErr result progress.old progress.new (inside place.now whole.now expression.now) }
     ensures path { OnOk result (progress.new.path.items ≡ progress.old.path.items) }
 {
     let is_root = progress.enter_root(whole)?;
-    write_expression(out, place, locals, progress, expression)?;
+    write_expression(out, place, progress, expression)?;
     progress.leave_root(is_root);
     close(out, progress, expression)
 }
@@ -106,19 +99,17 @@ pub fn write_opened<'b, 'r, 's, 'a, C: FluentType + Drop, F, E: Context<C, F>>(
 pub(crate) fn write_target<'b, 'r, 's, 'a, C: FluentType + Drop, F, E: Context<C, F>>(
     out: &mut String,
     place: &Place<'b, 'r, 's, 'a, C, F, E>,
-    locals: Option<&FluentArgs<'s, C>>,
     progress: &mut Progress<'r, 's>,
     inline: &'r InlineExpression<&'s str>,
     target: Target<'r, 's>,
 ) -> Result<(), AllocError>
-    ensures wrote { WritesOnOk result out.old out.new progress.old progress.new
-        (target_step C.meaning E.environment place.now locals.entry inline.now target.entry) }
-    ensures refused { TellsOnErr result progress.old progress.new
-        (target_step C.meaning E.environment place.now locals.entry inline.now target.entry) }
+    ensures wrote { Writes result out.old out.new progress.old progress.new
+        (outcome place.now inline.now target.entry) }
+    ensures refused { TellsOnErr result progress.old progress.new (outcome place.now inline.now target.entry) }
     ensures path { OnOk result (progress.new.path.items ≡ progress.old.path.items) }
 {
     match target {
-        Target::There(pattern) => write_referred(out, place, locals, progress, inline, pattern),
+        Target::There(pattern) => write_referred(out, place, progress, inline, pattern),
         Target::Unknown(kind) => {
             fall_back(out, progress, inline, ResolverError::Reference(kind))
         }
@@ -134,15 +125,13 @@ pub(crate) fn write_target<'b, 'r, 's, 'a, C: FluentType + Drop, F, E: Context<C
 pub fn write_referred<'b, 'r, 's, 'a, C: FluentType + Drop, F, E: Context<C, F>>(
     out: &mut String,
     place: &Place<'b, 'r, 's, 'a, C, F, E>,
-    locals: Option<&FluentArgs<'s, C>>,
     progress: &mut Progress<'r, 's>,
     inline: &'r InlineExpression<&'s str>,
     pattern: &'r Pattern<&'s str>,
 ) -> Result<(), AllocError>
-    ensures wrote { WritesOnOk result out.old out.new progress.old progress.new
-        (reference_step C.meaning E.environment place.now locals.entry inline.now pattern.now) }
-    ensures refused { TellsOnErr result progress.old progress.new
-        (reference_step C.meaning E.environment place.now locals.entry inline.now pattern.now) }
+    ensures wrote { Writes result out.old out.new progress.old progress.new
+        (reference place.now inline.now pattern.now) }
+    ensures refused { TellsOnErr result progress.old progress.new (reference place.now inline.now pattern.now) }
     ensures path { OnOk result (progress.new.path.items ≡ progress.old.path.items) }
 {
     if progress.is_entered(pattern) {
@@ -150,7 +139,7 @@ pub fn write_referred<'b, 'r, 's, 'a, C: FluentType + Drop, F, E: Context<C, F>>
     }
     progress.count_entry();
     progress.enter_path(pattern)?;
-    write_pattern(out, place, locals, progress, pattern)?;
+    write_pattern(out, place, progress, pattern)?;
     progress.leave_path();
     Ok(())
 }

@@ -10,7 +10,7 @@ use crate::expression::write_inline;
 use fluent_ast::InlineExpression;
 use fluent_progress::text::literal_value;
 use fluent_progress::{Context, Place, Progress};
-use fluent_value::{FluentArgs, FluentType, FluentValue};
+use fluent_value::{FluentType, FluentValue};
 use std::alloc::AllocError;
 use std::borrow::CowStr;
 
@@ -21,26 +21,23 @@ use std::borrow::CowStr;
 #[cycle(resolving)]
 pub fn value_of<'b, 'r, 's, 'a, C: FluentType + Drop, F, E: Context<C, F>>(
     place: &Place<'b, 'r, 's, 'a, C, F, E>,
-    locals: Option<&FluentArgs<'s, C>>,
     progress: &mut Progress<'r, 's>,
     inline: &'r InlineExpression<&'s str>,
 ) -> Result<FluentValue<'s, C>, AllocError>
-    ensures found { FindsValue C.meaning E.environment result place.now locals.entry
-        progress.old progress.new inline.now }
-    ensures refused { TellsOnErr result progress.old progress.new
-        (value_step C.meaning E.environment place.now locals.entry inline.now) }
+    ensures found { FindsValue result place.now progress.old progress.new inline.now }
+    ensures refused { TellsOnErr result progress.old progress.new (value_step place.now inline.now) }
     ensures path { OnOk result (progress.new.path.items ≡ progress.old.path.items) }
 {
     match inline {
         InlineExpression::StringLiteral { value } => literal_value(place.context.alloc(), *value),
         InlineExpression::NumberLiteral { value } => Ok(FluentValue::try_number(*value)),
         InlineExpression::FunctionReference { id, arguments } => {
-            match call_result(place, locals, progress, id, arguments)? {
+            match call_result(place, progress, id, arguments)? {
                 Some(result) => Ok(result),
                 None => Ok(FluentValue::Error),
             }
         }
-        InlineExpression::VariableReference { id } => place.variable_value(locals, progress, id),
+        InlineExpression::VariableReference { id } => place.variable_value(progress, id),
         InlineExpression::MessageReference {
             id: _,
             attribute: _,
@@ -50,9 +47,7 @@ pub fn value_of<'b, 'r, 's, 'a, C: FluentType + Drop, F, E: Context<C, F>>(
             attribute: _,
             arguments: _,
         }
-        | InlineExpression::Placeable { expression: _ } => {
-            text_value(place, locals, progress, inline)
-        }
+        | InlineExpression::Placeable { expression: _ } => { text_value(place, progress, inline) }
     }
 }
 
@@ -60,17 +55,14 @@ pub fn value_of<'b, 'r, 's, 'a, C: FluentType + Drop, F, E: Context<C, F>>(
 #[cycle(resolving)]
 fn text_value<'b, 'r, 's, 'a, C: FluentType + Drop, F, E: Context<C, F>>(
     place: &Place<'b, 'r, 's, 'a, C, F, E>,
-    locals: Option<&FluentArgs<'s, C>>,
     progress: &mut Progress<'r, 's>,
     inline: &'r InlineExpression<&'s str>,
 ) -> Result<FluentValue<'s, C>, AllocError>
-    ensures found { FindsText C.meaning E.environment result place.now locals.entry
-        progress.old progress.new inline.now }
-    ensures refused { TellsOnErr result progress.old progress.new
-        (inline_step C.meaning E.environment place.now locals.entry inline.now) }
+    ensures found { FindsText result place.now progress.old progress.new inline.now }
+    ensures refused { TellsOnErr result progress.old progress.new (inline_step place.now inline.now) }
     ensures path { OnOk result (progress.new.path.items ≡ progress.old.path.items) }
 {
     let mut text = String::new(place.context.alloc());
-    write_inline(&mut text, place, locals, progress, inline)?;
+    write_inline(&mut text, place, progress, inline)?;
     Ok(FluentValue::String(CowStr::Owned(text)))
 }

@@ -1,5 +1,5 @@
 -- What a pattern gives when it is resolved, as an answer tells it.
-use Rattle.std.proofs.Common.{◌≡◌, false, ℕ, ◌+◌, ◌<◌, List, [], ◌∷◌, ◌++◌, Some, None, length, get_or, take, map, refl, ap, sym, ◌∙◌, append-nil}
+use Rattle.std.proofs.Common.{◌≡◌, false, ℕ, ◌+◌, ◌<◌, List, [], ◌∷◌, ◌++◌, Some, length, get_or, take, map, refl, ap, sym, ◌∙◌, append-nil}
 use Rattle.std.proofs.lemmas.Grind.{flat_map-append}
 use Rattle.std.proofs.lemmas.List.{take_more}
 use Rattle.std.specs.List.{flat_map}
@@ -9,14 +9,13 @@ use Rattle.fluent_errors.specs.Texts.{resolver_text}
 use Rattle.fluent_grammar.specs.Tree.{Elements}
 use Rattle.fluent_grammar.specs.Words.{Text}
 use Rattle.fluent_meaning.specs.Environment.{Environment}
-use Rattle.fluent_meaning.specs.Steps.{Done, may_open}
-use Rattle.fluent_meaning.specs.Substitution.{Place, outset, pattern_written, answer_written, most_placeables}
+use Rattle.fluent_meaning.specs.Steps.{Done, entering, may_open}
+use Rattle.fluent_meaning.specs.Substitution.{Place, pattern_written, most_placeables}
 use Rattle.fluent_meaning.specs.Told.{State, Writes, after, budget_of}
 use Rattle.fluent_requests.specs.Frames.{Reply}
 use Rattle.fluent_run.specs.ReplyView.{error_text, line_of}
 use Rattle.fluent_run.specs.declared.reply.ErrorLine.{ErrorLine}
 use Rattle.fluent_serve.specs.AnswerView.{and_text, error_texts}
-use Rattle.fluent_value.specs.Value.{Value}
 
 -- errors of resolving are told by their own texts
 told-texts : (es : List Unresolved) → map error_text (map unresolved es) ≡ map resolver_text es
@@ -39,19 +38,15 @@ written a held now s t errors nothing start text state listed =
     ap (λ x. reply x errors) behind
     ∙ ap (λ es. let r : Reply = record { text = a.value; errors = es } in r) (ap (map error_text) same ∙ told-texts a.errors)
 
--- with nothing entered a place is a request's own
-pub at-outset : {S : Type 0} (args : List (Text × Value S)) (path : List Elements) → path ≡ [] → let p : Place S = record { arguments = args; locals = None; path = path } in p ≡ outset args
-at-outset {S} args path empty = ap (λ es. let p : Place S = record { arguments = args; locals = None; path = es } in p) empty
-
 -- the same for a pattern
-pub resolved : {S F : Type 0} (env : Environment S F) (args : List (Text × Value S)) (es : Elements) (place : Place S) (held now : Text) (s t : State) (errors : List Reported) →
-    place ≡ outset args → held ≡ [] → s ≡ unstarted → Writes held now s t (pattern_written env es place) →
-    ((list : List Reported) → t.errors ≡ Some list → errors ≡ list) → reply now errors ≡ told (answer_written env args es)
-resolved env args es place held now s t errors at_outset nothing start wrote listed =
+pub resolved : {S F : Type 0} (env : Environment S F) (first : Place S) (es : Elements) (place : Place S) (held now : Text) (s t : State) (errors : List Reported) →
+    place ≡ first → held ≡ [] → s ≡ unstarted → Writes held now s t (pattern_written env es place) →
+    ((list : List Reported) → t.errors ≡ Some list → errors ≡ list) → reply now errors ≡ told (entering (pattern_written env es first (may_open most_placeables)))
+resolved env first es place held now s t errors at_first nothing start wrote listed =
     let a = pattern_written env es place s.budget in
-    let asked-for : a ≡ pattern_written env es (outset args) (may_open most_placeables) =
-    ap (λ p. pattern_written env es p s.budget) at_outset
-    ∙ ap (λ x. pattern_written env es (outset args) x.budget) start in
+    let asked-for : a ≡ pattern_written env es first (may_open most_placeables) =
+    ap (λ p. pattern_written env es p s.budget) at_first
+    ∙ ap (λ x. pattern_written env es first x.budget) start in
     written a held now s t errors nothing start wrote.text wrote.state listed ∙ ap told asked-for
 
 -- an error is shown as its line

@@ -2,19 +2,19 @@
 use Rattle.std.specs.Prelude.{map, string_bytes}
 use denote.Ref.{Bor}
 use Rattle.fluent_answers.specs.Answers.{told}
-use Rattle.fluent_ast.specs.Borrowed.{elements_of}
 use Rattle.fluent_ast.specs.declared.Pattern.{Pattern}
 use Rattle.fluent_errors.specs.Errors.{Reported, overriding, damaged, unresolved}
 use Rattle.fluent_errors.specs.Texts.{bundle_text, resolver_text}
 use Rattle.fluent_errors.specs.View.{bundle_view}
 use Rattle.fluent_grammar.specs.Words.{Text}
-use Rattle.fluent_meaning.specs.Environment.{Environment}
-use Rattle.fluent_meaning.specs.Substitution.{answer_written}
-use Rattle.fluent_progress.specs.Views.{args_or_none, given_args, resolved_in}
+use Rattle.fluent_progress.specs.declared.context.Context.{Ghosts as Context}
 use Rattle.fluent_progress.specs.declared.place.Place.{Place}
 use Rattle.fluent_requests.specs.Frames as frames
+use Rattle.fluent_resolver.specs.Steps.{answer}
 use Rattle.fluent_run.specs.declared.reply.ErrorLine.{ErrorLine}
 use Rattle.fluent_run.specs.declared.reply.Reply.{Reply}
+use Rattle.fluent_value.specs.declared.custom.FluentType.{Ghosts as Custom}
+use Rattle.fluent_value.specs.declared.scope.ValueScope.{Ghosts as Scope}
 
 -- an error as an answer tells it: of resolving, by its own text alone
 abbrev pub error_text : Reported → Text
@@ -31,6 +31,5 @@ abbrev pub reply_view : Reply → frames.Reply
 reply_view r = record { text = string_bytes r.text; errors = map error_text (map bundle_view r.errors.items) }
 
 -- what the code's pattern gives at a place, in what its context means
-abbrev pub resolved_reply : {C S F E : Type 0} → (C → S) → (E → Environment S F) → Place C F E → Pattern (Bor Text) → frames.Reply
-resolved_reply meaning environment place pattern =
-    told (answer_written (resolved_in environment place) (args_or_none meaning (given_args meaning place.arguments)) (elements_of pattern))
+abbrev pub resolved_reply : {C F E S : Type 0} {c : Custom C S} {e : Context E C F S} {v : Scope E C S} → Place C F E S c e v → Pattern (Bor Text) → frames.Reply
+resolved_reply place pattern = told (answer place pattern)

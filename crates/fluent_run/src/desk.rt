@@ -134,6 +134,7 @@ impl<'b, 'r, 's, M: MemoizerKind> Desk<'b, 'r, 's, M> {
             ids: &self.ids,
             context: &context,
             arguments: Some(arguments),
+            locals: None,
         };
         resolve(&place, pattern)
     }

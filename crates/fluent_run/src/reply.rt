@@ -51,12 +51,12 @@ pub(crate) fn resolve<'b, 'r, 's, 'a, C: FluentType + Drop, F, E: Context<C, F>>
     pattern: &'r Pattern<&'s str>,
 ) -> Result<Reply, AllocError>
     ensures { IfOk result (λ reply. reply_view reply
-        ≡ resolved_reply C.meaning E.environment place.now pattern.now) }
+        ≡ resolved_reply place.now pattern.now) }
 {
     let alloc = place.context.alloc();
     let mut progress = Progress::new(alloc, Some(Vec::new(alloc)));
     let mut text = String::new(alloc);
-    write_pattern(&mut text, place, None, &mut progress, pattern)?;
+    write_pattern(&mut text, place, &mut progress, pattern)?;
     let errors = told_by(alloc, progress);
     Ok(Reply { text, errors })
 }

@@ -28,8 +28,7 @@ where
     ///   entries. All other entries were added.
     /// - [`AddResourceError::Memory`] where memory runs out. The bundle is unchanged then.
     pub fn add_resource(&mut self, resource: &'r FluentResource<'s>) -> Result<(), AddResourceError>
-        ensures added { AddsFirst result (bundle_of self.old) (bundle_of self.new)
-            (entries_view resource.now) }
+        ensures added { AddsFirst result (bundle_of self.old) (bundle_of self.new) (entries_view resource.now) }
         ensures told { TellsNotices result (bundle_of self.old) (entries_view resource.now) }
     {
         self.ids.add_resource(resource.tree())
@@ -58,8 +57,7 @@ where
     /// - [`AddFunctionError::Overriding`] where the id stands for a message, a term or a function.
     /// - [`AddFunctionError::Memory`] where memory runs out.
     pub fn add_function(&mut self, id: &str, function: F) -> Result<(), AddFunctionError>
-        ensures { AddsFunction result (bundle_of self.old) (bundle_of self.new)
-            (id.now, ids.function function) }
+        ensures { AddsFunction result (bundle_of self.old) (bundle_of self.new) (id.now, ids.function function) }
     {
         self.ids.add_function(id, function)
     }

@@ -1,11 +1,10 @@
 //! What the patterns of a bundle give.
 
-ghost use Rattle.std.specs.Prelude.{◌≡◌, ◌++◌, IfOk, IsOkAnd, IsSome, OnErr, OnOk};
-ghost use Rattle.std.specs.Cow.{IsBorrowedStr, cow_str_bytes};
-ghost use Rattle.fluent_asking.specs.Asked.{TellsAll, TellsFirst, WritesFirst, lone_text};
-ghost use Rattle.fluent_ast.specs.Borrowed.{elements_of};
+ghost use Rattle.std.specs.Prelude.{IsOkAnd};
+ghost use Rattle.std.specs.Cow.{IsBorrowedStr};
+ghost use Rattle.fluent_asking.specs.Asked.{GivesText, IsText, ReportsAll, ReportsFirst, WritesStart, WritesWhole};
 ghost use Rattle.fluent_bundle.specs.Bounds.{TellsTooManyOnce};
-ghost use Rattle.fluent_bundle.specs.BundleView.{IsLent, answer_of, bundle_of, shown_answer_of};
+ghost use Rattle.fluent_bundle.specs.BundleView.{IsLent, answer, bundle_of, handout};
 ghost use Rattle.fluent_bundle.specs.Contents.{ShowsAsIs};
 
 use super::FluentBundle;
@@ -41,14 +40,12 @@ where
         args: Option<&FluentArgs<'_, C>>,
         errors: &mut Vec<FluentError>,
     ) -> Result<(), WriteError>
-        ensures wrote { OnOk result (W.text w.new ≡ W.text w.old
-            ++ (answer_of T.TextTransform self.now args.entry pattern.now).value) }
-        ensures wrote_first { OnErr result (WritesFirst (W.text w.old) (W.text w.new)
-            (answer_of T.TextTransform self.now args.entry pattern.now)) }
-        ensures told { OnOk result (TellsAll errors.old errors.new
-            (answer_of T.TextTransform self.now args.entry pattern.now)) }
-        ensures told_first { OnErr result (TellsFirst errors.old errors.new
-            (answer_of T.TextTransform self.now args.entry pattern.now)) }
+        ensures wrote { WritesWhole W.text result w.old w.new (answer T.transformed self.now args.entry pattern.now) }
+        ensures wrote_first { WritesStart W.text result w.old w.new
+            (answer T.transformed self.now args.entry pattern.now) }
+        ensures told { ReportsAll result errors.old errors.new (answer T.transformed self.now args.entry pattern.now) }
+        ensures told_first { ReportsFirst result errors.old errors.new
+            (answer T.transformed self.now args.entry pattern.now) }
         ensures told_once { TellsTooManyOnce errors.old errors.new }
     {
         work_is_bounded::<C, F>();
@@ -57,6 +54,7 @@ where
             ids: &self.ids,
             context: &lent,
             arguments: args,
+            locals: None,
         };
         write_answer(w, &place, pattern, errors)
     }
@@ -83,15 +81,11 @@ where
         args: Option<&FluentArgs<'_, C>>,
         errors: &mut Vec<FluentError>,
     ) -> Result<CowStr<'s>, AllocError>
-        ensures text { IfOk result (λ text. cow_str_bytes text
-            ≡ (shown_answer_of T.TextTransform self.now args.entry pattern.now).value) }
-        ensures told { OnOk result (TellsAll errors.old errors.new
-            (shown_answer_of T.TextTransform self.now args.entry pattern.now)) }
-        ensures refused { OnErr result (TellsFirst errors.old errors.new
-            (shown_answer_of T.TextTransform self.now args.entry pattern.now)) }
-        ensures borrowed { ShowsAsIs (bundle_of self.now)
-            → IsSome (lone_text (elements_of pattern.now))
-            → IsOkAnd result IsBorrowedStr }
+        ensures text { GivesText result (handout T.transformed self.now args.entry pattern.now) }
+        ensures told { ReportsAll result errors.old errors.new (handout T.transformed self.now args.entry pattern.now) }
+        ensures refused { ReportsFirst result errors.old errors.new
+            (handout T.transformed self.now args.entry pattern.now) }
+        ensures borrowed { ShowsAsIs (bundle_of self.now) → IsText pattern.now → IsOkAnd result IsBorrowedStr }
         ensures told_once { TellsTooManyOnce errors.old errors.new }
     {
         work_is_bounded::<C, F>();
@@ -100,6 +94,7 @@ where
             ids: &self.ids,
             context: &lent,
             arguments: args,
+            locals: None,
         };
         let text = answer(&place, pattern, errors)?;
         hand_out(&lent, text)

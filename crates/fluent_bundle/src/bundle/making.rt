@@ -1,8 +1,8 @@
 //! New bundles, which hold nothing yet.
 
-ghost use Rattle.std.specs.Prelude.{◌≡◌, [], map, option_map, string_bytes};
+ghost use Rattle.std.specs.Prelude.{◌≡◌, [], option_map};
 ghost use Rattle.fluent_bundle.specs.BundleView.{bundle_of};
-ghost use Rattle.fluent_bundle.specs.Contents.{empty, english_plurals};
+ghost use Rattle.fluent_bundle.specs.Contents.{empty, english_plurals, texts_of};
 ghost use Rattle.fluent_plurals.specs.Plurals.{plurals_for, plurals_of};
 
 use super::FluentBundle;
@@ -22,7 +22,7 @@ where
     /// A bundle without messages, terms and functions, with isolation, and without a transform and a formatter. It takes no
     /// memory.
     pub fn new(alloc: Global, locales: Vec<String>, plurals: M) -> Self
-        ensures { bundle_of result ≡ empty (map string_bytes locales.items) plurals }
+        ensures { bundle_of result ≡ empty (texts_of locales) plurals }
     {
         FluentBundle {
             locales,
@@ -71,8 +71,7 @@ where
     /// Otherwise it is that of [`new`](Self::new). No other language stands in for locales without rules: a program that has such
     /// a locale names the rules itself, say those of [`LanguagePlurals::root`].
     pub fn for_locales(alloc: Global, locales: Vec<String>) -> Option<Self>
-        ensures { option_map bundle_of result ≡ option_map (empty (map string_bytes locales.items))
-            (plurals_of (map string_bytes locales.items)) }
+        ensures { option_map bundle_of result ≡ option_map (empty (texts_of locales)) (plurals_of (texts_of locales)) }
     {
         let plurals = LanguagePlurals::of_locales(&locales)?;
         Some(FluentBundle::new(alloc, locales, plurals))

@@ -1,11 +1,10 @@
 //! Patterns that a program resolves by itself, placeable by placeable.
 
-ghost use Rattle.std.specs.Prelude.{◌≡◌, [], IfOk, None, OnErr, OnOk, map, option_map};
-ghost use Rattle.fluent_asking.specs.Called.{called_of};
+ghost use Rattle.std.specs.Prelude.{◌≡◌, [], None, OnErr, OnOk, map, option_map};
 ghost use Rattle.fluent_ast.specs.Borrowed.{elements_of};
 ghost use Rattle.fluent_bundle.specs.Bounds.{IsWithinWork, enters_by_arguments, enters_by_expression, enters_by_pattern};
-ghost use Rattle.fluent_bundle.specs.ScopeSteps.{Finds, TellsSome, Writes, WritesSome};
-ghost use Rattle.fluent_bundle.specs.ScopeSteps.{call_arguments, given, placeable, reference, unknown_reference};
+ghost use Rattle.fluent_bundle.specs.ScopeSteps.{FindsArguments, Starts, TellsSome, Writes};
+ghost use Rattle.fluent_bundle.specs.ScopeSteps.{argument_values, given_arguments, inside, reference, unknown_reference};
 ghost use Rattle.fluent_bundle.specs.ScopeView.{Keeps, path_of, state_of};
 ghost use Rattle.fluent_errors.specs.View.{bundle_view, resolver_view};
 ghost use Rattle.fluent_meaning.specs.Substitution as s;
@@ -79,8 +78,7 @@ where
         args: Option<&'b FluentArgs<'a, C>>,
         errors: Option<&'b mut Vec<FluentError>>,
     ) -> Self
-        ensures state { state_of result ≡ fresh (option_map (λ list. map bundle_view list.now.items)
-            errors.entry) }
+        ensures state { state_of result ≡ fresh (option_map (λ list. map bundle_view list.now.items) errors.entry) }
         ensures path { path_of result ≡ [] }
         ensures bundle { result.bundle ≡ bundle.entry }
         ensures arguments { result.arguments ≡ args.entry }
@@ -148,10 +146,10 @@ where
         pattern: &'r Pattern<&'s str>,
         expression: &'r Expression<&'s str>,
     ) -> Result<(), WriteError>
-        ensures wrote { OnOk result (Writes W.text w.old w.new self.old self.new (placeable T.TextTransform
-            pattern.now expression.now)) }
-        ensures refused { OnErr result (WritesSome W.text w.old w.new self.old self.new (placeable T.TextTransform
-            pattern.now expression.now)) }
+        ensures wrote { Writes W.text result w.old w.new self.old self.new
+            (inside T.transformed pattern.now expression.now) }
+        ensures refused { Starts W.text result w.old w.new self.old self.new
+            (inside T.transformed pattern.now expression.now) }
         ensures bounded { IsWithinWork self.old self.new (enters_by_expression self.old expression.now) }
         ensures path { OnOk result (path_of self.new ≡ s.rooted_path (elements_of pattern.now) (path_of self.old)) }
         ensures path_left { OnErr result (path_of self.new ≡ path_of self.old) }
@@ -177,10 +175,10 @@ where
         pattern: &'r Pattern<&'s str>,
         inline: &'r InlineExpression<&'s str>,
     ) -> Result<(), WriteError>
-        ensures wrote { OnOk result (Writes W.text w.old w.new self.old self.new (reference T.TextTransform
-            inline.now pattern.now)) }
-        ensures refused { OnErr result (WritesSome W.text w.old w.new self.old self.new (reference T.TextTransform
-            inline.now pattern.now)) }
+        ensures wrote { Writes W.text result w.old w.new self.old self.new
+            (reference T.transformed inline.now pattern.now) }
+        ensures refused { Starts W.text result w.old w.new self.old self.new
+            (reference T.transformed inline.now pattern.now) }
         ensures bounded { IsWithinWork self.old self.new (enters_by_pattern self.old pattern.now) }
         ensures path { path_of self.new ≡ path_of self.old }
         ensures kept { Keeps self.old self.new }
@@ -202,10 +200,10 @@ where
         w: &mut W,
         inline: &InlineExpression<&'s str>,
     ) -> Result<(), WriteError>
-        ensures wrote { OnOk result (Writes W.text w.old w.new self.old self.new (unknown_reference T.TextTransform
-            inline.now)) }
-        ensures refused { OnErr result (WritesSome W.text w.old w.new self.old self.new
-            (unknown_reference T.TextTransform inline.now)) }
+        ensures wrote { Writes W.text result w.old w.new self.old self.new
+            (unknown_reference T.transformed inline.now) }
+        ensures refused { Starts W.text result w.old w.new self.old self.new
+            (unknown_reference T.transformed inline.now) }
         ensures path { path_of self.new ≡ path_of self.old }
         ensures kept { Keeps self.old self.new }
     {
@@ -223,11 +221,10 @@ where
         &mut self,
         arguments: Option<&'r CallArguments<&'s str>>,
     ) -> Result<(Vec<FluentValue<'s, C>>, FluentArgs<'s, C>), AllocError>
-        ensures found { IfOk result (λ found. Finds (called_of C.meaning found) self.old self.new
-            (call_arguments T.TextTransform (given arguments.entry))) }
-        ensures refused { OnErr result (TellsSome self.old self.new (call_arguments T.TextTransform (given arguments.entry))) }
-        ensures bounded { IsWithinWork self.old self.new (enters_by_arguments self.old (given
-            arguments.entry)) }
+        ensures found { FindsArguments result self.old self.new (argument_values T.transformed arguments.entry) }
+        ensures refused { TellsSome result self.old self.new (argument_values T.transformed arguments.entry) }
+        ensures bounded { IsWithinWork self.old self.new
+            (enters_by_arguments self.old (given_arguments arguments.entry)) }
         ensures path { path_of self.new ≡ path_of self.old }
         ensures kept { Keeps self.old self.new }
     {

@@ -1,45 +1,41 @@
-use Rattle.std.proofs.Common.{◌≡◌, ◌++◌, ◌+◌, ◌*◌, ◌≤◌, ◌<◌, suc, ◌∷◌, [], Bool, true, false, cond, refl, sym, ap, subst, ◌∙◌, ℕ, List, Bor, Option, Some, None, append-nil, rules, map, option_map, take, drop, length, Vec, Global, arith}
-use Rattle.std.proofs.lemmas.List.{take_all, take-append-drop, map-append}
+use Rattle.std.proofs.Common.{◌≡◌, ◌++◌, ◌+◌, ◌≤◌, ◌<◌, suc, ◌∷◌, [], true, false, refl, sym, ap, subst, ◌∙◌, ℕ, List, Bor, Option, Some, rules, map, option_map, take, drop, Vec, Global, arith}
+use Rattle.std.proofs.lemmas.List.{take_all, map-append}
 use Rattle.std.proofs.lemmas.Result.{on_ok_weaker, on_err_weaker, IfOk-weaker}
-use Rattle.std.proofs.Math.Nat.{le_refl, le_trans}
-use Rattle.std.specs.Prelude.{string_bytes, OnOk, OnErr, IfOk, option_copied, encode_utf8}
-use Rattle.fluent_ast.proofs.Views.{expression_view-Inline, expression_view-Select, inline_view-StringLiteral, inline_view-NumberLiteral, inline_view-FunctionReference, inline_view-MessageReference, inline_view-TermReference, inline_view-VariableReference, inline_view-Placeable, pattern_view-out, element_view-Placeable, element_view-TextElement, arguments_view-out, named_view-out}
-use Rattle.fluent_ast.specs.View.{arguments_view, element_view, elements_of, expression_view, inline_view, inlines_of, maybe_arguments, name_of, named_view, nameds_of, pattern_view, text, placeable, variant_view, variants_of}
-use Rattle.fluent_ast.specs.declared.Pattern.{Pattern, out-Pattern}
-use Rattle.fluent_errors.specs.Errors.{missing_default}
+use Rattle.std.proofs.Math.Nat.{le_refl}
+use Rattle.std.specs.Prelude.{string_bytes, IfOk, option_copied}
+use Rattle.fluent_ast.proofs.Views.{inline_view-TermReference, element_view-Placeable, element_view-TextElement, named_view-out}
+use Rattle.fluent_ast.specs.View.{element_view, elements_of, inlines_of, named_view, nameds_of, text, placeable}
+use Rattle.fluent_ast.specs.declared.Pattern.{Pattern}
 use Rattle.fluent_grammar.specs.Escapes.{unescaped}
 use Rattle.fluent_grammar.specs.Tree as t
 use Rattle.fluent_grammar.specs.Tree.{Elements}
-use Rattle.fluent_grammar.specs.Words.{Text}
 use Rattle.fluent_ids.specs.IdsView.{ids_view}
-use Rattle.fluent_meaning.proofs.Equations.{expression-inline, expression-select, inline-string, inline-number, inline-function, inline-message, inline-term, inline-variable, inline-nested, value-string, value-number, value-function, value-variable, value-message, value-term, value-nested, arguments-none, arguments-some, positional-none, named-none, elements-none, message_at, term_at}
+use Rattle.fluent_meaning.proofs.Equations.{expression-inline, inline-string, inline-number, inline-message, inline-variable, inline-nested, value-string, value-number, value-variable, value-message, value-term, value-nested, arguments-none, positional-none, named-none, elements-none}
 use Rattle.fluent_meaning.proofs.Falls.{elements-falls, expression-falls, falls-mapped, maybe_arguments-falls, named-falls, pattern-falls, positional-falls, value-falls}
 use Rattle.fluent_meaning.proofs.Fixpoint.{pattern-is}
-use Rattle.fluent_meaning.proofs.Measures.{less-part, less-opened, less-entered}
-use Rattle.fluent_meaning.proofs.Looking.{drop-here}
-use Rattle.fluent_meaning.proofs.Refusals.{tells-first, tells-found, tells-like}
-use Rattle.fluent_ast.specs.declared.CallArguments.{out-CallArguments}
+use Rattle.fluent_meaning.proofs.Measures.{less-part, less-entered}
+use Rattle.fluent_meaning.proofs.Refusals.{tells-like}
 use Rattle.std.proofs.Common.{get_or}
 use Rattle.std.proofs.lemmas.List.{length-map}
 use Rattle.fluent_meaning.specs.Steps.{is_shut}
 use Rattle.fluent_meaning.proofs.Opening.{finds-left, is_shut-dirty, placeable-element, text-element, unmarked-writes, up-to, weight-at, writes-left}
-use Rattle.fluent_meaning.proofs.States.{finds-as, finds-done, finds-mapped, finds-then, finds-then-writes, finds-written, writes-done, writes-nothing}
+use Rattle.fluent_meaning.proofs.States.{finds-as, finds-done, finds-mapped, writes-done, writes-nothing}
 use Rattle.fluent_meaning.proofs.Weights.{message-weight, target_weight, term-weight, variants-weigh, weight-inline, weight-nested}
 use Rattle.fluent_meaning.proofs.Writing.{beside-shut, elements-append, writes-as}
 use Rattle.fluent_meaning.specs.Choice.{chosen}
 use Rattle.fluent_meaning.specs.Environment.{value_text}
 use Rattle.fluent_meaning.specs.Refused.{TellsSome}
-use Rattle.fluent_meaning.specs.Steps.{Budget, Done, and_then, done, entering, left, mapped, opens, shut}
+use Rattle.fluent_meaning.specs.Steps.{done, entering, left, mapped, opens, shut}
 use Rattle.fluent_meaning.specs.Substitution as s
-use Rattle.fluent_meaning.specs.Substitution.{both, deeper, rooted}
+use Rattle.fluent_meaning.specs.Substitution.{deeper, rooted}
 use Rattle.fluent_meaning.specs.Told.{State, Writes, Finds, after, budget_of}
 use Rattle.fluent_meaning.specs.Weight.{arguments_weight, elements_weight, expression_weight, ids_weight, inline_weight, inlines_weight, maybe_arguments_weight, nameds_weight}
-use Rattle.fluent_progress.proofs.Telling.{faulty-tells, on-err, on-ok, tells-same, told-after, within}
+use Rattle.fluent_progress.proofs.Telling.{on-err, tells-same, within}
 use Rattle.fluent_progress.specs.Results.{function_result}
-use Rattle.fluent_progress.specs.Views.{args_or_none, given_args, path_of, place_view, resolved_in, state, target_view}
+use Rattle.fluent_progress.specs.Views.{path_of, place_view, resolved_in, state, target_view}
 use Rattle.fluent_progress.specs.declared.progress.Progress.{Progress}
-use Rattle.fluent_resolver.proofs.Calls.{call-known, call-unknown, found-known, found-unknown, result-done, of-three, args-first, args-found, args-second, get_or-view, map-up-to, named-one, named-refused, positional-one, positional-refused}
-use Rattle.fluent_resolver.proofs.Parts.{less-element, less-placeable, opens-left, weight-arguments, weight-function, weight-named, weight-positional, weight-select, weight-some, weight-term, entered-tells, entered-writes, found-tells, marked-writes, opened-tells, placeable-refused, referred-again, referred-first, rest-refused, tells-as, unmarked-tells, written-tells}
+use Rattle.fluent_resolver.proofs.Calls.{of-three, get_or-view, map-up-to, named-one, named-refused, positional-one, positional-refused}
+use Rattle.fluent_resolver.proofs.Parts.{less-element, less-placeable, opens-left, weight-function, weight-named, weight-positional, weight-select, weight-some, weight-term, entered-tells, entered-writes, found-tells, marked-writes, opened-tells, placeable-refused, referred-first, rest-refused, tells-as, unmarked-tells, written-tells}
 use Rattle.fluent_value.specs.Args.{all_set}
 use Rattle.fluent_value.specs.ArgsView.{args_view}
 use Rattle.fluent_value.specs.Value as v
@@ -49,49 +45,43 @@ use Rattle.fluent_resolver.proofs.+resolving.Goals as goal
 use Rattle.fluent_resolver.proofs.+resolving.Goals.{pattern::write_pattern-in-TextElement+in_ok-write_text-in-TextElement, pattern::write_pattern-in-Placeable+in_ok-write_placeable-in-Placeable}
 use Rattle.fluent_ast.specs.View.{Named}
 use Rattle.fluent_ast.specs.declared.NamedArgument.{out-NamedArgument}
-use Rattle.fluent_errors.specs.Errors.{unknown, to_function}
-use Rattle.fluent_meaning.specs.Fallback.{braced, inline_fallback}
-use Rattle.fluent_meaning.specs.Steps.{faulty, may_open}
 use Rattle.fluent_value.specs.Args.{with_argument}
+use Rattle.fluent_ast.specs.Borrowed.{arguments_of, elements_of as pattern_of, expression_of, inline_of, maybe_arguments_of, name_of, variants_of}
+use Rattle.fluent_resolver.proofs.Places.{kept-place, place-on, same-place}
+use Rattle.fluent_resolver.proofs.Shapes.{is-function, is-inline, is-message, is-nested, is-number, is-string, is-variable}
+use Rattle.fluent_resolver.proofs.Elements.{around, whole-around, whole-elements, whole-split}
+use Rattle.fluent_resolver.proofs.Functions.{call-fails, call-fails-tells, call-first, call-tells, call-writes, value-fails, value-finds, value-first}
+use Rattle.fluent_resolver.proofs.Terms.{term-first, term-refused, term-tells, term-writes}
+use Rattle.fluent_resolver.proofs.Selects.{none-tells, none-writes, select-first, variant-tells, variant-writes}
+use Rattle.fluent_resolver.proofs.ArgumentLists.{given-first, given-found, given-second, nameds_in, positional_in, weight-in}
 
 pub expression::write_expression-returns-in-Inline-clause-wrote : goal.expression::write_expression-returns-in-Inline-clause-wrote
 expression::write_expression-returns-in-Inline-clause-wrote g n c =
-    let env = resolved_in g.E.Context.environment c.args.place.now in
-    let seen = place_view g.C.FluentType.meaning c.args.place.now c.args.locals in
-    let here = seen c.args.progress.now in
-    let s0 = state c.args.progress.now in
-    let b = s0.budget in
-    let i = inline_view (Bor (List ℕ)) (λ s. s.now) c.in-Inline.inline in
-    let is : expression_view (Bor (List ℕ)) (λ s. s.now) c.args.expression.now ≡ t.inline i = ap (expression_view (Bor (List ℕ)) (λ s. s.now)) c.in-Inline.is ∙ expression_view-Inline (Bor (List ℕ)) (λ s. s.now) c.in-Inline.inline in
-    on_ok_weaker c.write_inline.result (writes-as _ _ (sym (ap (λ x. s.expression_written env x here b) is ∙ expression-inline env here b i))) c.write_inline.ensures.wrote
+    let env = resolved_in c.args.place.now in
+    let here = place_view c.args.place.now c.args.progress.now in
+    let b = (state c.args.progress.now).budget in
+    on_ok_weaker c.write_inline.result (writes-as _ _ (sym (ap (λ x. s.expression_written env x here b) (is-inline c.in-Inline.is) ∙ expression-inline env here b (inline_of c.in-Inline.inline)))) c.write_inline.ensures.wrote
 
 pub expression::write_expression-returns-in-Inline-clause-refused : goal.expression::write_expression-returns-in-Inline-clause-refused
 expression::write_expression-returns-in-Inline-clause-refused g n c =
-    let env = resolved_in g.E.Context.environment c.args.place.now in
-    let seen = place_view g.C.FluentType.meaning c.args.place.now c.args.locals in
-    let here = seen c.args.progress.now in
-    let s0 = state c.args.progress.now in
-    let b = s0.budget in
-    let i = inline_view (Bor (List ℕ)) (λ s. s.now) c.in-Inline.inline in
-    let is : expression_view (Bor (List ℕ)) (λ s. s.now) c.args.expression.now ≡ t.inline i = ap (expression_view (Bor (List ℕ)) (λ s. s.now)) c.in-Inline.is ∙ expression_view-Inline (Bor (List ℕ)) (λ s. s.now) c.in-Inline.inline in
-    on_err_weaker c.write_inline.result (tells-as (sym (ap (λ x. s.expression_written env x here b) is ∙ expression-inline env here b i))) c.write_inline.ensures.refused
+    let env = resolved_in c.args.place.now in
+    let here = place_view c.args.place.now c.args.progress.now in
+    let b = (state c.args.progress.now).budget in
+    on_err_weaker c.write_inline.result (tells-as (sym (ap (λ x. s.expression_written env x here b) (is-inline c.in-Inline.is) ∙ expression-inline env here b (inline_of c.in-Inline.inline)))) c.write_inline.ensures.refused
 
 pub expression::write_expression-write_inline-requires : goal.expression::write_expression-write_inline-requires
 expression::write_expression-write_inline-requires g n c κs inside0 =
-    let i = inline_view (Bor (List ℕ)) (λ s. s.now) c.in-Inline.inline in
-    let is : expression_view (Bor (List ℕ)) (λ s. s.now) c.args.expression.now ≡ t.inline i = ap (expression_view (Bor (List ℕ)) (λ s. s.now)) c.in-Inline.is ∙ expression_view-Inline (Bor (List ℕ)) (λ s. s.now) c.in-Inline.inline in
-    let weight : expression_weight (expression_view (Bor (List ℕ)) (λ s. s.now) c.args.expression.now) ≡ suc (inline_weight i) = ap expression_weight is ∙ weight-inline i in
+    let i = inline_of c.in-Inline.inline in
+    let weight : expression_weight (expression_of c.args.expression.now) ≡ suc (inline_weight i) = ap expression_weight (is-inline c.in-Inline.is) ∙ weight-inline i in
     let measure = c.decreases in search rules
 
 pub expression::write_inline-returns-in-StringLiteral-clause-wrote : goal.expression::write_inline-returns-in-StringLiteral-clause-wrote
 expression::write_inline-returns-in-StringLiteral-clause-wrote g n c =
-    let env = resolved_in g.E.Context.environment c.args.place.now in
-    let seen = place_view g.C.FluentType.meaning c.args.place.now c.args.locals in
-    let here = seen c.args.progress.now in
+    let env = resolved_in c.args.place.now in
+    let here = place_view c.args.place.now c.args.progress.now in
     let s0 = state c.args.progress.now in
     let b = s0.budget in
-    let is : inline_view (Bor (List ℕ)) (λ s. s.now) c.args.inline.now ≡ t.string_literal c.in-StringLiteral.value.now = ap (inline_view (Bor (List ℕ)) (λ s. s.now)) c.in-StringLiteral.is ∙ inline_view-StringLiteral (Bor (List ℕ)) (λ s. s.now) c.in-StringLiteral.value in
-    on_ok_weaker c.write_literal.result (writes-done (string_bytes c.args.out.now) (string_bytes c.write_literal.new.out) (unescaped c.in-StringLiteral.value.now) s0 (s.inline_written env (inline_view (Bor (List ℕ)) (λ s. s.now) c.args.inline.now) here) (within c.args.progress.now) (ap (λ x. s.inline_written env x here b) is ∙ inline-string env here b c.in-StringLiteral.value.now)) c.write_literal.ensures
+    on_ok_weaker c.write_literal.result (writes-done (string_bytes c.args.out.now) (string_bytes c.write_literal.new.out) (unescaped c.in-StringLiteral.value.now) s0 (s.inline_written env (inline_of c.args.inline.now) here) (within c.args.progress.now) (ap (λ x. s.inline_written env x here b) (is-string c.in-StringLiteral.is) ∙ inline-string env here b c.in-StringLiteral.value.now)) c.write_literal.ensures
 
 pub expression::write_inline-returns-in-StringLiteral-clause-refused : goal.expression::write_inline-returns-in-StringLiteral-clause-refused
 expression::write_inline-returns-in-StringLiteral-clause-refused g n c =
@@ -99,13 +89,11 @@ expression::write_inline-returns-in-StringLiteral-clause-refused g n c =
 
 pub expression::write_inline-returns-in-NumberLiteral-clause-wrote : goal.expression::write_inline-returns-in-NumberLiteral-clause-wrote
 expression::write_inline-returns-in-NumberLiteral-clause-wrote g n c =
-    let env = resolved_in g.E.Context.environment c.args.place.now in
-    let seen = place_view g.C.FluentType.meaning c.args.place.now c.args.locals in
-    let here = seen c.args.progress.now in
+    let env = resolved_in c.args.place.now in
+    let here = place_view c.args.place.now c.args.progress.now in
     let s0 = state c.args.progress.now in
     let b = s0.budget in
-    let is : inline_view (Bor (List ℕ)) (λ s. s.now) c.args.inline.now ≡ t.number_literal c.in-NumberLiteral.value.now = ap (inline_view (Bor (List ℕ)) (λ s. s.now)) c.in-NumberLiteral.is ∙ inline_view-NumberLiteral (Bor (List ℕ)) (λ s. s.now) c.in-NumberLiteral.value in
-    on_ok_weaker c.write_number.result (writes-done (string_bytes c.args.out.now) (string_bytes c.write_number.new.out) (value_text env (number_or_text c.in-NumberLiteral.value.now)) s0 (s.inline_written env (inline_view (Bor (List ℕ)) (λ s. s.now) c.args.inline.now) here) (within c.args.progress.now) (ap (λ x. s.inline_written env x here b) is ∙ inline-number env here b c.in-NumberLiteral.value.now)) c.write_number.ensures
+    on_ok_weaker c.write_number.result (writes-done (string_bytes c.args.out.now) (string_bytes c.write_number.new.out) (value_text env (number_or_text c.in-NumberLiteral.value.now)) s0 (s.inline_written env (inline_of c.args.inline.now) here) (within c.args.progress.now) (ap (λ x. s.inline_written env x here b) (is-number c.in-NumberLiteral.is) ∙ inline-number env here b c.in-NumberLiteral.value.now)) c.write_number.ensures
 
 pub expression::write_inline-returns-in-NumberLiteral-clause-refused : goal.expression::write_inline-returns-in-NumberLiteral-clause-refused
 expression::write_inline-returns-in-NumberLiteral-clause-refused g n c =
@@ -113,84 +101,57 @@ expression::write_inline-returns-in-NumberLiteral-clause-refused g n c =
 
 pub expression::write_inline-returns-in-VariableReference-clause-wrote : goal.expression::write_inline-returns-in-VariableReference-clause-wrote
 expression::write_inline-returns-in-VariableReference-clause-wrote g n c =
-    let env = resolved_in g.E.Context.environment c.args.place.now in
-    let seen = place_view g.C.FluentType.meaning c.args.place.now c.args.locals in
-    let here = seen c.args.progress.now in
-    let s0 = state c.args.progress.now in
-    let b = s0.budget in
-    let id = name_of (Bor (List ℕ)) (λ s. s.now) c.in-VariableReference.id in
-    let is : inline_view (Bor (List ℕ)) (λ s. s.now) c.args.inline.now ≡ t.variable_reference id = ap (inline_view (Bor (List ℕ)) (λ s. s.now)) c.in-VariableReference.is ∙ inline_view-VariableReference (Bor (List ℕ)) (λ s. s.now) c.in-VariableReference.id in
-    on_ok_weaker c.write_variable.result (writes-as _ _ (sym (ap (λ x. s.inline_written env x here b) is ∙ inline-variable env here b id))) c.write_variable.ensures.wrote
+    let env = resolved_in c.args.place.now in
+    let here = place_view c.args.place.now c.args.progress.now in
+    let b = (state c.args.progress.now).budget in
+    on_ok_weaker c.write_variable.result (writes-as _ _ (sym (ap (λ x. s.inline_written env x here b) (is-variable c.in-VariableReference.is) ∙ inline-variable env here b (name_of c.in-VariableReference.id)))) c.write_variable.ensures.wrote
 
 pub expression::write_inline-returns-in-VariableReference-clause-refused : goal.expression::write_inline-returns-in-VariableReference-clause-refused
 expression::write_inline-returns-in-VariableReference-clause-refused g n c =
-    let env = resolved_in g.E.Context.environment c.args.place.now in
-    let seen = place_view g.C.FluentType.meaning c.args.place.now c.args.locals in
-    let here = seen c.args.progress.now in
-    let s0 = state c.args.progress.now in
-    let b = s0.budget in
-    let id = name_of (Bor (List ℕ)) (λ s. s.now) c.in-VariableReference.id in
-    let is : inline_view (Bor (List ℕ)) (λ s. s.now) c.args.inline.now ≡ t.variable_reference id = ap (inline_view (Bor (List ℕ)) (λ s. s.now)) c.in-VariableReference.is ∙ inline_view-VariableReference (Bor (List ℕ)) (λ s. s.now) c.in-VariableReference.id in
-    on_err_weaker c.write_variable.result (tells-as (sym (ap (λ x. s.inline_written env x here b) is ∙ inline-variable env here b id))) c.write_variable.ensures.refused
+    let env = resolved_in c.args.place.now in
+    let here = place_view c.args.place.now c.args.progress.now in
+    let b = (state c.args.progress.now).budget in
+    on_err_weaker c.write_variable.result (tells-as (sym (ap (λ x. s.inline_written env x here b) (is-variable c.in-VariableReference.is) ∙ inline-variable env here b (name_of c.in-VariableReference.id)))) c.write_variable.ensures.refused
 
 pub expression::write_inline-returns-in-Placeable-clause-wrote : goal.expression::write_inline-returns-in-Placeable-clause-wrote
 expression::write_inline-returns-in-Placeable-clause-wrote g n c =
-    let env = resolved_in g.E.Context.environment c.args.place.now in
-    let seen = place_view g.C.FluentType.meaning c.args.place.now c.args.locals in
-    let here = seen c.args.progress.now in
-    let s0 = state c.args.progress.now in
-    let b = s0.budget in
-    let e = expression_view (Bor (List ℕ)) (λ s. s.now) c.in-Placeable.expression.value in
-    let is : inline_view (Bor (List ℕ)) (λ s. s.now) c.args.inline.now ≡ t.nested e = ap (inline_view (Bor (List ℕ)) (λ s. s.now)) c.in-Placeable.is ∙ inline_view-Placeable (Bor (List ℕ)) (λ s. s.now) c.in-Placeable.expression in
-    on_ok_weaker c.write_expression.result (writes-as _ _ (sym (ap (λ x. s.inline_written env x here b) is ∙ inline-nested env here b e))) (rw c.deref.ensures at c.write_expression.ensures.wrote)
+    let env = resolved_in c.args.place.now in
+    let here = place_view c.args.place.now c.args.progress.now in
+    let b = (state c.args.progress.now).budget in
+    on_ok_weaker c.write_expression.result (writes-as _ _ (sym (ap (λ x. s.inline_written env x here b) (is-nested c.in-Placeable.is) ∙ inline-nested env here b (expression_of c.in-Placeable.expression.value)))) (rw c.deref.ensures at c.write_expression.ensures.wrote)
 
 pub expression::write_inline-returns-in-Placeable-clause-refused : goal.expression::write_inline-returns-in-Placeable-clause-refused
 expression::write_inline-returns-in-Placeable-clause-refused g n c =
-    let env = resolved_in g.E.Context.environment c.args.place.now in
-    let seen = place_view g.C.FluentType.meaning c.args.place.now c.args.locals in
-    let here = seen c.args.progress.now in
-    let s0 = state c.args.progress.now in
-    let b = s0.budget in
-    let e = expression_view (Bor (List ℕ)) (λ s. s.now) c.in-Placeable.expression.value in
-    let is : inline_view (Bor (List ℕ)) (λ s. s.now) c.args.inline.now ≡ t.nested e = ap (inline_view (Bor (List ℕ)) (λ s. s.now)) c.in-Placeable.is ∙ inline_view-Placeable (Bor (List ℕ)) (λ s. s.now) c.in-Placeable.expression in
-    on_err_weaker c.write_expression.result (tells-as (sym (ap (λ x. s.inline_written env x here b) is ∙ inline-nested env here b e))) (rw c.deref.ensures at c.write_expression.ensures.refused)
+    let env = resolved_in c.args.place.now in
+    let here = place_view c.args.place.now c.args.progress.now in
+    let b = (state c.args.progress.now).budget in
+    on_err_weaker c.write_expression.result (tells-as (sym (ap (λ x. s.inline_written env x here b) (is-nested c.in-Placeable.is) ∙ inline-nested env here b (expression_of c.in-Placeable.expression.value)))) (rw c.deref.ensures at c.write_expression.ensures.refused)
 
 pub expression::write_inline-write_expression-requires : goal.expression::write_inline-write_expression-requires
 expression::write_inline-write_expression-requires g n c κs inside0 =
-    let e = expression_view (Bor (List ℕ)) (λ s. s.now) c.in-Placeable.expression.value in
-    let is : inline_view (Bor (List ℕ)) (λ s. s.now) c.args.inline.now ≡ t.nested e = ap (inline_view (Bor (List ℕ)) (λ s. s.now)) c.in-Placeable.is ∙ inline_view-Placeable (Bor (List ℕ)) (λ s. s.now) c.in-Placeable.expression in
-    let weight : inline_weight (inline_view (Bor (List ℕ)) (λ s. s.now) c.args.inline.now) ≡ suc (expression_weight e) = ap inline_weight is ∙ weight-nested e in
+    let e = expression_of c.in-Placeable.expression.value in
+    let weight : inline_weight (inline_of c.args.inline.now) ≡ suc (expression_weight e) = ap inline_weight (is-nested c.in-Placeable.is) ∙ weight-nested e in
     let measure = c.decreases in let inside = c.deref.ensures in search rules
 
 pub expression::write_inline-returns-in_ok-target-in-MessageReference-clause-wrote : goal.expression::write_inline-returns-in_ok-target-in-MessageReference-clause-wrote
 expression::write_inline-returns-in_ok-target-in-MessageReference-clause-wrote g n c =
-    let env = resolved_in g.E.Context.environment c.args.place.now in
-    let seen = place_view g.C.FluentType.meaning c.args.place.now c.args.locals in
-    let here = seen c.args.progress.now in
-    let s0 = state c.args.progress.now in
-    let b = s0.budget in
-    let id = name_of (Bor (List ℕ)) (λ s. s.now) c.in-MessageReference.id in
-    let attr = option_map (name_of (Bor (List ℕ)) (λ s. s.now)) c.in-MessageReference.attribute in
-    let i = inline_view (Bor (List ℕ)) (λ s. s.now) c.args.inline.now in
-    let is : i ≡ t.message_reference id attr = ap (inline_view (Bor (List ℕ)) (λ s. s.now)) c.in-MessageReference.is ∙ inline_view-MessageReference (Bor (List ℕ)) (λ s. s.now) c.in-MessageReference.id c.in-MessageReference.attribute in
-    let target = target_view c.in_ok-target-in-MessageReference.target in
-    let meant : target ≡ s.message_target id attr (env.find id) = c.in_ok-target-in-MessageReference.ensures in
-    on_ok_weaker c.write_target.result (writes-as _ _ (ap (λ x. s.target_written env (s.pattern_written env) i x here b) meant ∙ ap (λ x. s.target_written env (s.pattern_written env) x (s.message_target id attr (env.find id)) here b) is ∙ sym (ap (λ x. s.inline_written env x here b) is ∙ inline-message env here b id attr))) c.write_target.ensures.wrote
+    let env = resolved_in c.args.place.now in
+    let here = place_view c.args.place.now c.args.progress.now in
+    let b = (state c.args.progress.now).budget in
+    let id = name_of c.in-MessageReference.id in
+    let attr = option_map name_of c.in-MessageReference.attribute in
+    let meant : (target_view c.in_ok-target-in-MessageReference.target) ≡ s.message_target id attr (env.find id) = c.in_ok-target-in-MessageReference.ensures in
+    on_ok_weaker c.write_target.result (writes-as _ _ (ap (λ x. s.target_written env (s.pattern_written env) (inline_of c.args.inline.now) x here b) meant ∙ ap (λ x. s.target_written env (s.pattern_written env) x (s.message_target id attr (env.find id)) here b) (is-message c.in-MessageReference.is) ∙ sym (ap (λ x. s.inline_written env x here b) (is-message c.in-MessageReference.is) ∙ inline-message env here b id attr))) c.write_target.ensures.wrote
 
 pub expression::write_inline-returns-in_ok-target-in-MessageReference-clause-refused : goal.expression::write_inline-returns-in_ok-target-in-MessageReference-clause-refused
 expression::write_inline-returns-in_ok-target-in-MessageReference-clause-refused g n c =
-    let env = resolved_in g.E.Context.environment c.args.place.now in
-    let seen = place_view g.C.FluentType.meaning c.args.place.now c.args.locals in
-    let here = seen c.args.progress.now in
-    let s0 = state c.args.progress.now in
-    let b = s0.budget in
-    let id = name_of (Bor (List ℕ)) (λ s. s.now) c.in-MessageReference.id in
-    let attr = option_map (name_of (Bor (List ℕ)) (λ s. s.now)) c.in-MessageReference.attribute in
-    let i = inline_view (Bor (List ℕ)) (λ s. s.now) c.args.inline.now in
-    let is : i ≡ t.message_reference id attr = ap (inline_view (Bor (List ℕ)) (λ s. s.now)) c.in-MessageReference.is ∙ inline_view-MessageReference (Bor (List ℕ)) (λ s. s.now) c.in-MessageReference.id c.in-MessageReference.attribute in
-    let target = target_view c.in_ok-target-in-MessageReference.target in
-    let meant : target ≡ s.message_target id attr (env.find id) = c.in_ok-target-in-MessageReference.ensures in
-    on_err_weaker c.write_target.result (tells-as (ap (λ x. s.target_written env (s.pattern_written env) i x here b) meant ∙ ap (λ x. s.target_written env (s.pattern_written env) x (s.message_target id attr (env.find id)) here b) is ∙ sym (ap (λ x. s.inline_written env x here b) is ∙ inline-message env here b id attr))) c.write_target.ensures.refused
+    let env = resolved_in c.args.place.now in
+    let here = place_view c.args.place.now c.args.progress.now in
+    let b = (state c.args.progress.now).budget in
+    let id = name_of c.in-MessageReference.id in
+    let attr = option_map name_of c.in-MessageReference.attribute in
+    let meant : (target_view c.in_ok-target-in-MessageReference.target) ≡ s.message_target id attr (env.find id) = c.in_ok-target-in-MessageReference.ensures in
+    on_err_weaker c.write_target.result (tells-as (ap (λ x. s.target_written env (s.pattern_written env) (inline_of c.args.inline.now) x here b) meant ∙ ap (λ x. s.target_written env (s.pattern_written env) x (s.message_target id attr (env.find id)) here b) (is-message c.in-MessageReference.is) ∙ sym (ap (λ x. s.inline_written env x here b) (is-message c.in-MessageReference.is) ∙ inline-message env here b id attr))) c.write_target.ensures.refused
 
 pub expression::write_inline-returns-in_err-target-in-MessageReference-clause-refused : goal.expression::write_inline-returns-in_err-target-in-MessageReference-clause-refused
 expression::write_inline-returns-in_err-target-in-MessageReference-clause-refused g n c =
@@ -198,76 +159,67 @@ expression::write_inline-returns-in_err-target-in-MessageReference-clause-refuse
 
 pub expression::write_inline-write_target-requires : goal.expression::write_inline-write_target-requires
 expression::write_inline-write_target-requires g n c κs inside0 =
-    let env = resolved_in g.E.Context.environment c.args.place.now in
-    let seen = place_view g.C.FluentType.meaning c.args.place.now c.args.locals in
-    let here = seen c.args.progress.now in
-    let s0 = state c.args.progress.now in
-    let b = s0.budget in
-    let id = name_of (Bor (List ℕ)) (λ s. s.now) c.in-MessageReference.id in
-    let attr = option_map (name_of (Bor (List ℕ)) (λ s. s.now)) c.in-MessageReference.attribute in
-    let i = inline_view (Bor (List ℕ)) (λ s. s.now) c.args.inline.now in
-    let is : i ≡ t.message_reference id attr = ap (inline_view (Bor (List ℕ)) (λ s. s.now)) c.in-MessageReference.is ∙ inline_view-MessageReference (Bor (List ℕ)) (λ s. s.now) c.in-MessageReference.id c.in-MessageReference.attribute in
+    let env = resolved_in c.args.place.now in
+    let b = (state c.args.progress.now).budget in
+    let id = name_of c.in-MessageReference.id in
+    let attr = option_map name_of c.in-MessageReference.attribute in
     let target = target_view c.in_ok-target-in-MessageReference.target in
     let meant : target ≡ s.message_target id attr (env.find id) = c.in_ok-target-in-MessageReference.ensures in
     let light : target_weight target ≤ ids_weight (ids_view _ c.args.place.now.ids.now) = subst (λ x. target_weight x ≤ ids_weight (ids_view _ c.args.place.now.ids.now)) (sym meant) (message-weight (ids_view _ c.args.place.now.ids.now) id attr) in
     let measure = c.decreases in
-    let less = less-entered (left b) (left b) (ids_weight (ids_view _ c.args.place.now.ids.now)) (target_weight target) (inline_weight i) 2 1 (le_refl (left b)) light (omega arith) in search rules
+    let less = less-entered (left b) (left b) (ids_weight (ids_view _ c.args.place.now.ids.now)) (target_weight target) (inline_weight (inline_of c.args.inline.now)) 2 1 (le_refl (left b)) light (omega arith) in search rules
 
 pub pattern::write_referred-returns-clause-wrote : goal.pattern::write_referred-returns-clause-wrote
 pattern::write_referred-returns-clause-wrote g n c =
-    let env = resolved_in g.E.Context.environment c.args.place.now in
-    let seen = place_view g.C.FluentType.meaning c.args.place.now c.args.locals in
+    let env = resolved_in c.args.place.now in
+    let seen = place_view c.args.place.now in
     let here = seen c.args.progress.now in
     let s0 = state c.args.progress.now in
     let b = s0.budget in
-    let pat = pattern_view (Bor (List ℕ)) (λ s. s.now) c.args.pattern.now in
-    let i = inline_view (Bor (List ℕ)) (λ s. s.now) c.args.inline.now in
+    let pat = pattern_of c.args.pattern.now in
     let enter = s.pattern_written env in
     let first : s.is_on_path pat here.path ≡ false = sym c.is_entered.ensures ∙ c.if-is_entered.false in
     let counted : state c.enter_path.new.self ≡ after s0 (entering (done true b)) = c.enter_path.ensures.state ∙ c.count_entry.ensures.counted in
-    let of_path : Bor (Pattern (Bor (List ℕ))) → Elements = λ x. pattern_view (Bor (List ℕ)) (λ s. s.now) x.now in
+    let of_path : Bor (Pattern (Bor (List ℕ))) → Elements = λ x. pattern_of x.now in
     let on_path : path_of c.enter_path.new.self ≡ here.path ++ pat ∷ [] = ap (map of_path) (c.in_ok-enter_path.ensures.path ∙ ap (λ (v : Vec (Bor (Pattern (Bor (List ℕ)))) Global). v.items ++ c.args.pattern ∷ []) c.count_entry.ensures.path) ∙ map-append of_path c.args.progress.now.path.items (c.args.pattern ∷ []) in
-    let at_place : seen c.enter_path.new.self ≡ deeper pat here = ap (λ (ps : List Elements). record { arguments = here.arguments; locals = here.locals; path = ps }) on_path in
+    let at_place : seen c.enter_path.new.self ≡ deeper pat here = place-on c.args.place.now on_path in
     let x = string_bytes c.args.out.now in
     let y = string_bytes c.write_pattern.new.out in
     let u = state c.enter_path.new.self in
     let inner : Writes x y u (state c.leave_path.new.self) (enter pat (deeper pat here)) =
     subst (λ r. Writes x y u r (enter pat (deeper pat here))) (sym c.leave_path.ensures.state)
     (subst (λ p. Writes x y u (state c.write_pattern.new.progress) (enter pat p)) at_place c.in_ok-write_pattern.ensures.wrote) in
-    writes-as _ _ (referred-first env enter i pat here b first) (entered-writes counted (enter pat (deeper pat here)) inner)
+    writes-as _ _ (referred-first env enter (inline_of c.args.inline.now) pat here b first) (entered-writes counted (enter pat (deeper pat here)) inner)
 
 pub pattern::write_referred-returns-in_err-enter_path-clause-refused : goal.pattern::write_referred-returns-in_err-enter_path-clause-refused
 pattern::write_referred-returns-in_err-enter_path-clause-refused g n c =
-    let env = resolved_in g.E.Context.environment c.args.place.now in
-    let seen = place_view g.C.FluentType.meaning c.args.place.now c.args.locals in
-    let here = seen c.args.progress.now in
+    let env = resolved_in c.args.place.now in
+    let here = place_view c.args.place.now c.args.progress.now in
     let s0 = state c.args.progress.now in
     let b = s0.budget in
-    let pat = pattern_view (Bor (List ℕ)) (λ s. s.now) c.args.pattern.now in
-    let i = inline_view (Bor (List ℕ)) (λ s. s.now) c.args.inline.now in
+    let pat = pattern_of c.args.pattern.now in
     let enter = s.pattern_written env in
     let first : s.is_on_path pat here.path ≡ false = sym c.is_entered.ensures ∙ c.if-is_entered.false in
     let counted : state c.enter_path.new.self ≡ after s0 (entering (done true b)) = c.enter_path.ensures.state ∙ c.count_entry.ensures.counted in
-    on-err _ (tells-as (referred-first env enter i pat here b first) (entered-tells counted (enter pat (deeper pat here)) (tells-same _ refl)))
+    on-err _ (tells-as (referred-first env enter (inline_of c.args.inline.now) pat here b first) (entered-tells counted (enter pat (deeper pat here)) (tells-same _ refl)))
 
 pub pattern::write_referred-returns-in_err-write_pattern-clause-refused : goal.pattern::write_referred-returns-in_err-write_pattern-clause-refused
 pattern::write_referred-returns-in_err-write_pattern-clause-refused g n c =
-    let env = resolved_in g.E.Context.environment c.args.place.now in
-    let seen = place_view g.C.FluentType.meaning c.args.place.now c.args.locals in
+    let env = resolved_in c.args.place.now in
+    let seen = place_view c.args.place.now in
     let here = seen c.args.progress.now in
     let s0 = state c.args.progress.now in
     let b = s0.budget in
-    let pat = pattern_view (Bor (List ℕ)) (λ s. s.now) c.args.pattern.now in
-    let i = inline_view (Bor (List ℕ)) (λ s. s.now) c.args.inline.now in
+    let pat = pattern_of c.args.pattern.now in
     let enter = s.pattern_written env in
     let first : s.is_on_path pat here.path ≡ false = sym c.is_entered.ensures ∙ c.if-is_entered.false in
     let counted : state c.enter_path.new.self ≡ after s0 (entering (done true b)) = c.enter_path.ensures.state ∙ c.count_entry.ensures.counted in
-    let of_path : Bor (Pattern (Bor (List ℕ))) → Elements = λ x. pattern_view (Bor (List ℕ)) (λ s. s.now) x.now in
+    let of_path : Bor (Pattern (Bor (List ℕ))) → Elements = λ x. pattern_of x.now in
     let on_path : path_of c.enter_path.new.self ≡ here.path ++ pat ∷ [] = ap (map of_path) (c.in_ok-enter_path.ensures.path ∙ ap (λ (v : Vec (Bor (Pattern (Bor (List ℕ)))) Global). v.items ++ c.args.pattern ∷ []) c.count_entry.ensures.path) ∙ map-append of_path c.args.progress.now.path.items (c.args.pattern ∷ []) in
-    let at_place : seen c.enter_path.new.self ≡ deeper pat here = ap (λ (ps : List Elements). record { arguments = here.arguments; locals = here.locals; path = ps }) on_path in
+    let at_place : seen c.enter_path.new.self ≡ deeper pat here = place-on c.args.place.now on_path in
     let u = state c.enter_path.new.self in
     let inner : TellsSome u (state c.write_pattern.new.progress) (enter pat (deeper pat here) u.budget) = subst (λ p. TellsSome u (state c.write_pattern.new.progress) (enter pat p u.budget)) at_place c.in_err-write_pattern.ensures.refused in
-    on-err _ (tells-as (referred-first env enter i pat here b first) (entered-tells counted (enter pat (deeper pat here)) inner))
+    on-err _ (tells-as (referred-first env enter (inline_of c.args.inline.now) pat here b first) (entered-tells counted (enter pat (deeper pat here)) inner))
 
 pub pattern::write_placeable-returns-in_err-open_placeable-clause-refused : goal.pattern::write_placeable-returns-in_err-open_placeable-clause-refused
 pattern::write_placeable-returns-in_err-open_placeable-clause-refused g n c =
@@ -275,48 +227,41 @@ pattern::write_placeable-returns-in_err-open_placeable-clause-refused g n c =
 
 pub pattern::write_placeable-returns-in_err-write_front-clause-refused : goal.pattern::write_placeable-returns-in_err-write_front-clause-refused
 pattern::write_placeable-returns-in_err-write_front-clause-refused g n c =
-    let env = resolved_in g.E.Context.environment c.args.place.now in
-    let seen = place_view g.C.FluentType.meaning c.args.place.now c.args.locals in
-    let here = seen c.args.progress.now in
+    let env = resolved_in c.args.place.now in
+    let here = place_view c.args.place.now c.args.progress.now in
     let s0 = state c.args.progress.now in
-    let b = s0.budget in
-    let whole = pattern_view (Bor (List ℕ)) (λ s. s.now) c.args.whole.now in
-    let e = expression_view (Bor (List ℕ)) (λ s. s.now) c.args.expression.now in
-    let write = s.expression_written env in
     let u = state c.open_placeable.new.self in
     let found : Finds true s0 u opens = subst (λ x. Finds x s0 u opens) c.if-not-branch.false c.in_ok-open_placeable.ensures.opens in
-    on-err _ (opened-tells env write whole e here s0 u u found (tells-same _ refl))
+    on-err _ (opened-tells env (s.expression_written env) (pattern_of c.args.whole.now) (expression_of c.args.expression.now) here s0 u u found (tells-same _ refl))
 
 pub pattern::write_placeable-returns-in_err-write_opened-clause-refused : goal.pattern::write_placeable-returns-in_err-write_opened-clause-refused
 pattern::write_placeable-returns-in_err-write_opened-clause-refused g n c =
-    let env = resolved_in g.E.Context.environment c.args.place.now in
-    let seen = place_view g.C.FluentType.meaning c.args.place.now c.args.locals in
+    let env = resolved_in c.args.place.now in
+    let seen = place_view c.args.place.now in
     let here = seen c.args.progress.now in
     let s0 = state c.args.progress.now in
-    let b = s0.budget in
-    let whole = pattern_view (Bor (List ℕ)) (λ s. s.now) c.args.whole.now in
-    let e = expression_view (Bor (List ℕ)) (λ s. s.now) c.args.expression.now in
+    let whole = pattern_of c.args.whole.now in
+    let e = expression_of c.args.expression.now in
     let write = s.expression_written env in
     let u = state c.open_placeable.new.self in
     let found : Finds true s0 u opens = subst (λ x. Finds x s0 u opens) c.if-not-branch.false c.in_ok-open_placeable.ensures.opens in
-    let at_place : seen c.open_placeable.new.self ≡ here = ap (λ (v : Vec (Bor (Pattern (Bor (List ℕ)))) Global). record { arguments = here.arguments; locals = here.locals; path = map (λ (x : Bor (Pattern (Bor (List ℕ)))). pattern_view (Bor (List ℕ)) (λ s. s.now) x.now) v.items }) c.open_placeable.ensures.path in
+    let at_place : seen c.open_placeable.new.self ≡ here = kept-place c.args.place.now c.open_placeable.ensures.path in
     let v = state c.write_opened.new.progress in
     let inner : TellsSome u v (s.unmarked_with env write whole e here u.budget) = subst (λ p. TellsSome u v (s.unmarked_with env write whole e p u.budget)) at_place c.in_err-write_opened.ensures.refused in
     on-err _ (opened-tells env write whole e here s0 u v found inner)
 
 pub pattern::write_placeable-returns-clause-wrote : goal.pattern::write_placeable-returns-clause-wrote
 pattern::write_placeable-returns-clause-wrote g n c =
-    let env = resolved_in g.E.Context.environment c.args.place.now in
-    let seen = place_view g.C.FluentType.meaning c.args.place.now c.args.locals in
+    let env = resolved_in c.args.place.now in
+    let seen = place_view c.args.place.now in
     let here = seen c.args.progress.now in
     let s0 = state c.args.progress.now in
-    let b = s0.budget in
-    let whole = pattern_view (Bor (List ℕ)) (λ s. s.now) c.args.whole.now in
-    let e = expression_view (Bor (List ℕ)) (λ s. s.now) c.args.expression.now in
+    let whole = pattern_of c.args.whole.now in
+    let e = expression_of c.args.expression.now in
     let write = s.expression_written env in
     let u = state c.open_placeable.new.self in
     let found : Finds true s0 u opens = subst (λ x. Finds x s0 u opens) c.if-not-branch.false c.in_ok-open_placeable.ensures.opens in
-    let at_place : seen c.open_placeable.new.self ≡ here = ap (λ (v : Vec (Bor (Pattern (Bor (List ℕ)))) Global). record { arguments = here.arguments; locals = here.locals; path = map (λ (x : Bor (Pattern (Bor (List ℕ)))). pattern_view (Bor (List ℕ)) (λ s. s.now) x.now) v.items }) c.open_placeable.ensures.path in
+    let at_place : seen c.open_placeable.new.self ≡ here = kept-place c.args.place.now c.open_placeable.ensures.path in
     let w1 = string_bytes c.write_front.new.out in
     let w2 = string_bytes c.write_opened.new.out in
     let v = state c.write_opened.new.progress in
@@ -325,17 +270,16 @@ pattern::write_placeable-returns-clause-wrote g n c =
 
 pub pattern::write_placeable-returns-clause-refused : goal.pattern::write_placeable-returns-clause-refused
 pattern::write_placeable-returns-clause-refused g n c =
-    let env = resolved_in g.E.Context.environment c.args.place.now in
-    let seen = place_view g.C.FluentType.meaning c.args.place.now c.args.locals in
+    let env = resolved_in c.args.place.now in
+    let seen = place_view c.args.place.now in
     let here = seen c.args.progress.now in
     let s0 = state c.args.progress.now in
-    let b = s0.budget in
-    let whole = pattern_view (Bor (List ℕ)) (λ s. s.now) c.args.whole.now in
-    let e = expression_view (Bor (List ℕ)) (λ s. s.now) c.args.expression.now in
+    let whole = pattern_of c.args.whole.now in
+    let e = expression_of c.args.expression.now in
     let write = s.expression_written env in
     let u = state c.open_placeable.new.self in
     let found : Finds true s0 u opens = subst (λ x. Finds x s0 u opens) c.if-not-branch.false c.in_ok-open_placeable.ensures.opens in
-    let at_place : seen c.open_placeable.new.self ≡ here = ap (λ (v : Vec (Bor (Pattern (Bor (List ℕ)))) Global). record { arguments = here.arguments; locals = here.locals; path = map (λ (x : Bor (Pattern (Bor (List ℕ)))). pattern_view (Bor (List ℕ)) (λ s. s.now) x.now) v.items }) c.open_placeable.ensures.path in
+    let at_place : seen c.open_placeable.new.self ≡ here = kept-place c.args.place.now c.open_placeable.ensures.path in
     let w1 = string_bytes c.write_front.new.out in
     let w2 = string_bytes c.write_opened.new.out in
     let v = state c.write_opened.new.progress in
@@ -344,19 +288,12 @@ pattern::write_placeable-returns-clause-refused g n c =
 
 pub pattern::write_placeable-write_opened-requires : goal.pattern::write_placeable-write_opened-requires
 pattern::write_placeable-write_opened-requires g n c κs inside0 =
-    let env = resolved_in g.E.Context.environment c.args.place.now in
-    let seen = place_view g.C.FluentType.meaning c.args.place.now c.args.locals in
-    let here = seen c.args.progress.now in
     let s0 = state c.args.progress.now in
     let b = s0.budget in
-    let whole = pattern_view (Bor (List ℕ)) (λ s. s.now) c.args.whole.now in
-    let e = expression_view (Bor (List ℕ)) (λ s. s.now) c.args.expression.now in
-    let write = s.expression_written env in
     let u = state c.open_placeable.new.self in
     let found : Finds true s0 u opens = subst (λ x. Finds x s0 u opens) c.if-not-branch.false c.in_ok-open_placeable.ensures.opens in
-    let w = suc (ids_weight (ids_view _ c.args.place.now.ids.now)) in
     let opened : suc (left u.budget) ≤ left b = opens-left s0 u found in
-    let less = less-placeable (left u.budget) (left b) w (expression_weight e) opened in
+    let less = less-placeable (left u.budget) (left b) (suc (ids_weight (ids_view _ c.args.place.now.ids.now))) (expression_weight (expression_of c.args.expression.now)) opened in
     let measure = c.decreases in search rules
 
 pub pattern::write_opened-returns-in_err-is_root-clause-refused : goal.pattern::write_opened-returns-in_err-is_root-clause-refused
@@ -365,16 +302,16 @@ pattern::write_opened-returns-in_err-is_root-clause-refused g n c =
 
 pub pattern::write_opened-returns-in_err-write_expression-clause-refused : goal.pattern::write_opened-returns-in_err-write_expression-clause-refused
 pattern::write_opened-returns-in_err-write_expression-clause-refused g n c =
-    let env = resolved_in g.E.Context.environment c.args.place.now in
-    let seen = place_view g.C.FluentType.meaning c.args.place.now c.args.locals in
+    let env = resolved_in c.args.place.now in
+    let seen = place_view c.args.place.now in
     let here = seen c.args.progress.now in
     let s0 = state c.args.progress.now in
     let b = s0.budget in
-    let whole = pattern_view (Bor (List ℕ)) (λ s. s.now) c.args.whole.now in
-    let e = expression_view (Bor (List ℕ)) (λ s. s.now) c.args.expression.now in
+    let whole = pattern_of c.args.whole.now in
+    let e = expression_of c.args.expression.now in
     let write = s.expression_written env in
     let u = state c.enter_root.new.self in
-    let at_place : seen c.enter_root.new.self ≡ rooted whole here = ap (λ (ps : List Elements). record { arguments = here.arguments; locals = here.locals; path = ps }) c.in_ok-is_root.ensures.path in
+    let at_place : seen c.enter_root.new.self ≡ rooted whole here = place-on c.args.place.now c.in_ok-is_root.ensures.path in
     let v = state c.write_expression.new.progress in
     let inner : TellsSome s0 v (write e (rooted whole here) b) =
     subst (λ (r : State). TellsSome r v (write e (rooted whole here) r.budget)) c.enter_root.ensures.state
@@ -383,16 +320,15 @@ pattern::write_opened-returns-in_err-write_expression-clause-refused g n c =
 
 pub pattern::write_opened-returns-clause-wrote : goal.pattern::write_opened-returns-clause-wrote
 pattern::write_opened-returns-clause-wrote g n c =
-    let env = resolved_in g.E.Context.environment c.args.place.now in
-    let seen = place_view g.C.FluentType.meaning c.args.place.now c.args.locals in
+    let env = resolved_in c.args.place.now in
+    let seen = place_view c.args.place.now in
     let here = seen c.args.progress.now in
     let s0 = state c.args.progress.now in
-    let b = s0.budget in
-    let whole = pattern_view (Bor (List ℕ)) (λ s. s.now) c.args.whole.now in
-    let e = expression_view (Bor (List ℕ)) (λ s. s.now) c.args.expression.now in
+    let whole = pattern_of c.args.whole.now in
+    let e = expression_of c.args.expression.now in
     let write = s.expression_written env in
     let u = state c.enter_root.new.self in
-    let at_place : seen c.enter_root.new.self ≡ rooted whole here = ap (λ (ps : List Elements). record { arguments = here.arguments; locals = here.locals; path = ps }) c.in_ok-is_root.ensures.path in
+    let at_place : seen c.enter_root.new.self ≡ rooted whole here = place-on c.args.place.now c.in_ok-is_root.ensures.path in
     let w0 = string_bytes c.args.out.now in
     let w1 = string_bytes c.write_expression.new.out in
     let v = state c.leave_root.new.self in
@@ -404,16 +340,15 @@ pattern::write_opened-returns-clause-wrote g n c =
 
 pub pattern::write_opened-returns-clause-refused : goal.pattern::write_opened-returns-clause-refused
 pattern::write_opened-returns-clause-refused g n c =
-    let env = resolved_in g.E.Context.environment c.args.place.now in
-    let seen = place_view g.C.FluentType.meaning c.args.place.now c.args.locals in
+    let env = resolved_in c.args.place.now in
+    let seen = place_view c.args.place.now in
     let here = seen c.args.progress.now in
     let s0 = state c.args.progress.now in
-    let b = s0.budget in
-    let whole = pattern_view (Bor (List ℕ)) (λ s. s.now) c.args.whole.now in
-    let e = expression_view (Bor (List ℕ)) (λ s. s.now) c.args.expression.now in
+    let whole = pattern_of c.args.whole.now in
+    let e = expression_of c.args.expression.now in
     let write = s.expression_written env in
     let u = state c.enter_root.new.self in
-    let at_place : seen c.enter_root.new.self ≡ rooted whole here = ap (λ (ps : List Elements). record { arguments = here.arguments; locals = here.locals; path = ps }) c.in_ok-is_root.ensures.path in
+    let at_place : seen c.enter_root.new.self ≡ rooted whole here = place-on c.args.place.now c.in_ok-is_root.ensures.path in
     let w0 = string_bytes c.args.out.now in
     let w1 = string_bytes c.write_expression.new.out in
     let v = state c.leave_root.new.self in
@@ -429,122 +364,99 @@ pattern::write_pattern-loop-element-init g n c =
 
 pub pattern::write_pattern-returns-clause-wrote : goal.pattern::write_pattern-returns-clause-wrote
 pattern::write_pattern-returns-clause-wrote g n c =
-    let env = resolved_in g.E.Context.environment c.args.place.now in
-    let seen = place_view g.C.FluentType.meaning c.args.place.now c.args.locals in
-    let here = seen c.args.progress.now in
-    let s0 = state c.args.progress.now in
-    let b = s0.budget in
-    let whole = pattern_view (Bor (List ℕ)) (λ s. s.now) c.args.pattern.now in
+    let env = resolved_in c.args.place.now in
+    let here = place_view c.args.place.now c.args.progress.now in
+    let b = (state c.args.progress.now).budget in
+    let whole = pattern_of c.args.pattern.now in
     let view = element_view (Bor (List ℕ)) (λ s. s.now) in
     let items = c.deref-element-items.result.now in
-    let i = c.loop-element.element-index in
-    let xs = map view (take i items) in
-    let write = s.expression_written env in
-    let is_whole : elements_of (map view items) ≡ whole = ap (λ ys. elements_of (map view ys)) c.deref-element-items.ensures.value ∙ sym (pattern_view-out (Bor (List ℕ)) (λ s. s.now) c.args.pattern.now) in
-    let all = take_all i items c.loop-element-test.false in
-    let es = ap (λ ys. elements_of (map view ys)) all ∙ is_whole in
+    let is_whole : elements_of (map view items) ≡ whole = whole-elements c.args.pattern.now c.deref-element-items.ensures.value in
+    let es = ap (λ ys. elements_of (map view ys)) (take_all c.loop-element.element-index items c.loop-element-test.false) ∙ is_whole in
     writes-as _ _ (ap (λ x. s.elements_written env whole x here b) es ∙ sym (pattern-is env whole here b)) c.loop-element.invariant.wrote
 
 pub pattern::write_pattern-returns-then-progress-clause-wrote : goal.pattern::write_pattern-returns-then-progress-clause-wrote
 pattern::write_pattern-returns-then-progress-clause-wrote g n c =
-    let env = resolved_in g.E.Context.environment c.args.place.now in
-    let seen = place_view g.C.FluentType.meaning c.args.place.now c.args.locals in
-    let here = seen c.args.progress.now in
-    let s0 = state c.args.progress.now in
-    let b = s0.budget in
-    let whole = pattern_view (Bor (List ℕ)) (λ s. s.now) c.args.pattern.now in
+    let env = resolved_in c.args.place.now in
+    let here = place_view c.args.place.now c.args.progress.now in
+    let b = (state c.args.progress.now).budget in
+    let whole = pattern_of c.args.pattern.now in
     let view = element_view (Bor (List ℕ)) (λ s. s.now) in
     let items = c.deref-element-items.result.now in
     let i = c.loop-element.element-index in
     let xs = map view (take i items) in
     let write = s.expression_written env in
-    let is_whole : elements_of (map view items) ≡ whole = ap (λ ys. elements_of (map view ys)) c.deref-element-items.ensures.value ∙ sym (pattern_view-out (Bor (List ℕ)) (λ s. s.now) c.args.pattern.now) in
     let ys = map view (drop i items) in
-    let joined : elements_of (xs ++ ys) ≡ whole = ap elements_of (sym (map-append view (take i items) (drop i items)) ∙ ap (map view) (take-append-drop i items)) ∙ is_whole in
+    let joined : elements_of (xs ++ ys) ≡ whole = whole-split c.args.pattern.now c.deref-element-items.ensures.value i in
     let is_closed : (s.elements_written env whole (elements_of xs) here b).budget ≡ shut = sym (ap (λ (r : State). r.budget) c.loop-element.invariant.wrote.state) ∙ ap (λ d. budget_of d c.loop-element.progress.placeables) c.if-progress.true in
     writes-as _ _ (sym (beside-shut env write whole here (s.elements_written env whole (elements_of xs) here b) (elements_of ys) is_closed) ∙ sym (elements-append env write whole here xs ys b) ∙ ap (λ x. s.elements_written env whole x here b) joined ∙ sym (pattern-is env whole here b)) c.loop-element.invariant.wrote
 
 pub pattern::write_pattern-returns-in_err-write_text-in-TextElement-clause-refused : goal.pattern::write_pattern-returns-in_err-write_text-in-TextElement-clause-refused
 pattern::write_pattern-returns-in_err-write_text-in-TextElement-clause-refused g n c =
-    let env = resolved_in g.E.Context.environment c.args.place.now in
-    let seen = place_view g.C.FluentType.meaning c.args.place.now c.args.locals in
-    let here = seen c.args.progress.now in
-    let s0 = state c.args.progress.now in
-    let b = s0.budget in
-    let whole = pattern_view (Bor (List ℕ)) (λ s. s.now) c.args.pattern.now in
+    let env = resolved_in c.args.place.now in
+    let here = place_view c.args.place.now c.args.progress.now in
+    let b = (state c.args.progress.now).budget in
+    let whole = pattern_of c.args.pattern.now in
     let view = element_view (Bor (List ℕ)) (λ s. s.now) in
     let items = c.deref-element-items.result.now in
     let i = c.loop-element.element-index in
     let xs = map view (take i items) in
-    let write = s.expression_written env in
-    let is_whole : elements_of (map view items) ≡ whole = ap (λ ys. elements_of (map view ys)) c.deref-element-items.ensures.value ∙ sym (pattern_view-out (Bor (List ℕ)) (λ s. s.now) c.args.pattern.now) in
     let ys = map view (drop i items) in
-    let joined : elements_of (xs ++ ys) ≡ whole = ap elements_of (sym (map-append view (take i items) (drop i items)) ∙ ap (map view) (take-append-drop i items)) ∙ is_whole in
-    on-err _ (tells-as (ap (λ x. s.elements_written env whole x here b) joined ∙ sym (pattern-is env whole here b)) (rest-refused env write whole here xs c.loop-element.invariant.wrote ys refl))
+    let joined : elements_of (xs ++ ys) ≡ whole = whole-split c.args.pattern.now c.deref-element-items.ensures.value i in
+    on-err _ (tells-as (ap (λ x. s.elements_written env whole x here b) joined ∙ sym (pattern-is env whole here b)) (rest-refused env (s.expression_written env) whole here xs c.loop-element.invariant.wrote ys refl))
 
 pub pattern::write_pattern-returns-in_err-write_placeable-in-Placeable-clause-refused : goal.pattern::write_pattern-returns-in_err-write_placeable-in-Placeable-clause-refused
 pattern::write_pattern-returns-in_err-write_placeable-in-Placeable-clause-refused g n c =
-    let env = resolved_in g.E.Context.environment c.args.place.now in
-    let seen = place_view g.C.FluentType.meaning c.args.place.now c.args.locals in
+    let env = resolved_in c.args.place.now in
+    let seen = place_view c.args.place.now in
     let here = seen c.args.progress.now in
-    let s0 = state c.args.progress.now in
-    let b = s0.budget in
-    let whole = pattern_view (Bor (List ℕ)) (λ s. s.now) c.args.pattern.now in
+    let b = (state c.args.progress.now).budget in
+    let whole = pattern_of c.args.pattern.now in
     let view = element_view (Bor (List ℕ)) (λ s. s.now) in
     let items = c.deref-element-items.result.now in
     let i = c.loop-element.element-index in
     let xs = map view (take i items) in
     let write = s.expression_written env in
-    let is_whole : elements_of (map view items) ≡ whole = ap (λ ys. elements_of (map view ys)) c.deref-element-items.ensures.value ∙ sym (pattern_view-out (Bor (List ℕ)) (λ s. s.now) c.args.pattern.now) in
-    let e = expression_view (Bor (List ℕ)) (λ s. s.now) c.in-Placeable.expression in
+    let e = expression_of c.in-Placeable.expression in
     let is : view c.element-item.result ≡ placeable e = ap view c.in-Placeable.is ∙ element_view-Placeable (Bor (List ℕ)) (λ s. s.now) c.in-Placeable.expression in
     let ys = map view (drop (i + 1) items) in
-    let split : drop i items ≡ c.element-item.result ∷ drop (i + 1) items = drop-here items i c.element-item.result c.loop-element-test.true c.element-item.is in
-    let joined : elements_of (xs ++ placeable e ∷ ys) ≡ whole = ap (λ z. elements_of (xs ++ z ∷ ys)) (sym is) ∙ ap (λ zs. elements_of (xs ++ map view zs)) (sym split) ∙ ap elements_of (sym (map-append view (take i items) (drop i items)) ∙ ap (map view) (take-append-drop i items)) ∙ is_whole in
+    let joined : elements_of (xs ++ placeable e ∷ ys) ≡ whole = whole-around c.args.pattern.now c.deref-element-items.ensures.value i c.element-item.result (placeable e) c.loop-element-test.true c.element-item.is is in
     let u = state c.loop-element.progress in
     let v = state c.write_placeable.new.progress in
-    let same_place : seen c.loop-element.progress ≡ here = ap (λ (ps : List (Bor (Pattern (Bor (List ℕ))))). record { arguments = here.arguments; locals = here.locals; path = map (λ (x : Bor (Pattern (Bor (List ℕ)))). pattern_view (Bor (List ℕ)) (λ s. s.now) x.now) ps }) c.loop-element.invariant.path in
+    let same_place : seen c.loop-element.progress ≡ here = same-place c.args.place.now c.loop-element.invariant.path in
     let inner : TellsSome u v (s.placeable_with env write whole e here u.budget) = subst (λ p. TellsSome u v (s.placeable_with env write whole e p u.budget)) same_place c.in_err-write_placeable-in-Placeable.ensures.refused in
     on-err _ (tells-as (ap (λ x. s.elements_written env whole x here b) joined ∙ sym (pattern-is env whole here b)) (placeable-refused env write whole here xs c.loop-element.invariant.wrote e ys inner))
 
 pub pattern::write_pattern-write_placeable-requires : goal.pattern::write_pattern-write_placeable-requires
 pattern::write_pattern-write_placeable-requires g n c κs inside0 =
-    let env = resolved_in g.E.Context.environment c.args.place.now in
-    let seen = place_view g.C.FluentType.meaning c.args.place.now c.args.locals in
-    let here = seen c.args.progress.now in
-    let s0 = state c.args.progress.now in
-    let b = s0.budget in
-    let whole = pattern_view (Bor (List ℕ)) (λ s. s.now) c.args.pattern.now in
+    let env = resolved_in c.args.place.now in
+    let here = place_view c.args.place.now c.args.progress.now in
+    let b = (state c.args.progress.now).budget in
+    let whole = pattern_of c.args.pattern.now in
     let view = element_view (Bor (List ℕ)) (λ s. s.now) in
     let items = c.deref-element-items.result.now in
     let i = c.loop-element.element-index in
     let xs = map view (take i items) in
-    let write = s.expression_written env in
-    let is_whole : elements_of (map view items) ≡ whole = ap (λ ys. elements_of (map view ys)) c.deref-element-items.ensures.value ∙ sym (pattern_view-out (Bor (List ℕ)) (λ s. s.now) c.args.pattern.now) in
-    let e = expression_view (Bor (List ℕ)) (λ s. s.now) c.in-Placeable.expression in
+    let is_whole : elements_of (map view items) ≡ whole = whole-elements c.args.pattern.now c.deref-element-items.ensures.value in
+    let e = expression_of c.in-Placeable.expression in
     let is : view c.element-item.result ≡ placeable e = ap view c.in-Placeable.is ∙ element_view-Placeable (Bor (List ℕ)) (λ s. s.now) c.in-Placeable.expression in
     let u = state c.loop-element.progress in
-    let w = suc (ids_weight (ids_view _ c.args.place.now.ids.now)) in
-    let fall : left u.budget ≤ left b = writes-left (λ x. s.elements_written env whole (elements_of xs) here x) c.loop-element.invariant.wrote (elements-falls env write (expression-falls env (s.pattern_written env) (pattern-falls env)) whole (elements_of xs) here b) in
-    let at = ap view (sym c.element-item.is) ∙ is in
-    let light : suc (expression_weight e) ≤ elements_weight whole = subst (λ z. suc (expression_weight e) ≤ elements_weight z) is_whole (weight-at view e items i c.element-item.result c.loop-element-test.true at) in
-    let less = less-element (left u.budget) (left b) w (expression_weight e) (elements_weight whole) fall light in
+    let fall : left u.budget ≤ left b = writes-left (λ x. s.elements_written env whole (elements_of xs) here x) c.loop-element.invariant.wrote (elements-falls env (s.expression_written env) (expression-falls env (s.pattern_written env) (pattern-falls env)) whole (elements_of xs) here b) in
+    let light : suc (expression_weight e) ≤ elements_weight whole = subst (λ z. suc (expression_weight e) ≤ elements_weight z) is_whole (weight-at view e items i c.element-item.result c.loop-element-test.true (ap view (sym c.element-item.is) ∙ is)) in
+    let less = less-element (left u.budget) (left b) (suc (ids_weight (ids_view _ c.args.place.now.ids.now))) (expression_weight e) (elements_weight whole) fall light in
     let measure = c.decreases in let not_dirty = c.if-progress.false in search rules
 
 pub pattern::write_pattern-loop-element-preserved : goal.pattern::write_pattern-loop-element-preserved
 pattern::write_pattern-loop-element-preserved g n c =
-    let env = resolved_in g.E.Context.environment c.args.place.now in
-    let seen = place_view g.C.FluentType.meaning c.args.place.now c.args.locals in
+    let env = resolved_in c.args.place.now in
+    let seen = place_view c.args.place.now in
     let here = seen c.args.progress.now in
     let s0 = state c.args.progress.now in
-    let b = s0.budget in
-    let whole = pattern_view (Bor (List ℕ)) (λ s. s.now) c.args.pattern.now in
+    let whole = pattern_of c.args.pattern.now in
     let view = element_view (Bor (List ℕ)) (λ s. s.now) in
     let items = c.deref-element-items.result.now in
     let i = c.loop-element.element-index in
     let xs = map view (take i items) in
     let write = s.expression_written env in
-    let is_whole : elements_of (map view items) ≡ whole = ap (λ ys. elements_of (map view ys)) c.deref-element-items.ensures.value ∙ sym (pattern_view-out (Bor (List ℕ)) (λ s. s.now) c.args.pattern.now) in
     let held = string_bytes c.args.out.now in
     let next = string_bytes c.match-element.out in
     let grown = up-to view items i c.element-item.result c.loop-element-test.true c.element-item.is in
@@ -561,10 +473,10 @@ pattern::write_pattern-loop-element-preserved g n c =
             path = ap (λ (p : Progress). p.path.items) w.progress-is ∙ invariant.path;
           })
       | pattern::write_pattern-in-Placeable+in_ok-write_placeable-in-Placeable w ↦
-          (let e = expression_view (Bor (List ℕ)) (λ s. s.now) w.in-Placeable.expression in
+          (let e = expression_of w.in-Placeable.expression in
           let is : view c.element-item.result ≡ placeable e = ap view w.in-Placeable.is ∙ element_view-Placeable (Bor (List ℕ)) (λ s. s.now) w.in-Placeable.expression in
           let u = state c.loop-element.progress in
-          let same_place : seen c.loop-element.progress ≡ here = ap (λ (ps : List (Bor (Pattern (Bor (List ℕ))))). record { arguments = here.arguments; locals = here.locals; path = map (λ (x : Bor (Pattern (Bor (List ℕ)))). pattern_view (Bor (List ℕ)) (λ s. s.now) x.now) ps }) invariant.path in
+          let same_place : seen c.loop-element.progress ≡ here = same-place c.args.place.now invariant.path in
           let before : Writes (string_bytes c.loop-element.out) next u (state c.match-element.progress) (s.placeable_with env write whole e here) =
           subst (λ x. Writes (string_bytes c.loop-element.out) (string_bytes x) u (state c.match-element.progress) (s.placeable_with env write whole e here)) (sym w.out-is)
           (subst (λ p. Writes (string_bytes c.loop-element.out) (string_bytes w.write_placeable.new.out) u (state p) (s.placeable_with env write whole e here)) (sym w.progress-is)
@@ -578,249 +490,130 @@ pattern::write_pattern-loop-element-preserved g n c =
 
 pub arguments::call_result-positional_values-requires : goal.arguments::call_result-positional_values-requires
 arguments::call_result-positional_values-requires g n c κs inside0 =
-    let env = resolved_in g.E.Context.environment c.args.place.now in
-    let seen = place_view g.C.FluentType.meaning c.args.place.now c.args.locals in
-    let here = seen c.args.progress.now in
-    let s0 = state c.args.progress.now in
-    let b = s0.budget in
-    let parts = out-CallArguments (Bor (List ℕ)) c.args.arguments.now in
-    let ps = inlines_of (map (inline_view (Bor (List ℕ)) (λ s. s.now)) parts.positional.items) in
-    let ns = nameds_of (map (named_view (Bor (List ℕ)) (λ s. s.now)) parts.named.items) in
-    let out : arguments_view (Bor (List ℕ)) (λ s. s.now) c.args.arguments.now ≡ t.arguments ps ns = arguments_view-out (Bor (List ℕ)) (λ s. s.now) c.args.arguments.now in
-    let id = name_of (Bor (List ℕ)) (λ s. s.now) c.args.id.now in
-    let w = suc (ids_weight (ids_view _ c.args.place.now.ids.now)) in
-    let weight : arguments_weight (arguments_view (Bor (List ℕ)) (λ s. s.now) c.args.arguments.now) ≡ suc (inlines_weight ps + nameds_weight ns) = ap arguments_weight out ∙ weight-arguments ps ns in
-    let less = less-part (suc (left b)) (suc (left b)) w (inlines_weight ps) (arguments_weight (arguments_view (Bor (List ℕ)) (λ s. s.now) c.args.arguments.now)) 3 1 (le_refl (suc (left b))) (omega (arith, weight)) (omega arith) in
+    let b = (state c.args.progress.now).budget in
+    let a = c.args.arguments.now in
+    let weight = weight-in a in
+    let less = less-part (suc (left b)) (suc (left b)) (suc (ids_weight (ids_view _ c.args.place.now.ids.now))) (inlines_weight (positional_in a)) (arguments_weight (arguments_of a)) 3 1 (le_refl (suc (left b))) (omega (arith, weight)) (omega arith) in
     let measure = c.decreases in search rules
 
 pub arguments::call_result-named_values-requires : goal.arguments::call_result-named_values-requires
 arguments::call_result-named_values-requires g n c κs inside0 =
-    let env = resolved_in g.E.Context.environment c.args.place.now in
-    let seen = place_view g.C.FluentType.meaning c.args.place.now c.args.locals in
-    let here = seen c.args.progress.now in
-    let s0 = state c.args.progress.now in
-    let b = s0.budget in
-    let parts = out-CallArguments (Bor (List ℕ)) c.args.arguments.now in
-    let ps = inlines_of (map (inline_view (Bor (List ℕ)) (λ s. s.now)) parts.positional.items) in
-    let ns = nameds_of (map (named_view (Bor (List ℕ)) (λ s. s.now)) parts.named.items) in
-    let out : arguments_view (Bor (List ℕ)) (λ s. s.now) c.args.arguments.now ≡ t.arguments ps ns = arguments_view-out (Bor (List ℕ)) (λ s. s.now) c.args.arguments.now in
-    let id = name_of (Bor (List ℕ)) (λ s. s.now) c.args.id.now in
-    let w = suc (ids_weight (ids_view _ c.args.place.now.ids.now)) in
-    let weight : arguments_weight (arguments_view (Bor (List ℕ)) (λ s. s.now) c.args.arguments.now) ≡ suc (inlines_weight ps + nameds_weight ns) = ap arguments_weight out ∙ weight-arguments ps ns in
+    let env = resolved_in c.args.place.now in
+    let here = place_view c.args.place.now c.args.progress.now in
+    let b = (state c.args.progress.now).budget in
+    let a = c.args.arguments.now in
+    let ps = positional_in a in
+    let weight = weight-in a in
     let p1 = state c.positional_values.new.progress in
     let fall : left p1.budget ≤ left b = finds-left (λ x. s.positional_found env ps here x) c.in_ok-positional.ensures.found (positional-falls env (s.pattern_written env) (pattern-falls env) ps here b) in
-    let less = less-part (suc (left p1.budget)) (suc (left b)) w (nameds_weight ns) (arguments_weight (arguments_view (Bor (List ℕ)) (λ s. s.now) c.args.arguments.now)) 3 1 (omega (arith, fall)) (omega (arith, weight)) (omega arith) in
+    let less = less-part (suc (left p1.budget)) (suc (left b)) (suc (ids_weight (ids_view _ c.args.place.now.ids.now))) (nameds_weight (nameds_in a)) (arguments_weight (arguments_of a)) 3 1 (omega (arith, fall)) (omega (arith, weight)) (omega arith) in
     let measure = c.decreases in search rules
 
 pub arguments::call_result-returns-clause-found : goal.arguments::call_result-returns-clause-found
 arguments::call_result-returns-clause-found g n c =
-    let env = resolved_in g.E.Context.environment c.args.place.now in
-    let seen = place_view g.C.FluentType.meaning c.args.place.now c.args.locals in
-    let here = seen c.args.progress.now in
-    let s0 = state c.args.progress.now in
-    let b = s0.budget in
-    let parts = out-CallArguments (Bor (List ℕ)) c.args.arguments.now in
-    let ps = inlines_of (map (inline_view (Bor (List ℕ)) (λ s. s.now)) parts.positional.items) in
-    let ns = nameds_of (map (named_view (Bor (List ℕ)) (λ s. s.now)) parts.named.items) in
-    let out : arguments_view (Bor (List ℕ)) (λ s. s.now) c.args.arguments.now ≡ t.arguments ps ns = arguments_view-out (Bor (List ℕ)) (λ s. s.now) c.args.arguments.now in
-    let id = name_of (Bor (List ℕ)) (λ s. s.now) c.args.id.now in
-    let same = ap (λ (ps : List (Bor (Pattern (Bor (List ℕ))))). record { arguments = here.arguments; locals = here.locals; path = map (λ (x : Bor (Pattern (Bor (List ℕ)))). pattern_view (Bor (List ℕ)) (λ s. s.now) x.now) ps }) (c.in_ok-positional.ensures.path) in
-    let p1 = state c.positional_values.new.progress in
-    let p2 = state c.named_values.new.progress in
-    let first = c.in_ok-positional.ensures.found in
-    let second : Finds (args_view g.C.FluentType.meaning c.in_ok-named.named) p1 p2 (λ x. mapped (all_set []) (s.named_found env ns here x)) = subst (λ p. Finds (args_view g.C.FluentType.meaning c.in_ok-named.named) p1 p2 (λ x. mapped (all_set []) (s.named_found env ns p x))) same c.in_ok-named.ensures.found in
-    let all = finds-as _ _ (ap (λ a. s.arguments_found env (t.with_arguments a) here b) (sym out)) (args-found env here ps ns first second) in
+    let env = resolved_in c.args.place.now in
+    let here = place_view c.args.place.now c.args.progress.now in
+    let id = name_of c.args.id.now in
     let gives : s.Called g.row.C-Meaning.Denot → Option (v.Value g.row.C-Meaning.Denot) = λ called. function_result env (env.find id) called.positional called.named in
-    let result = finds-mapped (s.arguments_found env (t.with_arguments (arguments_view (Bor (List ℕ)) (λ s. s.now) c.args.arguments.now)) here) all gives in
+    let given = s.arguments_found env (t.with_arguments (arguments_of c.args.arguments.now)) here in
+    let all = given-found env here c.args.arguments.now c.in_ok-positional.ensures.found (same-place c.args.place.now c.in_ok-positional.ensures.path) c.in_ok-named.ensures.found in
+    let result = finds-mapped given all gives in
     let lent : c.deref.result.now ≡ c.in_ok-positional.positional.items = search rules in
     IfOk-weaker c.call.result _ _ (λ x h. record { value = h ∙ result.value; state = result.state }) (subst (λ z. IfOk c.call.result (λ x. option_map (value_view g.C.FluentType.meaning) x ≡ function_result env (env.find id) (map (value_view g.C.FluentType.meaning) z) (args_view g.C.FluentType.meaning c.in_ok-named.named))) lent c.call.ensures)
 
 pub arguments::call_result-returns-clause-refused : goal.arguments::call_result-returns-clause-refused
 arguments::call_result-returns-clause-refused g n c =
-    let env = resolved_in g.E.Context.environment c.args.place.now in
-    let seen = place_view g.C.FluentType.meaning c.args.place.now c.args.locals in
-    let here = seen c.args.progress.now in
-    let s0 = state c.args.progress.now in
-    let b = s0.budget in
-    let parts = out-CallArguments (Bor (List ℕ)) c.args.arguments.now in
-    let ps = inlines_of (map (inline_view (Bor (List ℕ)) (λ s. s.now)) parts.positional.items) in
-    let ns = nameds_of (map (named_view (Bor (List ℕ)) (λ s. s.now)) parts.named.items) in
-    let out : arguments_view (Bor (List ℕ)) (λ s. s.now) c.args.arguments.now ≡ t.arguments ps ns = arguments_view-out (Bor (List ℕ)) (λ s. s.now) c.args.arguments.now in
-    let id = name_of (Bor (List ℕ)) (λ s. s.now) c.args.id.now in
-    let same = ap (λ (ps : List (Bor (Pattern (Bor (List ℕ))))). record { arguments = here.arguments; locals = here.locals; path = map (λ (x : Bor (Pattern (Bor (List ℕ)))). pattern_view (Bor (List ℕ)) (λ s. s.now) x.now) ps }) (c.in_ok-positional.ensures.path) in
-    let p1 = state c.positional_values.new.progress in
-    let p2 = state c.named_values.new.progress in
-    let first = c.in_ok-positional.ensures.found in
-    let second : Finds (args_view g.C.FluentType.meaning c.in_ok-named.named) p1 p2 (λ x. mapped (all_set []) (s.named_found env ns here x)) = subst (λ p. Finds (args_view g.C.FluentType.meaning c.in_ok-named.named) p1 p2 (λ x. mapped (all_set []) (s.named_found env ns p x))) same c.in_ok-named.ensures.found in
-    let all = finds-as _ _ (ap (λ a. s.arguments_found env (t.with_arguments a) here b) (sym out)) (args-found env here ps ns first second) in
+    let env = resolved_in c.args.place.now in
+    let here = place_view c.args.place.now c.args.progress.now in
+    let id = name_of c.args.id.now in
     let gives : s.Called g.row.C-Meaning.Denot → Option (v.Value g.row.C-Meaning.Denot) = λ called. function_result env (env.find id) called.positional called.named in
-    let result = finds-mapped (s.arguments_found env (t.with_arguments (arguments_view (Bor (List ℕ)) (λ s. s.now) c.args.arguments.now)) here) all gives in
-    on-err c.call.result (found-tells (λ x. mapped gives (s.arguments_found env (t.with_arguments (arguments_view (Bor (List ℕ)) (λ s. s.now) c.args.arguments.now)) here x)) result)
+    let given = s.arguments_found env (t.with_arguments (arguments_of c.args.arguments.now)) here in
+    let all = given-found env here c.args.arguments.now c.in_ok-positional.ensures.found (same-place c.args.place.now c.in_ok-positional.ensures.path) c.in_ok-named.ensures.found in
+    on-err c.call.result (found-tells (λ x. mapped gives (given x)) (finds-mapped given all gives))
 
 pub arguments::call_result-returns-in_err-positional-clause-refused : goal.arguments::call_result-returns-in_err-positional-clause-refused
 arguments::call_result-returns-in_err-positional-clause-refused g n c =
-    let env = resolved_in g.E.Context.environment c.args.place.now in
-    let seen = place_view g.C.FluentType.meaning c.args.place.now c.args.locals in
-    let here = seen c.args.progress.now in
-    let s0 = state c.args.progress.now in
-    let b = s0.budget in
-    let parts = out-CallArguments (Bor (List ℕ)) c.args.arguments.now in
-    let ps = inlines_of (map (inline_view (Bor (List ℕ)) (λ s. s.now)) parts.positional.items) in
-    let ns = nameds_of (map (named_view (Bor (List ℕ)) (λ s. s.now)) parts.named.items) in
-    let out : arguments_view (Bor (List ℕ)) (λ s. s.now) c.args.arguments.now ≡ t.arguments ps ns = arguments_view-out (Bor (List ℕ)) (λ s. s.now) c.args.arguments.now in
-    let id = name_of (Bor (List ℕ)) (λ s. s.now) c.args.id.now in
-    on-err _ (tells-like _ refl (tells-as (ap (λ a. s.arguments_found env (t.with_arguments a) here b) (sym out)) (args-first env here ps ns c.in_err-positional.ensures.refused)))
+    on-err _ (tells-like _ refl (given-first (resolved_in c.args.place.now) (place_view c.args.place.now c.args.progress.now) c.args.arguments.now c.in_err-positional.ensures.refused))
 
 pub arguments::call_result-returns-in_err-named-clause-refused : goal.arguments::call_result-returns-in_err-named-clause-refused
 arguments::call_result-returns-in_err-named-clause-refused g n c =
-    let env = resolved_in g.E.Context.environment c.args.place.now in
-    let seen = place_view g.C.FluentType.meaning c.args.place.now c.args.locals in
-    let here = seen c.args.progress.now in
-    let s0 = state c.args.progress.now in
-    let b = s0.budget in
-    let parts = out-CallArguments (Bor (List ℕ)) c.args.arguments.now in
-    let ps = inlines_of (map (inline_view (Bor (List ℕ)) (λ s. s.now)) parts.positional.items) in
-    let ns = nameds_of (map (named_view (Bor (List ℕ)) (λ s. s.now)) parts.named.items) in
-    let out : arguments_view (Bor (List ℕ)) (λ s. s.now) c.args.arguments.now ≡ t.arguments ps ns = arguments_view-out (Bor (List ℕ)) (λ s. s.now) c.args.arguments.now in
-    let id = name_of (Bor (List ℕ)) (λ s. s.now) c.args.id.now in
-    let same = ap (λ (ps : List (Bor (Pattern (Bor (List ℕ))))). record { arguments = here.arguments; locals = here.locals; path = map (λ (x : Bor (Pattern (Bor (List ℕ)))). pattern_view (Bor (List ℕ)) (λ s. s.now) x.now) ps }) (c.in_ok-positional.ensures.path) in
-    let p1 = state c.positional_values.new.progress in
-    let p2 = state c.named_values.new.progress in
-    let first = c.in_ok-positional.ensures.found in
-    let inner : TellsSome p1 p2 (mapped (all_set []) (s.named_found env ns here p1.budget)) = subst (λ p. TellsSome p1 p2 (mapped (all_set []) (s.named_found env ns p p1.budget))) same c.in_err-named.ensures.refused in
-    on-err _ (tells-like _ refl (tells-as (ap (λ a. s.arguments_found env (t.with_arguments a) here b) (sym out)) (args-second env here ps ns first inner)))
+    on-err _ (tells-like _ refl (given-second (resolved_in c.args.place.now) (place_view c.args.place.now c.args.progress.now) c.args.arguments.now c.in_ok-positional.ensures.found (same-place c.args.place.now c.in_ok-positional.ensures.path) c.in_err-named.ensures.refused))
 
 pub arguments::own_arguments-positional_values-requires : goal.arguments::own_arguments-positional_values-requires
 arguments::own_arguments-positional_values-requires g n c κs inside0 =
-    let env = resolved_in g.E.Context.environment c.args.place.now in
-    let seen = place_view g.C.FluentType.meaning c.args.place.now c.args.locals in
-    let here = seen c.args.progress.now in
-    let s0 = state c.args.progress.now in
-    let b = s0.budget in
-    let some = c.in-Some.arguments in
-    let parts = out-CallArguments (Bor (List ℕ)) some in
-    let ps = inlines_of (map (inline_view (Bor (List ℕ)) (λ s. s.now)) parts.positional.items) in
-    let ns = nameds_of (map (named_view (Bor (List ℕ)) (λ s. s.now)) parts.named.items) in
-    let given = maybe_arguments (option_map (arguments_view (Bor (List ℕ)) (λ s. s.now)) c.args.arguments.now) in
-    let out : given ≡ t.with_arguments (t.arguments ps ns) = ap (λ o. maybe_arguments (option_map (arguments_view (Bor (List ℕ)) (λ s. s.now)) o)) c.in-Some.is ∙ ap t.with_arguments (arguments_view-out (Bor (List ℕ)) (λ s. s.now) some) in
-    let w = suc (ids_weight (ids_view _ c.args.place.now.ids.now)) in
-    let weight : maybe_arguments_weight given ≡ suc (suc (inlines_weight ps + nameds_weight ns)) = ap maybe_arguments_weight out ∙ weight-some (t.arguments ps ns) ∙ ap suc (weight-arguments ps ns) in
-    let less = less-part (suc (left b)) (suc (left b)) w (inlines_weight ps) (maybe_arguments_weight given) 3 1 (le_refl (suc (left b))) (omega (arith, weight)) (omega arith) in
+    let b = (state c.args.progress.now).budget in
+    let a = c.in-Some.arguments in
+    let given = maybe_arguments_of c.args.arguments.now in
+    let weight : maybe_arguments_weight given ≡ suc (suc (inlines_weight (positional_in a) + nameds_weight (nameds_in a))) = ap (λ o. maybe_arguments_weight (maybe_arguments_of o)) c.in-Some.is ∙ weight-some (arguments_of a) ∙ ap suc (weight-in a) in
+    let less = less-part (suc (left b)) (suc (left b)) (suc (ids_weight (ids_view _ c.args.place.now.ids.now))) (inlines_weight (positional_in a)) (maybe_arguments_weight given) 3 1 (le_refl (suc (left b))) (omega (arith, weight)) (omega arith) in
     let measure = c.decreases in search rules
 
 pub arguments::own_arguments-named_values-requires : goal.arguments::own_arguments-named_values-requires
 arguments::own_arguments-named_values-requires g n c κs inside0 =
-    let env = resolved_in g.E.Context.environment c.args.place.now in
-    let seen = place_view g.C.FluentType.meaning c.args.place.now c.args.locals in
-    let here = seen c.args.progress.now in
-    let s0 = state c.args.progress.now in
-    let b = s0.budget in
-    let some = c.in-Some.arguments in
-    let parts = out-CallArguments (Bor (List ℕ)) some in
-    let ps = inlines_of (map (inline_view (Bor (List ℕ)) (λ s. s.now)) parts.positional.items) in
-    let ns = nameds_of (map (named_view (Bor (List ℕ)) (λ s. s.now)) parts.named.items) in
-    let given = maybe_arguments (option_map (arguments_view (Bor (List ℕ)) (λ s. s.now)) c.args.arguments.now) in
-    let out : given ≡ t.with_arguments (t.arguments ps ns) = ap (λ o. maybe_arguments (option_map (arguments_view (Bor (List ℕ)) (λ s. s.now)) o)) c.in-Some.is ∙ ap t.with_arguments (arguments_view-out (Bor (List ℕ)) (λ s. s.now) some) in
-    let w = suc (ids_weight (ids_view _ c.args.place.now.ids.now)) in
-    let weight : maybe_arguments_weight given ≡ suc (suc (inlines_weight ps + nameds_weight ns)) = ap maybe_arguments_weight out ∙ weight-some (t.arguments ps ns) ∙ ap suc (weight-arguments ps ns) in
+    let env = resolved_in c.args.place.now in
+    let here = place_view c.args.place.now c.args.progress.now in
+    let b = (state c.args.progress.now).budget in
+    let a = c.in-Some.arguments in
+    let given = maybe_arguments_of c.args.arguments.now in
+    let ps = positional_in a in
+    let weight : maybe_arguments_weight given ≡ suc (suc (inlines_weight (positional_in a) + nameds_weight (nameds_in a))) = ap (λ o. maybe_arguments_weight (maybe_arguments_of o)) c.in-Some.is ∙ weight-some (arguments_of a) ∙ ap suc (weight-in a) in
     let p1 = state c.positional_values.new.progress in
     let fall : left p1.budget ≤ left b = finds-left (λ x. s.positional_found env ps here x) c.in_ok-positional_values-in-Some.ensures.found (positional-falls env (s.pattern_written env) (pattern-falls env) ps here b) in
-    let less = less-part (suc (left p1.budget)) (suc (left b)) w (nameds_weight ns) (maybe_arguments_weight given) 3 1 (omega (arith, fall)) (omega (arith, weight)) (omega arith) in
+    let less = less-part (suc (left p1.budget)) (suc (left b)) (suc (ids_weight (ids_view _ c.args.place.now.ids.now))) (nameds_weight (nameds_in a)) (maybe_arguments_weight given) 3 1 (omega (arith, fall)) (omega (arith, weight)) (omega arith) in
     let measure = c.decreases in search rules
 
 pub arguments::own_arguments-returns-in_ok-positional_values-in-Some-clause-found : goal.arguments::own_arguments-returns-in_ok-positional_values-in-Some-clause-found
 arguments::own_arguments-returns-in_ok-positional_values-in-Some-clause-found g n c =
-    let env = resolved_in g.E.Context.environment c.args.place.now in
-    let seen = place_view g.C.FluentType.meaning c.args.place.now c.args.locals in
-    let here = seen c.args.progress.now in
-    let s0 = state c.args.progress.now in
-    let b = s0.budget in
-    let some = c.in-Some.arguments in
-    let parts = out-CallArguments (Bor (List ℕ)) some in
-    let ps = inlines_of (map (inline_view (Bor (List ℕ)) (λ s. s.now)) parts.positional.items) in
-    let ns = nameds_of (map (named_view (Bor (List ℕ)) (λ s. s.now)) parts.named.items) in
-    let given = maybe_arguments (option_map (arguments_view (Bor (List ℕ)) (λ s. s.now)) c.args.arguments.now) in
-    let out : given ≡ t.with_arguments (t.arguments ps ns) = ap (λ o. maybe_arguments (option_map (arguments_view (Bor (List ℕ)) (λ s. s.now)) o)) c.in-Some.is ∙ ap t.with_arguments (arguments_view-out (Bor (List ℕ)) (λ s. s.now) some) in
-    let same = ap (λ (ps : List (Bor (Pattern (Bor (List ℕ))))). record { arguments = here.arguments; locals = here.locals; path = map (λ (x : Bor (Pattern (Bor (List ℕ)))). pattern_view (Bor (List ℕ)) (λ s. s.now) x.now) ps }) (c.in_ok-positional_values-in-Some.ensures.path) in
-    let p1 = state c.positional_values.new.progress in
-    let p2 = state c.named_values.new.progress in
-    let first = c.in_ok-positional_values-in-Some.ensures.found in
-    IfOk-weaker c.named_values.result _ _ (λ x h.
-    let second : Finds (args_view g.C.FluentType.meaning x) p1 p2 (λ y. mapped (all_set []) (s.named_found env ns here y)) = subst (λ p. Finds (args_view g.C.FluentType.meaning x) p1 p2 (λ y. mapped (all_set []) (s.named_found env ns p y))) same h in
-    finds-mapped (s.arguments_found env given here) (finds-as _ _ (ap (λ a. s.arguments_found env a here b) (sym out)) (args-found env here ps ns first second)) (λ called. called.named)) c.named_values.ensures.found
+    let env = resolved_in c.args.place.now in
+    let here = place_view c.args.place.now c.args.progress.now in
+    let is = ap (λ o. s.arguments_found env (maybe_arguments_of o) here (state c.args.progress.now).budget) (sym c.in-Some.is) in
+    IfOk-weaker c.named_values.result _ _ (λ x h. finds-mapped (s.arguments_found env (maybe_arguments_of c.args.arguments.now) here) (finds-as _ _ is (given-found env here c.in-Some.arguments c.in_ok-positional_values-in-Some.ensures.found (same-place c.args.place.now c.in_ok-positional_values-in-Some.ensures.path) h)) (λ called. called.named)) c.named_values.ensures.found
 
 pub arguments::own_arguments-returns-in_ok-positional_values-in-Some-clause-refused : goal.arguments::own_arguments-returns-in_ok-positional_values-in-Some-clause-refused
 arguments::own_arguments-returns-in_ok-positional_values-in-Some-clause-refused g n c =
-    let env = resolved_in g.E.Context.environment c.args.place.now in
-    let seen = place_view g.C.FluentType.meaning c.args.place.now c.args.locals in
-    let here = seen c.args.progress.now in
-    let s0 = state c.args.progress.now in
-    let b = s0.budget in
-    let some = c.in-Some.arguments in
-    let parts = out-CallArguments (Bor (List ℕ)) some in
-    let ps = inlines_of (map (inline_view (Bor (List ℕ)) (λ s. s.now)) parts.positional.items) in
-    let ns = nameds_of (map (named_view (Bor (List ℕ)) (λ s. s.now)) parts.named.items) in
-    let given = maybe_arguments (option_map (arguments_view (Bor (List ℕ)) (λ s. s.now)) c.args.arguments.now) in
-    let out : given ≡ t.with_arguments (t.arguments ps ns) = ap (λ o. maybe_arguments (option_map (arguments_view (Bor (List ℕ)) (λ s. s.now)) o)) c.in-Some.is ∙ ap t.with_arguments (arguments_view-out (Bor (List ℕ)) (λ s. s.now) some) in
-    let same = ap (λ (ps : List (Bor (Pattern (Bor (List ℕ))))). record { arguments = here.arguments; locals = here.locals; path = map (λ (x : Bor (Pattern (Bor (List ℕ)))). pattern_view (Bor (List ℕ)) (λ s. s.now) x.now) ps }) (c.in_ok-positional_values-in-Some.ensures.path) in
-    let p1 = state c.positional_values.new.progress in
-    let p2 = state c.named_values.new.progress in
-    let first = c.in_ok-positional_values-in-Some.ensures.found in
-    on_err_weaker c.named_values.result (λ h.
-    let inner : TellsSome p1 p2 (mapped (all_set []) (s.named_found env ns here p1.budget)) = subst (λ p. TellsSome p1 p2 (mapped (all_set []) (s.named_found env ns p p1.budget))) same h in
-    tells-like _ refl (tells-as (ap (λ a. s.arguments_found env a here b) (sym out)) (args-second env here ps ns first inner))) c.named_values.ensures.refused
+    let env = resolved_in c.args.place.now in
+    let here = place_view c.args.place.now c.args.progress.now in
+    let is = ap (λ o. s.arguments_found env (maybe_arguments_of o) here (state c.args.progress.now).budget) (sym c.in-Some.is) in
+    on_err_weaker c.named_values.result (λ h. tells-like _ refl (tells-as is (given-second env here c.in-Some.arguments c.in_ok-positional_values-in-Some.ensures.found (same-place c.args.place.now c.in_ok-positional_values-in-Some.ensures.path) h))) c.named_values.ensures.refused
 
 pub arguments::own_arguments-returns-in_err-positional_values-in-Some-clause-refused : goal.arguments::own_arguments-returns-in_err-positional_values-in-Some-clause-refused
 arguments::own_arguments-returns-in_err-positional_values-in-Some-clause-refused g n c =
-    let env = resolved_in g.E.Context.environment c.args.place.now in
-    let seen = place_view g.C.FluentType.meaning c.args.place.now c.args.locals in
-    let here = seen c.args.progress.now in
-    let s0 = state c.args.progress.now in
-    let b = s0.budget in
-    let some = c.in-Some.arguments in
-    let parts = out-CallArguments (Bor (List ℕ)) some in
-    let ps = inlines_of (map (inline_view (Bor (List ℕ)) (λ s. s.now)) parts.positional.items) in
-    let ns = nameds_of (map (named_view (Bor (List ℕ)) (λ s. s.now)) parts.named.items) in
-    let given = maybe_arguments (option_map (arguments_view (Bor (List ℕ)) (λ s. s.now)) c.args.arguments.now) in
-    let out : given ≡ t.with_arguments (t.arguments ps ns) = ap (λ o. maybe_arguments (option_map (arguments_view (Bor (List ℕ)) (λ s. s.now)) o)) c.in-Some.is ∙ ap t.with_arguments (arguments_view-out (Bor (List ℕ)) (λ s. s.now) some) in
-    on-err _ (tells-like _ refl (tells-as (ap (λ a. s.arguments_found env a here b) (sym out)) (args-first env here ps ns c.in_err-positional_values-in-Some.ensures.refused)))
+    let env = resolved_in c.args.place.now in
+    let here = place_view c.args.place.now c.args.progress.now in
+    let is = ap (λ o. s.arguments_found env (maybe_arguments_of o) here (state c.args.progress.now).budget) (sym c.in-Some.is) in
+    on-err _ (tells-like _ refl (tells-as is (given-first env here c.in-Some.arguments c.in_err-positional_values-in-Some.ensures.refused)))
 
 pub arguments::own_arguments-returns-in-None-clause-found : goal.arguments::own_arguments-returns-in-None-clause-found
 arguments::own_arguments-returns-in-None-clause-found g n c =
-    let env = resolved_in g.E.Context.environment c.args.place.now in
-    let seen = place_view g.C.FluentType.meaning c.args.place.now c.args.locals in
-    let here = seen c.args.progress.now in
+    let env = resolved_in c.args.place.now in
+    let here = place_view c.args.place.now c.args.progress.now in
     let s0 = state c.args.progress.now in
     let b = s0.budget in
-    let none = ap (λ o. maybe_arguments (option_map (arguments_view (Bor (List ℕ)) (λ s. s.now)) o)) c.in-None.is in
-    finds-done _ [] s0 _ (within c.args.progress.now) (ap (mapped (λ called. called.named)) (ap (λ m. s.arguments_found env m here b) none ∙ arguments-none env here b)) c.new.ensures
+    finds-done _ [] s0 _ (within c.args.progress.now) (ap (mapped (λ called. called.named)) (ap (λ m. s.arguments_found env m here b) (ap maybe_arguments_of c.in-None.is) ∙ arguments-none env here b)) c.new.ensures
 
 pub arguments::positional_values-loop-argument-init : goal.arguments::positional_values-loop-argument-init
 arguments::positional_values-loop-argument-init g n c =
-    let env = resolved_in g.E.Context.environment c.args.place.now in
-    let seen = place_view g.C.FluentType.meaning c.args.place.now c.args.locals in
-    let here = seen c.args.progress.now in
+    let env = resolved_in c.args.place.now in
+    let here = place_view c.args.place.now c.args.progress.now in
     let s0 = state c.args.progress.now in
     let b = s0.budget in
     record { found = finds-done _ [] s0 _ (within c.args.progress.now) (positional-none env here b) (ap (map (value_view g.C.FluentType.meaning)) c.in_ok-values.ensures.items); path = refl }
 
 pub arguments::positional_values-returns-in_err-value_of-clause-refused : goal.arguments::positional_values-returns-in_err-value_of-clause-refused
 arguments::positional_values-returns-in_err-value_of-clause-refused g n c =
-    let env = resolved_in g.E.Context.environment c.args.place.now in
-    let seen = place_view g.C.FluentType.meaning c.args.place.now c.args.locals in
+    let env = resolved_in c.args.place.now in
+    let seen = place_view c.args.place.now in
     let here = seen c.args.progress.now in
-    let s0 = state c.args.progress.now in
-    let b = s0.budget in
-    let view = inline_view (Bor (List ℕ)) (λ s. s.now) in
+    let b = (state c.args.progress.now).budget in
+    let view = inline_of in
     let items = c.deref-argument-items.result.now in
     let i = c.loop-argument.argument-index in
     let xs = map view (take i items) in
     let ys = map view (drop (i + 1) items) in
     let arg = c.argument-item.result in
     let u = state c.loop-argument.progress in
-    let same : seen c.loop-argument.progress ≡ here = ap (λ (ps : List (Bor (Pattern (Bor (List ℕ))))). record { arguments = here.arguments; locals = here.locals; path = map (λ (x : Bor (Pattern (Bor (List ℕ)))). pattern_view (Bor (List ℕ)) (λ s. s.now) x.now) ps }) (c.loop-argument.invariant.path) in
-    let split : drop i items ≡ arg ∷ drop (i + 1) items = drop-here items i arg c.loop-argument-test.true c.argument-item.is in
-    let joined : xs ++ view arg ∷ ys ≡ map view items = ap (λ zs. xs ++ map view zs) (sym split) ∙ sym (map-append view (take i items) (drop i items)) ∙ ap (map view) (take-append-drop i items) in
+    let same : seen c.loop-argument.progress ≡ here = same-place c.args.place.now c.loop-argument.invariant.path in
+    let joined : xs ++ view arg ∷ ys ≡ map view items = around view items i arg c.loop-argument-test.true c.argument-item.is in
     let whole : inlines_of (xs ++ view arg ∷ ys) ≡ inlines_of (map view c.args.arguments.now.items) = ap inlines_of (joined ∙ ap (map view) c.deref-argument-items.ensures.value) in
     let v = state c.value_of.new.progress in
     let inner : TellsSome u v (s.value_found env (view arg) here u.budget) = subst (λ p. TellsSome u v (s.value_found env (view arg) p u.budget)) same c.in_err-value_of.ensures.refused in
@@ -828,21 +621,19 @@ arguments::positional_values-returns-in_err-value_of-clause-refused g n c =
 
 pub arguments::positional_values-returns-in_err-push-clause-refused : goal.arguments::positional_values-returns-in_err-push-clause-refused
 arguments::positional_values-returns-in_err-push-clause-refused g n c =
-    let env = resolved_in g.E.Context.environment c.args.place.now in
-    let seen = place_view g.C.FluentType.meaning c.args.place.now c.args.locals in
+    let env = resolved_in c.args.place.now in
+    let seen = place_view c.args.place.now in
     let here = seen c.args.progress.now in
-    let s0 = state c.args.progress.now in
-    let b = s0.budget in
-    let view = inline_view (Bor (List ℕ)) (λ s. s.now) in
+    let b = (state c.args.progress.now).budget in
+    let view = inline_of in
     let items = c.deref-argument-items.result.now in
     let i = c.loop-argument.argument-index in
     let xs = map view (take i items) in
     let ys = map view (drop (i + 1) items) in
     let arg = c.argument-item.result in
     let u = state c.loop-argument.progress in
-    let same : seen c.loop-argument.progress ≡ here = ap (λ (ps : List (Bor (Pattern (Bor (List ℕ))))). record { arguments = here.arguments; locals = here.locals; path = map (λ (x : Bor (Pattern (Bor (List ℕ)))). pattern_view (Bor (List ℕ)) (λ s. s.now) x.now) ps }) (c.loop-argument.invariant.path) in
-    let split : drop i items ≡ arg ∷ drop (i + 1) items = drop-here items i arg c.loop-argument-test.true c.argument-item.is in
-    let joined : xs ++ view arg ∷ ys ≡ map view items = ap (λ zs. xs ++ map view zs) (sym split) ∙ sym (map-append view (take i items) (drop i items)) ∙ ap (map view) (take-append-drop i items) in
+    let same : seen c.loop-argument.progress ≡ here = same-place c.args.place.now c.loop-argument.invariant.path in
+    let joined : xs ++ view arg ∷ ys ≡ map view items = around view items i arg c.loop-argument-test.true c.argument-item.is in
     let whole : inlines_of (xs ++ view arg ∷ ys) ≡ inlines_of (map view c.args.arguments.now.items) = ap inlines_of (joined ∙ ap (map view) c.deref-argument-items.ensures.value) in
     let v = state c.value_of.new.progress in
     let value = value_view g.C.FluentType.meaning c.in_ok-value_of.field-0 in
@@ -855,503 +646,186 @@ arguments::positional_values-returns-in_err-values-clause-refused g n c =
 
 pub arguments::positional_values-loop-argument-preserved : goal.arguments::positional_values-loop-argument-preserved
 arguments::positional_values-loop-argument-preserved g n c =
-    let env = resolved_in g.E.Context.environment c.args.place.now in
-    let seen = place_view g.C.FluentType.meaning c.args.place.now c.args.locals in
+    let env = resolved_in c.args.place.now in
+    let seen = place_view c.args.place.now in
     let here = seen c.args.progress.now in
-    let s0 = state c.args.progress.now in
-    let b = s0.budget in
-    let view = inline_view (Bor (List ℕ)) (λ s. s.now) in
+    let b = (state c.args.progress.now).budget in
+    let view = inline_of in
     let items = c.deref-argument-items.result.now in
     let i = c.loop-argument.argument-index in
     let xs = map view (take i items) in
-    let ys = map view (drop (i + 1) items) in
     let arg = c.argument-item.result in
     let u = state c.loop-argument.progress in
-    let same : seen c.loop-argument.progress ≡ here = ap (λ (ps : List (Bor (Pattern (Bor (List ℕ))))). record { arguments = here.arguments; locals = here.locals; path = map (λ (x : Bor (Pattern (Bor (List ℕ)))). pattern_view (Bor (List ℕ)) (λ s. s.now) x.now) ps }) (c.loop-argument.invariant.path) in
-    let split : drop i items ≡ arg ∷ drop (i + 1) items = drop-here items i arg c.loop-argument-test.true c.argument-item.is in
-    let joined : xs ++ view arg ∷ ys ≡ map view items = ap (λ zs. xs ++ map view zs) (sym split) ∙ sym (map-append view (take i items) (drop i items)) ∙ ap (map view) (take-append-drop i items) in
-    let whole : inlines_of (xs ++ view arg ∷ ys) ≡ inlines_of (map view c.args.arguments.now.items) = ap inlines_of (joined ∙ ap (map view) c.deref-argument-items.ensures.value) in
+    let same : seen c.loop-argument.progress ≡ here = same-place c.args.place.now c.loop-argument.invariant.path in
     let v = state c.value_of.new.progress in
     let value = value_view g.C.FluentType.meaning c.in_ok-value_of.field-0 in
     let one : Finds value u v (s.value_found env (view arg) here) = subst (λ p. Finds value u v (s.value_found env (view arg) p)) same c.in_ok-value_of.ensures.found in
-    let more = positional-one env here xs (view arg) c.loop-argument.invariant.found one in
-    let grown = map-up-to view items i arg c.loop-argument-test.true c.argument-item.is in
     let pushed = ap (map (value_view g.C.FluentType.meaning)) c.in_ok-push.ensures.items ∙ map-append (value_view g.C.FluentType.meaning) c.loop-argument.values.items (c.in_ok-value_of.field-0 ∷ []) in
-    let step = finds-as (λ x. s.positional_found env (inlines_of (xs ++ view arg ∷ [])) here x) (λ x. s.positional_found env (inlines_of (map view (take (i + 1) items))) here x) (ap (λ zs. s.positional_found env (inlines_of zs) here b) grown) more in
+    let step = finds-as (λ x. s.positional_found env (inlines_of (xs ++ view arg ∷ [])) here x) (λ x. s.positional_found env (inlines_of (map view (take (i + 1) items))) here x) (ap (λ zs. s.positional_found env (inlines_of zs) here b) (map-up-to view items i arg c.loop-argument-test.true c.argument-item.is)) (positional-one env here xs (view arg) c.loop-argument.invariant.found one) in
     record { found = record { value = pushed ∙ step.value; state = step.state }; path = c.in_ok-value_of.ensures.path ∙ c.loop-argument.invariant.path }
 
 pub arguments::positional_values-value_of-requires : goal.arguments::positional_values-value_of-requires
 arguments::positional_values-value_of-requires g n c κs inside0 =
-    let env = resolved_in g.E.Context.environment c.args.place.now in
-    let seen = place_view g.C.FluentType.meaning c.args.place.now c.args.locals in
-    let here = seen c.args.progress.now in
-    let s0 = state c.args.progress.now in
-    let b = s0.budget in
-    let view = inline_view (Bor (List ℕ)) (λ s. s.now) in
+    let env = resolved_in c.args.place.now in
+    let here = (place_view c.args.place.now) c.args.progress.now in
+    let b = (state c.args.progress.now).budget in
+    let view = inline_of in
     let items = c.deref-argument-items.result.now in
     let i = c.loop-argument.argument-index in
     let xs = map view (take i items) in
-    let ys = map view (drop (i + 1) items) in
     let arg = c.argument-item.result in
     let u = state c.loop-argument.progress in
-    let same : seen c.loop-argument.progress ≡ here = ap (λ (ps : List (Bor (Pattern (Bor (List ℕ))))). record { arguments = here.arguments; locals = here.locals; path = map (λ (x : Bor (Pattern (Bor (List ℕ)))). pattern_view (Bor (List ℕ)) (λ s. s.now) x.now) ps }) (c.loop-argument.invariant.path) in
-    let split : drop i items ≡ arg ∷ drop (i + 1) items = drop-here items i arg c.loop-argument-test.true c.argument-item.is in
-    let joined : xs ++ view arg ∷ ys ≡ map view items = ap (λ zs. xs ++ map view zs) (sym split) ∙ sym (map-append view (take i items) (drop i items)) ∙ ap (map view) (take-append-drop i items) in
-    let whole : inlines_of (xs ++ view arg ∷ ys) ≡ inlines_of (map view c.args.arguments.now.items) = ap inlines_of (joined ∙ ap (map view) c.deref-argument-items.ensures.value) in
-    let w = suc (ids_weight (ids_view _ c.args.place.now.ids.now)) in
     let fall : left u.budget ≤ left b = finds-left (λ x. s.positional_found env (inlines_of xs) here x) c.loop-argument.invariant.found (positional-falls env (s.pattern_written env) (pattern-falls env) (inlines_of xs) here b) in
     let at : view arg ≡ get_or (map view items) i (view arg) = get_or-view view items i arg c.loop-argument-test.true c.argument-item.is in
     let light : inline_weight (view arg) < inlines_weight (inlines_of (map view c.args.arguments.now.items)) = subst (λ zs. inline_weight (view arg) < inlines_weight (inlines_of zs)) (ap (map view) c.deref-argument-items.ensures.value) (weight-positional (map view items) i (view arg) (subst (λ n. i < n) (sym (length-map items view)) c.loop-argument-test.true) at) in
-    let less = less-part (suc (left u.budget)) (suc (left b)) w (inline_weight (view arg)) (inlines_weight (inlines_of (map view c.args.arguments.now.items))) 3 3 (omega (arith, fall)) light (omega arith) in
+    let less = less-part (suc (left u.budget)) (suc (left b)) (suc (ids_weight (ids_view _ c.args.place.now.ids.now))) (inline_weight (view arg)) (inlines_weight (inlines_of (map view c.args.arguments.now.items))) 3 3 (omega (arith, fall)) light (omega arith) in
     let measure = c.decreases in search rules
 
 pub expression::choose-value_of-requires : goal.expression::choose-value_of-requires
 expression::choose-value_of-requires g n c κs inside0 =
-    let env = resolved_in g.E.Context.environment c.args.place.now in
-    let seen = place_view g.C.FluentType.meaning c.args.place.now c.args.locals in
-    let here = seen c.args.progress.now in
-    let s0 = state c.args.progress.now in
-    let b = s0.budget in
-    let i = inline_view (Bor (List ℕ)) (λ s. s.now) c.args.selector.now in
-    let vs = variants_of (map (variant_view (Bor (List ℕ)) (λ s. s.now)) c.args.variants.now.items) in
-    let pick : v.Value g.row.C-Meaning.Denot → Option Elements = λ x. chosen env.plurals x vs in
-    let w = suc (ids_weight (ids_view _ c.args.place.now.ids.now)) in
-    let less = less-part (suc (left b)) (suc (left b)) w (inline_weight i) (expression_weight (t.select i vs)) 3 0 (le_refl (suc (left b))) (weight-select i vs) (omega arith) in
+    let b = (state c.args.progress.now).budget in
+    let i = inline_of c.args.selector.now in
+    let vs = variants_of c.args.variants.now.items in
+    let less = less-part (suc (left b)) (suc (left b)) (suc (ids_weight (ids_view _ c.args.place.now.ids.now))) (inline_weight i) (expression_weight (t.select i vs)) 3 0 (le_refl (suc (left b))) (weight-select i vs) (omega arith) in
     let measure = c.decreases in search rules
 
 pub expression::write_select-returns-in_err-pattern-clause-refused : goal.expression::write_select-returns-in_err-pattern-clause-refused
 expression::write_select-returns-in_err-pattern-clause-refused g n c =
-    let env = resolved_in g.E.Context.environment c.args.place.now in
-    let seen = place_view g.C.FluentType.meaning c.args.place.now c.args.locals in
-    let here = seen c.args.progress.now in
-    let s0 = state c.args.progress.now in
-    let b = s0.budget in
-    let i = inline_view (Bor (List ℕ)) (λ s. s.now) c.args.selector.now in
-    let vs = variants_of (map (variant_view (Bor (List ℕ)) (λ s. s.now)) c.args.variants.now.items) in
-    let pick : v.Value g.row.C-Meaning.Denot → Option Elements = λ x. chosen env.plurals x vs in
-    on-err _ (tells-as (sym (expression-select env here b i vs)) (tells-first (λ v c. s.variant_written env (s.pattern_written env) (pick v) here c) (tells-like (s.value_found env i here b) refl c.in_err-pattern.ensures.refused)))
+    on-err _ (select-first (resolved_in c.args.place.now) (place_view c.args.place.now c.args.progress.now) (inline_of c.args.selector.now) (variants_of c.args.variants.now.items) c.in_err-pattern.ensures.refused)
 
 pub expression::write_select-returns-in-None-clause-wrote : goal.expression::write_select-returns-in-None-clause-wrote
 expression::write_select-returns-in-None-clause-wrote g n c =
-    let env = resolved_in g.E.Context.environment c.args.place.now in
-    let seen = place_view g.C.FluentType.meaning c.args.place.now c.args.locals in
-    let here = seen c.args.progress.now in
-    let s0 = state c.args.progress.now in
-    let b = s0.budget in
-    let i = inline_view (Bor (List ℕ)) (λ s. s.now) c.args.selector.now in
-    let vs = variants_of (map (variant_view (Bor (List ℕ)) (λ s. s.now)) c.args.variants.now.items) in
-    let pick : v.Value g.row.C-Meaning.Denot → Option Elements = λ x. chosen env.plurals x vs in
-    let u = state c.choose.new.progress in
-    let first = c.in_ok-pattern.ensures.found in
-    let next : Option Elements → Budget → Done Text = λ o x. s.variant_written env (s.pattern_written env) o here x in
-    let same : seen c.choose.new.progress ≡ here = ap (λ (ps : List (Bor (Pattern (Bor (List ℕ))))). record { arguments = here.arguments; locals = here.locals; path = map (λ (x : Bor (Pattern (Bor (List ℕ)))). pattern_view (Bor (List ℕ)) (λ s. s.now) x.now) ps }) (c.in_ok-pattern.ensures.path) in
-    let o = option_map (pattern_view (Bor (List ℕ)) (λ s. s.now)) (option_copied c.in_ok-pattern.field-0) in
-    let none : o ≡ None = ap (λ q. option_map (pattern_view (Bor (List ℕ)) (λ s. s.now)) (option_copied q)) c.in-None.is in
-    let told : OnOk c.add_error.result (Writes (string_bytes c.args.out.now) (string_bytes c.args.out.now) u (state c.add_error.new.self) (next None)) =
-    on_ok_weaker c.add_error.result (λ h. record { text = sym (append-nil (string_bytes c.args.out.now)); state = h ∙ told-after {A = Text} [] missing_default u (within c.choose.new.progress) refl }) c.add_error.ensures.told in
-    on_ok_weaker c.add_error.result (λ h. writes-as _ _ (sym (expression-select env here b i vs)) (finds-then-writes (λ x. mapped pick (s.value_found env i here x)) first next (subst (λ k. Writes (string_bytes c.args.out.now) (string_bytes c.args.out.now) u (state c.add_error.new.self) (next k)) (sym none) h))) told
+    on_ok_weaker c.add_error.result (λ h. none-writes (resolved_in c.args.place.now) (place_view c.args.place.now c.args.progress.now) (inline_of c.args.selector.now) (variants_of c.args.variants.now.items) c.in_ok-pattern.ensures.found (ap (λ q. option_map pattern_of (option_copied q)) c.in-None.is) (within c.choose.new.progress) h) c.add_error.ensures.told
 
 pub expression::write_select-returns-in-None-clause-refused : goal.expression::write_select-returns-in-None-clause-refused
 expression::write_select-returns-in-None-clause-refused g n c =
-    let env = resolved_in g.E.Context.environment c.args.place.now in
-    let seen = place_view g.C.FluentType.meaning c.args.place.now c.args.locals in
-    let here = seen c.args.progress.now in
-    let s0 = state c.args.progress.now in
-    let b = s0.budget in
-    let i = inline_view (Bor (List ℕ)) (λ s. s.now) c.args.selector.now in
-    let vs = variants_of (map (variant_view (Bor (List ℕ)) (λ s. s.now)) c.args.variants.now.items) in
-    let pick : v.Value g.row.C-Meaning.Denot → Option Elements = λ x. chosen env.plurals x vs in
-    let u = state c.choose.new.progress in
-    let first = c.in_ok-pattern.ensures.found in
-    let next : Option Elements → Budget → Done Text = λ o x. s.variant_written env (s.pattern_written env) o here x in
-    let same : seen c.choose.new.progress ≡ here = ap (λ (ps : List (Bor (Pattern (Bor (List ℕ))))). record { arguments = here.arguments; locals = here.locals; path = map (λ (x : Bor (Pattern (Bor (List ℕ)))). pattern_view (Bor (List ℕ)) (λ s. s.now) x.now) ps }) (c.in_ok-pattern.ensures.path) in
-    let h0 : TellsSome s0 u (mapped pick (s.value_found env i here b)) = found-tells (λ x. mapped pick (s.value_found env i here x)) first in
-    on_err_weaker c.add_error.result (λ h. tells-as (sym (expression-select env here b i vs)) (tells-first (λ v c. s.variant_written env (s.pattern_written env) (pick v) here c) (subst (λ r. TellsSome s0 r (s.value_found env i here b)) (sym h) (tells-like (s.value_found env i here b) refl h0)))) c.add_error.ensures.refused
+    on_err_weaker c.add_error.result (λ h. none-tells (resolved_in c.args.place.now) (place_view c.args.place.now c.args.progress.now) (inline_of c.args.selector.now) (variants_of c.args.variants.now.items) c.in_ok-pattern.ensures.found h) c.add_error.ensures.refused
 
 pub expression::write_select-returns-in-Some-clause-wrote : goal.expression::write_select-returns-in-Some-clause-wrote
 expression::write_select-returns-in-Some-clause-wrote g n c =
-    let env = resolved_in g.E.Context.environment c.args.place.now in
-    let seen = place_view g.C.FluentType.meaning c.args.place.now c.args.locals in
-    let here = seen c.args.progress.now in
-    let s0 = state c.args.progress.now in
-    let b = s0.budget in
-    let i = inline_view (Bor (List ℕ)) (λ s. s.now) c.args.selector.now in
-    let vs = variants_of (map (variant_view (Bor (List ℕ)) (λ s. s.now)) c.args.variants.now.items) in
-    let pick : v.Value g.row.C-Meaning.Denot → Option Elements = λ x. chosen env.plurals x vs in
-    let u = state c.choose.new.progress in
-    let first = c.in_ok-pattern.ensures.found in
-    let next : Option Elements → Budget → Done Text = λ o x. s.variant_written env (s.pattern_written env) o here x in
-    let same : seen c.choose.new.progress ≡ here = ap (λ (ps : List (Bor (Pattern (Bor (List ℕ))))). record { arguments = here.arguments; locals = here.locals; path = map (λ (x : Bor (Pattern (Bor (List ℕ)))). pattern_view (Bor (List ℕ)) (λ s. s.now) x.now) ps }) (c.in_ok-pattern.ensures.path) in
-    let pat = pattern_view (Bor (List ℕ)) (λ s. s.now) c.in-Some.pattern.now in
-    let o = option_map (pattern_view (Bor (List ℕ)) (λ s. s.now)) (option_copied c.in_ok-pattern.field-0) in
-    let some : o ≡ Some pat = ap (λ q. option_map (pattern_view (Bor (List ℕ)) (λ s. s.now)) (option_copied q)) c.in-Some.is in
-    let counted = c.count_entry.ensures.counted in
-    let at_place : seen c.count_entry.new.self ≡ here = ap (λ (z : Vec (Bor (Pattern (Bor (List ℕ)))) Global). record { arguments = here.arguments; locals = here.locals; path = map (λ (x : Bor (Pattern (Bor (List ℕ)))). pattern_view (Bor (List ℕ)) (λ s. s.now) x.now) z.items }) c.count_entry.ensures.path ∙ same in
-    let q = state c.count_entry.new.self in
-    let z = state c.write_pattern.new.progress in
-    on_ok_weaker c.write_pattern.result (λ h.
-    let x = string_bytes c.args.out.now in
-    let y = string_bytes c.write_pattern.new.out in
-    let inner : Writes x y q z (s.pattern_written env pat here) = subst (λ p. Writes x y q z (s.pattern_written env pat p)) at_place h in
-    let entered : Writes x y u z (next (Some pat)) = entered-writes counted (s.pattern_written env pat here) inner in
-    writes-as _ _ (sym (expression-select env here b i vs)) (finds-then-writes (λ x. mapped pick (s.value_found env i here x)) first next (subst (λ k. Writes x y u z (next k)) (sym some) entered))) c.write_pattern.ensures.wrote
+    let at_place = kept-place c.args.place.now c.count_entry.ensures.path ∙ same-place c.args.place.now c.in_ok-pattern.ensures.path in
+    on_ok_weaker c.write_pattern.result (λ h. variant-writes (resolved_in c.args.place.now) (place_view c.args.place.now c.args.progress.now) (inline_of c.args.selector.now) (variants_of c.args.variants.now.items) c.in_ok-pattern.ensures.found (ap (λ q. option_map pattern_of (option_copied q)) c.in-Some.is) c.count_entry.ensures.counted at_place h) c.write_pattern.ensures.wrote
 
 pub expression::write_select-returns-in-Some-clause-refused : goal.expression::write_select-returns-in-Some-clause-refused
 expression::write_select-returns-in-Some-clause-refused g n c =
-    let env = resolved_in g.E.Context.environment c.args.place.now in
-    let seen = place_view g.C.FluentType.meaning c.args.place.now c.args.locals in
-    let here = seen c.args.progress.now in
-    let s0 = state c.args.progress.now in
-    let b = s0.budget in
-    let i = inline_view (Bor (List ℕ)) (λ s. s.now) c.args.selector.now in
-    let vs = variants_of (map (variant_view (Bor (List ℕ)) (λ s. s.now)) c.args.variants.now.items) in
-    let pick : v.Value g.row.C-Meaning.Denot → Option Elements = λ x. chosen env.plurals x vs in
-    let u = state c.choose.new.progress in
-    let first = c.in_ok-pattern.ensures.found in
-    let next : Option Elements → Budget → Done Text = λ o x. s.variant_written env (s.pattern_written env) o here x in
-    let same : seen c.choose.new.progress ≡ here = ap (λ (ps : List (Bor (Pattern (Bor (List ℕ))))). record { arguments = here.arguments; locals = here.locals; path = map (λ (x : Bor (Pattern (Bor (List ℕ)))). pattern_view (Bor (List ℕ)) (λ s. s.now) x.now) ps }) (c.in_ok-pattern.ensures.path) in
-    let pat = pattern_view (Bor (List ℕ)) (λ s. s.now) c.in-Some.pattern.now in
-    let o = option_map (pattern_view (Bor (List ℕ)) (λ s. s.now)) (option_copied c.in_ok-pattern.field-0) in
-    let some : o ≡ Some pat = ap (λ q. option_map (pattern_view (Bor (List ℕ)) (λ s. s.now)) (option_copied q)) c.in-Some.is in
-    let counted = c.count_entry.ensures.counted in
-    let at_place : seen c.count_entry.new.self ≡ here = ap (λ (z : Vec (Bor (Pattern (Bor (List ℕ)))) Global). record { arguments = here.arguments; locals = here.locals; path = map (λ (x : Bor (Pattern (Bor (List ℕ)))). pattern_view (Bor (List ℕ)) (λ s. s.now) x.now) z.items }) c.count_entry.ensures.path ∙ same in
-    let q = state c.count_entry.new.self in
-    let z = state c.write_pattern.new.progress in
-    on_err_weaker c.write_pattern.result (λ h.
-    let inner : TellsSome q z (s.pattern_written env pat here q.budget) = subst (λ p. TellsSome q z (s.pattern_written env pat p q.budget)) at_place h in
-    let entered : TellsSome u z (next (Some pat) u.budget) = entered-tells counted (s.pattern_written env pat here) inner in
-    tells-as (sym (expression-select env here b i vs)) (tells-found (λ x. mapped pick (s.value_found env i here x)) first next (subst (λ k. TellsSome u z (next k u.budget)) (sym some) entered))) c.write_pattern.ensures.refused
+    let at_place = kept-place c.args.place.now c.count_entry.ensures.path ∙ same-place c.args.place.now c.in_ok-pattern.ensures.path in
+    on_err_weaker c.write_pattern.result (λ h. variant-tells (resolved_in c.args.place.now) (place_view c.args.place.now c.args.progress.now) (inline_of c.args.selector.now) (variants_of c.args.variants.now.items) c.in_ok-pattern.ensures.found (ap (λ q. option_map pattern_of (option_copied q)) c.in-Some.is) c.count_entry.ensures.counted at_place h) c.write_pattern.ensures.refused
 
 pub expression::write_select-write_pattern-requires : goal.expression::write_select-write_pattern-requires
 expression::write_select-write_pattern-requires g n c κs inside0 =
-    let env = resolved_in g.E.Context.environment c.args.place.now in
-    let seen = place_view g.C.FluentType.meaning c.args.place.now c.args.locals in
-    let here = seen c.args.progress.now in
-    let s0 = state c.args.progress.now in
-    let b = s0.budget in
-    let i = inline_view (Bor (List ℕ)) (λ s. s.now) c.args.selector.now in
-    let vs = variants_of (map (variant_view (Bor (List ℕ)) (λ s. s.now)) c.args.variants.now.items) in
+    let env = resolved_in c.args.place.now in
+    let here = (place_view c.args.place.now) c.args.progress.now in
+    let b = (state c.args.progress.now).budget in
+    let i = inline_of c.args.selector.now in
+    let vs = variants_of c.args.variants.now.items in
     let pick : v.Value g.row.C-Meaning.Denot → Option Elements = λ x. chosen env.plurals x vs in
     let u = state c.choose.new.progress in
     let first = c.in_ok-pattern.ensures.found in
-    let next : Option Elements → Budget → Done Text = λ o x. s.variant_written env (s.pattern_written env) o here x in
-    let same : seen c.choose.new.progress ≡ here = ap (λ (ps : List (Bor (Pattern (Bor (List ℕ))))). record { arguments = here.arguments; locals = here.locals; path = map (λ (x : Bor (Pattern (Bor (List ℕ)))). pattern_view (Bor (List ℕ)) (λ s. s.now) x.now) ps }) (c.in_ok-pattern.ensures.path) in
-    let pat = pattern_view (Bor (List ℕ)) (λ s. s.now) c.in-Some.pattern.now in
-    let o = option_map (pattern_view (Bor (List ℕ)) (λ s. s.now)) (option_copied c.in_ok-pattern.field-0) in
-    let some : o ≡ Some pat = ap (λ q. option_map (pattern_view (Bor (List ℕ)) (λ s. s.now)) (option_copied q)) c.in-Some.is in
-    let counted = c.count_entry.ensures.counted in
-    let at_place : seen c.count_entry.new.self ≡ here = ap (λ (z : Vec (Bor (Pattern (Bor (List ℕ)))) Global). record { arguments = here.arguments; locals = here.locals; path = map (λ (x : Bor (Pattern (Bor (List ℕ)))). pattern_view (Bor (List ℕ)) (λ s. s.now) x.now) z.items }) c.count_entry.ensures.path ∙ same in
+    let pat = pattern_of c.in-Some.pattern.now in
+    let some : (option_map pattern_of (option_copied c.in_ok-pattern.field-0)) ≡ Some pat = ap (λ q. option_map pattern_of (option_copied q)) c.in-Some.is in
     let q = state c.count_entry.new.self in
-    let w = suc (ids_weight (ids_view _ c.args.place.now.ids.now)) in
     let fall : left u.budget ≤ left b = finds-left (λ x. mapped pick (s.value_found env i here x)) first (falls-mapped pick (value-falls env (s.pattern_written env) (pattern-falls env) i here b)) in
-    let same_budget : left q.budget ≡ left u.budget = ap (λ (x : State). left x.budget) counted in
-    let light = variants-weigh env.plurals (s.value_found env i here b).value i vs pat (sym first.value ∙ some) in
-    let less = less-part (left q.budget) (suc (left b)) w (elements_weight pat) (expression_weight (t.select i vs)) 1 1 (omega (arith, fall, same_budget)) light (omega arith) in
+    let same_budget : left q.budget ≡ left u.budget = ap (λ (x : State). left x.budget) c.count_entry.ensures.counted in
+    let less = less-part (left q.budget) (suc (left b)) (suc (ids_weight (ids_view _ c.args.place.now.ids.now))) (elements_weight pat) (expression_weight (t.select i vs)) 1 1 (omega (arith, fall, same_budget)) (variants-weigh env.plurals (s.value_found env i here b).value i vs pat (sym first.value ∙ some)) (omega arith) in
     let measure = c.decreases in search rules
 
 pub expression::write_term-returns-in_err-own-clause-refused : goal.expression::write_term-returns-in_err-own-clause-refused
 expression::write_term-returns-in_err-own-clause-refused g n c =
-    let env = resolved_in g.E.Context.environment c.args.place.now in
-    let seen = place_view g.C.FluentType.meaning c.args.place.now c.args.locals in
-    let here = seen c.args.progress.now in
-    let s0 = state c.args.progress.now in
-    let b = s0.budget in
-    let id = name_of (Bor (List ℕ)) (λ s. s.now) c.args.id.now in
-    let attr = option_map (name_of (Bor (List ℕ)) (λ s. s.now)) c.args.attribute.now in
-    let given = maybe_arguments (option_map (arguments_view (Bor (List ℕ)) (λ s. s.now)) c.args.arguments.now) in
-    let i = inline_view (Bor (List ℕ)) (λ s. s.now) c.args.inline.now in
-    let is : i ≡ t.term_reference id attr given = c.requires in
-    on-err _ (tells-as (sym (ap (λ x. s.inline_written env x here b) is ∙ inline-term env here b id attr given)) (tells-first (λ called c. s.target_written env (s.pattern_written env) (t.term_reference id attr given) (s.term_target id attr (env.find id)) (s.in_term called.named here) c) (tells-like (s.arguments_found env given here b) refl c.in_err-own.ensures.refused)))
+    on-err _ (term-first (resolved_in c.args.place.now) (place_view c.args.place.now c.args.progress.now) c.requires c.in_err-own.ensures.refused)
 
 pub expression::write_term-returns-in_err-target-clause-refused : goal.expression::write_term-returns-in_err-target-clause-refused
 expression::write_term-returns-in_err-target-clause-refused g n c =
-    let env = resolved_in g.E.Context.environment c.args.place.now in
-    let seen = place_view g.C.FluentType.meaning c.args.place.now c.args.locals in
-    let here = seen c.args.progress.now in
-    let s0 = state c.args.progress.now in
-    let b = s0.budget in
-    let id = name_of (Bor (List ℕ)) (λ s. s.now) c.args.id.now in
-    let attr = option_map (name_of (Bor (List ℕ)) (λ s. s.now)) c.args.attribute.now in
-    let given = maybe_arguments (option_map (arguments_view (Bor (List ℕ)) (λ s. s.now)) c.args.arguments.now) in
-    let i = inline_view (Bor (List ℕ)) (λ s. s.now) c.args.inline.now in
-    let is : i ≡ t.term_reference id attr given = c.requires in
-    let u = state c.own_arguments.new.progress in
-    let first = c.in_ok-own.ensures.found in
-    let same : seen c.own_arguments.new.progress ≡ here = ap (λ (ps : List (Bor (Pattern (Bor (List ℕ))))). record { arguments = here.arguments; locals = here.locals; path = map (λ (x : Bor (Pattern (Bor (List ℕ)))). pattern_view (Bor (List ℕ)) (λ s. s.now) x.now) ps }) (c.in_ok-own.ensures.path) in
-    let named = args_view g.C.FluentType.meaning c.in_ok-own.own in
-    let found : Finds named s0 u (λ x. mapped (λ called. called.named) (s.arguments_found env given here x)) = first in
-    let next : List (Text × v.Value g.row.C-Meaning.Denot) → Budget → Done Text = λ n x. s.target_written env (s.pattern_written env) (t.term_reference id attr given) (s.term_target id attr (env.find id)) (s.in_term n here) x in
-    let eq = inline-term env here b id attr given in
-    on-err _ (tells-as (sym (ap (λ x. s.inline_written env x here b) is ∙ eq)) (tells-first (λ called c. s.target_written env (s.pattern_written env) (t.term_reference id attr given) (s.term_target id attr (env.find id)) (s.in_term called.named here) c) (tells-like (s.arguments_found env given here b) refl (found-tells (λ x. mapped (λ called. called.named) (s.arguments_found env given here x)) found))))
+    on-err _ (term-tells (resolved_in c.args.place.now) (place_view c.args.place.now c.args.progress.now) c.requires c.in_ok-own.ensures.found)
 
 pub expression::write_term-returns-clause-wrote : goal.expression::write_term-returns-clause-wrote
 expression::write_term-returns-clause-wrote g n c =
-    let env = resolved_in g.E.Context.environment c.args.place.now in
-    let seen = place_view g.C.FluentType.meaning c.args.place.now c.args.locals in
-    let here = seen c.args.progress.now in
-    let s0 = state c.args.progress.now in
-    let b = s0.budget in
-    let id = name_of (Bor (List ℕ)) (λ s. s.now) c.args.id.now in
-    let attr = option_map (name_of (Bor (List ℕ)) (λ s. s.now)) c.args.attribute.now in
-    let given = maybe_arguments (option_map (arguments_view (Bor (List ℕ)) (λ s. s.now)) c.args.arguments.now) in
-    let i = inline_view (Bor (List ℕ)) (λ s. s.now) c.args.inline.now in
-    let is : i ≡ t.term_reference id attr given = c.requires in
-    let u = state c.own_arguments.new.progress in
-    let first = c.in_ok-own.ensures.found in
-    let same : seen c.own_arguments.new.progress ≡ here = ap (λ (ps : List (Bor (Pattern (Bor (List ℕ))))). record { arguments = here.arguments; locals = here.locals; path = map (λ (x : Bor (Pattern (Bor (List ℕ)))). pattern_view (Bor (List ℕ)) (λ s. s.now) x.now) ps }) (c.in_ok-own.ensures.path) in
-    let named = args_view g.C.FluentType.meaning c.in_ok-own.own in
-    let found : Finds named s0 u (λ x. mapped (λ called. called.named) (s.arguments_found env given here x)) = first in
-    let next : List (Text × v.Value g.row.C-Meaning.Denot) → Budget → Done Text = λ n x. s.target_written env (s.pattern_written env) (t.term_reference id attr given) (s.term_target id attr (env.find id)) (s.in_term n here) x in
-    let eq = inline-term env here b id attr given in
-    let target = target_view c.in_ok-target.target in
-    let meant : target ≡ s.term_target id attr (env.find id) = c.in_ok-target.ensures in
-    let z = state c.write_target.new.progress in
-    let inside = ap (λ (p : s.Place g.row.C-Meaning.Denot). record { arguments = here.arguments; locals = Some named; path = p.path }) same in
-    let meaning : s.target_written env (s.pattern_written env) i target (s.in_term named here) u.budget ≡ next named u.budget = ap (λ x. s.target_written env (s.pattern_written env) i x (s.in_term named here) u.budget) meant ∙ ap (λ x. s.target_written env (s.pattern_written env) x (s.term_target id attr (env.find id)) (s.in_term named here) u.budget) is in
-    on_ok_weaker c.write_target.result (λ h.
-    let x = string_bytes c.args.out.now in
-    let y = string_bytes c.write_target.new.out in
-    let inner : Writes x y u z (s.target_written env (s.pattern_written env) i target (s.in_term named here)) = subst (λ p. Writes x y u z (s.target_written env (s.pattern_written env) i target p)) inside h in
-    writes-as _ _ (sym (ap (λ x. s.inline_written env x here b) is ∙ eq)) (finds-then-writes (λ x. mapped (λ called. called.named) (s.arguments_found env given here x)) found next (writes-as _ (next named) meaning inner))) c.write_target.ensures.wrote
+    let inside = ap (s.in_term (args_view g.C.FluentType.meaning c.in_ok-own.own)) (same-place c.args.place.now c.in_ok-own.ensures.path) in
+    on_ok_weaker c.write_target.result (λ h. term-writes (resolved_in c.args.place.now) (place_view c.args.place.now c.args.progress.now) c.requires c.in_ok-own.ensures.found c.in_ok-target.ensures inside h) c.write_target.ensures.wrote
 
 pub expression::write_term-returns-clause-refused : goal.expression::write_term-returns-clause-refused
 expression::write_term-returns-clause-refused g n c =
-    let env = resolved_in g.E.Context.environment c.args.place.now in
-    let seen = place_view g.C.FluentType.meaning c.args.place.now c.args.locals in
-    let here = seen c.args.progress.now in
-    let s0 = state c.args.progress.now in
-    let b = s0.budget in
-    let id = name_of (Bor (List ℕ)) (λ s. s.now) c.args.id.now in
-    let attr = option_map (name_of (Bor (List ℕ)) (λ s. s.now)) c.args.attribute.now in
-    let given = maybe_arguments (option_map (arguments_view (Bor (List ℕ)) (λ s. s.now)) c.args.arguments.now) in
-    let i = inline_view (Bor (List ℕ)) (λ s. s.now) c.args.inline.now in
-    let is : i ≡ t.term_reference id attr given = c.requires in
-    let u = state c.own_arguments.new.progress in
-    let first = c.in_ok-own.ensures.found in
-    let same : seen c.own_arguments.new.progress ≡ here = ap (λ (ps : List (Bor (Pattern (Bor (List ℕ))))). record { arguments = here.arguments; locals = here.locals; path = map (λ (x : Bor (Pattern (Bor (List ℕ)))). pattern_view (Bor (List ℕ)) (λ s. s.now) x.now) ps }) (c.in_ok-own.ensures.path) in
-    let named = args_view g.C.FluentType.meaning c.in_ok-own.own in
-    let found : Finds named s0 u (λ x. mapped (λ called. called.named) (s.arguments_found env given here x)) = first in
-    let next : List (Text × v.Value g.row.C-Meaning.Denot) → Budget → Done Text = λ n x. s.target_written env (s.pattern_written env) (t.term_reference id attr given) (s.term_target id attr (env.find id)) (s.in_term n here) x in
-    let eq = inline-term env here b id attr given in
-    let target = target_view c.in_ok-target.target in
-    let meant : target ≡ s.term_target id attr (env.find id) = c.in_ok-target.ensures in
-    let z = state c.write_target.new.progress in
-    let inside = ap (λ (p : s.Place g.row.C-Meaning.Denot). record { arguments = here.arguments; locals = Some named; path = p.path }) same in
-    let meaning : s.target_written env (s.pattern_written env) i target (s.in_term named here) u.budget ≡ next named u.budget = ap (λ x. s.target_written env (s.pattern_written env) i x (s.in_term named here) u.budget) meant ∙ ap (λ x. s.target_written env (s.pattern_written env) x (s.term_target id attr (env.find id)) (s.in_term named here) u.budget) is in
-    on_err_weaker c.write_target.result (λ h.
-    let inner : TellsSome u z (s.target_written env (s.pattern_written env) i target (s.in_term named here) u.budget) = subst (λ p. TellsSome u z (s.target_written env (s.pattern_written env) i target p u.budget)) inside h in
-    tells-as (sym (ap (λ x. s.inline_written env x here b) is ∙ eq)) (tells-found (λ x. mapped (λ called. called.named) (s.arguments_found env given here x)) found next (tells-as meaning inner))) c.write_target.ensures.refused
+    let inside = ap (s.in_term (args_view g.C.FluentType.meaning c.in_ok-own.own)) (same-place c.args.place.now c.in_ok-own.ensures.path) in
+    on_err_weaker c.write_target.result (λ h. term-refused (resolved_in c.args.place.now) (place_view c.args.place.now c.args.progress.now) c.requires c.in_ok-own.ensures.found c.in_ok-target.ensures inside h) c.write_target.ensures.refused
 
 pub expression::write_term-own_arguments-requires : goal.expression::write_term-own_arguments-requires
 expression::write_term-own_arguments-requires g n c κs inside0 =
-    let env = resolved_in g.E.Context.environment c.args.place.now in
-    let seen = place_view g.C.FluentType.meaning c.args.place.now c.args.locals in
-    let here = seen c.args.progress.now in
-    let s0 = state c.args.progress.now in
-    let b = s0.budget in
-    let id = name_of (Bor (List ℕ)) (λ s. s.now) c.args.id.now in
-    let attr = option_map (name_of (Bor (List ℕ)) (λ s. s.now)) c.args.attribute.now in
-    let given = maybe_arguments (option_map (arguments_view (Bor (List ℕ)) (λ s. s.now)) c.args.arguments.now) in
-    let i = inline_view (Bor (List ℕ)) (λ s. s.now) c.args.inline.now in
+    let b = (state c.args.progress.now).budget in
+    let id = name_of c.args.id.now in
+    let attr = option_map name_of c.args.attribute.now in
+    let given = maybe_arguments_of c.args.arguments.now in
+    let i = inline_of c.args.inline.now in
     let is : i ≡ t.term_reference id attr given = c.requires in
-    let w = suc (ids_weight (ids_view _ c.args.place.now.ids.now)) in
     let weight : inline_weight i ≡ suc (maybe_arguments_weight given) = ap inline_weight is ∙ weight-term id attr given in
-    let less = less-part (suc (left b)) (suc (left b)) w (maybe_arguments_weight given) (inline_weight i) 1 0 (le_refl (suc (left b))) (omega (arith, weight)) (omega arith) in
+    let less = less-part (suc (left b)) (suc (left b)) (suc (ids_weight (ids_view _ c.args.place.now.ids.now))) (maybe_arguments_weight given) (inline_weight i) 1 0 (le_refl (suc (left b))) (omega (arith, weight)) (omega arith) in
     let measure = c.decreases in search rules
 
 pub expression::write_term-write_target-requires : goal.expression::write_term-write_target-requires
 expression::write_term-write_target-requires g n c κs inside0 =
-    let env = resolved_in g.E.Context.environment c.args.place.now in
-    let seen = place_view g.C.FluentType.meaning c.args.place.now c.args.locals in
-    let here = seen c.args.progress.now in
+    let env = resolved_in c.args.place.now in
+    let here = (place_view c.args.place.now) c.args.progress.now in
     let s0 = state c.args.progress.now in
     let b = s0.budget in
-    let id = name_of (Bor (List ℕ)) (λ s. s.now) c.args.id.now in
-    let attr = option_map (name_of (Bor (List ℕ)) (λ s. s.now)) c.args.attribute.now in
-    let given = maybe_arguments (option_map (arguments_view (Bor (List ℕ)) (λ s. s.now)) c.args.arguments.now) in
-    let i = inline_view (Bor (List ℕ)) (λ s. s.now) c.args.inline.now in
-    let is : i ≡ t.term_reference id attr given = c.requires in
+    let id = name_of c.args.id.now in
+    let attr = option_map name_of c.args.attribute.now in
+    let given = maybe_arguments_of c.args.arguments.now in
     let u = state c.own_arguments.new.progress in
-    let first = c.in_ok-own.ensures.found in
-    let same : seen c.own_arguments.new.progress ≡ here = ap (λ (ps : List (Bor (Pattern (Bor (List ℕ))))). record { arguments = here.arguments; locals = here.locals; path = map (λ (x : Bor (Pattern (Bor (List ℕ)))). pattern_view (Bor (List ℕ)) (λ s. s.now) x.now) ps }) (c.in_ok-own.ensures.path) in
-    let named = args_view g.C.FluentType.meaning c.in_ok-own.own in
-    let found : Finds named s0 u (λ x. mapped (λ called. called.named) (s.arguments_found env given here x)) = first in
-    let next : List (Text × v.Value g.row.C-Meaning.Denot) → Budget → Done Text = λ n x. s.target_written env (s.pattern_written env) (t.term_reference id attr given) (s.term_target id attr (env.find id)) (s.in_term n here) x in
-    let eq = inline-term env here b id attr given in
+    let found : Finds (args_view g.C.FluentType.meaning c.in_ok-own.own) s0 u (λ x. mapped (λ called. called.named) (s.arguments_found env given here x)) = c.in_ok-own.ensures.found in
     let target = target_view c.in_ok-target.target in
     let meant : target ≡ s.term_target id attr (env.find id) = c.in_ok-target.ensures in
     let light : target_weight target ≤ ids_weight (ids_view _ c.args.place.now.ids.now) = subst (λ x. target_weight x ≤ ids_weight (ids_view _ c.args.place.now.ids.now)) (sym meant) (term-weight (ids_view _ c.args.place.now.ids.now) id attr) in
     let fall : left u.budget ≤ left b = finds-left (λ x. mapped (λ called. called.named) (s.arguments_found env given here x)) found (falls-mapped (λ called. called.named) (maybe_arguments-falls env (s.pattern_written env) (pattern-falls env) given here b)) in
-    let less = less-entered (left u.budget) (left b) (ids_weight (ids_view _ c.args.place.now.ids.now)) (target_weight target) (inline_weight i) 3 0 fall light (omega arith) in
+    let less = less-entered (left u.budget) (left b) (ids_weight (ids_view _ c.args.place.now.ids.now)) (target_weight target) (inline_weight (inline_of c.args.inline.now)) 3 0 fall light (omega arith) in
     let measure = c.decreases in search rules
 
 pub expression::write_call-call_result-requires : goal.expression::write_call-call_result-requires
 expression::write_call-call_result-requires g n c κs inside0 =
-    let env = resolved_in g.E.Context.environment c.args.place.now in
-    let seen = place_view g.C.FluentType.meaning c.args.place.now c.args.locals in
-    let here = seen c.args.progress.now in
-    let s0 = state c.args.progress.now in
-    let b = s0.budget in
-    let id = name_of (Bor (List ℕ)) (λ s. s.now) c.args.id.now in
-    let given = arguments_view (Bor (List ℕ)) (λ s. s.now) c.args.arguments.now in
-    let i = inline_view (Bor (List ℕ)) (λ s. s.now) c.args.inline.now in
+    let b = (state c.args.progress.now).budget in
+    let id = name_of c.args.id.now in
+    let given = arguments_of c.args.arguments.now in
+    let i = inline_of c.args.inline.now in
     let is : i ≡ t.function_reference id given = c.requires in
-    let m = env.find id in
-    let eq = inline-function env here b id given in
-    let w = suc (ids_weight (ids_view _ c.args.place.now.ids.now)) in
     let weight : inline_weight i ≡ suc (arguments_weight given) = ap inline_weight is ∙ weight-function id given in
-    let less = less-part (suc (left b)) (suc (left b)) w (arguments_weight given) (inline_weight i) 1 0 (le_refl (suc (left b))) (omega (arith, weight)) (omega arith) in
+    let less = less-part (suc (left b)) (suc (left b)) (suc (ids_weight (ids_view _ c.args.place.now.ids.now))) (arguments_weight given) (inline_weight i) 1 0 (le_refl (suc (left b))) (omega (arith, weight)) (omega arith) in
     let measure = c.decreases in search rules
 
 pub expression::write_call-returns-in_err-result-clause-refused : goal.expression::write_call-returns-in_err-result-clause-refused
 expression::write_call-returns-in_err-result-clause-refused g n c =
-    let env = resolved_in g.E.Context.environment c.args.place.now in
-    let seen = place_view g.C.FluentType.meaning c.args.place.now c.args.locals in
-    let here = seen c.args.progress.now in
-    let s0 = state c.args.progress.now in
-    let b = s0.budget in
-    let id = name_of (Bor (List ℕ)) (λ s. s.now) c.args.id.now in
-    let given = arguments_view (Bor (List ℕ)) (λ s. s.now) c.args.arguments.now in
-    let i = inline_view (Bor (List ℕ)) (λ s. s.now) c.args.inline.now in
-    let is : i ≡ t.function_reference id given = c.requires in
-    let m = env.find id in
-    let eq = inline-function env here b id given in
-    on-err _ (tells-as (sym (ap (λ x. s.inline_written env x here b) is ∙ eq)) (tells-first (λ called c. s.call_written env (t.function_reference id given) id m called c) (tells-like (s.arguments_found env (t.with_arguments given) here b) refl c.in_err-result.ensures.refused)))
+    on-err _ (call-first (resolved_in c.args.place.now) (place_view c.args.place.now c.args.progress.now) c.requires c.in_err-result.ensures.refused)
 
 pub expression::write_call-returns-in-Some-clause-refused : goal.expression::write_call-returns-in-Some-clause-refused
 expression::write_call-returns-in-Some-clause-refused g n c =
-    let env = resolved_in g.E.Context.environment c.args.place.now in
-    let seen = place_view g.C.FluentType.meaning c.args.place.now c.args.locals in
-    let here = seen c.args.progress.now in
-    let s0 = state c.args.progress.now in
-    let b = s0.budget in
-    let id = name_of (Bor (List ℕ)) (λ s. s.now) c.args.id.now in
-    let given = arguments_view (Bor (List ℕ)) (λ s. s.now) c.args.arguments.now in
-    let i = inline_view (Bor (List ℕ)) (λ s. s.now) c.args.inline.now in
-    let is : i ≡ t.function_reference id given = c.requires in
-    let m = env.find id in
-    let eq = inline-function env here b id given in
-    let u = state c.call_result.new.progress in
-    let first = c.in_ok-result.ensures.found in
-    let f : Budget → Done (s.Called g.row.C-Meaning.Denot) = s.arguments_found env (t.with_arguments given) here in
-    let args = (f b).value in
-    let args0 : Finds args s0 u f = record { value = refl; state = first.state } in
-    let next : s.Called g.row.C-Meaning.Denot → Budget → Done Text = λ called x. s.call_written env (t.function_reference id given) id m called x in
-    let whole : and_then (f b) next ≡ s.inline_written env i here b = sym (ap (λ x. s.inline_written env x here b) is ∙ eq) in
-    on-err _ (tells-as whole (tells-first next (found-tells f args0)))
+    on-err _ (call-tells (resolved_in c.args.place.now) (place_view c.args.place.now c.args.progress.now) c.requires c.in_ok-result.ensures.found)
 
 pub expression::write_call-returns-in_err-id-in-None-clause-refused : goal.expression::write_call-returns-in_err-id-in-None-clause-refused
 expression::write_call-returns-in_err-id-in-None-clause-refused g n c =
-    let env = resolved_in g.E.Context.environment c.args.place.now in
-    let seen = place_view g.C.FluentType.meaning c.args.place.now c.args.locals in
-    let here = seen c.args.progress.now in
-    let s0 = state c.args.progress.now in
-    let b = s0.budget in
-    let id = name_of (Bor (List ℕ)) (λ s. s.now) c.args.id.now in
-    let given = arguments_view (Bor (List ℕ)) (λ s. s.now) c.args.arguments.now in
-    let i = inline_view (Bor (List ℕ)) (λ s. s.now) c.args.inline.now in
-    let is : i ≡ t.function_reference id given = c.requires in
-    let m = env.find id in
-    let eq = inline-function env here b id given in
-    let u = state c.call_result.new.progress in
-    let first = c.in_ok-result.ensures.found in
-    let f : Budget → Done (s.Called g.row.C-Meaning.Denot) = s.arguments_found env (t.with_arguments given) here in
-    let args = (f b).value in
-    let args0 : Finds args s0 u f = record { value = refl; state = first.state } in
-    let next : s.Called g.row.C-Meaning.Denot → Budget → Done Text = λ called x. s.call_written env (t.function_reference id given) id m called x in
-    let whole : and_then (f b) next ≡ s.inline_written env i here b = sym (ap (λ x. s.inline_written env x here b) is ∙ eq) in
-    on-err _ (tells-as whole (tells-first next (found-tells f args0)))
+    on-err _ (call-tells (resolved_in c.args.place.now) (place_view c.args.place.now c.args.progress.now) c.requires c.in_ok-result.ensures.found)
 
 pub expression::write_call-returns-in-Some-clause-wrote : goal.expression::write_call-returns-in-Some-clause-wrote
 expression::write_call-returns-in-Some-clause-wrote g n c =
-    let env = resolved_in g.E.Context.environment c.args.place.now in
-    let seen = place_view g.C.FluentType.meaning c.args.place.now c.args.locals in
-    let here = seen c.args.progress.now in
-    let s0 = state c.args.progress.now in
-    let b = s0.budget in
-    let id = name_of (Bor (List ℕ)) (λ s. s.now) c.args.id.now in
-    let given = arguments_view (Bor (List ℕ)) (λ s. s.now) c.args.arguments.now in
-    let i = inline_view (Bor (List ℕ)) (λ s. s.now) c.args.inline.now in
-    let is : i ≡ t.function_reference id given = c.requires in
-    let m = env.find id in
-    let eq = inline-function env here b id given in
-    let u = state c.call_result.new.progress in
-    let first = c.in_ok-result.ensures.found in
-    let f : Budget → Done (s.Called g.row.C-Meaning.Denot) = s.arguments_found env (t.with_arguments given) here in
-    let args = (f b).value in
-    let args0 : Finds args s0 u f = record { value = refl; state = first.state } in
-    let next : s.Called g.row.C-Meaning.Denot → Budget → Done Text = λ called x. s.call_written env (t.function_reference id given) id m called x in
-    let whole : and_then (f b) next ≡ s.inline_written env i here b = sym (ap (λ x. s.inline_written env x here b) is ∙ eq) in
-    let r = value_view g.C.FluentType.meaning c.in-Some.result in
-    let known : function_result env m args.positional args.named ≡ Some r = sym first.value ∙ ap (option_map (value_view g.C.FluentType.meaning)) c.in-Some.is in
-    on_ok_weaker c.write_result.result (λ h. writes-as _ _ whole (finds-then-writes f args0 next (writes-done (string_bytes c.args.out.now) (string_bytes c.write_result.new.out) (s.result_written env id r (may_open 0)).value u (next args) (within c.call_result.new.progress) (call-known env u.budget (t.function_reference id given) id m args r known ∙ result-done env u.budget id r) h))) c.write_result.ensures
+    on_ok_weaker c.write_result.result (λ h. call-writes (resolved_in c.args.place.now) (place_view c.args.place.now c.args.progress.now) c.requires c.in_ok-result.ensures.found (ap (option_map (value_view g.C.FluentType.meaning)) c.in-Some.is) (within c.call_result.new.progress) h) c.write_result.ensures
 
 pub expression::write_call-returns-in_ok-id-in-None-clause-wrote : goal.expression::write_call-returns-in_ok-id-in-None-clause-wrote
 expression::write_call-returns-in_ok-id-in-None-clause-wrote g n c =
-    let env = resolved_in g.E.Context.environment c.args.place.now in
-    let seen = place_view g.C.FluentType.meaning c.args.place.now c.args.locals in
-    let here = seen c.args.progress.now in
-    let s0 = state c.args.progress.now in
-    let b = s0.budget in
-    let id = name_of (Bor (List ℕ)) (λ s. s.now) c.args.id.now in
-    let given = arguments_view (Bor (List ℕ)) (λ s. s.now) c.args.arguments.now in
-    let i = inline_view (Bor (List ℕ)) (λ s. s.now) c.args.inline.now in
-    let is : i ≡ t.function_reference id given = c.requires in
-    let m = env.find id in
-    let eq = inline-function env here b id given in
-    let u = state c.call_result.new.progress in
-    let first = c.in_ok-result.ensures.found in
-    let f : Budget → Done (s.Called g.row.C-Meaning.Denot) = s.arguments_found env (t.with_arguments given) here in
-    let args = (f b).value in
-    let args0 : Finds args s0 u f = record { value = refl; state = first.state } in
-    let next : s.Called g.row.C-Meaning.Denot → Budget → Done Text = λ called x. s.call_written env (t.function_reference id given) id m called x in
-    let whole : and_then (f b) next ≡ s.inline_written env i here b = sym (ap (λ x. s.inline_written env x here b) is ∙ eq) in
-    let none : function_result env m args.positional args.named ≡ None = sym first.value ∙ ap (option_map (value_view g.C.FluentType.meaning)) c.in-None.is in
-    let copied : string_bytes c.in_ok-id-in-None.id ≡ id = c.in_ok-id-in-None.ensures.ok in
-    let told : faulty (braced (inline_fallback i)) (unknown (to_function (string_bytes c.in_ok-id-in-None.id))) u.budget ≡ next args u.budget = ap (λ k. faulty (braced (inline_fallback i)) (unknown (to_function k)) u.budget) copied ∙ ap (λ k. faulty (braced (inline_fallback k)) (unknown (to_function id)) u.budget) is ∙ sym (call-unknown env u.budget (t.function_reference id given) id m args none) in
-    on_ok_weaker c.fall_back.result (λ h. writes-as _ _ whole (finds-then-writes f args0 next (writes-as _ (next args) told h))) c.fall_back.ensures.wrote
+    on_ok_weaker c.fall_back.result (λ h. call-fails (resolved_in c.args.place.now) (place_view c.args.place.now c.args.progress.now) c.requires c.in_ok-result.ensures.found (ap (option_map (value_view g.C.FluentType.meaning)) c.in-None.is) c.in_ok-id-in-None.ensures.ok h) c.fall_back.ensures.wrote
 
 pub expression::write_call-returns-in_ok-id-in-None-clause-refused : goal.expression::write_call-returns-in_ok-id-in-None-clause-refused
 expression::write_call-returns-in_ok-id-in-None-clause-refused g n c =
-    let env = resolved_in g.E.Context.environment c.args.place.now in
-    let seen = place_view g.C.FluentType.meaning c.args.place.now c.args.locals in
-    let here = seen c.args.progress.now in
-    let s0 = state c.args.progress.now in
-    let b = s0.budget in
-    let id = name_of (Bor (List ℕ)) (λ s. s.now) c.args.id.now in
-    let given = arguments_view (Bor (List ℕ)) (λ s. s.now) c.args.arguments.now in
-    let i = inline_view (Bor (List ℕ)) (λ s. s.now) c.args.inline.now in
-    let is : i ≡ t.function_reference id given = c.requires in
-    let m = env.find id in
-    let eq = inline-function env here b id given in
-    let u = state c.call_result.new.progress in
-    let first = c.in_ok-result.ensures.found in
-    let f : Budget → Done (s.Called g.row.C-Meaning.Denot) = s.arguments_found env (t.with_arguments given) here in
-    let args = (f b).value in
-    let args0 : Finds args s0 u f = record { value = refl; state = first.state } in
-    let next : s.Called g.row.C-Meaning.Denot → Budget → Done Text = λ called x. s.call_written env (t.function_reference id given) id m called x in
-    let whole : and_then (f b) next ≡ s.inline_written env i here b = sym (ap (λ x. s.inline_written env x here b) is ∙ eq) in
-    let none : function_result env m args.positional args.named ≡ None = sym first.value ∙ ap (option_map (value_view g.C.FluentType.meaning)) c.in-None.is in
-    let copied : string_bytes c.in_ok-id-in-None.id ≡ id = c.in_ok-id-in-None.ensures.ok in
-    let told : faulty (braced (inline_fallback i)) (unknown (to_function (string_bytes c.in_ok-id-in-None.id))) u.budget ≡ next args u.budget = ap (λ k. faulty (braced (inline_fallback i)) (unknown (to_function k)) u.budget) copied ∙ ap (λ k. faulty (braced (inline_fallback k)) (unknown (to_function id)) u.budget) is ∙ sym (call-unknown env u.budget (t.function_reference id given) id m args none) in
-    on_err_weaker c.fall_back.result (λ h. tells-as whole (tells-found f args0 next (tells-as told h))) c.fall_back.ensures.refused
+    on_err_weaker c.fall_back.result (λ h. call-fails-tells (resolved_in c.args.place.now) (place_view c.args.place.now c.args.progress.now) c.requires c.in_ok-result.ensures.found (ap (option_map (value_view g.C.FluentType.meaning)) c.in-None.is) c.in_ok-id-in-None.ensures.ok h) c.fall_back.ensures.refused
 
 pub arguments::named_values-loop-argument-init : goal.arguments::named_values-loop-argument-init
 arguments::named_values-loop-argument-init g n c =
-    let env = resolved_in g.E.Context.environment c.args.place.now in
-    let seen = place_view g.C.FluentType.meaning c.args.place.now c.args.locals in
-    let here = seen c.args.progress.now in
+    let env = resolved_in c.args.place.now in
+    let here = place_view c.args.place.now c.args.progress.now in
     let s0 = state c.args.progress.now in
     let b = s0.budget in
     record { found = finds-done _ [] s0 _ (within c.args.progress.now) (ap (mapped (all_set [])) (named-none env here b)) c.new-values.ensures; path = refl }
 
 pub arguments::named_values-returns-in_err-value-clause-refused : goal.arguments::named_values-returns-in_err-value-clause-refused
 arguments::named_values-returns-in_err-value-clause-refused g n c =
-    let env = resolved_in g.E.Context.environment c.args.place.now in
-    let seen = place_view g.C.FluentType.meaning c.args.place.now c.args.locals in
+    let env = resolved_in c.args.place.now in
+    let seen = place_view c.args.place.now in
     let here = seen c.args.progress.now in
-    let s0 = state c.args.progress.now in
-    let b = s0.budget in
+    let b = (state c.args.progress.now).budget in
     let view = named_view (Bor (List ℕ)) (λ s. s.now) in
     let items = c.deref-argument-items.result.now in
     let i = c.loop-argument.argument-index in
@@ -1359,24 +833,20 @@ arguments::named_values-returns-in_err-value-clause-refused g n c =
     let ys = map view (drop (i + 1) items) in
     let arg = c.argument-item.result in
     let u = state c.loop-argument.progress in
-    let same : seen c.loop-argument.progress ≡ here = ap (λ (ps : List (Bor (Pattern (Bor (List ℕ))))). record { arguments = here.arguments; locals = here.locals; path = map (λ (x : Bor (Pattern (Bor (List ℕ)))). pattern_view (Bor (List ℕ)) (λ s. s.now) x.now) ps }) (c.loop-argument.invariant.path) in
-    let split : drop i items ≡ arg ∷ drop (i + 1) items = drop-here items i arg c.loop-argument-test.true c.argument-item.is in
-    let joined : xs ++ view arg ∷ ys ≡ map view items = ap (λ zs. xs ++ map view zs) (sym split) ∙ sym (map-append view (take i items) (drop i items)) ∙ ap (map view) (take-append-drop i items) in
+    let same : seen c.loop-argument.progress ≡ here = same-place c.args.place.now c.loop-argument.invariant.path in
+    let joined : xs ++ view arg ∷ ys ≡ map view items = around view items i arg c.loop-argument-test.true c.argument-item.is in
     let whole : nameds_of (xs ++ view arg ∷ ys) ≡ nameds_of (map view c.args.arguments.now.items) = ap nameds_of (joined ∙ ap (map view) c.deref-argument-items.ensures.value) in
-    let is_value : (view arg).value ≡ inline_view (Bor (List ℕ)) (λ s. s.now) (out-NamedArgument (Bor (List ℕ)) arg).value = ap (λ (n : Named). n.value) (named_view-out (Bor (List ℕ)) (λ s. s.now) arg) in
-    let is_name : (view arg).name ≡ name_of (Bor (List ℕ)) (λ s. s.now) (out-NamedArgument (Bor (List ℕ)) arg).name = ap (λ (n : Named). n.name) (named_view-out (Bor (List ℕ)) (λ s. s.now) arg) in
+    let is_value : (view arg).value ≡ inline_of (out-NamedArgument (Bor (List ℕ)) arg).value = ap (λ (n : Named). n.value) (named_view-out (Bor (List ℕ)) (λ s. s.now) arg) in
     let v1 = state c.value_of.new.progress in
-    let out_value = inline_view (Bor (List ℕ)) (λ s. s.now) (out-NamedArgument (Bor (List ℕ)) arg).value in
-    let inner : TellsSome u v1 (s.value_found env (view arg).value here u.budget) = subst (λ k. TellsSome u v1 (s.value_found env k here u.budget)) (sym is_value) (subst (λ p. TellsSome u v1 (s.value_found env out_value p u.budget)) same c.in_err-value.ensures.refused) in
+    let inner : TellsSome u v1 (s.value_found env (view arg).value here u.budget) = subst (λ k. TellsSome u v1 (s.value_found env k here u.budget)) (sym is_value) (subst (λ p. TellsSome u v1 (s.value_found env (inline_of (out-NamedArgument (Bor (List ℕ)) arg).value) p u.budget)) same c.in_err-value.ensures.refused) in
     on-err _ (tells-as (ap (λ x. mapped (all_set []) (s.named_found env x here b)) whole) (named-refused env here xs ys (view arg) c.loop-argument.invariant.found inner))
 
 pub arguments::named_values-returns-in_err-set_value-clause-refused : goal.arguments::named_values-returns-in_err-set_value-clause-refused
 arguments::named_values-returns-in_err-set_value-clause-refused g n c =
-    let env = resolved_in g.E.Context.environment c.args.place.now in
-    let seen = place_view g.C.FluentType.meaning c.args.place.now c.args.locals in
+    let env = resolved_in c.args.place.now in
+    let seen = place_view c.args.place.now in
     let here = seen c.args.progress.now in
-    let s0 = state c.args.progress.now in
-    let b = s0.budget in
+    let b = (state c.args.progress.now).budget in
     let view = named_view (Bor (List ℕ)) (λ s. s.now) in
     let items = c.deref-argument-items.result.now in
     let i = c.loop-argument.argument-index in
@@ -1384,86 +854,64 @@ arguments::named_values-returns-in_err-set_value-clause-refused g n c =
     let ys = map view (drop (i + 1) items) in
     let arg = c.argument-item.result in
     let u = state c.loop-argument.progress in
-    let same : seen c.loop-argument.progress ≡ here = ap (λ (ps : List (Bor (Pattern (Bor (List ℕ))))). record { arguments = here.arguments; locals = here.locals; path = map (λ (x : Bor (Pattern (Bor (List ℕ)))). pattern_view (Bor (List ℕ)) (λ s. s.now) x.now) ps }) (c.loop-argument.invariant.path) in
-    let split : drop i items ≡ arg ∷ drop (i + 1) items = drop-here items i arg c.loop-argument-test.true c.argument-item.is in
-    let joined : xs ++ view arg ∷ ys ≡ map view items = ap (λ zs. xs ++ map view zs) (sym split) ∙ sym (map-append view (take i items) (drop i items)) ∙ ap (map view) (take-append-drop i items) in
+    let same : seen c.loop-argument.progress ≡ here = same-place c.args.place.now c.loop-argument.invariant.path in
+    let joined : xs ++ view arg ∷ ys ≡ map view items = around view items i arg c.loop-argument-test.true c.argument-item.is in
     let whole : nameds_of (xs ++ view arg ∷ ys) ≡ nameds_of (map view c.args.arguments.now.items) = ap nameds_of (joined ∙ ap (map view) c.deref-argument-items.ensures.value) in
-    let is_value : (view arg).value ≡ inline_view (Bor (List ℕ)) (λ s. s.now) (out-NamedArgument (Bor (List ℕ)) arg).value = ap (λ (n : Named). n.value) (named_view-out (Bor (List ℕ)) (λ s. s.now) arg) in
-    let is_name : (view arg).name ≡ name_of (Bor (List ℕ)) (λ s. s.now) (out-NamedArgument (Bor (List ℕ)) arg).name = ap (λ (n : Named). n.name) (named_view-out (Bor (List ℕ)) (λ s. s.now) arg) in
+    let is_value : (view arg).value ≡ inline_of (out-NamedArgument (Bor (List ℕ)) arg).value = ap (λ (n : Named). n.value) (named_view-out (Bor (List ℕ)) (λ s. s.now) arg) in
     let v1 = state c.value_of.new.progress in
     let value = value_view g.C.FluentType.meaning c.in_ok-value.value in
-    let out_value = inline_view (Bor (List ℕ)) (λ s. s.now) (out-NamedArgument (Bor (List ℕ)) arg).value in
-    let one : Finds value u v1 (s.value_found env (view arg).value here) = subst (λ k. Finds value u v1 (s.value_found env k here)) (sym is_value) (subst (λ p. Finds value u v1 (s.value_found env out_value p)) same c.in_ok-value.ensures.found) in
+    let one : Finds value u v1 (s.value_found env (view arg).value here) = subst (λ k. Finds value u v1 (s.value_found env k here)) (sym is_value) (subst (λ p. Finds value u v1 (s.value_found env (inline_of (out-NamedArgument (Bor (List ℕ)) arg).value) p)) same c.in_ok-value.ensures.found) in
     on-err _ (tells-as (ap (λ x. mapped (all_set []) (s.named_found env x here b)) whole) (named-refused env here xs ys (view arg) c.loop-argument.invariant.found (found-tells (s.value_found env (view arg).value here) one)))
 
 pub arguments::named_values-loop-argument-preserved : goal.arguments::named_values-loop-argument-preserved
 arguments::named_values-loop-argument-preserved g n c =
-    let env = resolved_in g.E.Context.environment c.args.place.now in
-    let seen = place_view g.C.FluentType.meaning c.args.place.now c.args.locals in
+    let env = resolved_in c.args.place.now in
+    let seen = place_view c.args.place.now in
     let here = seen c.args.progress.now in
-    let s0 = state c.args.progress.now in
-    let b = s0.budget in
+    let b = (state c.args.progress.now).budget in
     let view = named_view (Bor (List ℕ)) (λ s. s.now) in
     let items = c.deref-argument-items.result.now in
     let i = c.loop-argument.argument-index in
     let xs = map view (take i items) in
-    let ys = map view (drop (i + 1) items) in
     let arg = c.argument-item.result in
     let u = state c.loop-argument.progress in
-    let same : seen c.loop-argument.progress ≡ here = ap (λ (ps : List (Bor (Pattern (Bor (List ℕ))))). record { arguments = here.arguments; locals = here.locals; path = map (λ (x : Bor (Pattern (Bor (List ℕ)))). pattern_view (Bor (List ℕ)) (λ s. s.now) x.now) ps }) (c.loop-argument.invariant.path) in
-    let split : drop i items ≡ arg ∷ drop (i + 1) items = drop-here items i arg c.loop-argument-test.true c.argument-item.is in
-    let joined : xs ++ view arg ∷ ys ≡ map view items = ap (λ zs. xs ++ map view zs) (sym split) ∙ sym (map-append view (take i items) (drop i items)) ∙ ap (map view) (take-append-drop i items) in
-    let whole : nameds_of (xs ++ view arg ∷ ys) ≡ nameds_of (map view c.args.arguments.now.items) = ap nameds_of (joined ∙ ap (map view) c.deref-argument-items.ensures.value) in
-    let is_value : (view arg).value ≡ inline_view (Bor (List ℕ)) (λ s. s.now) (out-NamedArgument (Bor (List ℕ)) arg).value = ap (λ (n : Named). n.value) (named_view-out (Bor (List ℕ)) (λ s. s.now) arg) in
-    let is_name : (view arg).name ≡ name_of (Bor (List ℕ)) (λ s. s.now) (out-NamedArgument (Bor (List ℕ)) arg).name = ap (λ (n : Named). n.name) (named_view-out (Bor (List ℕ)) (λ s. s.now) arg) in
+    let same : seen c.loop-argument.progress ≡ here = same-place c.args.place.now c.loop-argument.invariant.path in
+    let is_value : (view arg).value ≡ inline_of (out-NamedArgument (Bor (List ℕ)) arg).value = ap (λ (n : Named). n.value) (named_view-out (Bor (List ℕ)) (λ s. s.now) arg) in
+    let is_name : (view arg).name ≡ name_of (out-NamedArgument (Bor (List ℕ)) arg).name = ap (λ (n : Named). n.name) (named_view-out (Bor (List ℕ)) (λ s. s.now) arg) in
     let v1 = state c.value_of.new.progress in
     let value = value_view g.C.FluentType.meaning c.in_ok-value.value in
-    let out_value = inline_view (Bor (List ℕ)) (λ s. s.now) (out-NamedArgument (Bor (List ℕ)) arg).value in
-    let one : Finds value u v1 (s.value_found env (view arg).value here) = subst (λ k. Finds value u v1 (s.value_found env k here)) (sym is_value) (subst (λ p. Finds value u v1 (s.value_found env out_value p)) same c.in_ok-value.ensures.found) in
-    let more = named-one env here xs (view arg) c.loop-argument.invariant.found one in
-    let grown = map-up-to view items i arg c.loop-argument-test.true c.argument-item.is in
-    let step = finds-as (λ x. mapped (all_set []) (s.named_found env (nameds_of (xs ++ view arg ∷ [])) here x)) (λ x. mapped (all_set []) (s.named_found env (nameds_of (map view (take (i + 1) items))) here x)) (ap (λ zs. mapped (all_set []) (s.named_found env (nameds_of zs) here b)) grown) more in
+    let one : Finds value u v1 (s.value_found env (view arg).value here) = subst (λ k. Finds value u v1 (s.value_found env k here)) (sym is_value) (subst (λ p. Finds value u v1 (s.value_found env (inline_of (out-NamedArgument (Bor (List ℕ)) arg).value) p)) same c.in_ok-value.ensures.found) in
+    let step = finds-as (λ x. mapped (all_set []) (s.named_found env (nameds_of (xs ++ view arg ∷ [])) here x)) (λ x. mapped (all_set []) (s.named_found env (nameds_of (map view (take (i + 1) items))) here x)) (ap (λ zs. mapped (all_set []) (s.named_found env (nameds_of zs) here b)) (map-up-to view items i arg c.loop-argument-test.true c.argument-item.is)) (named-one env here xs (view arg) c.loop-argument.invariant.found one) in
     let put = c.in_ok-set_value.ensures.ok ∙ ap (λ k. with_argument k value (args_view g.C.FluentType.meaning c.loop-argument.values)) (sym is_name) in
     record { found = record { value = put ∙ step.value; state = step.state }; path = c.in_ok-value.ensures.path ∙ c.loop-argument.invariant.path }
 
 pub arguments::named_values-value_of-requires : goal.arguments::named_values-value_of-requires
 arguments::named_values-value_of-requires g n c κs inside0 =
-    let env = resolved_in g.E.Context.environment c.args.place.now in
-    let seen = place_view g.C.FluentType.meaning c.args.place.now c.args.locals in
-    let here = seen c.args.progress.now in
-    let s0 = state c.args.progress.now in
-    let b = s0.budget in
+    let env = resolved_in c.args.place.now in
+    let here = (place_view c.args.place.now) c.args.progress.now in
+    let b = (state c.args.progress.now).budget in
     let view = named_view (Bor (List ℕ)) (λ s. s.now) in
     let items = c.deref-argument-items.result.now in
     let i = c.loop-argument.argument-index in
     let xs = map view (take i items) in
-    let ys = map view (drop (i + 1) items) in
     let arg = c.argument-item.result in
     let u = state c.loop-argument.progress in
-    let same : seen c.loop-argument.progress ≡ here = ap (λ (ps : List (Bor (Pattern (Bor (List ℕ))))). record { arguments = here.arguments; locals = here.locals; path = map (λ (x : Bor (Pattern (Bor (List ℕ)))). pattern_view (Bor (List ℕ)) (λ s. s.now) x.now) ps }) (c.loop-argument.invariant.path) in
-    let split : drop i items ≡ arg ∷ drop (i + 1) items = drop-here items i arg c.loop-argument-test.true c.argument-item.is in
-    let joined : xs ++ view arg ∷ ys ≡ map view items = ap (λ zs. xs ++ map view zs) (sym split) ∙ sym (map-append view (take i items) (drop i items)) ∙ ap (map view) (take-append-drop i items) in
-    let whole : nameds_of (xs ++ view arg ∷ ys) ≡ nameds_of (map view c.args.arguments.now.items) = ap nameds_of (joined ∙ ap (map view) c.deref-argument-items.ensures.value) in
-    let is_value : (view arg).value ≡ inline_view (Bor (List ℕ)) (λ s. s.now) (out-NamedArgument (Bor (List ℕ)) arg).value = ap (λ (n : Named). n.value) (named_view-out (Bor (List ℕ)) (λ s. s.now) arg) in
-    let is_name : (view arg).name ≡ name_of (Bor (List ℕ)) (λ s. s.now) (out-NamedArgument (Bor (List ℕ)) arg).name = ap (λ (n : Named). n.name) (named_view-out (Bor (List ℕ)) (λ s. s.now) arg) in
-    let w = suc (ids_weight (ids_view _ c.args.place.now.ids.now)) in
+    let is_value : (view arg).value ≡ inline_of (out-NamedArgument (Bor (List ℕ)) arg).value = ap (λ (n : Named). n.value) (named_view-out (Bor (List ℕ)) (λ s. s.now) arg) in
     let fall : left u.budget ≤ left b = finds-left (λ x. mapped (all_set []) (s.named_found env (nameds_of xs) here x)) c.loop-argument.invariant.found (falls-mapped (all_set []) (named-falls env (s.pattern_written env) (pattern-falls env) (nameds_of xs) here b)) in
     let at : view arg ≡ get_or (map view items) i (view arg) = get_or-view view items i arg c.loop-argument-test.true c.argument-item.is in
     let light0 : inline_weight (view arg).value < nameds_weight (nameds_of (map view c.args.arguments.now.items)) = subst (λ zs. inline_weight (view arg).value < nameds_weight (nameds_of zs)) (ap (map view) c.deref-argument-items.ensures.value) (weight-named (map view items) i (view arg) (subst (λ n. i < n) (sym (length-map items view)) c.loop-argument-test.true) at) in
-    let out_value = inline_view (Bor (List ℕ)) (λ s. s.now) (out-NamedArgument (Bor (List ℕ)) arg).value in
+    let out_value = inline_of (out-NamedArgument (Bor (List ℕ)) arg).value in
     let light : inline_weight out_value < nameds_weight (nameds_of (map view c.args.arguments.now.items)) = subst (λ k. inline_weight k < nameds_weight (nameds_of (map view c.args.arguments.now.items))) is_value light0 in
-    let less = less-part (suc (left u.budget)) (suc (left b)) w (inline_weight out_value) (nameds_weight (nameds_of (map view c.args.arguments.now.items))) 3 3 (omega (arith, fall)) light (omega arith) in
+    let less = less-part (suc (left u.budget)) (suc (left b)) (suc (ids_weight (ids_view _ c.args.place.now.ids.now))) (inline_weight out_value) (nameds_weight (nameds_of (map view c.args.arguments.now.items))) 3 3 (omega (arith, fall)) light (omega arith) in
     let measure = c.decreases in search rules
 
 pub value::value_of-returns-in-StringLiteral-clause-found : goal.value::value_of-returns-in-StringLiteral-clause-found
 value::value_of-returns-in-StringLiteral-clause-found g n c =
-    let env = resolved_in g.E.Context.environment c.args.place.now in
-    let seen = place_view g.C.FluentType.meaning c.args.place.now c.args.locals in
-    let here = seen c.args.progress.now in
+    let env = resolved_in c.args.place.now in
+    let here = place_view c.args.place.now c.args.progress.now in
     let s0 = state c.args.progress.now in
     let b = s0.budget in
-    let is : inline_view (Bor (List ℕ)) (λ s. s.now) c.args.inline.now ≡ t.string_literal c.in-StringLiteral.value.now = ap (inline_view (Bor (List ℕ)) (λ s. s.now)) c.in-StringLiteral.is ∙ inline_view-StringLiteral (Bor (List ℕ)) (λ s. s.now) c.in-StringLiteral.value in
-    IfOk-weaker c.literal_value.result _ _ (λ x h. finds-done (value_view g.C.FluentType.meaning x) (v.text (unescaped c.in-StringLiteral.value.now)) s0 (s.value_found env (inline_view (Bor (List ℕ)) (λ s. s.now) c.args.inline.now) here) (within c.args.progress.now) (ap (λ k. s.value_found env k here b) is ∙ value-string env here b c.in-StringLiteral.value.now) h) c.literal_value.ensures
+    IfOk-weaker c.literal_value.result _ _ (λ x h. finds-done (value_view g.C.FluentType.meaning x) (v.text (unescaped c.in-StringLiteral.value.now)) s0 (s.value_found env (inline_of c.args.inline.now) here) (within c.args.progress.now) (ap (λ k. s.value_found env k here b) (is-string c.in-StringLiteral.is) ∙ value-string env here b c.in-StringLiteral.value.now) h) c.literal_value.ensures
 
 pub value::value_of-returns-in-StringLiteral-clause-refused : goal.value::value_of-returns-in-StringLiteral-clause-refused
 value::value_of-returns-in-StringLiteral-clause-refused g n c =
@@ -1471,140 +919,68 @@ value::value_of-returns-in-StringLiteral-clause-refused g n c =
 
 pub value::value_of-returns-in-NumberLiteral-clause-found : goal.value::value_of-returns-in-NumberLiteral-clause-found
 value::value_of-returns-in-NumberLiteral-clause-found g n c =
-    let env = resolved_in g.E.Context.environment c.args.place.now in
-    let seen = place_view g.C.FluentType.meaning c.args.place.now c.args.locals in
-    let here = seen c.args.progress.now in
+    let env = resolved_in c.args.place.now in
+    let here = place_view c.args.place.now c.args.progress.now in
     let s0 = state c.args.progress.now in
     let b = s0.budget in
-    let is : inline_view (Bor (List ℕ)) (λ s. s.now) c.args.inline.now ≡ t.number_literal c.in-NumberLiteral.value.now = ap (inline_view (Bor (List ℕ)) (λ s. s.now)) c.in-NumberLiteral.is ∙ inline_view-NumberLiteral (Bor (List ℕ)) (λ s. s.now) c.in-NumberLiteral.value in
-    finds-done _ (number_or_text c.in-NumberLiteral.value.now) s0 (s.value_found env (inline_view (Bor (List ℕ)) (λ s. s.now) c.args.inline.now) here) (within c.args.progress.now) (ap (λ k. s.value_found env k here b) is ∙ value-number env here b c.in-NumberLiteral.value.now) c.try_number.ensures
+    finds-done _ (number_or_text c.in-NumberLiteral.value.now) s0 (s.value_found env (inline_of c.args.inline.now) here) (within c.args.progress.now) (ap (λ k. s.value_found env k here b) (is-number c.in-NumberLiteral.is) ∙ value-number env here b c.in-NumberLiteral.value.now) c.try_number.ensures
 
 pub value::value_of-returns-in-VariableReference-clause-found : goal.value::value_of-returns-in-VariableReference-clause-found
 value::value_of-returns-in-VariableReference-clause-found g n c =
-    let env = resolved_in g.E.Context.environment c.args.place.now in
-    let seen = place_view g.C.FluentType.meaning c.args.place.now c.args.locals in
-    let here = seen c.args.progress.now in
-    let s0 = state c.args.progress.now in
-    let b = s0.budget in
-    let id = name_of (Bor (List ℕ)) (λ s. s.now) c.in-VariableReference.id in
-    let is : inline_view (Bor (List ℕ)) (λ s. s.now) c.args.inline.now ≡ t.variable_reference id = ap (inline_view (Bor (List ℕ)) (λ s. s.now)) c.in-VariableReference.is ∙ inline_view-VariableReference (Bor (List ℕ)) (λ s. s.now) c.in-VariableReference.id in
-    IfOk-weaker c.variable_value.result _ _ (λ x h. finds-as _ _ (sym (ap (λ k. s.value_found env k here b) is ∙ value-variable env here b id)) h) c.variable_value.ensures.found
+    let env = resolved_in c.args.place.now in
+    let here = place_view c.args.place.now c.args.progress.now in
+    let b = (state c.args.progress.now).budget in
+    IfOk-weaker c.variable_value.result _ _ (λ x h. finds-as _ _ (sym (ap (λ k. s.value_found env k here b) (is-variable c.in-VariableReference.is) ∙ value-variable env here b (name_of c.in-VariableReference.id))) h) c.variable_value.ensures.found
 
 pub value::value_of-returns-in-VariableReference-clause-refused : goal.value::value_of-returns-in-VariableReference-clause-refused
 value::value_of-returns-in-VariableReference-clause-refused g n c =
-    let env = resolved_in g.E.Context.environment c.args.place.now in
-    let seen = place_view g.C.FluentType.meaning c.args.place.now c.args.locals in
-    let here = seen c.args.progress.now in
-    let s0 = state c.args.progress.now in
-    let b = s0.budget in
-    let id = name_of (Bor (List ℕ)) (λ s. s.now) c.in-VariableReference.id in
-    let is : inline_view (Bor (List ℕ)) (λ s. s.now) c.args.inline.now ≡ t.variable_reference id = ap (inline_view (Bor (List ℕ)) (λ s. s.now)) c.in-VariableReference.is ∙ inline_view-VariableReference (Bor (List ℕ)) (λ s. s.now) c.in-VariableReference.id in
-    on_err_weaker c.variable_value.result (tells-as (sym (ap (λ k. s.value_found env k here b) is ∙ value-variable env here b id))) c.variable_value.ensures.refused
+    let env = resolved_in c.args.place.now in
+    let here = place_view c.args.place.now c.args.progress.now in
+    let b = (state c.args.progress.now).budget in
+    on_err_weaker c.variable_value.result (tells-as (sym (ap (λ k. s.value_found env k here b) (is-variable c.in-VariableReference.is) ∙ value-variable env here b (name_of c.in-VariableReference.id)))) c.variable_value.ensures.refused
 
 pub value::value_of-returns-in_err-result-in-FunctionReference-clause-refused : goal.value::value_of-returns-in_err-result-in-FunctionReference-clause-refused
 value::value_of-returns-in_err-result-in-FunctionReference-clause-refused g n c =
-    let env = resolved_in g.E.Context.environment c.args.place.now in
-    let seen = place_view g.C.FluentType.meaning c.args.place.now c.args.locals in
-    let here = seen c.args.progress.now in
-    let s0 = state c.args.progress.now in
-    let b = s0.budget in
-    let id = name_of (Bor (List ℕ)) (λ s. s.now) c.in-FunctionReference.id in
-    let given = arguments_view (Bor (List ℕ)) (λ s. s.now) c.in-FunctionReference.arguments in
-    let m = env.find id in
-    let is : inline_view (Bor (List ℕ)) (λ s. s.now) c.args.inline.now ≡ t.function_reference id given = ap (inline_view (Bor (List ℕ)) (λ s. s.now)) c.in-FunctionReference.is ∙ inline_view-FunctionReference (Bor (List ℕ)) (λ s. s.now) c.in-FunctionReference.id c.in-FunctionReference.arguments in
-    let f : Budget → Done (s.Called g.row.C-Meaning.Denot) = s.arguments_found env (t.with_arguments given) here in
-    let next : s.Called g.row.C-Meaning.Denot → Budget → Done (v.Value g.row.C-Meaning.Denot) = λ called x. s.call_found env m called x in
-    let whole : and_then (f b) next ≡ s.value_found env (inline_view (Bor (List ℕ)) (λ s. s.now) c.args.inline.now) here b = sym (ap (λ k. s.value_found env k here b) is ∙ value-function env here b id given) in
-    on-err _ (tells-as whole (tells-first next (tells-like (f b) refl c.in_err-result-in-FunctionReference.ensures.refused)))
+    on-err _ (value-first (resolved_in c.args.place.now) (place_view c.args.place.now c.args.progress.now) (is-function c.in-FunctionReference.is) c.in_err-result-in-FunctionReference.ensures.refused)
 
 pub value::value_of-returns-in-Some-clause-found : goal.value::value_of-returns-in-Some-clause-found
 value::value_of-returns-in-Some-clause-found g n c =
-    let env = resolved_in g.E.Context.environment c.args.place.now in
-    let seen = place_view g.C.FluentType.meaning c.args.place.now c.args.locals in
-    let here = seen c.args.progress.now in
-    let s0 = state c.args.progress.now in
-    let b = s0.budget in
-    let id = name_of (Bor (List ℕ)) (λ s. s.now) c.in-FunctionReference.id in
-    let given = arguments_view (Bor (List ℕ)) (λ s. s.now) c.in-FunctionReference.arguments in
-    let m = env.find id in
-    let is : inline_view (Bor (List ℕ)) (λ s. s.now) c.args.inline.now ≡ t.function_reference id given = ap (inline_view (Bor (List ℕ)) (λ s. s.now)) c.in-FunctionReference.is ∙ inline_view-FunctionReference (Bor (List ℕ)) (λ s. s.now) c.in-FunctionReference.id c.in-FunctionReference.arguments in
-    let f : Budget → Done (s.Called g.row.C-Meaning.Denot) = s.arguments_found env (t.with_arguments given) here in
-    let next : s.Called g.row.C-Meaning.Denot → Budget → Done (v.Value g.row.C-Meaning.Denot) = λ called x. s.call_found env m called x in
-    let whole : and_then (f b) next ≡ s.value_found env (inline_view (Bor (List ℕ)) (λ s. s.now) c.args.inline.now) here b = sym (ap (λ k. s.value_found env k here b) is ∙ value-function env here b id given) in
-    let u = state c.call_result.new.progress in
-    let first = c.in_ok-result-in-FunctionReference.ensures.found in
-    let args = (f b).value in
-    let args0 : Finds args s0 u f = record { value = refl; state = first.state } in
-    let r = value_view g.C.FluentType.meaning c.in-Some.result in
-    let known : function_result env m args.positional args.named ≡ Some r = sym first.value ∙ ap (option_map (value_view g.C.FluentType.meaning)) c.in-Some.is in
-    finds-as _ _ whole (finds-then f args0 next (finds-done r r u (next args) (within c.call_result.new.progress) (found-known env u.budget m args r known) refl))
+    value-finds (resolved_in c.args.place.now) (place_view c.args.place.now c.args.progress.now) (is-function c.in-FunctionReference.is) c.in_ok-result-in-FunctionReference.ensures.found (ap (option_map (value_view g.C.FluentType.meaning)) c.in-Some.is) (within c.call_result.new.progress)
 
 pub value::value_of-returns-in-None-clause-found : goal.value::value_of-returns-in-None-clause-found
 value::value_of-returns-in-None-clause-found g n c =
-    let env = resolved_in g.E.Context.environment c.args.place.now in
-    let seen = place_view g.C.FluentType.meaning c.args.place.now c.args.locals in
-    let here = seen c.args.progress.now in
-    let s0 = state c.args.progress.now in
-    let b = s0.budget in
-    let id = name_of (Bor (List ℕ)) (λ s. s.now) c.in-FunctionReference.id in
-    let given = arguments_view (Bor (List ℕ)) (λ s. s.now) c.in-FunctionReference.arguments in
-    let m = env.find id in
-    let is : inline_view (Bor (List ℕ)) (λ s. s.now) c.args.inline.now ≡ t.function_reference id given = ap (inline_view (Bor (List ℕ)) (λ s. s.now)) c.in-FunctionReference.is ∙ inline_view-FunctionReference (Bor (List ℕ)) (λ s. s.now) c.in-FunctionReference.id c.in-FunctionReference.arguments in
-    let f : Budget → Done (s.Called g.row.C-Meaning.Denot) = s.arguments_found env (t.with_arguments given) here in
-    let next : s.Called g.row.C-Meaning.Denot → Budget → Done (v.Value g.row.C-Meaning.Denot) = λ called x. s.call_found env m called x in
-    let whole : and_then (f b) next ≡ s.value_found env (inline_view (Bor (List ℕ)) (λ s. s.now) c.args.inline.now) here b = sym (ap (λ k. s.value_found env k here b) is ∙ value-function env here b id given) in
-    let u = state c.call_result.new.progress in
-    let first = c.in_ok-result-in-FunctionReference.ensures.found in
-    let args = (f b).value in
-    let args0 : Finds args s0 u f = record { value = refl; state = first.state } in
-    let none : function_result env m args.positional args.named ≡ None = sym first.value ∙ ap (option_map (value_view g.C.FluentType.meaning)) c.in-None.is in
-    finds-as _ _ whole (finds-then f args0 next (finds-done v.error v.error u (next args) (within c.call_result.new.progress) (found-unknown env u.budget m args none) refl))
+    value-fails (resolved_in c.args.place.now) (place_view c.args.place.now c.args.progress.now) (is-function c.in-FunctionReference.is) c.in_ok-result-in-FunctionReference.ensures.found (ap (option_map (value_view g.C.FluentType.meaning)) c.in-None.is) (within c.call_result.new.progress)
 
 pub value::value_of-call_result-requires : goal.value::value_of-call_result-requires
 value::value_of-call_result-requires g n c κs inside0 =
-    let env = resolved_in g.E.Context.environment c.args.place.now in
-    let seen = place_view g.C.FluentType.meaning c.args.place.now c.args.locals in
-    let here = seen c.args.progress.now in
-    let s0 = state c.args.progress.now in
-    let b = s0.budget in
-    let id = name_of (Bor (List ℕ)) (λ s. s.now) c.in-FunctionReference.id in
-    let given = arguments_view (Bor (List ℕ)) (λ s. s.now) c.in-FunctionReference.arguments in
-    let m = env.find id in
-    let is : inline_view (Bor (List ℕ)) (λ s. s.now) c.args.inline.now ≡ t.function_reference id given = ap (inline_view (Bor (List ℕ)) (λ s. s.now)) c.in-FunctionReference.is ∙ inline_view-FunctionReference (Bor (List ℕ)) (λ s. s.now) c.in-FunctionReference.id c.in-FunctionReference.arguments in
-    let f : Budget → Done (s.Called g.row.C-Meaning.Denot) = s.arguments_found env (t.with_arguments given) here in
-    let next : s.Called g.row.C-Meaning.Denot → Budget → Done (v.Value g.row.C-Meaning.Denot) = λ called x. s.call_found env m called x in
-    let whole : and_then (f b) next ≡ s.value_found env (inline_view (Bor (List ℕ)) (λ s. s.now) c.args.inline.now) here b = sym (ap (λ k. s.value_found env k here b) is ∙ value-function env here b id given) in
-    let w = suc (ids_weight (ids_view _ c.args.place.now.ids.now)) in
-    let weight : inline_weight (inline_view (Bor (List ℕ)) (λ s. s.now) c.args.inline.now) ≡ suc (arguments_weight given) = ap inline_weight is ∙ weight-function id given in
-    let less = less-part (suc (left b)) (suc (left b)) w (arguments_weight given) (inline_weight (inline_view (Bor (List ℕ)) (λ s. s.now) c.args.inline.now)) 1 3 (le_refl (suc (left b))) (omega (arith, weight)) (omega arith) in
+    let b = (state c.args.progress.now).budget in
+    let given = arguments_of c.in-FunctionReference.arguments in
+    let weight : inline_weight (inline_of c.args.inline.now) ≡ suc (arguments_weight given) = ap inline_weight (is-function c.in-FunctionReference.is) ∙ weight-function (name_of c.in-FunctionReference.id) given in
+    let less = less-part (suc (left b)) (suc (left b)) (suc (ids_weight (ids_view _ c.args.place.now.ids.now))) (arguments_weight given) (inline_weight (inline_of c.args.inline.now)) 1 3 (le_refl (suc (left b))) (omega (arith, weight)) (omega arith) in
     let measure = c.decreases in search rules
 
 pub value::value_of-returns-in-MessageReference-clause-found : goal.value::value_of-returns-in-MessageReference-clause-found
 value::value_of-returns-in-MessageReference-clause-found g n c =
-    let env = resolved_in g.E.Context.environment c.args.place.now in
-    let seen = place_view g.C.FluentType.meaning c.args.place.now c.args.locals in
-    let here = seen c.args.progress.now in
-    let s0 = state c.args.progress.now in
-    let b = s0.budget in
-    let i = inline_view (Bor (List ℕ)) (λ s. s.now) c.args.inline.now in
+    let env = resolved_in c.args.place.now in
+    let here = place_view c.args.place.now c.args.progress.now in
+    let b = (state c.args.progress.now).budget in
+    let i = inline_of c.args.inline.now in
     let eq : s.value_found env i here b ≡ mapped v.text (s.inline_written env i here b) = of-three
-    (λ p. let is = ap (inline_view (Bor (List ℕ)) (λ s. s.now)) p.2 ∙ inline_view-MessageReference (Bor (List ℕ)) (λ s. s.now) p.0 p.1 in ap (λ k. s.value_found env k here b) is ∙ value-message env here b (name_of (Bor (List ℕ)) (λ s. s.now) p.0) (option_map (name_of (Bor (List ℕ)) (λ s. s.now)) p.1) ∙ ap (λ k. mapped v.text (s.inline_written env k here b)) (sym is))
-    (λ p. let is = ap (inline_view (Bor (List ℕ)) (λ s. s.now)) p.3 ∙ inline_view-TermReference (Bor (List ℕ)) (λ s. s.now) p.0 p.1 p.2 in ap (λ k. s.value_found env k here b) is ∙ value-term env here b (name_of (Bor (List ℕ)) (λ s. s.now) p.0) (option_map (name_of (Bor (List ℕ)) (λ s. s.now)) p.1) (maybe_arguments (option_map (arguments_view (Bor (List ℕ)) (λ s. s.now)) p.2)) ∙ ap (λ k. mapped v.text (s.inline_written env k here b)) (sym is))
-    (λ p. let is = ap (inline_view (Bor (List ℕ)) (λ s. s.now)) p.1 ∙ inline_view-Placeable (Bor (List ℕ)) (λ s. s.now) p.0 in ap (λ k. s.value_found env k here b) is ∙ value-nested env here b (expression_view (Bor (List ℕ)) (λ s. s.now) p.0.value) ∙ ap (λ k. mapped v.text (s.inline_written env k here b)) (sym is))
+    (λ p. let is = is-message p.2 in ap (λ k. s.value_found env k here b) is ∙ value-message env here b (name_of p.0) (option_map name_of p.1) ∙ ap (λ k. mapped v.text (s.inline_written env k here b)) (sym is))
+    (λ p. let is = ap inline_of p.3 ∙ inline_view-TermReference (Bor (List ℕ)) (λ s. s.now) p.0 p.1 p.2 in ap (λ k. s.value_found env k here b) is ∙ value-term env here b (name_of p.0) (option_map name_of p.1) (maybe_arguments_of p.2) ∙ ap (λ k. mapped v.text (s.inline_written env k here b)) (sym is))
+    (λ p. let is = is-nested p.1 in ap (λ k. s.value_found env k here b) is ∙ value-nested env here b (expression_of p.0.value) ∙ ap (λ k. mapped v.text (s.inline_written env k here b)) (sym is))
     c.in-MessageReference.is in
     IfOk-weaker c.text_value.result _ _ (λ x h. finds-as _ _ (sym eq) h) c.text_value.ensures.found
 
 pub value::value_of-returns-in-MessageReference-clause-refused : goal.value::value_of-returns-in-MessageReference-clause-refused
 value::value_of-returns-in-MessageReference-clause-refused g n c =
-    let env = resolved_in g.E.Context.environment c.args.place.now in
-    let seen = place_view g.C.FluentType.meaning c.args.place.now c.args.locals in
-    let here = seen c.args.progress.now in
-    let s0 = state c.args.progress.now in
-    let b = s0.budget in
-    let i = inline_view (Bor (List ℕ)) (λ s. s.now) c.args.inline.now in
+    let env = resolved_in c.args.place.now in
+    let here = place_view c.args.place.now c.args.progress.now in
+    let b = (state c.args.progress.now).budget in
+    let i = inline_of c.args.inline.now in
     let eq : s.value_found env i here b ≡ mapped v.text (s.inline_written env i here b) = of-three
-    (λ p. let is = ap (inline_view (Bor (List ℕ)) (λ s. s.now)) p.2 ∙ inline_view-MessageReference (Bor (List ℕ)) (λ s. s.now) p.0 p.1 in ap (λ k. s.value_found env k here b) is ∙ value-message env here b (name_of (Bor (List ℕ)) (λ s. s.now) p.0) (option_map (name_of (Bor (List ℕ)) (λ s. s.now)) p.1) ∙ ap (λ k. mapped v.text (s.inline_written env k here b)) (sym is))
-    (λ p. let is = ap (inline_view (Bor (List ℕ)) (λ s. s.now)) p.3 ∙ inline_view-TermReference (Bor (List ℕ)) (λ s. s.now) p.0 p.1 p.2 in ap (λ k. s.value_found env k here b) is ∙ value-term env here b (name_of (Bor (List ℕ)) (λ s. s.now) p.0) (option_map (name_of (Bor (List ℕ)) (λ s. s.now)) p.1) (maybe_arguments (option_map (arguments_view (Bor (List ℕ)) (λ s. s.now)) p.2)) ∙ ap (λ k. mapped v.text (s.inline_written env k here b)) (sym is))
-    (λ p. let is = ap (inline_view (Bor (List ℕ)) (λ s. s.now)) p.1 ∙ inline_view-Placeable (Bor (List ℕ)) (λ s. s.now) p.0 in ap (λ k. s.value_found env k here b) is ∙ value-nested env here b (expression_view (Bor (List ℕ)) (λ s. s.now) p.0.value) ∙ ap (λ k. mapped v.text (s.inline_written env k here b)) (sym is))
+    (λ p. let is = is-message p.2 in ap (λ k. s.value_found env k here b) is ∙ value-message env here b (name_of p.0) (option_map name_of p.1) ∙ ap (λ k. mapped v.text (s.inline_written env k here b)) (sym is))
+    (λ p. let is = ap inline_of p.3 ∙ inline_view-TermReference (Bor (List ℕ)) (λ s. s.now) p.0 p.1 p.2 in ap (λ k. s.value_found env k here b) is ∙ value-term env here b (name_of p.0) (option_map name_of p.1) (maybe_arguments_of p.2) ∙ ap (λ k. mapped v.text (s.inline_written env k here b)) (sym is))
+    (λ p. let is = is-nested p.1 in ap (λ k. s.value_found env k here b) is ∙ value-nested env here b (expression_of p.0.value) ∙ ap (λ k. mapped v.text (s.inline_written env k here b)) (sym is))
     c.in-MessageReference.is in
     on_err_weaker c.text_value.result (λ h. tells-as (sym eq) (tells-like (mapped v.text (s.inline_written env i here b)) refl h)) c.text_value.ensures.refused

@@ -18,10 +18,10 @@ use Rattle.fluent_resolver.proofs.+resolving.Given as goal
 -- The elements before this one were written.
 abbrev pub invariant-pattern::write_pattern-loop-element : goal.invariant-pattern::write_pattern-loop-element
 invariant-pattern::write_pattern-loop-element g l =
-    let env = resolved_in g.E.Context.environment l.place in
+    let env = resolved_in l.place in
     let whole = pattern_view _ (λ s. s.now) l.pattern in
     let before = elements_of (map (element_view _ (λ s. s.now)) (take l.element-index l.element-items)) in
-    let here = place_view g.C.FluentType.meaning l.place l.locals l.initial.progress in
+    let here = place_view l.place l.initial.progress in
     record {
       wrote : Writes (string_bytes l.initial.out) (string_bytes l.out) (state l.initial.progress) (state l.progress) (λ b. s.elements_written env whole before here b);
       path : l.progress.path.items ≡ l.initial.progress.path.items;
@@ -30,9 +30,9 @@ invariant-pattern::write_pattern-loop-element g l =
 -- The values of the arguments before this one were found.
 abbrev pub invariant-arguments::positional_values-loop-argument : goal.invariant-arguments::positional_values-loop-argument
 invariant-arguments::positional_values-loop-argument g l =
-    let env = resolved_in g.E.Context.environment l.place in
+    let env = resolved_in l.place in
     let before = inlines_of (map (inline_view _ (λ s. s.now)) (take l.argument-index l.argument-items)) in
-    let here = place_view g.C.FluentType.meaning l.place l.locals l.initial.progress in
+    let here = place_view l.place l.initial.progress in
     record {
       found : Finds (map (value_view g.C.FluentType.meaning) l.values.items) (state l.initial.progress) (state l.progress) (λ b. s.positional_found env before here b);
       path : l.progress.path.items ≡ l.initial.progress.path.items;
@@ -40,9 +40,9 @@ invariant-arguments::positional_values-loop-argument g l =
 
 abbrev pub invariant-arguments::named_values-loop-argument : goal.invariant-arguments::named_values-loop-argument
 invariant-arguments::named_values-loop-argument g l =
-    let env = resolved_in g.E.Context.environment l.place in
+    let env = resolved_in l.place in
     let before = nameds_of (map (named_view _ (λ s. s.now)) (take l.argument-index l.argument-items)) in
-    let here = place_view g.C.FluentType.meaning l.place l.locals l.initial.progress in
+    let here = place_view l.place l.initial.progress in
     record {
       found : Finds (args_view g.C.FluentType.meaning l.values) (state l.initial.progress) (state l.progress) (λ b. mapped (all_set []) (s.named_found env before here b));
       path : l.progress.path.items ≡ l.initial.progress.path.items;

@@ -8,10 +8,10 @@ use Rattle.fluent_asking.proofs.written.write_pieces.Given as goal
 -- The elements before this one were written.
 abbrev pub invariant-loop-element : goal.invariant-loop-element
 invariant-loop-element g l =
-    let env = resolved_in g.E.Context.environment l.place in
+    let env = resolved_in l.place in
     let whole = pattern_view _ (λ s. s.now) l.pattern in
     let before = elements_of (map (element_view _ (λ s. s.now)) (take l.element-index l.element-items)) in
-    let here = place_view g.C.FluentType.meaning l.place None l.initial.progress in
+    let here = place_view l.place l.initial.progress in
     record {
       wrote : Writes (g.W.TextWrite.text l.initial.w) (g.W.TextWrite.text l.w) (state l.initial.progress) (state l.progress) (λ b. s.elements_written env whole before here b);
       path : l.progress.path.items ≡ l.initial.progress.path.items;

@@ -1,11 +1,10 @@
 //! What each call of a scope is made of: the scope's own part is handed on, and put back at the end.
 
-ghost use Rattle.std.specs.Prelude.{◌≡◌, IfOk, None, OnErr, OnOk, Some, is_some, map, option_map, string_bytes};
-ghost use Rattle.fluent_errors.specs.View.{bundle_view};
+ghost use Rattle.std.specs.Prelude.{◌≡◌, IfOk, None, OnErr, Some, is_some, map, option_map};
 ghost use Rattle.fluent_ast.specs.Borrowed.{elements_of};
-ghost use Rattle.fluent_asking.specs.Called.{called_of};
-ghost use Rattle.fluent_bundle.specs.ScopeSteps.{Finds, TellsSome, Writes};
-ghost use Rattle.fluent_bundle.specs.ScopeSteps.{call_arguments, fallback, given, placeable, reference, unknown_reference};
+ghost use Rattle.fluent_asking.specs.Asked.{told};
+ghost use Rattle.fluent_bundle.specs.ScopeSteps.{FindsArguments, TellsSome, WritesText};
+ghost use Rattle.fluent_bundle.specs.ScopeSteps.{argument_values, fallback, inside, reference, unknown_reference};
 ghost use Rattle.fluent_bundle.specs.ScopeView.{Keeps, path_of, root_of, state_of};
 ghost use Rattle.fluent_meaning.specs.Substitution as s;
 ghost use Rattle.fluent_progress.specs.Views as v;
@@ -29,8 +28,7 @@ fn path<'r, 's>(
     alloc: Global,
     root: Option<&'r Pattern<&'s str>>,
 ) -> Result<Vec<&'r Pattern<&'s str>>, AllocError>
-    ensures { IfOk result (λ path. map (λ x. elements_of x.now) path.items
-        ≡ root_of root.entry) }
+    ensures { IfOk result (λ path. map (λ x. elements_of x.now) path.items ≡ root_of root.entry) }
 {
     let mut path = Vec::new(alloc);
     if let Some(pattern) = root {
@@ -41,10 +39,8 @@ fn path<'r, 's>(
 
 /// Takes the errors out of a list.
 fn taken(alloc: Global, list: &mut Option<&mut Vec<FluentError>>) -> Option<Vec<FluentError>>
-    ensures errors { option_map (λ es. map bundle_view es.items) result
-        ≡ option_map (λ es. map bundle_view es.now.items) list.old }
-    ensures same { option_map (λ es. es.ghost_name) list.new
-        ≡ option_map (λ es. es.ghost_name) list.old }
+    ensures errors { option_map told result ≡ option_map (λ es. told es.now) list.old }
+    ensures same { option_map (λ es. es.ghost_name) list.new ≡ option_map (λ es. es.ghost_name) list.old }
 {
     match list {
         Some(list) => Some(mem::replace(*list, Vec::new(alloc))),
@@ -99,8 +95,7 @@ where
 
     /// The first pattern that is tracked stays on the path.
     pub(super) fn stay_in(&mut self, pattern: &'r Pattern<&'s str>)
-        ensures path { path_of self.new ≡ s.rooted_path (elements_of pattern.now)
-            (path_of self.old) }
+        ensures path { path_of self.new ≡ s.rooted_path (elements_of pattern.now) (path_of self.old) }
         ensures state { state_of self.new ≡ state_of self.old }
         ensures kept { Keeps self.old self.new }
     {
@@ -116,9 +111,8 @@ where
         inline: &InlineExpression<&'s str>,
         kind: ReferenceKind,
     ) -> Result<(), AllocError>
-        ensures wrote { OnOk result (Writes string_bytes out.old out.new self.old self.new (fallback
-            kind inline.now)) }
-        ensures refused { OnErr result (TellsSome self.old self.new (fallback kind inline.now)) }
+        ensures wrote { WritesText result out.old out.new self.old self.new (fallback kind inline.now) }
+        ensures refused { TellsSome result self.old self.new (fallback kind inline.now) }
         ensures path { path_of self.new ≡ path_of self.old }
         ensures kept { Keeps self.old self.new }
     {
@@ -142,9 +136,9 @@ where
         pattern: &'r Pattern<&'s str>,
         expression: &'r Expression<&'s str>,
     ) -> Result<(), AllocError>
-        ensures wrote { OnOk result (Writes string_bytes out.old out.new self.old self.new
-            (placeable T.TextTransform pattern.now expression.now)) }
-        ensures refused { OnErr result (TellsSome self.old self.new (placeable T.TextTransform pattern.now expression.now)) }
+        ensures wrote { WritesText result out.old out.new self.old self.new
+            (inside T.transformed pattern.now expression.now) }
+        ensures refused { TellsSome result self.old self.new (inside T.transformed pattern.now expression.now) }
         ensures path { path_of self.new ≡ path_of self.old }
         ensures kept { Keeps self.old self.new }
     {
@@ -155,6 +149,7 @@ where
             ids: &bundle.ids,
             context: &lent,
             arguments: self.arguments,
+            locals: None,
         };
         let written = opened(out, &place, &mut progress, pattern, expression);
         self.put_back(progress);
@@ -168,9 +163,9 @@ where
         pattern: &'r Pattern<&'s str>,
         inline: &'r InlineExpression<&'s str>,
     ) -> Result<(), AllocError>
-        ensures wrote { OnOk result (Writes string_bytes out.old out.new self.old self.new
-            (reference T.TextTransform inline.now pattern.now)) }
-        ensures refused { OnErr result (TellsSome self.old self.new (reference T.TextTransform inline.now pattern.now)) }
+        ensures wrote { WritesText result out.old out.new self.old self.new
+            (reference T.transformed inline.now pattern.now) }
+        ensures refused { TellsSome result self.old self.new (reference T.transformed inline.now pattern.now) }
         ensures path { path_of self.new ≡ path_of self.old }
         ensures kept { Keeps self.old self.new }
     {
@@ -181,6 +176,7 @@ where
             ids: &bundle.ids,
             context: &lent,
             arguments: self.arguments,
+            locals: None,
         };
         let written = referred(out, &place, &mut progress, inline, pattern);
         self.put_back(progress);
@@ -193,9 +189,9 @@ where
         out: &mut String,
         inline: &InlineExpression<&'s str>,
     ) -> Result<(), AllocError>
-        ensures wrote { OnOk result (Writes string_bytes out.old out.new self.old self.new
-            (unknown_reference T.TextTransform inline.now)) }
-        ensures refused { OnErr result (TellsSome self.old self.new (unknown_reference T.TextTransform inline.now)) }
+        ensures wrote { WritesText result out.old out.new self.old self.new
+            (unknown_reference T.transformed inline.now) }
+        ensures refused { TellsSome result self.old self.new (unknown_reference T.transformed inline.now) }
         ensures path { path_of self.new ≡ path_of self.old }
         ensures kept { Keeps self.old self.new }
     {
@@ -210,9 +206,8 @@ where
         &mut self,
         arguments: &'r CallArguments<&'s str>,
     ) -> Result<(Vec<FluentValue<'s, C>>, FluentArgs<'s, C>), AllocError>
-        ensures found { IfOk result (λ found. Finds (called_of C.meaning found) self.old self.new
-            (call_arguments T.TextTransform (given (Some arguments.entry)))) }
-        ensures refused { OnErr result (TellsSome self.old self.new (call_arguments T.TextTransform (given (Some arguments.entry)))) }
+        ensures found { FindsArguments result self.old self.new (argument_values T.transformed (Some arguments.entry)) }
+        ensures refused { TellsSome result self.old self.new (argument_values T.transformed (Some arguments.entry)) }
         ensures path { path_of self.new ≡ path_of self.old }
         ensures kept { Keeps self.old self.new }
     {
@@ -223,6 +218,7 @@ where
             ids: &bundle.ids,
             context: &lent,
             arguments: self.arguments,
+            locals: None,
         };
         let found = values(&place, &mut progress, arguments);
         self.put_back(progress);

@@ -13,7 +13,7 @@ returns-in_err-tell_missing-clause-refused g c = let same = c.in_err-tell_missin
 
 pub returns-clause-refused : goal.returns-clause-refused
 returns-clause-refused g c =
-    let env = resolved_in g.E.Context.environment c.args.self.now in
-    let here = place_view g.C.FluentType.meaning c.args.self.now c.args.locals c.args.progress.now in
+    let env = resolved_in c.args.self.now in
+    let here = place_view c.args.self.now c.args.progress.now in
     let id = name_of (Bor (List ℕ)) (λ s. s.now) c.args.id.now in
     on-err c.write_name.result (missed-tells {s = state c.args.progress.now} env id (variable env id here) here (not-given (variable env id here) (sym c.if-branch.false ∙ c.in_ok-write_given.ensures.given)) c.in_ok-tell_missing.ensures.told)

@@ -12,8 +12,8 @@ returns-in_err-progress-clause-refused g c = on-err _ (tells-same _ c.in_err-pro
 
 pub returns-clause-found : goal.returns-clause-found
 returns-clause-found g c =
-    IfOk-weaker c.values-found.result _ _ (λ x h. put-finds g.T.TextTransform c.args.self.now c.progress.new.self c.put_back.new.self c.in_ok-progress.ensures.kept c.lent-lent.result c.lent-lent.ensures c.in_ok-progress.progress c.values-found.new.progress c.in_ok-progress.ensures.path c.in_ok-progress.ensures.state c.put_back.ensures.state (λ env place. s.arguments_found env (t.with_arguments (arguments_view (Bor (List ℕ)) (λ s. s.now) c.args.arguments.now)) place) h) c.values-found.ensures.found
+    IfOk-weaker c.values-found.result _ _ (λ x h. put-finds g.T.TextTransform.transformed c.args.self.now c.progress.new.self c.put_back.new.self c.in_ok-progress.ensures.kept c.lent-lent.result c.lent-lent.ensures c.in_ok-progress.progress c.values-found.new.progress c.in_ok-progress.ensures.path c.in_ok-progress.ensures.state c.put_back.ensures.state (λ env place. s.arguments_found env (t.with_arguments (arguments_view (Bor (List ℕ)) (λ s. s.now) c.args.arguments.now)) place) h) c.values-found.ensures.found
 
 pub returns-clause-refused : goal.returns-clause-refused
 returns-clause-refused g c =
-    on_err_weaker c.values-found.result (λ h. put-tells g.T.TextTransform c.args.self.now c.progress.new.self c.put_back.new.self c.in_ok-progress.ensures.kept c.lent-lent.result c.lent-lent.ensures c.in_ok-progress.progress c.values-found.new.progress c.in_ok-progress.ensures.path c.in_ok-progress.ensures.state c.put_back.ensures.state (λ env place. s.arguments_found env (t.with_arguments (arguments_view (Bor (List ℕ)) (λ s. s.now) c.args.arguments.now)) place) h) c.values-found.ensures.refused
+    on_err_weaker c.values-found.result (λ h. put-tells g.T.TextTransform.transformed c.args.self.now c.progress.new.self c.put_back.new.self c.in_ok-progress.ensures.kept c.lent-lent.result c.lent-lent.ensures c.in_ok-progress.progress c.values-found.new.progress c.in_ok-progress.ensures.path c.in_ok-progress.ensures.state c.put_back.ensures.state (λ env place. s.arguments_found env (t.with_arguments (arguments_view (Bor (List ℕ)) (λ s. s.now) c.args.arguments.now)) place) h) c.values-found.ensures.refused

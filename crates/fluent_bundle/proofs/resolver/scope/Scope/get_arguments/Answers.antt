@@ -16,7 +16,7 @@ use Rattle.fluent_bundle.proofs.resolver.scope.Scope.get_arguments.Goals as goal
 
 pub returns-in-Some-clause-found : goal.returns-in-Some-clause-found
 returns-in-Some-clause-found g c =
-    let env = environment_of g.T.TextTransform c.args.self.now.bundle.now in
+    let env = environment_of g.T.TextTransform.transformed c.args.self.now.bundle.now in
     let here = place_of c.args.self.now in
     let b = (state_of c.args.self.now).budget in
     let given = ap (λ o. maybe_arguments (option_map (arguments_view (Bor (List ℕ)) (λ s. s.now)) (option_copied o))) c.in-Some.is in
@@ -24,7 +24,7 @@ returns-in-Some-clause-found g c =
 
 pub returns-in-Some-clause-refused : goal.returns-in-Some-clause-refused
 returns-in-Some-clause-refused g c =
-    let env = environment_of g.T.TextTransform c.args.self.now.bundle.now in
+    let env = environment_of g.T.TextTransform.transformed c.args.self.now.bundle.now in
     let here = place_of c.args.self.now in
     let b = (state_of c.args.self.now).budget in
     let given = ap (λ o. maybe_arguments (option_map (arguments_view (Bor (List ℕ)) (λ s. s.now)) (option_copied o))) c.in-Some.is in
@@ -32,7 +32,7 @@ returns-in-Some-clause-refused g c =
 
 pub returns-in-None-clause-found : goal.returns-in-None-clause-found
 returns-in-None-clause-found g c =
-    let env = environment_of g.T.TextTransform c.args.self.now.bundle.now in
+    let env = environment_of g.T.TextTransform.transformed c.args.self.now.bundle.now in
     let here = place_of c.args.self.now in
     let b = (state_of c.args.self.now).budget in
     let none = ap (λ o. maybe_arguments (option_map (arguments_view (Bor (List ℕ)) (λ s. s.now)) (option_copied o))) c.in-None.is in
@@ -40,12 +40,12 @@ returns-in-None-clause-found g c =
 
 pub returns-in-Some-clause-bounded : goal.returns-in-Some-clause-bounded
 returns-in-Some-clause-bounded g c =
-    let env = environment_of g.T.TextTransform c.args.self.now.bundle.now in
+    let env = environment_of g.T.TextTransform.transformed c.args.self.now.bundle.now in
     let here = place_of c.args.self.now in
     let b = (state_of c.args.self.now).budget in
     let args = maybe_arguments (option_map (arguments_view (Bor (List ℕ)) (λ s. s.now)) (option_copied c.args.arguments)) in
     let given = ap (λ o. maybe_arguments (option_map (arguments_view (Bor (List ℕ)) (λ s. s.now)) (option_copied o))) c.in-Some.is in
-    let within = arguments-within c.args.self.now c.find_arguments.new.self g.T.TextTransform c.work_is_bounded.ensures.entered c.work_is_bounded.ensures.opened args in
+    let within = arguments-within c.args.self.now c.find_arguments.new.self g.T.TextTransform.transformed c.work_is_bounded.ensures.entered c.work_is_bounded.ensures.opened args in
     of-both c.find_arguments.result _
     (λ x h. within (counts-all (s.arguments_found env args here b) (finds-as _ (s.arguments_found env args here) (ap (λ m. s.arguments_found env m here b) (sym given)) h).state))
     (λ h. within (tells-as (ap (λ m. s.arguments_found env m here b) (sym given)) h).counts)
@@ -53,10 +53,10 @@ returns-in-Some-clause-bounded g c =
 
 pub returns-in-None-clause-bounded : goal.returns-in-None-clause-bounded
 returns-in-None-clause-bounded g c =
-    let env = environment_of g.T.TextTransform c.args.self.now.bundle.now in
+    let env = environment_of g.T.TextTransform.transformed c.args.self.now.bundle.now in
     let here = place_of c.args.self.now in
     let b = (state_of c.args.self.now).budget in
     let args = maybe_arguments (option_map (arguments_view (Bor (List ℕ)) (λ s. s.now)) (option_copied c.args.arguments)) in
     let none = ap (λ o. maybe_arguments (option_map (arguments_view (Bor (List ℕ)) (λ s. s.now)) (option_copied o))) c.in-None.is in
     let found = finds-done _ no_arguments (state_of c.args.self.now) (s.arguments_found env args here) (scope-within c.args.self.now) (ap (λ m. s.arguments_found env m here b) none ∙ arguments-none env here b) c.none_given.ensures in
-    arguments-within c.args.self.now c.args.self.now g.T.TextTransform c.work_is_bounded.ensures.entered c.work_is_bounded.ensures.opened args (counts-all (s.arguments_found env args here b) found.state)
+    arguments-within c.args.self.now c.args.self.now g.T.TextTransform.transformed c.work_is_bounded.ensures.entered c.work_is_bounded.ensures.opened args (counts-all (s.arguments_found env args here b) found.state)

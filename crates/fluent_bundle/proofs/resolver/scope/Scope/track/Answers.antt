@@ -13,15 +13,15 @@ returns-in_err-write_str-clause-refused g c =
 
 pub returns-in_err-write_referred-clause-bounded : goal.returns-in_err-write_referred-clause-bounded
 returns-in_err-write_referred-clause-bounded g c =
-    reference-within c.args.self.now c.write_referred.new.self g.T.TextTransform c.work_is_bounded.ensures.entered c.work_is_bounded.ensures.opened c.args.inline.now c.args.pattern.now
+    reference-within c.args.self.now c.write_referred.new.self g.T.TextTransform.transformed c.work_is_bounded.ensures.entered c.work_is_bounded.ensures.opened c.args.inline.now c.args.pattern.now
     c.in_err-write_referred.ensures.refused.counts
 
 pub returns-in_err-write_str-clause-bounded : goal.returns-in_err-write_str-clause-bounded
 returns-in_err-write_str-clause-bounded g c =
-    reference-within c.args.self.now c.write_referred.new.self g.T.TextTransform c.work_is_bounded.ensures.entered c.work_is_bounded.ensures.opened c.args.inline.now c.args.pattern.now
+    reference-within c.args.self.now c.write_referred.new.self g.T.TextTransform.transformed c.work_is_bounded.ensures.entered c.work_is_bounded.ensures.opened c.args.inline.now c.args.pattern.now
     (counts-all _ c.in_ok-write_referred.ensures.wrote.state)
 
 pub returns-clause-bounded : goal.returns-clause-bounded
 returns-clause-bounded g c =
-    reference-within c.args.self.now c.write_referred.new.self g.T.TextTransform c.work_is_bounded.ensures.entered c.work_is_bounded.ensures.opened c.args.inline.now c.args.pattern.now
+    reference-within c.args.self.now c.write_referred.new.self g.T.TextTransform.transformed c.work_is_bounded.ensures.entered c.work_is_bounded.ensures.opened c.args.inline.now c.args.pattern.now
     (counts-all _ c.in_ok-write_referred.ensures.wrote.state)

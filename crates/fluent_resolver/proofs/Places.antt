@@ -1,0 +1,30 @@
+-- Where resolving is, by the patterns that are being written.
+use Rattle.std.proofs.Common.{◌≡◌, List, Bor, ℕ, Vec, Global, ap, map}
+use Rattle.fluent_ast.specs.View.{pattern_view}
+use Rattle.fluent_ast.specs.declared.Pattern.{Pattern}
+use Rattle.fluent_grammar.specs.Tree.{Elements}
+use Rattle.fluent_meaning.specs.Substitution as s
+use Rattle.fluent_progress.specs.Views.{start_of}
+use Rattle.fluent_progress.specs.declared.context.Context.{Ghosts as Context}
+use Rattle.fluent_progress.specs.declared.place.Place.{Place}
+use Rattle.fluent_value.specs.declared.custom.FluentType.{Ghosts as Custom}
+use Rattle.fluent_value.specs.declared.scope.ValueScope.{Ghosts as Scope}
+
+-- the elements of a pattern that is being written
+abbrev pub entered : Bor (Pattern (Bor (List ℕ))) → Elements
+entered x = pattern_view (Bor (List ℕ)) (λ s. s.now) x.now
+
+module _ {C F E S : Type 0} {c : Custom C S} {e : Context E C F S} {v : Scope E C S} (place : Place C F E S c e v) where
+  -- with these patterns on the path
+  abbrev pub place_on : List Elements → s.Place S
+  place_on path = let start = start_of place in record { arguments = start.arguments; locals = start.locals; path = path }
+
+  pub place-on : {ps qs : List Elements} → ps ≡ qs → place_on ps ≡ place_on qs
+  place-on h = ap place_on h
+
+  -- nothing was put on the path and taken off it
+  pub same-place : {ps qs : List (Bor (Pattern (Bor (List ℕ))))} → ps ≡ qs → place_on (map entered ps) ≡ place_on (map entered qs)
+  same-place h = place-on (ap (map entered) h)
+
+  pub kept-place : {ps qs : Vec (Bor (Pattern (Bor (List ℕ)))) Global} → ps ≡ qs → place_on (map entered ps.items) ≡ place_on (map entered qs.items)
+  kept-place h = same-place (ap (λ (v : Vec (Bor (Pattern (Bor (List ℕ)))) Global). v.items) h)
