@@ -45,7 +45,7 @@ static uint32_t read_messages(struct Messages *messages, const char *source) {
 /* Prints a message's value, or its attribute if its name isn't empty, and gives what the call answered. */
 static uint32_t print_message(
     struct Messages *messages, const char *id, const char *attribute, const struct FluentArgument *arguments, size_t count) {
-    /* A pointer is needed where there are no arguments, too. */
+    /* The call needs a pointer even if there are no arguments. */
     static const struct FluentArgument none = {0};
     uint32_t answered = fluent_bundle_format(
         &messages->bundle, bytes_of(id), strlen(id), bytes_of(attribute), strlen(attribute), count ? arguments : &none, count,

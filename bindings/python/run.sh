@@ -1,5 +1,5 @@
 #!/bin/sh
-# Makes the shared library of the static one, beside the module, and runs the module's tests.
+# Makes the shared library of the static one, in the folder of the module, and runs the module's tests.
 set -eu
 here=$(cd "$(dirname "$0")" && pwd)
 root=$(cd "$here/../.." && pwd)

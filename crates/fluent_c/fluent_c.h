@@ -1,11 +1,13 @@
-/* Fluent for C: the texts of messages, from a bundle that is kept or line by line from sources; what a source is made
+/* Fluent for C: the texts of messages, from a bundle that you keep or line by line from sources; what a source is made
  * of, in numbers; and its tree as text.
  *
  * Link libfluent_c.a with a program that has malloc, realloc and free. A text is its first byte and its length in
- * bytes; it needs no byte 0 at its end, and it is only read. A text of length 0 still needs a pointer that isn't null.
- * Each call that answers a number answers one of those below, and where it isn't FLUENT_READ it leaves what it was
- * given to write to unchanged. All memory that a call takes is free when it returns, but for a text that it hands out
- * and a bundle that it makes.
+ * bytes. It needs no byte 0 at its end, and the library only reads it. A text of length 0 still needs a pointer that
+ * isn't null.
+ *
+ * Each call that returns a number returns one of those below, and its comment says which. If it isn't FLUENT_READ, what
+ * you passed for the result is unchanged. A call frees all that it allocates, except for a text that it hands out and
+ * a bundle that it makes.
  */
 #ifndef FLUENT_C_H
 #define FLUENT_C_H
@@ -18,7 +20,7 @@
 extern "C" {
 #endif
 
-/* The text was read. It may still have errors. */
+/* The call did what it is for. A source that was read may still have errors. */
 #define FLUENT_READ 0
 /* The text isn't UTF-8. */
 #define FLUENT_NOT_UTF8 1
@@ -38,26 +40,27 @@ extern "C" {
 struct FluentCounts {
     size_t messages;
     size_t terms;
-    /* The comments that stand by themselves, of all three kinds: not those of messages and terms. */
+    /* Standalone comments, of all three kinds: not those of messages and terms. */
     size_t comments;
     size_t junk;
     /* One for each junk. */
     size_t errors;
 };
 
-/* Counts the entries and the errors of a source, comments included. */
+/* Counts the entries and the errors of a source, comments included. It returns FLUENT_READ, also if the source has
+ * errors, FLUENT_NOT_UTF8 or FLUENT_NO_MEMORY. */
 uint32_t fluent_parse(const uint8_t *text, size_t len, struct FluentCounts *counts);
 
-/* The same for a source that is read for use at run time, without its comments. */
+/* The same for a source that is read for run time, without its comments. It returns the same numbers. */
 uint32_t fluent_parse_runtime(const uint8_t *text, size_t len, struct FluentCounts *counts);
 
 /* A text that the library made, or none. The memory is the library's: read the text, and change no field and no byte.
  *
  * Begin with `struct FluentText text = {0};`, which is no text. A call that puts a text there frees the one before, and
- * fluent_free_text frees the last. A copy of the struct is no text of its own: only one of the two may be used.
+ * fluent_free_text frees the last. A copy of the struct is no text of its own: use only one of the two.
  */
 struct FluentText {
-    /* Whether there is a text. Where there is none, the other fields say nothing. */
+    /* Whether there is a text. If there is none, the other fields say nothing. */
     bool held;
     /* The first byte. An empty text may have any pointer here. */
     const uint8_t *bytes;
@@ -65,10 +68,11 @@ struct FluentText {
     void *owner;
 };
 
-/* Reads a source and writes its tree back, with its junk or without. */
+/* Reads a source and writes its tree back, with its junk or without. It returns the numbers of fluent_parse. */
 uint32_t fluent_write(const uint8_t *text, size_t len, bool with_junk, struct FluentText *made);
 
-/* Reads a source and writes its tree, junk included, as JSON: compact, each object's keys in the order of their bytes. */
+/* Reads a source and writes its tree, junk included, as JSON: compact, each object's keys in the order of their bytes.
+ * It returns the numbers of fluent_parse. */
 uint32_t fluent_write_json(const uint8_t *text, size_t len, struct FluentText *made);
 
 /* A source: its first byte, and its length in bytes. */
@@ -79,17 +83,20 @@ struct FluentSource {
 
 /* Answers request lines from the messages and terms of sources, in their order, as the command `ftl run` does.
  *
- * A request line is an id, with the name of an attribute behind a dot where that is asked for, and arguments
- * `name=value` behind tabs. The answer to it is a line `ok B E`, the text of B bytes, and E lines of errors; or a line
- * `none` or `bad`. docs/protocol.md has the rules.
+ * A request line is an id, a dot and the name of an attribute if you ask for one, and arguments `name=value`, each
+ * after a tab. The answer to it is a line `ok B E`, the text of B bytes, and E lines of errors; or a line `none` or
+ * `bad`. docs/protocol.md has the rules.
  *
- * The function NUMBER is there. Variants are chosen by the plural rules of `locale`, a tag such as "pl" or "pt-PT"; the
- * empty tag has those of English. docs/plurals.md says which locales have rules. Placeables stand between the marks
- * U+2068 and U+2069 where `isolating` is true. Of an id that stands twice the last entry counts where `overriding` is
- * true, and the first where it is false. A source that has errors is answered from all the same, without its junk.
+ * Sources may call the function NUMBER. The plural rules of `locale` choose variants: it is a tag such as "pl" or
+ * "pt-PT", and the empty tag has the rules of English. docs/plurals.md says which locales have rules. If `isolating` is
+ * true, placeables are between the marks U+2068 and U+2069. Of duplicate ids the last entry counts if `overriding` is
+ * true, and else the first. If a source has errors, only its junk is left out.
+ *
+ * It returns FLUENT_READ, also if a source has errors or a request is bad; FLUENT_NOT_UTF8 if a source isn't UTF-8;
+ * FLUENT_UNKNOWN_LOCALE if the locale has no plural rules; or FLUENT_NO_MEMORY.
  *
  * The sources are read at each call: put as many request lines into one call as there are. `sources` and `locale` need
- * pointers that aren't null, also where `count` or `locale_len` is 0.
+ * pointers that aren't null, also if `count` or `locale_len` is 0.
  */
 uint32_t fluent_answer(
     const struct FluentSource *sources,
@@ -106,12 +113,12 @@ uint32_t fluent_answer(
 /* Frees a text, if there is one. There is none then. */
 void fluent_free_text(struct FluentText *made);
 
-/* A bundle that is kept from call to call, or none. The memory is the library's: change no field.
+/* A bundle that you keep from call to call, or none. The memory is the library's: change no field.
  *
  * Begin with `struct FluentBundle bundle = {0};`, which is no bundle. A call that makes one there frees the one before,
- * and fluent_bundle_free frees the last. A copy of the struct is no bundle of its own: only one of the two may be used.
- * One call at a time may use a bundle. It may go to another thread, and so may a text: order that by a lock, by the start
- * of a thread, or by its join.
+ * and fluent_bundle_free frees the last. A copy of the struct is no bundle of its own: use only one of the two.
+ * One call at a time may use a bundle. It may go to another thread, and so may a text: order that by a lock, by the
+ * start of a thread, or by its join.
  */
 struct FluentBundle {
     /* Whether there is a bundle. If there is none, the other fields say nothing. */
@@ -121,9 +128,9 @@ struct FluentBundle {
     void *desk;
 };
 
-/* Reads sources, and keeps a bundle of them. The sources are copied: they may be freed once the call returns.
+/* Reads sources, and makes a bundle of them. It copies them: you may free them once the call returns.
  *
- * `locale`, `isolating` and `overriding` are those of fluent_answer. The answer is FLUENT_READ, also if a source has
+ * `locale`, `isolating` and `overriding` are those of fluent_answer. It returns FLUENT_READ, also if a source has
  * errors; FLUENT_NOT_UTF8 if a source isn't UTF-8; FLUENT_UNKNOWN_LOCALE if the locale has no plural rules; or
  * FLUENT_NO_MEMORY. `sources` and `locale` need pointers that aren't null, also if `count` or `locale_len` is 0.
  */
@@ -137,8 +144,8 @@ uint32_t fluent_bundle_new(
     struct FluentBundle *made
 );
 
-/* The kinds of arguments: a text; a number, written as a decimal such as "3" or "1.50", whose digits after the point are
- * shown as they stand; a signed and an unsigned integer. */
+/* The kinds of arguments: a text; a number, written as a decimal such as "3" or "1.50", which keeps its digits after
+ * the point; a signed and an unsigned integer. */
 #define FLUENT_TEXT 0
 #define FLUENT_DECIMAL 1
 #define FLUENT_INTEGER 2
@@ -156,14 +163,14 @@ struct FluentArgument {
     uint32_t kind;
 };
 
-/* Formats a message: its value, or its first attribute of a name. An `attribute_len` of 0 stands for the value.
+/* Formats a message: its value, or its first attribute of a name. If `attribute_len` is 0, it is the value.
  *
- * If the answer is FLUENT_READ, `text` holds the text, and `errors` a line for each error that came up; it holds no
- * text if nothing came up. The text is there in spite of errors. Of arguments with one name the last counts.
+ * If the call returns FLUENT_READ, `text` holds the text, and `errors` a line for each error; without an error,
+ * `errors` holds no text. You get the text even if there are errors. Of arguments with one name the last counts.
  *
- * Else the answer is FLUENT_NO_MESSAGE, FLUENT_NO_PATTERN, FLUENT_BAD_ARGUMENT, FLUENT_NO_BUNDLE, FLUENT_NO_MEMORY, or
- * FLUENT_NOT_UTF8 if the id, a name or a text isn't UTF-8; and `text` and `errors` hold what they held. The bundle is
- * as it was. `id`, `attribute` and `arguments` need pointers that aren't null, also if a length is 0.
+ * Else it returns FLUENT_NO_MESSAGE, FLUENT_NO_PATTERN, FLUENT_BAD_ARGUMENT, FLUENT_NO_BUNDLE, FLUENT_NO_MEMORY, or
+ * FLUENT_NOT_UTF8 if the id, a name or a text isn't UTF-8; `text` and `errors` are unchanged then. No call changes what
+ * the bundle answers. `id`, `attribute` and `arguments` need pointers that aren't null, also if a length is 0.
  */
 uint32_t fluent_bundle_format(
     struct FluentBundle *bundle,
@@ -177,8 +184,8 @@ uint32_t fluent_bundle_format(
     struct FluentText *errors
 );
 
-/* Whether a bundle has a message's value, or an attribute of a name: FLUENT_READ if it has, and else FLUENT_NO_MESSAGE,
- * FLUENT_NO_PATTERN, FLUENT_NOT_UTF8 or FLUENT_NO_BUNDLE. It takes no memory. */
+/* Whether a bundle has a message's value, or an attribute of a name. It returns FLUENT_READ if it has, and else
+ * FLUENT_NO_MESSAGE, FLUENT_NO_PATTERN, FLUENT_NOT_UTF8 or FLUENT_NO_BUNDLE. It allocates nothing. */
 uint32_t fluent_bundle_has(
     struct FluentBundle *bundle,
     const uint8_t *id,
@@ -188,7 +195,8 @@ uint32_t fluent_bundle_has(
 );
 
 /* Reports what is wrong with the sources of a bundle, as the command `ftl check` does: a line for each error, and for
- * each message or term whose id was there before it. The text is empty if there is nothing to report. */
+ * each message or term with a duplicate id. The text is empty if there is nothing to report. It returns FLUENT_READ,
+ * FLUENT_NO_BUNDLE or FLUENT_NO_MEMORY. */
 uint32_t fluent_bundle_errors(struct FluentBundle *bundle, struct FluentText *report);
 
 /* Frees a bundle, if there is one. There is none then. */

@@ -16,7 +16,7 @@ static const char SOURCE[] =
     "   *[other] { $count } messages are unread.\n"
     "}\n";
 
-/* An id a line, and its arguments behind tabs. */
+/* An id a line, and its arguments after tabs. */
 static const char REQUESTS[] =
     "hello-world\n"
     "welcome\tname=Jane\n"
@@ -43,7 +43,7 @@ static unsigned print_answers(const char *at, const char *end) {
             at += head;
             continue;
         }
-        /* The line feed behind the numbers ends them. */
+        /* The line feed after the numbers ends them. */
         char *behind;
         size_t bytes = strtoull(at + 3, &behind, 10);
         size_t errors = strtoull(behind, NULL, 10);

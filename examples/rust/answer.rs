@@ -13,7 +13,7 @@ unread = { $count ->
 }
 ";
 
-/// An id a line, and its arguments behind tabs.
+/// An id a line, and its arguments after tabs.
 const REQUESTS: &str = "hello-world\nwelcome\tname=Jane\nunread\tcount=3\nwelcome\n";
 
 /// Whose plural rules choose the variants.

@@ -16,7 +16,7 @@ Value = Union[str, int, float, Decimal]
 
 
 class Number(str):
-    """A number as it is written, such as "1.50": it chooses variants as a number, and is shown as it stands."""
+    """A number as it is written, such as "1.50": it chooses variants as a number, and is shown as it is written."""
 
 
 class FluentError(Exception):
@@ -35,7 +35,7 @@ class MissingMessageError(FluentError, KeyError):
 
 
 class Answer(NamedTuple):
-    """The text of a message, and what came up while it was made. The text is there in spite of errors."""
+    """The text of a message, and its errors. You get the text even if there are errors."""
 
     text: str
     errors: list[str]
@@ -90,7 +90,7 @@ class Bundle:
     """Messages and terms of sources, which are read once and kept.
 
     `locale` names the language whose plural rules choose variants, such as "pl"; English without one. With `isolating` the values
-    of placeables stand between marks that keep their direction from that of the text around them. With `overriding` the last entry
+    of placeables are between marks that keep their direction from that of the text around them. With `overriding` the last entry
     of an id counts, and else the first.
     """
 

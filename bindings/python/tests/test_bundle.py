@@ -2,9 +2,11 @@
 
 import doctest
 import gc
+import re
 import threading
 import unittest
 from decimal import Decimal
+from pathlib import Path
 
 import kozhvadi
 from kozhvadi import Bundle, FluentError, MissingMessageError, Number, UnknownLocaleError
@@ -23,8 +25,16 @@ bare =
 """
 
 
+def session_of_page():
+    """The session that README.md shows, as a test."""
+    page = Path(__file__).parents[1] / "README.md"
+    session = re.search(r"^```python\n(.*?)^```$", page.read_text(encoding="utf-8"), re.M | re.S).group(1)
+    return doctest.DocTestCase(doctest.DocTestParser().get_doctest(session, {}, page.name, str(page), 0))
+
+
 def load_tests(loader, tests, pattern):
     tests.addTests(doctest.DocTestSuite(kozhvadi))
+    tests.addTest(session_of_page())
     return tests
 
 

@@ -8,6 +8,7 @@ use crate::resource::FluentResource;
 use crate::text::Text;
 use std::borrow::{Borrow, Cow};
 use std::cell::{RefCell, UnsafeCell};
+use std::collections::HashMap;
 use std::fmt;
 use std::ptr;
 
@@ -16,6 +17,8 @@ pub(crate) struct Kept {
     handle: UnsafeCell<c::FluentBundle>,
     /// The text and the errors of the last answer, whose memory the next one takes.
     texts: RefCell<(Text, Text)>,
+    /// The messages that were asked for, by their ids, and whether they have a value. A bundle doesn't change.
+    known: RefCell<HashMap<Box<str>, Found>>,
 }
 
 // SAFETY: the library proves that its bundles and its texts may go to another thread, and this type isn't `Sync`, so there is one call at a
@@ -62,14 +65,15 @@ impl Kept {
         };
         match made {
             c::FLUENT_READ => {
-                Some(Kept { handle: UnsafeCell::new(handle), texts: RefCell::new((Text::none(), Text::none())) })
+                let texts = RefCell::new((Text::none(), Text::none()));
+                Some(Kept { handle: UnsafeCell::new(handle), texts, known: RefCell::default() })
             }
             c::FLUENT_UNKNOWN_LOCALE => None,
             _ => out_of_memory(),
         }
     }
 
-    /// Whether there is a pattern. The empty name of an attribute stands for the value.
+    /// Whether there is a pattern. The empty name of an attribute asks for the value.
     pub(crate) fn has(&self, id: &str, attribute: &str) -> Found {
         // SAFETY: as in `format`.
         let found = unsafe {
@@ -80,6 +84,18 @@ impl Kept {
             c::FLUENT_NO_MESSAGE => Found::Nothing,
             _ => Found::Message,
         }
+    }
+
+    /// Whether there is a message, and whether it has a value. It asks the library once for each message.
+    pub(crate) fn has_value(&self, id: &str) -> Found {
+        if let Some(found) = self.known.borrow().get(id) {
+            return *found;
+        }
+        let found = self.has(id, "");
+        if found != Found::Nothing {
+            self.known.borrow_mut().insert(id.into(), found);
+        }
+        found
     }
 
     /// Hands the text of a pattern on, and the lines of its errors; or nothing if there is no such pattern.
@@ -172,7 +188,7 @@ impl<R: Borrow<FluentResource>> FluentBundle<R> {
         self.add(resource, true);
     }
 
-    /// Whether the values of placeables stand between marks that keep their direction from that of the text around them, as they do
+    /// Whether the values of placeables are between marks that keep their direction from that of the text around them, as they do
     /// at first.
     pub fn set_use_isolating(&mut self, value: bool) {
         self.isolating = value;
@@ -181,12 +197,12 @@ impl<R: Borrow<FluentResource>> FluentBundle<R> {
 
     /// Whether an id is that of a message.
     pub fn has_message(&self, id: &str) -> bool {
-        self.kept.has(id, "") != Found::Nothing
+        self.kept.has_value(id) != Found::Nothing
     }
 
     /// The message of an id.
     pub fn get_message<'l>(&'l self, id: &'l str) -> Option<FluentMessage<'l>> {
-        let value = match self.kept.has(id, "") {
+        let value = match self.kept.has_value(id) {
             Found::Pattern => Some(Pattern { id, attribute: "" }),
             Found::Message => None,
             Found::Nothing => return None,
@@ -194,7 +210,7 @@ impl<R: Borrow<FluentResource>> FluentBundle<R> {
         Some(FluentMessage { kept: &self.kept, id, value })
     }
 
-    /// The text of a pattern. What comes up is put behind `errors`, and the text is there all the same.
+    /// The text of a pattern. Errors are added to `errors`, and you get the text even if there are errors.
     pub fn format_pattern<'bundle>(
         &'bundle self,
         pattern: &Pattern<'_>,
@@ -204,7 +220,7 @@ impl<R: Borrow<FluentResource>> FluentBundle<R> {
         Cow::Owned(self.formatted(pattern, args, errors, str::to_owned))
     }
 
-    /// Writes the text of a pattern. What comes up is put behind `errors`.
+    /// Writes the text of a pattern. Errors are added to `errors`.
     ///
     /// # Errors
     /// Those of the writer.
@@ -229,7 +245,9 @@ impl<R: Borrow<FluentResource>> FluentBundle<R> {
     ) -> T {
         let none = FluentArgs::new();
         let all = |text: &str, lines: &str| {
-            errors.extend(lines.split_terminator('\n').map(|line| FluentError::from(ResolverError(line.to_owned()))));
+            if !lines.is_empty() {
+                errors.extend(lines.split_terminator('\n').map(|line| FluentError::from(ResolverError(line.to_owned()))));
+            }
             took(text)
         };
         // A pattern of another bundle may be none of this one's.

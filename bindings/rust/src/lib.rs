@@ -36,6 +36,11 @@ mod resource;
 mod text;
 mod value;
 
+/// The page of this package, whose example is a test.
+#[cfg(doctest)]
+#[doc = include_str!("../README.md")]
+struct Page;
+
 pub use args::FluentArgs;
 pub use bundle::FluentBundle;
 pub use errors::{EntryKind, FluentError, ParserError, ResolverError};

@@ -7,7 +7,7 @@
 //! `fluent_c.h`, next to this crate's folder `src`, declares the calls for C.
 #![tactic(auto)]
 
-ghost use Rattle.std.specs.Prelude.{◌≡◌, ◌≢◌, true, IsSome, IsSomeAnd, IsUtf8, None};
+ghost use Rattle.std.specs.Prelude.{◌≡◌, ◌≢◌, ◌∷◌, [], true, IsSome, IsSomeAnd, IsUtf8, None};
 ghost use Rattle.serde_json.specs.Written.{compact_text};
 ghost use Rattle.fluent_syntax.specs.Tiling.{tree, errors, runtime_tree, runtime_errors};
 ghost use Rattle.fluent_syntax.specs.Written.{written_with};
@@ -18,6 +18,7 @@ ghost use Rattle.fluent_calls.specs.Arguments.{AreTaken, HoldsBad};
 ghost use Rattle.fluent_calls.specs.Bundles.{AreNames, HasNoMessage, HasNoPattern, HasOther, HoldReply, Keeps, KeepsNone, KeepsSame, catalog_in, pattern_in, reply_in};
 ghost use Rattle.fluent_calls.specs.Counts.{Counted};
 ghost use Rattle.fluent_calls.specs.Made.{Holds, HoldsNone, HoldsSame};
+ghost use Rattle.fluent_calls.specs.Results.{IsOneOf};
 
 use fluent_calls::{
     FluentArgument, FluentBundle, FluentCounts, FluentSource, FluentText, Form, Reading, answer,
@@ -27,11 +28,12 @@ use std::alloc::Global;
 
 /// Counts the entries and the errors of a source, comments included.
 ///
-/// `text` is the source's bytes. The answer is [`FLUENT_READ`](fluent_calls::FLUENT_READ), also where the source has errors;
+/// `text` is the source's bytes. The answer is [`FLUENT_READ`](fluent_calls::FLUENT_READ), also if the source has errors;
 /// [`FLUENT_NOT_UTF8`](fluent_calls::FLUENT_NOT_UTF8) or [`FLUENT_NO_MEMORY`](fluent_calls::FLUENT_NO_MEMORY) otherwise, and
 /// `counts` is unchanged then. All memory is freed when it returns.
 #[unsafe(no_mangle)]
 pub extern "C" fn fluent_parse(alloc: Global, text: &[u8], counts: &mut FluentCounts) -> u32
+    ensures decided { IsOneOf result (0 ∷ 1 ∷ 2 ∷ []) }
     ensures counted { result ≡ 0 → Counted counts.new (tree text.now) (errors text.now) }
     ensures not_utf8 { result ≡ 1 → ¬ (IsUtf8 text.now) }
     ensures utf8 { result ≢ 1 → IsUtf8 text.now }
@@ -44,6 +46,7 @@ pub extern "C" fn fluent_parse(alloc: Global, text: &[u8], counts: &mut FluentCo
 /// comments. The answers are those of [`fluent_parse`].
 #[unsafe(no_mangle)]
 pub extern "C" fn fluent_parse_runtime(alloc: Global, text: &[u8], counts: &mut FluentCounts) -> u32
+    ensures decided { IsOneOf result (0 ∷ 1 ∷ 2 ∷ []) }
     ensures counted { result ≡ 0 → Counted counts.new (runtime_tree text.now)
         (runtime_errors text.now) }
     ensures not_utf8 { result ≡ 1 → ¬ (IsUtf8 text.now) }
@@ -55,8 +58,8 @@ pub extern "C" fn fluent_parse_runtime(alloc: Global, text: &[u8], counts: &mut 
 
 /// Reads a source and writes its tree back.
 ///
-/// `text` is the source's bytes. Its junk is written as it stands where `with_junk` is true, and left out where it is
-/// false. The answers are those of [`fluent_parse`]: where the source was read, `made` holds the written text, and what it
+/// `text` is the source's bytes. Its junk is written as it is if `with_junk` is true, and else left out.
+/// The answers are those of [`fluent_parse`]: if the source was read, `made` holds the written text, and what it
 /// held before is freed; else `made` is unchanged. All other memory is freed when it returns.
 #[unsafe(no_mangle)]
 pub extern "C" fn fluent_write(
@@ -65,6 +68,7 @@ pub extern "C" fn fluent_write(
     with_junk: bool,
     made: &mut FluentText,
 ) -> u32
+    ensures decided { IsOneOf result (0 ∷ 1 ∷ 2 ∷ []) }
     ensures written { result ≡ 0 → Holds made.new (written_with with_junk (tree text.now)) }
     ensures not_utf8 { result ≡ 1 → ¬ (IsUtf8 text.now) }
     ensures utf8 { result ≢ 1 → IsUtf8 text.now }
@@ -78,6 +82,7 @@ pub extern "C" fn fluent_write(
 /// The tree has the source's junk. The answers are those of [`fluent_write`].
 #[unsafe(no_mangle)]
 pub extern "C" fn fluent_write_json(alloc: Global, text: &[u8], made: &mut FluentText) -> u32
+    ensures decided { IsOneOf result (0 ∷ 1 ∷ 2 ∷ []) }
     ensures written { result ≡ 0 → Holds made.new (compact_text (json (tree text.now))) }
     ensures not_utf8 { result ≡ 1 → ¬ (IsUtf8 text.now) }
     ensures utf8 { result ≢ 1 → IsUtf8 text.now }
@@ -89,11 +94,11 @@ pub extern "C" fn fluent_write_json(alloc: Global, text: &[u8], made: &mut Fluen
 /// Answers request lines from the messages and terms of sources, as the command `ftl run` does.
 ///
 /// The function `NUMBER` is there, and variants are chosen by the plural rules of the locale, a tag such as `pl` or `pt-PT`, and by
-/// those of English if it is empty. Placeables stand between marks where `isolating` is true. Of an id that stands twice the last
-/// entry counts where `overriding` is true, and the first where it is false. `docs/protocol.md` says what a request line and its
+/// those of English if it is empty. Placeables are between marks if `isolating` is true. Of duplicate ids the last
+/// entry counts if `overriding` is true, and else the first. `docs/protocol.md` says what a request line and its
 /// answer are, and `docs/plurals.md` which locales have plural rules.
 ///
-/// The answers are those of [`fluent_write`], also where a request is bad; and
+/// The answers are those of [`fluent_write`], also if a request is bad; and
 /// [`FLUENT_UNKNOWN_LOCALE`](fluent_calls::FLUENT_UNKNOWN_LOCALE) if the locale has no plural rules.
 #[unsafe(no_mangle)]
 pub extern "C" fn fluent_answer(
@@ -105,9 +110,10 @@ pub extern "C" fn fluent_answer(
     requests: &[u8],
     made: &mut FluentText,
 ) -> u32
+    ensures decided { IsOneOf result (0 ∷ 1 ∷ 2 ∷ 3 ∷ []) }
     ensures answered { result ≡ 0
         → IsAnswer locale.now isolating overriding sources.now requests.now made.new }
-    ensures utf8 { result ≡ 0 → AreUtf8 sources.now }
+    ensures utf8 { result ≢ 1 → AreUtf8 sources.now }
     ensures not_utf8 { result ≡ 1 → HoldsOther sources.now }
     ensures unknown { result ≡ 3 → plurals_in locale.now ≡ None }
     ensures unchanged { result ≢ 0 → made.new ≡ made.old }
@@ -138,9 +144,10 @@ pub extern "C" fn fluent_bundle_new(
     overriding: bool,
     made: &mut FluentBundle,
 ) -> u32
+    ensures decided { IsOneOf result (0 ∷ 1 ∷ 2 ∷ 3 ∷ []) }
     ensures made { result ≡ 0 → IsSomeAnd (catalog_in locale.now isolating overriding
         (texts_of sources.now)) (Keeps made.new) }
-    ensures utf8 { result ≡ 0 → AreUtf8 sources.now }
+    ensures utf8 { result ≢ 1 → AreUtf8 sources.now }
     ensures not_utf8 { result ≡ 1 → HoldsOther sources.now }
     ensures unknown { result ≡ 3 → plurals_in locale.now ≡ None }
     ensures unchanged { result ≢ 0 → made.new ≡ made.old }
@@ -151,8 +158,8 @@ pub extern "C" fn fluent_bundle_new(
 /// Hands out what a message of a bundle gives for arguments: its value, or its first attribute of a name, and the value for the empty
 /// name.
 ///
-/// The answer is [`FLUENT_READ`](fluent_calls::FLUENT_READ) also if errors came up: then `text` holds the text and `errors` a line
-/// for each error, or none if nothing came up, and what they held before is freed.
+/// The answer is [`FLUENT_READ`](fluent_calls::FLUENT_READ) also if there are errors: then `text` holds the text and `errors` a line
+/// for each error, or no text if there are none, and what they held before is freed.
 ///
 /// The answer is [`FLUENT_NOT_UTF8`](fluent_calls::FLUENT_NOT_UTF8) if the id, a name or a text isn't UTF-8,
 /// [`FLUENT_BAD_ARGUMENT`](fluent_calls::FLUENT_BAD_ARGUMENT) if an argument's kind isn't known or its decimal is no number,
@@ -171,11 +178,12 @@ pub extern "C" fn fluent_bundle_format<'a>(
     text: &mut FluentText,
     errors: &mut FluentText,
 ) -> u32
+    ensures decided { IsOneOf result (0 ∷ 1 ∷ 2 ∷ 4 ∷ 5 ∷ 6 ∷ 7 ∷ []) }
     ensures answered { result ≡ 0 → IsSomeAnd (reply_in bundle.old id.now attribute.now
         arguments.now) (HoldReply text.new errors.new) }
-    ensures bundle { result ≡ 0 → bundle.old.held ≡ true }
-    ensures names { result ≡ 0 → AreNames id.now attribute.now }
-    ensures taken { result ≡ 0 → AreTaken arguments.now }
+    ensures bundle { IsOneOf result (0 ∷ 4 ∷ 5 ∷ []) → bundle.old.held ≡ true }
+    ensures names { result ≢ 1 → AreNames id.now attribute.now }
+    ensures taken { IsOneOf result (0 ∷ 4 ∷ 5 ∷ 7 ∷ []) → AreTaken arguments.now }
     ensures not_utf8 { result ≡ 1 → HasOther id.now attribute.now arguments.now }
     ensures no_message { result ≡ 4 → HasNoMessage bundle.old id.now }
     ensures no_pattern { result ≡ 5 → HasNoPattern bundle.old id.now attribute.now }
@@ -190,7 +198,11 @@ pub extern "C" fn fluent_bundle_format<'a>(
 
 /// Whether a bundle has what is asked for: a message's value, or its first attribute of a name, and the value for the empty name.
 ///
-/// The answers are those of [`fluent_bundle_format`], and it takes no memory.
+/// The answer is [`FLUENT_READ`](fluent_calls::FLUENT_READ) if it has,
+/// [`FLUENT_NO_MESSAGE`](fluent_calls::FLUENT_NO_MESSAGE) if there is no message of the id,
+/// [`FLUENT_NO_PATTERN`](fluent_calls::FLUENT_NO_PATTERN) if the message lacks the value or the attribute,
+/// [`FLUENT_NOT_UTF8`](fluent_calls::FLUENT_NOT_UTF8) if the id or the name isn't UTF-8, and
+/// [`FLUENT_NO_BUNDLE`](fluent_calls::FLUENT_NO_BUNDLE) if there is no bundle. It doesn't allocate.
 #[unsafe(no_mangle)]
 pub extern "C" fn fluent_bundle_has<'a>(
     alloc: Global,
@@ -198,8 +210,10 @@ pub extern "C" fn fluent_bundle_has<'a>(
     id: &'a [u8],
     attribute: &'a [u8],
 ) -> u32
+    ensures decided { IsOneOf result (0 ∷ 1 ∷ 4 ∷ 5 ∷ 7 ∷ []) }
     ensures found { result ≡ 0 → IsSome (pattern_in bundle.old id.now attribute.now) }
-    ensures bundle { result ≡ 0 → bundle.old.held ≡ true }
+    ensures bundle { IsOneOf result (0 ∷ 4 ∷ 5 ∷ []) → bundle.old.held ≡ true }
+    ensures names { result ≢ 1 → AreNames id.now attribute.now }
     ensures not_utf8 { result ≡ 1 → ¬ (AreNames id.now attribute.now) }
     ensures no_message { result ≡ 4 → HasNoMessage bundle.old id.now }
     ensures no_pattern { result ≡ 5 → HasNoPattern bundle.old id.now attribute.now }
@@ -220,8 +234,9 @@ pub extern "C" fn fluent_bundle_errors(
     bundle: &mut FluentBundle,
     report: &mut FluentText,
 ) -> u32
+    ensures decided { IsOneOf result (0 ∷ 2 ∷ 7 ∷ []) }
     ensures told { result ≡ 0 → Holds report.new (report_text bundle.old.catalog.sources) }
-    ensures bundle { result ≡ 0 → bundle.old.held ≡ true }
+    ensures bundle { result ≢ 7 → bundle.old.held ≡ true }
     ensures no_bundle { result ≡ 7 → KeepsNone bundle.old }
     ensures kept { KeepsSame bundle.new bundle.old }
     ensures unchanged { result ≢ 0 → HoldsSame report.new report.old }

@@ -1,4 +1,3 @@
-mod Values
 mod Steps
 mod Texts
 mod Sources

@@ -9,3 +9,4 @@ pub mod Forms
 pub mod Answering
 pub mod Arguments
 pub mod Bundles
+pub mod Results

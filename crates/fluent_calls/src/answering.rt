@@ -3,6 +3,7 @@
 ghost use Rattle.std.specs.Prelude.{◌≡◌, ◌≢◌, ◌++◌, ◌∷◌, [], false, IfOk, IfErr, IsTrue, OnOk, IsUtf8, None};
 ghost use Rattle.fluent_serve.specs.Texts.{texts};
 ghost use Rattle.fluent_calls.specs.Answering.{texts_of, AreUtf8, HoldsOther, IsAnswer, plurals_in};
+ghost use Rattle.fluent_calls.specs.Results.{IsOneOf};
 ghost use Rattle.fluent_calls.specs.declared.answering.Refusal.TheVariants.{Memory, NotUtf8, UnknownLocale};
 
 use crate::text::FluentText;
@@ -79,7 +80,7 @@ pub(crate) fn read_sources<'s>(
     Ok(read)
 }
 
-/// Puts a source's text behind `read`, if it is UTF-8.
+/// Puts a source's text after `read`, if it is UTF-8.
 fn read_source<'s>(source: &FluentSource<'s>, read: &mut Vec<&'s str>) -> Result<(), Refusal>
     ensures read { OnOk result (texts read.new.items
         ≡ texts read.old.items ++ source.now.text.now ∷ []) }
@@ -134,11 +135,11 @@ fn answered(
 /// Answers request lines from the messages and terms of sources, as the command `ftl run` does.
 ///
 /// The function `NUMBER` is there, and variants are chosen by the plural rules of the locale, a tag such as `pl` or `pt-PT`, and by
-/// those of English if it is empty. Placeables stand between marks where `isolating` is true. Of an id that stands twice the last
-/// entry counts where `overriding` is true, and the first where it is false. `docs/protocol.md` says what a request line and its
+/// those of English if it is empty. Placeables are between marks if `isolating` is true. Of duplicate ids the last
+/// entry counts if `overriding` is true, and else the first. `docs/protocol.md` says what a request line and its
 /// answer are, and `docs/plurals.md` which locales have plural rules.
 ///
-/// The answer is [`FLUENT_READ`], also where a source has errors or a request is bad: then `made` holds the answers, and
+/// The answer is [`FLUENT_READ`], also if a source has errors or a request is bad: then `made` holds the answers, and
 /// what it held before is freed. The answer is [`FLUENT_NOT_UTF8`] if a source isn't UTF-8, which is seen before memory is taken,
 /// [`FLUENT_UNKNOWN_LOCALE`] if the locale has no plural rules, or [`FLUENT_NO_MEMORY`] otherwise, and `made` is unchanged then. All
 /// other memory is freed when it returns.
@@ -151,6 +152,7 @@ pub fn answer(
     requests: &[u8],
     made: &mut FluentText,
 ) -> u32
+    ensures decided { IsOneOf result (0 ∷ 1 ∷ 2 ∷ 3 ∷ []) }
     ensures answered { result ≡ 0
         → IsAnswer locale.now isolating overriding sources.now requests.now made.new }
     ensures utf8 { result ≢ 1 → AreUtf8 sources.now }

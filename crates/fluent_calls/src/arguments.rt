@@ -104,7 +104,7 @@ fn set<'a>(
     }
 }
 
-/// The arguments by their names. Of a name that comes twice the last value stands.
+/// The arguments by their names. Of arguments with one name the last counts.
 ///
 /// # Errors
 /// Those of [`set`], for the first argument that isn't taken.

@@ -1,11 +1,12 @@
 //! Bundles that a caller which isn't Rattle keeps from call to call.
 
-ghost use Rattle.std.specs.Prelude.{◌≡◌, ◌≢◌, true, IfErr, IfOk, IsSome, IsSomeAnd, None, map, string_bytes};
+ghost use Rattle.std.specs.Prelude.{◌≡◌, ◌≢◌, ◌∷◌, [], true, IfErr, IfOk, IsSome, IsSomeAnd, None, map, string_bytes};
 ghost use Rattle.fluent_serve.specs.Texts.{texts};
 ghost use Rattle.ftl_report.specs.Report.{report_text};
 ghost use Rattle.fluent_calls.specs.Answering.{AreUtf8, HoldsOther, plurals_in, texts_of};
 ghost use Rattle.fluent_calls.specs.Bundles.{AreNames, HasNoMessage, HasNoPattern, Keeps, KeepsNone, KeepsSame, catalog_in, pattern_in};
 ghost use Rattle.fluent_calls.specs.Made.{Holds, HoldsSame};
+ghost use Rattle.fluent_calls.specs.Results.{IsOneOf};
 ghost use Rattle.fluent_calls.specs.declared.answering.Refusal.TheVariants.{NotUtf8, UnknownLocale};
 
 use crate::answering::{FluentSource, Refusal, are_utf8, plurals_of, read_sources};
@@ -67,7 +68,7 @@ fn kept(
 /// Reads sources, and keeps a bundle of them, which answers as [`answer`](crate::answer) does.
 ///
 /// The sources are copied. The settings and the locale are those of [`answer`](crate::answer). The answer is [`FLUENT_READ`], also
-/// where a source has errors: then `made` keeps the bundle, and what it kept before is freed. The answer is [`FLUENT_NOT_UTF8`] if a
+/// if a source has errors: then `made` keeps the bundle, and what it kept before is freed. The answer is [`FLUENT_NOT_UTF8`] if a
 /// source isn't UTF-8, which is seen before memory is taken, [`FLUENT_UNKNOWN_LOCALE`] if the locale has no plural rules, or
 /// [`FLUENT_NO_MEMORY`] otherwise, and `made` is unchanged then.
 pub fn bundle_new(
@@ -78,6 +79,7 @@ pub fn bundle_new(
     overriding: bool,
     made: &mut FluentBundle,
 ) -> u32
+    ensures decided { IsOneOf result (0 ∷ 1 ∷ 2 ∷ 3 ∷ []) }
     ensures made { result ≡ 0 → IsSomeAnd (catalog_in locale.now isolating overriding
         (texts_of sources.now)) (Keeps made.new) }
     ensures utf8 { result ≢ 1 → AreUtf8 sources.now }
@@ -114,8 +116,10 @@ pub fn bundle_has<'a>(
     id: &'a [u8],
     attribute: &'a [u8],
 ) -> u32
+    ensures decided { IsOneOf result (0 ∷ 1 ∷ 4 ∷ 5 ∷ 7 ∷ []) }
     ensures found { result ≡ 0 → IsSome (pattern_in bundle.old id.now attribute.now) }
-    ensures bundle { result ≡ 0 → bundle.old.held ≡ true }
+    ensures bundle { IsOneOf result (0 ∷ 4 ∷ 5 ∷ []) → bundle.old.held ≡ true }
+    ensures names { result ≢ 1 → AreNames id.now attribute.now }
     ensures not_utf8 { result ≡ 1 → ¬ (AreNames id.now attribute.now) }
     ensures no_message { result ≡ 4 → HasNoMessage bundle.old id.now }
     ensures no_pattern { result ≡ 5 → HasNoPattern bundle.old id.now attribute.now }
@@ -129,7 +133,7 @@ pub fn bundle_has<'a>(
         Some(Answer::Found) => FLUENT_READ,
         Some(Answer::NoMessage) => FLUENT_NO_MESSAGE,
         Some(Answer::NoPattern) => FLUENT_NO_PATTERN,
-        Some(_) => FLUENT_NO_MEMORY,
+        Some(Answer::Memory | Answer::Reply(_) | Answer::Report(_)) => unreachable!(),
         None => FLUENT_NO_BUNDLE,
     }
 }
@@ -140,8 +144,9 @@ pub fn bundle_has<'a>(
 /// The answer is [`FLUENT_READ`], [`FLUENT_NO_BUNDLE`] if there is no bundle, or [`FLUENT_NO_MEMORY`]. If it isn't
 /// [`FLUENT_READ`], `report` holds what it held.
 pub fn bundle_errors(alloc: Global, bundle: &mut FluentBundle, report: &mut FluentText) -> u32
+    ensures decided { IsOneOf result (0 ∷ 2 ∷ 7 ∷ []) }
     ensures told { result ≡ 0 → Holds report.new (report_text bundle.old.catalog.sources) }
-    ensures bundle { result ≡ 0 → bundle.old.held ≡ true }
+    ensures bundle { result ≢ 7 → bundle.old.held ≡ true }
     ensures no_bundle { result ≡ 7 → KeepsNone bundle.old }
     ensures kept { KeepsSame bundle.new bundle.old }
     ensures unchanged { result ≢ 0 → HoldsSame report.new report.old }

@@ -1,8 +1,9 @@
 //! How many entries of each kind a tree has.
 
-ghost use Rattle.std.specs.Prelude.{◌≡◌, ◌≢◌, IfOk, IsUtf8};
+ghost use Rattle.std.specs.Prelude.{◌≡◌, ◌≢◌, ◌∷◌, [], IfOk, IsUtf8};
 ghost use Rattle.fluent_syntax.specs.Collected.{HasTree, HasErrors};
 ghost use Rattle.fluent_calls.specs.Counts.{Counted, HasEntries, IsCountOf, Text, text_of, plain, tree_of, errors_of};
+ghost use Rattle.fluent_calls.specs.Results.{IsOneOf};
 
 use crate::{FLUENT_NO_MEMORY, FLUENT_NOT_UTF8, FLUENT_READ};
 use fluent_syntax::ast::{Entry, Resource};
@@ -16,7 +17,7 @@ use std::alloc::{AllocError, Global};
 pub struct FluentCounts {
     pub messages: usize,
     pub terms: usize,
-    /// The comments that stand by themselves, of all three kinds: not those of messages and terms.
+    /// Standalone comments, of all three kinds: not those of messages and terms.
     pub comments: usize,
     pub junk: usize,
     /// One for each junk.
@@ -61,9 +62,10 @@ pub enum Reading {
 
 /// Counts what a source is made of.
 ///
-/// `text` is the source's bytes. The answer is [`FLUENT_READ`], also where the source has errors; [`FLUENT_NOT_UTF8`] or
+/// `text` is the source's bytes. The answer is [`FLUENT_READ`], also if the source has errors; [`FLUENT_NOT_UTF8`] or
 /// [`FLUENT_NO_MEMORY`] otherwise, and `counts` is unchanged then. All memory is freed when it returns.
 pub fn count(alloc: Global, text: &[u8], reading: Reading, counts: &mut FluentCounts) -> u32
+    ensures decided { IsOneOf result (0 ∷ 1 ∷ 2 ∷ []) }
     ensures counted { result ≡ 0
         → Counted counts.new (tree_of reading text.now) (errors_of reading text.now) }
     ensures not_utf8 { result ≡ 1 → ¬ (IsUtf8 text.now) }

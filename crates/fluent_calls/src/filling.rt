@@ -3,8 +3,8 @@
 ghost use Rattle.std.specs.Prelude.{vec_items, MatchResult};
 ghost use Rattle.fluent_calls.specs.Made.{Holds, HoldsSame};
 
-use crate::loose::Loose;
 use crate::text::FluentText;
+use fluent_kept::Loose;
 use std::alloc::{AllocError, Global};
 
 /// The text of these bytes, in a box that held others.

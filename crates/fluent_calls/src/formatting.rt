@@ -1,10 +1,11 @@
 //! The text of a message, from a bundle that is kept.
 
-ghost use Rattle.std.specs.Prelude.{◌≡◌, ◌≢◌, true, IfOk, IsSomeAnd, MatchResult};
+ghost use Rattle.std.specs.Prelude.{◌≡◌, ◌≢◌, ◌∷◌, [], true, IfOk, IsSomeAnd, MatchResult};
 ghost use Rattle.fluent_run.specs.ReplyView.{reply_view};
 ghost use Rattle.fluent_calls.specs.Arguments.{AreTaken, HoldsBad};
 ghost use Rattle.fluent_calls.specs.Bundles.{AreNames, HasNoMessage, HasNoPattern, HasOther, HoldReply, HoldsLines, KeepsNone, KeepsSame, reply_in};
 ghost use Rattle.fluent_calls.specs.Made.{HoldsSame};
+ghost use Rattle.fluent_calls.specs.Results.{IsOneOf};
 
 use crate::arguments::{ArgumentRefusal, FluentArgument, arguments_of};
 use crate::filling::fill;
@@ -61,9 +62,9 @@ fn hand_out(
 /// Hands out what a message of a bundle gives for arguments: its value, or its first attribute of a name, and the value for the empty
 /// name.
 ///
-/// The answer is [`FLUENT_READ`] also if errors came up: then `text` holds the text and `errors` a line for each error, or none if
-/// nothing came up, and what they held before is freed. If there was a text in `text`, an answer without an error takes no other
-/// memory than that of the text.
+/// The answer is [`FLUENT_READ`] also if there are errors: then `text` holds the text and `errors` a line for each error, or no
+/// text if there are none, and what they held before is freed. If `text` held a text, an answer without an error keeps no
+/// new memory but that of its text.
 ///
 /// The answer is [`FLUENT_NOT_UTF8`] if the id, a name or a text isn't UTF-8, [`FLUENT_BAD_ARGUMENT`] if an argument's kind isn't known
 /// or its decimal is no number, [`FLUENT_NO_MESSAGE`] if there is no message of the id, [`FLUENT_NO_PATTERN`] if the message lacks the
@@ -78,11 +79,12 @@ pub fn bundle_format<'a>(
     text: &mut FluentText,
     errors: &mut FluentText,
 ) -> u32
+    ensures decided { IsOneOf result (0 ∷ 1 ∷ 2 ∷ 4 ∷ 5 ∷ 6 ∷ 7 ∷ []) }
     ensures answered { result ≡ 0 → IsSomeAnd (reply_in bundle.old id.now attribute.now
         arguments.now) (HoldReply text.new errors.new) }
-    ensures bundle { result ≡ 0 → bundle.old.held ≡ true }
-    ensures names { result ≡ 0 → AreNames id.now attribute.now }
-    ensures taken { result ≡ 0 → AreTaken arguments.now }
+    ensures bundle { IsOneOf result (0 ∷ 4 ∷ 5 ∷ []) → bundle.old.held ≡ true }
+    ensures names { result ≢ 1 → AreNames id.now attribute.now }
+    ensures taken { IsOneOf result (0 ∷ 4 ∷ 5 ∷ 7 ∷ []) → AreTaken arguments.now }
     ensures not_utf8 { result ≡ 1 → HasOther id.now attribute.now arguments.now }
     ensures no_message { result ≡ 4 → HasNoMessage bundle.old id.now }
     ensures no_pattern { result ≡ 5 → HasNoPattern bundle.old id.now attribute.now }

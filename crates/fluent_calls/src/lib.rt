@@ -10,7 +10,6 @@ mod bundles;
 mod counts;
 mod filling;
 mod formatting;
-mod loose;
 mod names;
 mod text;
 mod threads;

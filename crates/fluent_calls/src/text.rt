@@ -5,7 +5,7 @@ ghost use Rattle.std.specs.Vec.{vec_ptr};
 ghost use Rattle.std.specs.Option.{MatchOption};
 ghost use Rattle.fluent_calls.specs.Texts.{text_owns};
 
-use crate::loose::Loose;
+use fluent_kept::Loose;
 use std::alloc::{AllocError, Global};
 use std::marker::Model;
 
@@ -14,7 +14,7 @@ use std::marker::Model;
 /// Only this crate makes one that holds a text. A caller in C reads the fields; the text is freed by [`FluentText::clear`].
 #[repr(C)]
 pub struct FluentText {
-    /// Whether there is a text. Where there is none, the other fields say nothing.
+    /// Whether there is a text. If there is none, the other fields say nothing.
     held: bool,
     /// The first byte. An empty text may have any pointer here.
     bytes: *const u8,

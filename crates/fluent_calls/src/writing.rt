@@ -1,6 +1,6 @@
 //! The tree of a source as text: written back, and as JSON.
 
-ghost use Rattle.std.specs.Prelude.{◌≡◌, ◌≢◌, IfOk, IsUtf8};
+ghost use Rattle.std.specs.Prelude.{◌≡◌, ◌≢◌, ◌∷◌, [], IfOk, IsUtf8};
 ghost use Rattle.serde_json.specs.Written.{compact_text};
 ghost use Rattle.fluent_syntax.specs.Tiling.{tree};
 ghost use Rattle.fluent_syntax.specs.Written.{written_with};
@@ -9,6 +9,7 @@ ghost use Rattle.fluent_json.specs.Parts as owned;
 ghost use Rattle.fluent_calls.specs.Counts.{plain};
 ghost use Rattle.fluent_calls.specs.Made.{Holds};
 ghost use Rattle.fluent_calls.specs.Forms.{text_in};
+ghost use Rattle.fluent_calls.specs.Results.{IsOneOf};
 
 use crate::text::FluentText;
 use crate::{FLUENT_NO_MEMORY, FLUENT_NOT_UTF8, FLUENT_READ};
@@ -81,10 +82,11 @@ fn text_of(alloc: Global, text: &str, form: Form) -> Result<FluentText, AllocErr
 
 /// Hands out the text of a source's tree in this form.
 ///
-/// `text` is the source's bytes. The answer is [`FLUENT_READ`], also where the source has errors: then `made` holds the
+/// `text` is the source's bytes. The answer is [`FLUENT_READ`], also if the source has errors: then `made` holds the
 /// text, and what it held before is freed. The answer is [`FLUENT_NOT_UTF8`] or [`FLUENT_NO_MEMORY`] otherwise, and `made`
 /// is unchanged then. All other memory is freed when it returns.
 pub fn hand_out(alloc: Global, text: &[u8], form: Form, made: &mut FluentText) -> u32
+    ensures decided { IsOneOf result (0 ∷ 1 ∷ 2 ∷ []) }
     ensures written { result ≡ 0 → Holds made.new (text_in form (tree text.now)) }
     ensures not_utf8 { result ≡ 1 → ¬ (IsUtf8 text.now) }
     ensures utf8 { result ≢ 1 → IsUtf8 text.now }

@@ -1,4 +1,4 @@
-mod Values
+pub mod Values
 mod Steps
 mod Heaps
 mod Made

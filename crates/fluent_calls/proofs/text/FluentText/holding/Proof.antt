@@ -10,7 +10,7 @@ use Rattle.std.proofs.alloc.Global.TheLaws as heap_laws
 use Rattle.std.specs.contracts.impls.GlobalAllocator.TheImpl.{ghosts}
 use Rattle.fluent_calls.specs.Texts.{bytes_row}
 use Rattle.fluent_calls.proofs.Texts.{text_good, held_by, held_in}
-use Rattle.fluent_calls.proofs.Values.{Loose, loose_good, loose_out}
+use Rattle.fluent_kept.proofs.Values.{Loose, loose_good, loose_out}
 use Rattle.fluent_calls.proofs.text.FluentText.TheLaws.{lowered}
 use Rattle.fluent_calls.specs.contracts.text.FluentText.{the_row}
 use Rattle.fluent_calls.specs.contracts.text.FluentText.holding as f

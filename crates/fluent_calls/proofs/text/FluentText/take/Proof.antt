@@ -20,7 +20,7 @@ use Rattle.std.proofs.alloc.Global.TheLaws as heap_laws
 use Rattle.std.specs.contracts.impls.GlobalAllocator.TheImpl.{ghosts}
 use Rattle.fluent_calls.specs.Texts.{bytes_row}
 use Rattle.fluent_calls.proofs.Texts.{held_out, good_of}
-use Rattle.fluent_calls.proofs.Values.{both, Loose, al, loose_good, loose_in}
+use Rattle.fluent_kept.proofs.Values.{both, Loose, al, loose_good, loose_in}
 use Rattle.fluent_calls.proofs.text.FluentText.TheLaws.{lowers}
 use Rattle.fluent_calls.specs.contracts.text.FluentText.{the_row}
 use Rattle.fluent_calls.specs.contracts.text.FluentText.take as f

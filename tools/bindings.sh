@@ -1,0 +1,43 @@
+#!/usr/bin/env bash
+# Builds the static library over the libraries that the gate left, and runs the tests of bindings/ and examples/ over it, and
+# that of calls whose allocations are refused.
+# Its last lines are 'K skipped', if a program was missing, and 'N passed, M failed'. It ends with 1 if anything failed.
+set -uo pipefail
+cd "$(dirname "$0")/.."
+
+passed=0 failed=0 skipped=0
+
+# Runs a command that needs these programs, or says which of them is missing.
+run_with() {
+    local program
+    for program in $1; do
+        if ! command -v "$program" >/dev/null; then
+            echo "== ${*:2}: skipped, there is no $program"
+            ((skipped += 1))
+            return
+        fi
+    done
+    echo "== ${*:2}"
+    if "${@:2}"; then
+        ((passed += 1))
+    else
+        echo "${*:2} failed"
+        ((failed += 1))
+    fi
+}
+
+# The library of the gate's own run: without FLUENT_C_LIB, that of this repository is taken.
+unset FLUENT_C_LIB
+run_with rt bindings/build.sh
+if ((passed == 1)); then
+    run_with cc bindings/c/run.sh
+    run_with 'cc cargo' bindings/rust/run.sh
+    run_with 'cc python3' bindings/python/run.sh
+    run_with cc examples/c/run.sh
+    run_with 'cc rustc' examples/rust/run.sh
+    run_with cc bench/bindings/refused.sh
+fi
+
+((skipped > 0)) && echo "$skipped skipped"
+echo "$passed passed, $failed failed"
+((failed == 0))
