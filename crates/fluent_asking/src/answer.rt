@@ -43,8 +43,8 @@ pub fn answer<'b, 'r, 's, 'a, C: FluentType + Drop, F, E: Context<C, F>>(
     }
 }
 
-/// The text of a pattern that is one text.
-fn lone_text<'s>(pattern: &Pattern<&'s str>) -> Option<&'s str>
+/// The text of a pattern that is one text. It is what the pattern gives, whatever the arguments are.
+pub fn lone_text<'s>(pattern: &Pattern<&'s str>) -> Option<&'s str>
     ensures { option_copied result ≡ lone_text (elements_of pattern.now) }
 {
     let (first, rest) = pattern.elements.split_first()?;

@@ -2,3 +2,4 @@ pub mod Environments
 pub mod Lines
 pub mod Replies
 pub mod Valued
+mod OneText

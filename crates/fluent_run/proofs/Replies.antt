@@ -1,21 +1,22 @@
 -- What a pattern gives when it is resolved, as an answer tells it.
-use Rattle.std.proofs.Common.{◌≡◌, false, ℕ, ◌+◌, ◌<◌, List, [], ◌∷◌, ◌++◌, Some, length, get_or, take, map, refl, ap, sym, ◌∙◌, append-nil}
+use Rattle.std.proofs.Common.{◌≡◌, false, ℕ, ◌+◌, ◌<◌, List, [], ◌∷◌, ◌++◌, Some, length, get_or, take, map, refl, ap, sym, ◌∙◌, append-nil, append_assoc, codes, decimal}
 use Rattle.std.proofs.lemmas.Grind.{flat_map-append}
-use Rattle.std.proofs.lemmas.List.{take_more}
+use Rattle.std.proofs.lemmas.List.{length-map, take_more}
 use Rattle.std.specs.List.{flat_map}
 use Rattle.fluent_answers.specs.Answers.{told}
 use Rattle.fluent_errors.specs.Errors.{Reported, Unresolved, unresolved}
 use Rattle.fluent_errors.specs.Texts.{resolver_text}
+use Rattle.fluent_errors.specs.View.{bundle_view}
+use Rattle.fluent_errors.specs.declared.bundle.FluentError.{FluentError}
 use Rattle.fluent_grammar.specs.Tree.{Elements}
 use Rattle.fluent_grammar.specs.Words.{Text}
 use Rattle.fluent_meaning.specs.Environment.{Environment}
 use Rattle.fluent_meaning.specs.Steps.{Done, entering, may_open}
 use Rattle.fluent_meaning.specs.Substitution.{Place, pattern_written, most_placeables}
 use Rattle.fluent_meaning.specs.Told.{State, Writes, after, budget_of}
-use Rattle.fluent_requests.specs.Frames.{Reply}
-use Rattle.fluent_run.specs.ReplyView.{error_text, line_of}
-use Rattle.fluent_run.specs.declared.reply.ErrorLine.{ErrorLine}
-use Rattle.fluent_serve.specs.AnswerView.{and_text, error_texts}
+use Rattle.fluent_requests.specs.Frames.{Reply, ended, frame_of, ok}
+use Rattle.fluent_run.specs.ReplyView.{error_text, error_texts, reply_of}
+use Rattle.fluent_serve.specs.AnswerView.{head_of}
 
 -- errors of resolving are told by their own texts
 told-texts : (es : List Unresolved) → map error_text (map unresolved es) ≡ map resolver_text es
@@ -49,10 +50,17 @@ resolved env first es place held now s t errors at_first nothing start wrote lis
     ∙ ap (λ x. pattern_written env es first x.budget) start in
     written a held now s t errors nothing start wrote.text wrote.state listed ∙ ap told asked-for
 
--- an error is shown as its line
-pub line-texts : (lines : List ErrorLine) → error_texts (λ l. Some (line_of l)) lines ≡ Some (map line_of lines)
-line-texts [] = refl
-line-texts (l ∷ ls) = ap (and_text (Some (line_of l))) (line-texts ls)
+-- pieces put behind one another, and one piece more
+pieces-more : (a b c d e : Text) → (a ++ (b ++ (c ++ d))) ++ e ≡ a ++ (b ++ (c ++ (d ++ e)))
+pieces-more a b c d e = append_assoc a (b ++ (c ++ d)) e ∙ ap (λ x. a ++ x) (append_assoc b (c ++ d) e ∙ ap (λ x. b ++ x) (append_assoc c d e))
+
+-- the bytes of an answer whose error lines stand behind its text
+pub frame-told : (s : Text) (errors : List FluentError) → head_of (length s) (length errors) ++ (ended s ++ flat_map ended (error_texts errors)) ≡ frame_of (ok (reply_of s errors))
+frame-told s errors =
+    let lines = ended s ++ flat_map ended (error_texts errors) in
+    let same : length errors ≡ length (error_texts errors) = sym (length-map (map bundle_view errors) error_text ∙ length-map errors bundle_view) in
+    ap (λ n. head_of (length s) n ++ lines) same
+    ∙ pieces-more (codes "ok ") (decimal (length s)) (codes " ") (ended (decimal (length (error_texts errors)))) lines
 
 -- one line more
 pub lines-next : {X : Type 0} (line : X → Text) (xs : List X) (k : ℕ) (d x : X) → k < length xs → x ≡ get_or xs k d → flat_map line (take k xs) ++ line x ≡ flat_map line (take (k + 1) xs)

@@ -1,11 +1,12 @@
 -- What the code's texts and errors stand for.
-use Rattle.std.specs.Prelude.{map, string_bytes}
+use Rattle.std.specs.Prelude.{List, map, string_bytes}
 use denote.Ref.{Bor}
 use Rattle.fluent_answers.specs.Answers.{told}
 use Rattle.fluent_ast.specs.declared.Pattern.{Pattern}
 use Rattle.fluent_errors.specs.Errors.{Reported, overriding, damaged, unresolved}
 use Rattle.fluent_errors.specs.Texts.{bundle_text, resolver_text}
 use Rattle.fluent_errors.specs.View.{bundle_view}
+use Rattle.fluent_errors.specs.declared.bundle.FluentError.{FluentError}
 use Rattle.fluent_grammar.specs.Words.{Text}
 use Rattle.fluent_progress.specs.declared.context.Context.{Ghosts as Context}
 use Rattle.fluent_progress.specs.declared.place.Place.{Place}
@@ -26,9 +27,17 @@ error_text (unresolved e) = resolver_text e
 abbrev pub line_of : ErrorLine → Text
 line_of line = error_text (bundle_view line.0.now)
 
+-- what errors' lines say
+abbrev pub error_texts : List FluentError → List Text
+error_texts errors = map error_text (map bundle_view errors)
+
+-- a text and errors, as plain data
+abbrev pub reply_of : Text → List FluentError → frames.Reply
+reply_of text errors = record { text = text; errors = error_texts errors }
+
 -- a reply, as plain data
 abbrev pub reply_view : Reply → frames.Reply
-reply_view r = record { text = string_bytes r.text; errors = map error_text (map bundle_view r.errors.items) }
+reply_view r = reply_of (string_bytes r.text) r.errors.items
 
 -- what the code's pattern gives at a place, in what its context means
 abbrev pub resolved_reply : {C F E S : Type 0} {c : Custom C S} {e : Context E C F S} {v : Scope E C S} → Place C F E S c e v → Pattern (Bor Text) → frames.Reply

@@ -13,8 +13,9 @@ ghost use Rattle.fluent_serve.specs.RequestView.{request_view};
 
 use crate::arguments::valued_arguments;
 use crate::catalog::ids_of;
-use crate::reply::{ErrorLine, Reply, resolve};
+use crate::reply::{ErrorLine, Reply, push_text, resolve};
 use crate::settings::Settings;
+use fluent_asking::answer::lone_text;
 use fluent_ast::Pattern;
 use fluent_environment::laws::attributes_agree;
 use fluent_ids::{FluentIds, FluentMessage};
@@ -151,9 +152,12 @@ impl<'b, 'r, 's, M: MemoizerKind> Desk<'b, 'r, 's, M> {
             (reply_frame M.MemoizerKind self.now request.now pattern.now)) }
         ensures front { IsFrontOf out.old.items out.new.items }
     {
+        if let Some(text) = lone_text(pattern) {
+            return push_text(alloc, text, out);
+        }
         let arguments = valued_arguments(alloc, &request.arguments)?;
         let reply = self.reply_to(alloc, pattern, &arguments)?;
-        reply.push_to(alloc, out)
+        reply.push_to(out)
     }
 
     /// Appends what is written for `line`. After an error `out` may end in a beginning of it.

@@ -6,17 +6,21 @@ ghost use Rattle.fluent_errors.specs.Errors.{Reported};
 ghost use Rattle.fluent_errors.specs.View.{bundle_view};
 ghost use Rattle.fluent_progress.specs.Views.{state};
 ghost use Rattle.fluent_requests.specs.Frames.{ended, frame_of, ok};
-ghost use Rattle.fluent_run.specs.ReplyView.{error_text, line_of, reply_view, resolved_reply};
+ghost use Rattle.fluent_run.specs.ReplyView.{error_text, error_texts, line_of, reply_of, reply_view, resolved_reply};
+ghost use Rattle.fluent_serve.specs.AnswerView.{Adds};
 ghost use Rattle.fluent_serve.specs.Exchange.{IsFrontOf};
 
 use fluent_ast::Pattern;
 use fluent_errors::FluentError;
 use fluent_progress::{Context, Place, Progress};
 use fluent_resolver::pattern::write_pattern;
-use fluent_serve::answer::Answer;
+use fluent_serve::answer::{Answer, push_framed};
 use fluent_value::{FluentType, ValueScope};
 use std::alloc::{AllocError, Global};
 use std::fmt;
+
+/// How many bytes a text has room for at first. Most texts and the lines of their errors take no more, and are never moved.
+const ROOM: usize = 128;
 
 /// A text, and the errors that came up while it was made, in their order.
 #[derive(Debug, Drop)]
@@ -55,7 +59,7 @@ pub(crate) fn resolve<'b, 'r, 's, 'a, C: FluentType + Drop, F, E: Context<C, F>>
 {
     let alloc = place.context.alloc();
     let mut progress = Progress::new(alloc, Some(Vec::new(alloc)));
-    let mut text = String::new(alloc);
+    let mut text = String::with_capacity(alloc, ROOM)?;
     write_pattern(&mut text, place, &mut progress, pattern)?;
     let errors = told_by(alloc, progress);
     Ok(Reply { text, errors })
@@ -77,15 +81,13 @@ impl Reply {
     ///
     /// # Errors
     /// [`AllocError`] if memory runs out; `out` then holds its old bytes and a front of the answer's.
-    pub(crate) fn push_to(&self, alloc: Global, out: &mut Vec<u8>) -> Result<(), AllocError>
+    pub(crate) fn push_to(self, out: &mut Vec<u8>) -> Result<(), AllocError>
         ensures ok { OnOk result (out.new.items ≡ out.old.items
-            ++ frame_of (ok (reply_view self.now))) }
+            ++ frame_of (ok (reply_view self))) }
         ensures front { IsFrontOf out.old.items out.new.items }
     {
-        let lines = self.error_lines(alloc)?;
-        let text = self.text.as_str();
-        let errors = lines.as_slice();
-        Answer::Text { text, errors }.push_to(alloc, out)
+        let Reply { text, errors } = self;
+        push_told(text, &errors, out)
     }
 
     /// A line for each error, as an answer has them. It is empty if nothing came up, and isn't allocated then.
@@ -97,25 +99,45 @@ impl Reply {
             ≡ flat_map ended (reply_view self.now).errors) }
     {
         let mut text = String::new(alloc);
-        for error in &self.errors {
-            push_line(&mut text, error)?;
-        }
+        push_lines(&mut text, &self.errors)?;
         Ok(text)
     }
+}
 
-    /// The errors, as an answer tells them.
-    ///
-    /// # Errors
-    /// [`AllocError`] if memory runs out; nothing is left behind.
-    fn error_lines(&self, alloc: Global) -> Result<Vec<ErrorLine<'_>>, AllocError>
-        ensures { IfOk result (λ lines. map line_of lines.items ≡ (reply_view self.now).errors) }
-    {
-        let mut lines = Vec::new(alloc);
-        for error in &self.errors {
-            lines.push(ErrorLine(error))?;
-        }
-        Ok(lines)
+/// Appends the frame of a text without errors.
+///
+/// # Errors
+/// [`AllocError`] if memory runs out; `out` then holds its old bytes and a front of the answer's.
+pub(crate) fn push_text(alloc: Global, text: &str, out: &mut Vec<u8>) -> Result<(), AllocError>
+    ensures ok { OnOk result (Adds out.old out.new (frame_of (ok (reply_of text.now [])))) }
+    ensures front { IsFrontOf out.old.items out.new.items }
+{
+    let none: [ErrorLine<'_>; 0] = [];
+    let errors: &[ErrorLine<'_>] = &none;
+    Answer::Text { text, errors }.push_to(alloc, out)
+}
+
+/// Appends the frame of a text and its errors, whose lines are written right after the text.
+fn push_told(mut text: String, errors: &[FluentError], out: &mut Vec<u8>) -> Result<(), AllocError>
+    ensures ok { OnOk result (out.new.items ≡ out.old.items
+        ++ frame_of (ok (reply_of (string_bytes text) errors.now))) }
+    ensures front { IsFrontOf out.old.items out.new.items }
+{
+    let len = text.as_str().len();
+    text.push_str("\n")?;
+    push_lines(&mut text, errors)?;
+    push_framed(out, len, errors.len(), text.as_bytes())
+}
+
+/// Appends a line for each error to `text`.
+fn push_lines(text: &mut String, errors: &[FluentError]) -> Result<(), AllocError>
+    ensures { OnOk result (string_bytes text.new
+        ≡ string_bytes text.old ++ flat_map ended (error_texts errors.now)) }
+{
+    for error in errors {
+        push_line(text, error)?;
     }
+    Ok(())
 }
 
 /// Appends the line of an error to `text`.

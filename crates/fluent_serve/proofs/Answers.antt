@@ -51,6 +51,10 @@ front_trans {a} p q = record { back = p.back ++ q.back; split = q.split ∙ (ap 
 abbrev head_of : ℕ → ℕ → Text
 head_of text_len error_count = codes "ok " ++ (decimal text_len ++ (codes " " ++ ended (decimal error_count)))
 
+pub head_from_pieces : (old a b c d e : Text) (len count : ℕ) → a ≡ old ++ codes "ok " → b ≡ a ++ decimal len → c ≡ b ++ codes " " → d ≡ c ++ decimal count → e ≡ d ++ (10 ∷ []) →
+    e ≡ old ++ head_of len count
+head_from_pieces old a b c d e len count p q r s t = rw (t, s, r, q, p) (simp append_assoc refl)
+
 frame_from_pieces : (old text : Text) (count : ℕ) (errors : List Text) (a b c d : Text) → count ≡ length errors →
     a ≡ old ++ head_of (length text) count → b ≡ a ++ text → c ≡ b ++ (10 ∷ []) → d ≡ c ++ flat_map ended errors →
     d ≡ old ++ frame_of (ok (record { text = text; errors = errors }))

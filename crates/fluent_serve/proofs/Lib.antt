@@ -5,3 +5,4 @@ pub mod Serving
 pub mod Runs
 pub mod Outcomes
 pub mod SameAnswers
+mod Cuts

@@ -1,5 +1,6 @@
 -- What follows from how a call ended.
 use Rattle.std.proofs.Common.{◌≡◌, ℕ, ◌+◌, ◌<◌, ◌≤◌, min, Result, Ok, Err, OnOk, refl, arith, rules, inl, inr}
+use Rattle.std.specs.Prelude.{is_ok, if◌then◌else◌}
 use Rattle.std.proofs.Math.Nat.{min-le_left, min-le_right, min-eq_left, min-eq_right, le-min}
 use Rattle.std.proofs.lemmas.Bool.{cases_lt}
 use Rattle.fluent_serve.specs.Devices.{HasFailed, HasGiven, one_more, greatest_count}
@@ -9,6 +10,10 @@ use Rattle.fluent_serve.specs.declared.serve.RunError.TheVariants.{Memory, Read,
 pub on_ok_map : {T E P Q : Type 0} (r : Result T E) → (P → Q) → OnOk r P → OnOk r Q
 on_ok_map (Ok x) f p = f p
 on_ok_map (Err e) f p = search rules
+
+pub on_ok_if : {T E A : Type 0} (r : Result T E) (x a b : A) → x ≡ (if is_ok r then a else b) → OnOk r (x ≡ a)
+on_ok_if (Ok t) x a b h = h
+on_ok_if (Err e) x a b h = search rules
 
 pub on_ok_always : {T E P : Type 0} (r : Result T E) → P → OnOk r P
 on_ok_always (Ok x) p = p

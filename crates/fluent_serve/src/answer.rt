@@ -1,5 +1,5 @@
 //! Answers, and the bytes that they are written as.
-ghost use Rattle.std.specs.Prelude.{OnOk, IfSome};
+ghost use Rattle.std.specs.Prelude.{◌++◌, OnOk, IfSome, decimal};
 ghost use Rattle.fluent_serve.specs.Exchange.{IsFrontOf};
 ghost use Rattle.fluent_requests.specs.Frames.{frame_of, ended};
 ghost use Rattle.fluent_serve.specs.AnswerView.{Adds, AddsLines, answer_view, error_texts, head_of};
@@ -48,12 +48,44 @@ fn push_head(out: &mut Vec<u8>, text_len: usize, error_count: usize) -> Result<(
     ensures ok { OnOk result (Adds out.old out.new (head_of text_len error_count)) }
     ensures front { IsFrontOf out.old.items out.new.items }
 {
-    let mut digits = Buffer::new();
     out.extend_from_slice(b"ok ")?;
-    out.extend_from_slice(digits.format(text_len).as_bytes())?;
+    push_number(out, text_len)?;
     out.extend_from_slice(b" ")?;
-    out.extend_from_slice(digits.format(error_count).as_bytes())?;
+    push_number(out, error_count)?;
     out.extend_from_slice(b"\n")
+}
+
+/// Puts a number's digits behind `out`. Most texts have less than a hundred bytes.
+fn push_number(out: &mut Vec<u8>, number: usize) -> Result<(), AllocError>
+    ensures ok { OnOk result (Adds out.old out.new (decimal number)) }
+    ensures front { IsFrontOf out.old.items out.new.items }
+{
+    if number < 10 {
+        return out.extend_from_slice(&[b'0' + number as u8]);
+    }
+    if number < 100 {
+        return out.extend_from_slice(&[b'0' + (number / 10) as u8, b'0' + (number % 10) as u8]);
+    }
+    let mut digits = Buffer::new();
+    out.extend_from_slice(digits.format(number).as_bytes())
+}
+
+/// Puts an answer behind `out` whose text and error lines are one piece already: the text and a line feed, and then a line for
+/// each error.
+///
+/// # Errors
+/// [`AllocError`] if memory runs out; `out` then holds its old bytes and a front of the answer's.
+pub fn push_framed(
+    out: &mut Vec<u8>,
+    text_len: usize,
+    error_count: usize,
+    lines: &[u8],
+) -> Result<(), AllocError>
+    ensures ok { OnOk result (Adds out.old out.new (head_of text_len error_count ++ lines.now)) }
+    ensures front { IsFrontOf out.old.items out.new.items }
+{
+    push_head(out, text_len, error_count)?;
+    out.extend_from_slice(lines)
 }
 
 /// Puts a line for each error behind `out`.

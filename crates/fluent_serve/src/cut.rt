@@ -2,13 +2,15 @@
 ghost use Rattle.std.specs.Prelude.{◌≡◌, ◌<◌, Some, None, option_copied};
 ghost use Rattle.fluent_requests.specs.Text.{cut_at};
 
+use crate::find::first_place;
+
 /// What stands before the first `separator`, an ASCII character, and what stands behind it, where it occurs.
 pub fn cut(text: &str, separator: char) -> (&str, Option<&str>)
     requires { separator < 128 }
     ensures { (result.0.now, option_copied result.1) ≡ cut_at separator text.now }
 {
-    match text.split_once(separator) {
-        Some((before, behind)) => (before, Some(behind)),
+    match first_place(separator as u8, text.as_bytes()) {
+        Some(place) => (&text[..place], Some(&text[place + 1..])),
         None => (text, None),
     }
 }

@@ -7,6 +7,7 @@
 pub mod answer;
 pub mod cut;
 mod errors;
+mod find;
 pub mod request;
 pub mod serve;
 pub mod stream;

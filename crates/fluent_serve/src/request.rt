@@ -63,7 +63,8 @@ fn read_arguments<'line>(
 fn read_argument(part: &str) -> Option<(&str, &str)>
     ensures { option_map argument_view result ≡ argument_of (λ s. s) (cut_at equals part.now) }
 {
-    part.split_once('=')
+    let (name, value) = cut(part, '=');
+    Some((name, value?))
 }
 
 /// The value of an argument: the last of its name counts.

@@ -1,11 +1,13 @@
 //! The sources' files.
-ghost use Rattle.std.specs.Prelude.{◌≡◌, map, IfOk, OnOk, IfErr, IfSome, string_bytes, [], ◌∷◌};
+ghost use Rattle.std.specs.Prelude.{◌≡◌, map, IfOk, OnOk, IfErr, IfSome, IsSome, string_bytes, [], ◌∷◌};
+ghost use Rattle.std.specs.Str.{IsUtf8};
 ghost use Rattle.fluent_serve.specs.Texts.{texts};
 ghost use Rattle.ftl_command.specs.Faults.{FailsAsTold, NamesOneOf, ReachesFile, IsOfFiles, SaysNoUtf8};
 ghost use Rattle.ftl_command.specs.Files.{AreHeld};
 
 use crate::fault::Fault;
 use crate::folder::{FileError, Folder};
+use simdutf8::basic::from_utf8;
 use std::alloc::Global;
 
 /// Reads the files, a text for each, in their order.
@@ -62,8 +64,20 @@ pub fn read_source<'words, F: Folder>(
         Err(FileError::Memory) => return Err(Fault::Memory),
         Err(FileError::Unreadable) => return Err(Fault::FileUnreadable { file }),
     };
-    match String::from_utf8(bytes) {
-        Ok(text) => Ok(text),
-        Err(_) => Err(Fault::FileNotUtf8 { file }),
+    match text_of(bytes) {
+        Some(text) => Ok(text),
+        None => Err(Fault::FileNotUtf8 { file }),
     }
+}
+
+/// The bytes as a text, if they are UTF-8.
+fn text_of(bytes: Vec<u8>) -> Option<String>
+    ensures same { IfSome result (λ text. string_bytes text ≡ bytes.items) }
+    ensures found { IsUtf8 bytes.items → IsSome result }
+{
+    if from_utf8(&bytes).is_err() {
+        return None;
+    }
+    // Its bytes were just found to be UTF-8.
+    Some(unsafe { String::from_utf8_unchecked(bytes) })
 }
