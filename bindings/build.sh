@@ -1,7 +1,7 @@
 #!/bin/sh
 # Builds the static library, crates/fluent_c/out/libfluent_c.a.
 #
-# The merge gate leaves a library of each crate. If they are there, only fluent_c itself is proved again, which takes a minute. Else
+# The merge gate leaves a library of each crate. If they are there, only fluent_c itself is proved again, in two minutes. Else
 # `rt lib` proves first what it stands on and hasn't been built, which takes up to an hour.
 set -eu
 root=$(cd "$(dirname "$0")/.." && pwd)

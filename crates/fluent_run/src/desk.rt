@@ -131,11 +131,12 @@ impl<'b, 'r, 's, M: MemoizerKind> Desk<'b, 'r, 's, M> {
             formatter: None,
             alloc,
         };
+        let locals: Option<&'x FluentArgs<'s, NoCustom>> = None;
         let place = Place {
             ids: &self.ids,
             context: &context,
             arguments: Some(arguments),
-            locals: None,
+            locals,
         };
         resolve(&place, pattern)
     }

@@ -65,7 +65,7 @@ pub(crate) fn resolve<'b, 'r, 's, 'a, C: FluentType + Drop, F, E: Context<C, F>>
     Ok(Reply { text, errors })
 }
 
-/// The errors that were told.
+/// The errors that were reported.
 fn told_by(alloc: Global, progress: Progress<'_, '_>) -> Vec<FluentError>
     ensures { (list : List Reported) → (state progress.entry).errors ≡ Some list
         → map bundle_view result.items ≡ list }

@@ -20,7 +20,7 @@ pub enum Answer<'a, E> {
 }
 
 impl<E: Display> Answer<'_, E> {
-    /// Puts the answer's bytes behind `out`: `bad`, `none`, or `ok` with the text's length in bytes and the count of
+    /// Appends the answer's bytes to `out`: `bad`, `none`, or `ok` with the text's length in bytes and the count of
     /// errors, the text, and a line for each error.
     ///
     /// # Errors
@@ -43,7 +43,7 @@ impl<E: Display> Answer<'_, E> {
     }
 }
 
-/// Puts the line before a text behind `out`.
+/// Appends the line that stands before a text.
 fn push_head(out: &mut Vec<u8>, text_len: usize, error_count: usize) -> Result<(), AllocError>
     ensures ok { OnOk result (Adds out.old out.new (head_of text_len error_count)) }
     ensures front { IsFrontOf out.old.items out.new.items }
@@ -55,7 +55,7 @@ fn push_head(out: &mut Vec<u8>, text_len: usize, error_count: usize) -> Result<(
     out.extend_from_slice(b"\n")
 }
 
-/// Puts a number's digits behind `out`. Most texts have less than a hundred bytes.
+/// Appends a number's digits. Most texts have less than a hundred bytes.
 fn push_number(out: &mut Vec<u8>, number: usize) -> Result<(), AllocError>
     ensures ok { OnOk result (Adds out.old out.new (decimal number)) }
     ensures front { IsFrontOf out.old.items out.new.items }
@@ -70,7 +70,7 @@ fn push_number(out: &mut Vec<u8>, number: usize) -> Result<(), AllocError>
     out.extend_from_slice(digits.format(number).as_bytes())
 }
 
-/// Puts an answer behind `out` whose text and error lines are one piece already: the text and a line feed, and then a line for
+/// Appends an answer whose text and error lines are one piece already: the text and a line feed, and then a line for
 /// each error.
 ///
 /// # Errors
@@ -88,7 +88,7 @@ pub fn push_framed(
     out.extend_from_slice(lines)
 }
 
-/// Puts a line for each error behind `out`.
+/// Appends a line for each error.
 fn push_errors<E: Display>(alloc: Global, out: &mut Vec<u8>, errors: &[E]) -> Result<(), AllocError>
     ensures ok { OnOk result (IfSome (error_texts E.output errors.now)
         (AddsLines out.old out.new)) }
@@ -100,7 +100,7 @@ fn push_errors<E: Display>(alloc: Global, out: &mut Vec<u8>, errors: &[E]) -> Re
     Ok(())
 }
 
-/// Puts an error's line behind `out`.
+/// Appends an error's line.
 fn push_error<E: Display>(alloc: Global, out: &mut Vec<u8>, error: &E) -> Result<(), AllocError>
     ensures ok { OnOk result (IfSome (E.output error.now)
         (λ text. Adds out.old out.new (ended text))) }

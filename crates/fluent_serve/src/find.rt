@@ -1,4 +1,4 @@
-//! The first place of a byte, sixteen bytes told at once.
+//! The first place of a byte, sixteen bytes at once.
 ghost use Rattle.std.specs.Prelude.{◌≡◌, ◌+◌, length, map};
 ghost use Rattle.std.specs.Simd.Lanes.{mask_l};
 ghost use Rattle.memchr.specs.Find.{IsFirstByte, Nowhere, Passes, is_byte};
@@ -6,9 +6,9 @@ ghost use Rattle.memchr.specs.Find.{IsFirstByte, Nowhere, Passes, is_byte};
 use memchr::memchr;
 use std::simd::prelude::*;
 
-/// How many bytes are told at once.
+/// How many bytes are compared at once.
 const LANES: usize = 16;
-/// How long a text may be that is told sixteen bytes at a time. Others are left to `memchr`, which is slower on such texts.
+/// The longest text that is searched sixteen bytes at a time. Longer ones are left to `memchr`, which is slower on short texts.
 const NEAR: usize = 64;
 
 /// The first place of a byte in a text.

@@ -33,8 +33,8 @@ where
     /// # Errors
     /// [`Writer`](WriteError::Writer) if the writer refuses a piece, [`Memory`](WriteError::Memory) if memory runs out. The
     /// writer then took a beginning of the text, and the list holds the old errors, and after them the first of the pattern's.
-    pub fn write_pattern<W: TextWrite>(
-        &self,
+    pub fn write_pattern<'x, W: TextWrite>(
+        &'x self,
         w: &mut W,
         pattern: &'r Pattern<&'s str>,
         args: Option<&FluentArgs<'_, C>>,
@@ -50,11 +50,12 @@ where
     {
         work_is_bounded::<C, F>();
         let lent = self.lent();
+        let locals: Option<&'x FluentArgs<'s, C>> = None;
         let place = Place {
             ids: &self.ids,
             context: &lent,
             arguments: args,
-            locals: None,
+            locals,
         };
         write_answer(w, &place, pattern, errors)
     }
@@ -75,8 +76,8 @@ where
     ///
     /// # Errors
     /// [`AllocError`] if memory runs out. The list then holds the old errors, and after them the first of the pattern's.
-    pub fn format_pattern(
-        &self,
+    pub fn format_pattern<'x>(
+        &'x self,
         pattern: &'r Pattern<&'s str>,
         args: Option<&FluentArgs<'_, C>>,
         errors: &mut Vec<FluentError>,
@@ -90,11 +91,12 @@ where
     {
         work_is_bounded::<C, F>();
         let lent = self.lent();
+        let locals: Option<&'x FluentArgs<'s, C>> = None;
         let place = Place {
             ids: &self.ids,
             context: &lent,
             arguments: args,
-            locals: None,
+            locals,
         };
         let text = answer(&place, pattern, errors)?;
         hand_out(&lent, text)

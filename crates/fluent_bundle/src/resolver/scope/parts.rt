@@ -145,11 +145,12 @@ where
         let mut progress = self.progress()?;
         let bundle = self.bundle;
         let lent = bundle.lent();
+        let locals: Option<&'b FluentArgs<'s, C>> = None;
         let place = Place {
             ids: &bundle.ids,
             context: &lent,
             arguments: self.arguments,
-            locals: None,
+            locals,
         };
         let written = opened(out, &place, &mut progress, pattern, expression);
         self.put_back(progress);
@@ -172,11 +173,12 @@ where
         let mut progress = self.progress()?;
         let bundle = self.bundle;
         let lent = bundle.lent();
+        let locals: Option<&'b FluentArgs<'s, C>> = None;
         let place = Place {
             ids: &bundle.ids,
             context: &lent,
             arguments: self.arguments,
-            locals: None,
+            locals,
         };
         let written = referred(out, &place, &mut progress, inline, pattern);
         self.put_back(progress);
@@ -214,11 +216,12 @@ where
         let mut progress = self.progress()?;
         let bundle = self.bundle;
         let lent = bundle.lent();
+        let locals: Option<&'b FluentArgs<'s, C>> = None;
         let place = Place {
             ids: &bundle.ids,
             context: &lent,
             arguments: self.arguments,
-            locals: None,
+            locals,
         };
         let found = values(&place, &mut progress, arguments);
         self.put_back(progress);

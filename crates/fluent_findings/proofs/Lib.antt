@@ -1,0 +1,23 @@
+pub mod Computing
+mod PositionRows
+mod SyntaxRows
+mod FlawRows
+mod CatalogRows
+mod CategoryRows
+mod ComparisonRows
+mod ReferenceRows
+mod OutputRows
+mod ShownLineRows
+pub mod Lists
+pub mod TilesAreTheList
+pub mod NothingMissing
+pub mod RequestErrors
+pub mod FlawlessCatalogs
+pub mod NodesHold
+pub mod CleanReports
+pub mod Positions
+pub mod OccurrencesAreRead
+pub mod OccurrencesAreTheNodes
+pub mod PatternPlaces
+pub mod Translations
+pub mod DuplicateKeys

@@ -1,0 +1,20 @@
+-- A finding.
+use Rattle.std.specs.Prelude.{ℕ, Option}
+use Rattle.fluent_grammar.specs.Words.{Text}
+
+-- An error: something is missing, or shown as its fallback. A warning: most likely not what was meant. A note: worth
+-- a look.
+pub data Severity : Type 0 where
+  error : Severity
+  warning : Severity
+  note : Severity
+
+-- Where it is, the name of its kind, how bad it is, whose it is, what is wrong, and what may be the cause. `entry` is
+-- the id of an entry, a term's with its minus, and the name of its attribute after a dot if it is an attribute's.
+pub record Finding : Type 0 where
+  pub offset : ℕ
+  pub code : Text
+  pub severity : Severity
+  pub entry : Option Text
+  pub text : Text
+  pub hint : Option Text

@@ -1,0 +1,72 @@
+-- The plural categories that a select lacks.
+use Rattle.std.specs.Prelude.{ℕ, pos, Bool, false, not, ◌&&◌, ◌||◌, if◌then◌else◌, List, [], ◌∷◌, filter, codes}
+use Rattle.std.specs.List.{list_any, range_with_len}
+use Rattle.std.specs.Str.{bytes_eq}
+use Rattle.fluent_grammar.specs.Escapes.{unescaped}
+use Rattle.fluent_grammar.specs.Tree as t
+use Rattle.fluent_grammar.specs.Tree.{Inline, Nameds, Variants, VariantKey}
+use Rattle.fluent_number.specs.Number.{number_from_integer}
+use Rattle.fluent_number.specs.Operands.{operands_of}
+use Rattle.fluent_number.specs.declared.plural.PluralCategory.{PluralCategory}
+use Rattle.fluent_number.specs.declared.plural.PluralCategory.TheVariants.{ZERO, ONE, TWO, FEW, MANY}
+use Rattle.fluent_number.specs.declared.plural.PluralRuleType.{PluralRuleType}
+use Rattle.fluent_number.specs.declared.plural.PluralRuleType.TheVariants.{CARDINAL, ORDINAL}
+use Rattle.fluent_value.specs.Matching.{category_text}
+use Rattle.fluent_plurals.specs.Plurals.{plurals_by}
+use Rattle.fluent_plurals.specs.declared.plurals.LanguagePlurals.{LanguagePlurals}
+
+-- `other` is never missing: each select has a default variant.
+abbrev pub categories : List PluralCategory
+categories = ZERO ∷ ONE ∷ TWO ∷ FEW ∷ MANY ∷ []
+
+abbrev pub same_category : PluralCategory → PluralCategory → Bool
+same_category c d = bytes_eq (category_text c) (category_text d)
+
+-- ---- what a language has
+
+-- the category of a whole number
+abbrev pub whole_category : LanguagePlurals → PluralRuleType → ℕ → PluralCategory
+whole_category plurals rule n = plurals_by plurals rule (operands_of (number_from_integer (pos n)))
+
+-- Some whole number below 1,000 has the category. Categories that only fractions and larger numbers have are hardly
+-- ever translated: `many` in French is for a million.
+abbrev pub is_common : LanguagePlurals → PluralRuleType → PluralCategory → Bool
+is_common plurals rule c = list_any (λ n. same_category (whole_category plurals rule n) c) (range_with_len 0 1000)
+
+-- ---- what a select has
+
+abbrev pub variant_keys : Variants → List VariantKey
+variant_keys t.no_variants = []
+variant_keys (t.variant k es d vs) = k ∷ variant_keys vs
+
+abbrev pub is_key_of : PluralCategory → VariantKey → Bool
+is_key_of c (t.identifier_key s) = bytes_eq (category_text c) s
+is_key_of c (t.number_key s) = false
+
+abbrev pub has_category : List VariantKey → PluralCategory → Bool
+has_category keys c = list_any (is_key_of c) keys
+
+abbrev pub is_ordinal_text : Inline → Bool
+is_ordinal_text (t.string_literal raw) = bytes_eq (unescaped raw) (codes "ordinal")
+is_ordinal_text _ = false
+
+abbrev pub has_ordinal_type : Nameds → Bool
+has_ordinal_type t.no_nameds = false
+has_ordinal_type (t.named name e ns) = (bytes_eq name (codes "type") && is_ordinal_text e) || has_ordinal_type ns
+
+-- the rules for ordinals if the selector is `NUMBER(.., type: "ordinal")`, and otherwise those for counts
+abbrev pub selector_rule : Inline → PluralRuleType
+selector_rule (t.function_reference id (t.arguments ps ns)) =
+    if bytes_eq id (codes "NUMBER") && has_ordinal_type ns then ORDINAL else CARDINAL
+selector_rule _ = CARDINAL
+
+-- ---- what a select lacks
+
+-- A select that has a variant for a category, other than `other`, lacks those that are common and that it has no
+-- variant for.
+abbrev pub missing_categories : LanguagePlurals → Inline → Variants → List PluralCategory
+missing_categories plurals selector vs =
+    let keys = variant_keys vs in
+    if list_any (has_category keys) categories
+    then filter (λ c. not (has_category keys c) && is_common plurals (selector_rule selector) c) categories
+    else []
