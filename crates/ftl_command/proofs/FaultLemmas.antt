@@ -11,9 +11,9 @@ use Rattle.fluent_cut.specs.Joined.{AreUtf8}
 use Rattle.ftl_command.specs.Files.{Reaches}
 use Rattle.ftl_command.specs.Faults.{NamesOneOf, ReachesFile, end_status, status_of}
 use Rattle.ftl_command.specs.declared.ended.Ended.{Ended}
-use Rattle.ftl_command.specs.declared.ended.Ended.TheVariants.{Done, Found}
+use Rattle.ftl_command.specs.declared.ended.Ended.TheVariants.{Done, Found, Incomplete}
 use Rattle.ftl_command.specs.declared.fault.Fault.{Fault}
-use Rattle.ftl_command.specs.declared.fault.Fault.TheVariants.{CarriageReturn, NotNormal, NotTree, NotJson, CommandLine, UnknownLocale, FileUnreadable, FileNotUtf8, Input, Output, Memory}
+use Rattle.ftl_command.specs.declared.fault.Fault.TheVariants.{CarriageReturn, NotNormal, NotTree, NotJson, NoMessage, CommandLine, UnknownLocale, FileUnreadable, FileNotUtf8, Input, Output, Memory}
 
 only_element : {X : Type 0} (x y : X) → Contains (x ∷ []) y → x ≡ y
 only_element x y (zero, below, is) = is
@@ -25,6 +25,7 @@ NamesOneOf-one names name listed CarriageReturn of_one = tt
 NamesOneOf-one names name listed NotNormal of_one = tt
 NamesOneOf-one names name listed NotTree of_one = tt
 NamesOneOf-one names name listed NotJson of_one = tt
+NamesOneOf-one names name listed NoMessage of_one = tt
 NamesOneOf-one names name listed CommandLine of_one = tt
 NamesOneOf-one names name listed (UnknownLocale tag) of_one = tt
 NamesOneOf-one names name listed (FileUnreadable file) of_one = subst (Contains names) (only_element name file.now of_one) listed
@@ -57,6 +58,7 @@ ReachesFile-one contents files name reached CarriageReturn of_one = tt
 ReachesFile-one contents files name reached NotNormal of_one = tt
 ReachesFile-one contents files name reached NotTree of_one = tt
 ReachesFile-one contents files name reached NotJson of_one = tt
+ReachesFile-one contents files name reached NoMessage of_one = tt
 ReachesFile-one contents files name reached CommandLine of_one = tt
 ReachesFile-one contents files name reached (UnknownLocale tag) of_one = tt
 ReachesFile-one contents files name reached (FileUnreadable file) of_one = subst (Reaches contents files) (only_element name file.now of_one) reached
@@ -75,6 +77,7 @@ status_of-among CarriageReturn = Contains-get_or (0 ∷ 1 ∷ 2 ∷ 3 ∷ 4 ∷ 
 status_of-among NotNormal = Contains-get_or (0 ∷ 1 ∷ 2 ∷ 3 ∷ 4 ∷ []) 1 0 (lit< tt)
 status_of-among NotTree = Contains-get_or (0 ∷ 1 ∷ 2 ∷ 3 ∷ 4 ∷ []) 1 0 (lit< tt)
 status_of-among NotJson = Contains-get_or (0 ∷ 1 ∷ 2 ∷ 3 ∷ 4 ∷ []) 1 0 (lit< tt)
+status_of-among NoMessage = Contains-get_or (0 ∷ 1 ∷ 2 ∷ 3 ∷ 4 ∷ []) 1 0 (lit< tt)
 status_of-among CommandLine = Contains-get_or (0 ∷ 1 ∷ 2 ∷ 3 ∷ 4 ∷ []) 2 0 (lit< tt)
 status_of-among (UnknownLocale tag) = Contains-get_or (0 ∷ 1 ∷ 2 ∷ 3 ∷ 4 ∷ []) 2 0 (lit< tt)
 status_of-among (FileUnreadable file) = Contains-get_or (0 ∷ 1 ∷ 2 ∷ 3 ∷ 4 ∷ []) 3 0 (lit< tt)
@@ -87,3 +90,4 @@ status_of-among Memory = Contains-get_or (0 ∷ 1 ∷ 2 ∷ 3 ∷ 4 ∷ []) 4 0 
 pub end_status-among : (end : Ended) → Contains (0 ∷ 1 ∷ 2 ∷ 3 ∷ 4 ∷ []) (end_status end)
 end_status-among Done = Contains-get_or (0 ∷ 1 ∷ 2 ∷ 3 ∷ 4 ∷ []) 0 0 (lit< tt)
 end_status-among Found = Contains-get_or (0 ∷ 1 ∷ 2 ∷ 3 ∷ 4 ∷ []) 1 0 (lit< tt)
+end_status-among (Incomplete errors) = Contains-get_or (0 ∷ 1 ∷ 2 ∷ 3 ∷ 4 ∷ []) 1 0 (lit< tt)

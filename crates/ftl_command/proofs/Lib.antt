@@ -1,5 +1,6 @@
 pub mod EndLemmas
 pub mod FaultLemmas
+pub mod FormatLemmas
 pub mod Refusals
 pub mod RunLemmas
 pub mod TellLemmas

@@ -3,7 +3,7 @@ use Rattle.std.proofs.Common.{◌≡◌, refl, Option, None, Some}
 use Rattle.fluent_requests.specs.Text.{Text}
 use Rattle.fluent_tidy.specs.declared.error.ImportError.{ImportError}
 use Rattle.fluent_tidy.specs.declared.error.ImportError.TheVariants as import
-use Rattle.ftl_words.specs.Meaning.{Asked, Tidy, run, check, tidy}
+use Rattle.ftl_words.specs.Meaning.{Asked, Tidy, run, format, check, tidy}
 use Rattle.ftl_command.specs.Faults.{import_fault}
 use Rattle.ftl_command.specs.Refusals.{HaveNoNormalText, HoldNoTree, IsRightOf, IsRight}
 use Rattle.ftl_command.specs.declared.fault.Fault.TheVariants.{Memory}
@@ -19,5 +19,6 @@ module _ (contents : Text → Option Text) where
   pub memory_is_right : (asked : Option Asked) → IsRight contents asked Memory
   memory_is_right None = tt
   memory_is_right (Some (run r)) = tt
+  memory_is_right (Some (format f)) = tt
   memory_is_right (Some (check files)) = tt
   memory_is_right (Some (tidy t)) = tt

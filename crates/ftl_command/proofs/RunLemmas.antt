@@ -6,7 +6,7 @@ use Rattle.std.specs.Prelude.{◌≢◌, IfSome, IsErrOf}
 use Rattle.fluent_requests.specs.Text.{Text}
 use Rattle.fluent_serve.specs.Exchange.{Devices, devices_of, AnswersFirst}
 use Rattle.fluent_serve.specs.Texts.{texts}
-use Rattle.ftl_words.specs.Meaning.{Asked, Run, run, check, tidy}
+use Rattle.ftl_words.specs.Meaning.{Asked, Run, run, format, check, tidy}
 use Rattle.ftl_command.specs.declared.ended.Ended.{Ended}
 use Rattle.ftl_command.specs.declared.ended.Ended.TheVariants.{Done}
 use Rattle.ftl_command.specs.declared.fault.Fault.{Fault}
@@ -84,12 +84,14 @@ first_by (Some plurals) contents d r outcome = outcome
 pub nothing_done : (contents : Text → Option Text) (left held : Option Text) (asked : Option Asked) → AfterMemory contents (devices_of left left held held) asked
 nothing_done contents left held None = refl
 nothing_done contents left held (Some (run r)) = first_none (plurals_asked r.locale) contents r left held
+nothing_done contents left held (Some (format f)) = refl
 nothing_done contents left held (Some (check files)) = refl
 nothing_done contents left held (Some (tidy t)) = refl
 
 pub kept_input : {R : Type 0} (asked : Option Asked) (reader : R) → WithoutInput asked (reader ≡ reader)
 kept_input None reader = refl
 kept_input (Some (run r)) reader = tt
+kept_input (Some (format f)) reader = refl
 kept_input (Some (check files)) reader = refl
 kept_input (Some (tidy t)) reader = refl
 

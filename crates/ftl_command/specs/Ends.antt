@@ -1,18 +1,19 @@
 -- How the program ends, by what its devices tell.
-use Rattle.std.specs.Prelude.{◌≡◌, ◌⊎◌, ℕ, List, Option, None, Result, Ok, Err, IfOk, OnOk, IfErr, IsErrOf}
+use Rattle.std.specs.Prelude.{◌≡◌, ◌⊎◌, ℕ, List, Option, None, Result, Ok, Err, IfOk, OnOk, IfErr, IsErrOf, string_bytes}
 use Rattle.std.specs.Io.KnownBytes.{Appends}
 use Rattle.fluent_requests.specs.Text.{Text}
 use Rattle.fluent_serve.specs.Devices.{HasFailed}
 use Rattle.fluent_serve.specs.Exchange.{Devices, devices_of}
 use Rattle.fluent_serve.specs.declared.stream.Sink.{Ghosts as SinkGhosts}
 use Rattle.fluent_serve.specs.declared.stream.Source.{Ghosts as SourceGhosts}
-use Rattle.ftl_words.specs.Meaning.{AskForHelp, AskForHelpAlone, command_of}
+use Rattle.ftl_words.specs.Meaning.{AskForText, AskForHelpAlone, AskForVersionAlone, command_of}
 use Rattle.ftl_command.specs.declared.ended.Ended.{Ended}
+use Rattle.ftl_command.specs.declared.ended.Ended.TheVariants.{Done, Found, Incomplete}
 use Rattle.ftl_command.specs.declared.fault.Fault.{Fault}
 use Rattle.ftl_command.specs.declared.fault.Fault.TheVariants.{CommandLine, Input, Output, Memory}
 use Rattle.ftl_command.specs.declared.folder.Folder.{Ghosts as FolderGhosts}
 use Rattle.ftl_command.specs.Faults.{outcome_status, fault_line, ReachesFile, SaysNoUtf8, SaysUnknown, FailsAsTold, IsBeforeInput}
-use Rattle.ftl_command.specs.Program.{IsDone, AfterMemory, AfterInput, AfterOutput, WithoutInput, WritesFront, files_named, locale_named}
+use Rattle.ftl_command.specs.Program.{IsDone, AfterMemory, AfterInput, AfterOutput, WithoutInput, ShowsVersion, WritesFront, files_named, locale_named}
 use Rattle.ftl_command.specs.Refusals.{IsRight}
 
 -- A device before and after: the bytes that it tells, and how many of its calls have failed.
@@ -44,9 +45,15 @@ abbrev pub WritesOrFails : Seen → Text → Type 0
 WritesOrFails s text =
     (Appends s.before s.after text × Works s) ⊎ (WritesFront s.before s.after text × HasFailed s.failures_before s.failures_after)
 
+-- what went wrong in a text is reported, and of another end nothing is
+abbrev pub ReportsErrors : Seen → Ended → Type 0
+ReportsErrors s Done = IsUntouched s
+ReportsErrors s Found = IsUntouched s
+ReportsErrors s (Incomplete errors) = WritesOrFails s (string_bytes errors)
+
 -- a fault is reported on one line, and nothing else is
 abbrev pub Reports : Seen → Result Ended Fault → Type 0
-Reports s (Ok end) = IsUntouched s
+Reports s (Ok end) = ReportsErrors s end
 Reports s (Err fault) = WritesOrFails s (fault_line fault)
 
 -- The status, and the line of a fault, are those of what the command came to; and that is right. The counts are those of
@@ -57,7 +64,8 @@ pub record Ends (contents : Text → Option Text) (unread_before unread_after : 
   pub reports : Reports faults outcome
   -- without a fault all is done
   pub done : IfOk outcome (IsDone contents (exchanged input output) (command_of words))
-  pub help : OnOk outcome (command_of words ≡ None → AskForHelp words)
+  pub text : OnOk outcome (command_of words ≡ None → AskForText words)
+  pub version : AskForVersionAlone words → ShowsVersion output.before output.after outcome
   pub opens : OnOk outcome (unread_after ≡ unread_before)
   pub reads : OnOk outcome (Works input)
   pub writes : OnOk outcome (Works output)
@@ -65,6 +73,7 @@ pub record Ends (contents : Text → Option Text) (unread_before unread_after : 
   -- what a fault says is so, and before the words and all files are read nothing else is read or written
   pub refused : IsErrOf outcome CommandLine → command_of words ≡ None
   pub not_help : IsErrOf outcome CommandLine → AskForHelpAlone words → ⊥
+  pub not_version : IsErrOf outcome CommandLine → AskForVersionAlone words → ⊥
   pub unknown : IfErr outcome (SaysUnknown (locale_named (command_of words)))
   pub reached : IfErr outcome (ReachesFile contents (files_named (command_of words)))
   pub unreadable : IfErr outcome (FailsAsTold unread_before unread_after)

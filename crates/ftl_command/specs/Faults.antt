@@ -6,7 +6,7 @@ use Rattle.fluent_serve.specs.Devices.{HasFailed}
 use Rattle.fluent_plurals.specs.Plurals.{plurals_for}
 use Rattle.ftl_command.specs.Files.{Reaches}
 use Rattle.ftl_command.specs.declared.fault.Fault.{Fault}
-use Rattle.ftl_command.specs.declared.fault.Fault.TheVariants.{CarriageReturn, NotNormal, NotTree, NotJson, CommandLine, UnknownLocale, FileUnreadable, FileNotUtf8, Input, Output, Memory}
+use Rattle.ftl_command.specs.declared.fault.Fault.TheVariants.{CarriageReturn, NotNormal, NotTree, NotJson, NoMessage, CommandLine, UnknownLocale, FileUnreadable, FileNotUtf8, Input, Output, Memory}
 use Rattle.fluent_tidy.specs.declared.error.CleanError.{CleanError}
 use Rattle.fluent_tidy.specs.declared.error.CleanError.TheVariants as clean
 use Rattle.fluent_tidy.specs.declared.error.NormalizeError.{NormalizeError}
@@ -16,12 +16,13 @@ use Rattle.fluent_tidy.specs.declared.error.ImportError.TheVariants as import
 use Rattle.fluent_serve.specs.declared.serve.RunError.{RunError}
 use Rattle.fluent_serve.specs.declared.serve.RunError.TheVariants.{Memory as RunMemory, Read as RunRead, Write as RunWrite}
 use Rattle.ftl_command.specs.declared.ended.Ended.{Ended}
-use Rattle.ftl_command.specs.declared.ended.Ended.TheVariants.{Done, Found}
+use Rattle.ftl_command.specs.declared.ended.Ended.TheVariants.{Done, Found, Incomplete}
 
--- without a fault the status is 0, or 1 where something was found in the sources
+-- without a fault the status is 0, or 1 where something was found in the sources or went wrong in a text
 abbrev pub end_status : Ended → ℕ
 end_status Done = 0
 end_status Found = 1
+end_status (Incomplete errors) = 1
 
 -- what can't be tidied is 1, bad words and an unknown locale are 2, what cannot be read or written is 3, and where memory runs out it is 4
 abbrev pub status_of : Fault → ℕ
@@ -29,6 +30,7 @@ status_of CarriageReturn = 1
 status_of NotNormal = 1
 status_of NotTree = 1
 status_of NotJson = 1
+status_of NoMessage = 1
 status_of CommandLine = 2
 status_of (UnknownLocale tag) = 2
 status_of (FileUnreadable file) = 3
@@ -48,6 +50,7 @@ fault_text CarriageReturn = codes "carriage return"
 fault_text NotNormal = codes "not normal"
 fault_text NotTree = codes "not a tree"
 fault_text NotJson = codes "not JSON"
+fault_text NoMessage = codes "no such message"
 fault_text CommandLine = codes "bad command line"
 fault_text (UnknownLocale tag) = tag.now ++ codes ": unknown locale"
 fault_text (FileUnreadable file) = file.now ++ codes ": cannot read"
@@ -66,6 +69,7 @@ NamesOneOf names CarriageReturn = Unit {0}
 NamesOneOf names NotNormal = Unit {0}
 NamesOneOf names NotTree = Unit {0}
 NamesOneOf names NotJson = Unit {0}
+NamesOneOf names NoMessage = Unit {0}
 NamesOneOf names CommandLine = Unit {0}
 NamesOneOf names (UnknownLocale tag) = Unit {0}
 NamesOneOf names (FileUnreadable file) = Contains names file.now
@@ -80,6 +84,7 @@ SaysNoUtf8 contents CarriageReturn = Unit {0}
 SaysNoUtf8 contents NotNormal = Unit {0}
 SaysNoUtf8 contents NotTree = Unit {0}
 SaysNoUtf8 contents NotJson = Unit {0}
+SaysNoUtf8 contents NoMessage = Unit {0}
 SaysNoUtf8 contents CommandLine = Unit {0}
 SaysNoUtf8 contents (UnknownLocale tag) = Unit {0}
 SaysNoUtf8 contents (FileUnreadable file) = Unit {0}
@@ -94,6 +99,7 @@ SaysUnknown locale CarriageReturn = Unit {0}
 SaysUnknown locale NotNormal = Unit {0}
 SaysUnknown locale NotTree = Unit {0}
 SaysUnknown locale NotJson = Unit {0}
+SaysUnknown locale NoMessage = Unit {0}
 SaysUnknown locale CommandLine = Unit {0}
 SaysUnknown locale (UnknownLocale tag) = (locale ≡ Some tag.now) × (plurals_for tag.now ≡ None)
 SaysUnknown locale (FileUnreadable file) = Unit {0}
@@ -108,6 +114,7 @@ IsOfLocale CarriageReturn = ⊥
 IsOfLocale NotNormal = ⊥
 IsOfLocale NotTree = ⊥
 IsOfLocale NotJson = ⊥
+IsOfLocale NoMessage = ⊥
 IsOfLocale CommandLine = ⊥
 IsOfLocale (UnknownLocale tag) = Unit {0}
 IsOfLocale (FileUnreadable file) = ⊥
@@ -122,6 +129,7 @@ ReachesFile contents files CarriageReturn = Unit {0}
 ReachesFile contents files NotNormal = Unit {0}
 ReachesFile contents files NotTree = Unit {0}
 ReachesFile contents files NotJson = Unit {0}
+ReachesFile contents files NoMessage = Unit {0}
 ReachesFile contents files CommandLine = Unit {0}
 ReachesFile contents files (UnknownLocale tag) = Unit {0}
 ReachesFile contents files (FileUnreadable file) = Reaches contents files file.now
@@ -136,6 +144,7 @@ FailsAsTold before after CarriageReturn = after ≡ before
 FailsAsTold before after NotNormal = after ≡ before
 FailsAsTold before after NotTree = after ≡ before
 FailsAsTold before after NotJson = after ≡ before
+FailsAsTold before after NoMessage = after ≡ before
 FailsAsTold before after CommandLine = after ≡ before
 FailsAsTold before after (UnknownLocale tag) = after ≡ before
 FailsAsTold before after (FileUnreadable file) = HasFailed before after
@@ -150,6 +159,7 @@ IsOfFiles CarriageReturn = ⊥
 IsOfFiles NotNormal = ⊥
 IsOfFiles NotTree = ⊥
 IsOfFiles NotJson = ⊥
+IsOfFiles NoMessage = ⊥
 IsOfFiles CommandLine = ⊥
 IsOfFiles (UnknownLocale tag) = ⊥
 IsOfFiles (FileUnreadable file) = Unit {0}
@@ -158,12 +168,28 @@ IsOfFiles Input = ⊥
 IsOfFiles Output = ⊥
 IsOfFiles Memory = Unit {0}
 
+-- a fault that comes while the locale is looked up or files are read
+abbrev pub IsOfSources : Fault → Type 0
+IsOfSources CarriageReturn = ⊥
+IsOfSources NotNormal = ⊥
+IsOfSources NotTree = ⊥
+IsOfSources NotJson = ⊥
+IsOfSources NoMessage = ⊥
+IsOfSources CommandLine = ⊥
+IsOfSources (UnknownLocale tag) = Unit {0}
+IsOfSources (FileUnreadable file) = Unit {0}
+IsOfSources (FileNotUtf8 file) = Unit {0}
+IsOfSources Input = ⊥
+IsOfSources Output = ⊥
+IsOfSources Memory = Unit {0}
+
 -- the words or the sources are at fault
 abbrev pub IsBeforeInput : Fault → Type 0
 IsBeforeInput CarriageReturn = Unit {0}
 IsBeforeInput NotNormal = Unit {0}
 IsBeforeInput NotTree = Unit {0}
 IsBeforeInput NotJson = Unit {0}
+IsBeforeInput NoMessage = Unit {0}
 IsBeforeInput CommandLine = Unit {0}
 IsBeforeInput (UnknownLocale tag) = Unit {0}
 IsBeforeInput (FileUnreadable file) = Unit {0}
@@ -184,6 +210,7 @@ IsOfTidying CarriageReturn = Unit {0}
 IsOfTidying NotNormal = Unit {0}
 IsOfTidying NotTree = Unit {0}
 IsOfTidying NotJson = Unit {0}
+IsOfTidying NoMessage = ⊥
 IsOfTidying CommandLine = ⊥
 IsOfTidying (UnknownLocale tag) = ⊥
 IsOfTidying (FileUnreadable file) = Unit {0}

@@ -1,10 +1,10 @@
 -- What the program does for its words, and how far it came before a fault.
-use Rattle.std.specs.Prelude.{◌≡◌, List, [], ◌∷◌, ◌++◌, ⊤, false, Option, Some, None, IfSome, IsSomeAnd, option_map, Result, IfOk, OnOk, IsErrOf}
-use Rattle.std.specs.List.{list_any}
+use Rattle.std.specs.Prelude.{◌≡◌, ℕ, List, [], ◌∷◌, ◌++◌, ⊤, false, Option, Some, None, IfSome, IsSomeAnd, option_map, Result, IfOk, OnOk, IsErrOf, string_bytes}
+use Rattle.std.specs.List.{flat_map, list_any}
 use Rattle.std.specs.Io.KnownBytes.{Appends, IsAtEnd}
 use Rattle.fluent_value.specs.declared.function.NoFunction.{NoFunction}
 use Rattle.fluent_requests.specs.Text.{Text, line_feed}
-use Rattle.fluent_requests.specs.Frames.{answers}
+use Rattle.fluent_requests.specs.Frames.{Reply, answers, ended}
 use Rattle.fluent_answers.specs.Answers.{line_answered}
 use Rattle.fluent_serve.specs.Devices.{HasFailed}
 use Rattle.fluent_serve.specs.Exchange.{Devices, devices, IsFrontOf, AnswersAll, AnswersFirst, AnswersWhole, AnswersFront}
@@ -25,13 +25,18 @@ use Rattle.fluent_normal.specs.Normal.{IsNormalText}
 use Rattle.fluent_json.specs.Json.{json}
 use Rattle.fluent_tidy.specs.Sources.{holds_return}
 use Rattle.fluent_tidy.specs.Trees.{IsImported}
+use Rattle.ftl_format.specs.FormatView.{IsWrittenAs}
+use Rattle.ftl_format.specs.Shown.{error_line, reply_asked}
+use Rattle.ftl_format.specs.declared.formatting.Formatted.{Formatted}
 use Rattle.ftl_report.specs.Report.{report_text}
-use Rattle.ftl_words.specs.Meaning.{Asked, Run, Tidy, run, check, tidy, clean, normalize, join, export, import}
+use Rattle.ftl_words.specs.Version.{version_line}
+use Rattle.ftl_words.specs.Meaning.{Asked, Run, Format, Tidy, run, format, check, tidy, clean, normalize, join, export, import}
 use Rattle.ftl_command.specs.Files.{OnFile, OnTexts}
+use Rattle.ftl_command.specs.Faults.{end_status}
 use Rattle.ftl_command.specs.Plurals.{category_in, plurals_asked}
 use Rattle.ftl_command.specs.declared.plurals.RunPlurals.{RunPlurals}
 use Rattle.ftl_command.specs.declared.ended.Ended.{Ended}
-use Rattle.ftl_command.specs.declared.ended.Ended.TheVariants.{Done, Found}
+use Rattle.ftl_command.specs.declared.ended.Ended.TheVariants.{Done, Found, Incomplete}
 use Rattle.ftl_command.specs.declared.fault.Fault.{Fault}
 use Rattle.ftl_command.specs.declared.fault.Fault.TheVariants.{Input, Output, Memory}
 use Rattle.ftl_command.specs.declared.folder.Folder.{Ghosts as FolderGhosts}
@@ -96,6 +101,15 @@ pub record WritesFront (before after : Option Text) (text : Text) : Type 0 where
   pub written : Appends before after given
   pub front : IsFrontOf given text
 
+-- The line of the version is written, or where the output failed a front of it.
+pub record ShowsVersion (before after : Option Text) (result : Result Ended Fault) : Type 0 where
+  pub shown : OnOk result (Appends before after version_line)
+  pub output : IsErrOf result Output → WritesFront before after version_line
+
+-- so it is on a writer, by what it tells
+abbrev pub ShowsVersionOn : {W : Type 0} → SinkGhosts W → W → W → Result Ended Fault → Type 0
+ShowsVersionOn sink writer writer' result = ShowsVersion (sink.contents writer) (sink.contents writer') result
+
 -- a report is written; without a line the sources are fine
 abbrev pub end_by : Text → Ended
 end_by [] = Done
@@ -114,6 +128,47 @@ pub record CheckEnds {F W : Type 0} (folders : FolderGhosts F) (folder : F) (fil
   pub checked : IfOk result (λ end. OnReport (folders.contents folder) files (λ text. Appends (sink.contents writer) (sink.contents writer') text × (end ≡ end_by text)))
   -- a front of the report is written
   pub output : IsErrOf result Output → OnReport (folders.contents folder) files (WritesFront (sink.contents writer) (sink.contents writer'))
+
+-- ---- the text of a message
+
+-- what the sources have for the message, by these plural rules
+abbrev pub reply_for : RunPlurals → Format → List Text → Option Reply
+reply_for plurals f sources =
+    reply_asked NoFunction (category_in plurals) no_text (record { isolating = f.isolating; overriding = f.overriding }) sources f.request
+
+-- The locale that is asked for has plural rules, or none is, and the outcome holds of what the files' texts have for the message by
+-- those.
+abbrev pub OnFound : (Text → Option Text) → Format → (Option Reply → Type 0) → Type 0
+OnFound contents f Outcome = IsSomeAnd (plurals_asked f.locale) (λ plurals. OnTexts contents f.files (λ sources. Outcome (reply_for plurals f sources)))
+
+-- the code's text and lines are those that are written of it, if it is there
+abbrev pub IsFound : (Text → Option Text) → Format → Option Formatted → Type 0
+IsFound contents f formatted = OnFound contents f (λ found. IsWrittenAs found formatted)
+
+-- there is such a message, with such a value or attribute, and the outcome holds of its text and errors
+abbrev pub OnReply : (Text → Option Text) → Format → (Reply → Type 0) → Type 0
+OnReply contents f Outcome = OnFound contents f (λ found. IsSomeAnd found Outcome)
+
+-- the lines of errors that an end reports
+abbrev pub errors_in : Ended → Text
+errors_in Done = []
+errors_in Found = []
+errors_in (Incomplete errors) = string_bytes errors
+
+-- the status of a text with these errors, or with these lines of them: 0 where there are none
+abbrev pub status_by : {X : Type 0} → List X → ℕ
+status_by [] = 0
+status_by (x ∷ xs) = 1
+
+-- an end reports a line for each error, and has the status of them
+abbrev pub EndsWith : List Text → Ended → Type 0
+EndsWith errors end = (errors_in end ≡ flat_map error_line errors) × (end_status end ≡ status_by errors)
+
+-- what formatting has come to, by how it ended
+pub record FormatEnds {F W : Type 0} (folders : FolderGhosts F) (folder : F) (f : Format) (sink : SinkGhosts W) (writer writer' : W) (result : Result Ended Fault) : Type 0 where
+  pub written : IfOk result (λ end. OnReply (folders.contents folder) f (λ reply. Appends (sink.contents writer) (sink.contents writer') (ended reply.text) × EndsWith reply.errors end))
+  -- a front of the text is written
+  pub output : IsErrOf result Output → OnReply (folders.contents folder) f (λ reply. WritesFront (sink.contents writer) (sink.contents writer') (ended reply.text))
 
 -- the compact JSON text of a value, and a line feed
 abbrev pub data_line : Data → Text
@@ -163,12 +218,13 @@ pub record TidyEnds {F W : Type 0} (folders : FolderGhosts F) (folder : F) (t : 
   -- a front of the text is written
   pub output : IsErrOf result Output → Tidied (folders.contents folder) t (WritesFront (sink.contents writer) (sink.contents writer'))
 
--- ---- what the words ask for; with nothing asked for, help is shown
+-- ---- what the words ask for; with nothing asked for, help or the version is shown
 
 -- it is done, and the program ends so
 abbrev pub IsDone : (Text → Option Text) → Devices → Option Asked → Ended → Type 0
 IsDone contents d None end = end ≡ Done
 IsDone contents d (Some (run r)) end = (end ≡ Done) × OnRun contents r (Answered d)
+IsDone contents d (Some (format f)) end = OnReply contents f (λ reply. Writes d (ended reply.text) × EndsWith reply.errors end)
 IsDone contents d (Some (check files)) end = OnReport contents files (λ text. Writes d text × (end ≡ end_by text))
 IsDone contents d (Some (tidy t)) end = (end ≡ Done) × Tidied contents t (Writes d)
 
@@ -176,6 +232,7 @@ IsDone contents d (Some (tidy t)) end = (end ≡ Done) × Tidied contents t (Wri
 abbrev pub IsDoneAlike : (Text → Option Text) → Devices → Option Asked → Type 0
 IsDoneAlike contents d None = ⊤
 IsDoneAlike contents d (Some (run r)) = OnRunAlike contents d r
+IsDoneAlike contents d (Some (format f)) = ⊤
 IsDoneAlike contents d (Some (check files)) = ⊤
 IsDoneAlike contents d (Some (tidy t)) = ⊤
 
@@ -188,6 +245,7 @@ AnswersFirstBy (Some plurals) contents d r = OnRunBy plurals contents r (Answers
 abbrev pub AfterMemory : (Text → Option Text) → Devices → Option Asked → Type 0
 AfterMemory contents d None = d.held_after ≡ d.held_before
 AfterMemory contents d (Some (run r)) = AnswersFirstBy (plurals_asked r.locale) contents d r
+AfterMemory contents d (Some (format f)) = d.held_after ≡ d.held_before
 AfterMemory contents d (Some (check files)) = d.held_after ≡ d.held_before
 AfterMemory contents d (Some (tidy t)) = d.held_after ≡ d.held_before
 
@@ -195,6 +253,7 @@ AfterMemory contents d (Some (tidy t)) = d.held_after ≡ d.held_before
 abbrev pub AfterInput : (Text → Option Text) → Devices → Type 0 → Option Asked → Type 0
 AfterInput contents d Failed None = ⊥
 AfterInput contents d Failed (Some (run r)) = OnRun contents r (λ line. AnswersWhole d line Failed 4294967296)
+AfterInput contents d Failed (Some (format f)) = ⊥
 AfterInput contents d Failed (Some (check files)) = ⊥
 AfterInput contents d Failed (Some (tidy t)) = ⊥
 
@@ -202,6 +261,7 @@ AfterInput contents d Failed (Some (tidy t)) = ⊥
 abbrev pub AfterOutput : (Text → Option Text) → Devices → Option Asked → Type 0
 AfterOutput contents d None = ⊤
 AfterOutput contents d (Some (run r)) = OnRun contents r (AnswersFront d)
+AfterOutput contents d (Some (format f)) = OnReply contents f (λ reply. WritesFront d.held_before d.held_after (ended reply.text))
 AfterOutput contents d (Some (check files)) = OnReport contents files (WritesFront d.held_before d.held_after)
 AfterOutput contents d (Some (tidy t)) = Tidied contents t (WritesFront d.held_before d.held_after)
 
@@ -223,6 +283,7 @@ CommandEndsOn folders folder source reader reader' sink writer writer' asked res
 abbrev pub WithoutInput : Option Asked → Type 0 → Type 0
 WithoutInput None Fact = Fact
 WithoutInput (Some (run r)) Fact = ⊤
+WithoutInput (Some (format f)) Fact = Fact
 WithoutInput (Some (check files)) Fact = Fact
 WithoutInput (Some (tidy t)) Fact = Fact
 
@@ -238,6 +299,7 @@ files_of (import file) = file ∷ []
 abbrev pub files_named : Option Asked → List Text
 files_named None = []
 files_named (Some (run r)) = r.files
+files_named (Some (format f)) = f.files
 files_named (Some (check files)) = files
 files_named (Some (tidy t)) = files_of t
 
@@ -246,12 +308,14 @@ files_named (Some (tidy t)) = files_of t
 abbrev pub locale_named : Option Asked → Option Text
 locale_named None = None
 locale_named (Some (run r)) = r.locale
+locale_named (Some (format f)) = f.locale
 locale_named (Some (check files)) = None
 locale_named (Some (tidy t)) = None
 
--- nothing is asked for, or a run by a locale without plural rules
+-- nothing is asked for, or a run or a message by a locale without plural rules
 abbrev pub IsRefused : Option Asked → Type 0
 IsRefused None = ⊤
 IsRefused (Some (run r)) = plurals_asked r.locale ≡ None
+IsRefused (Some (format f)) = plurals_asked f.locale ≡ None
 IsRefused (Some (check files)) = ⊥
 IsRefused (Some (tidy t)) = ⊥

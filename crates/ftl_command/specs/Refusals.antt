@@ -7,12 +7,12 @@ use Rattle.fluent_normal.specs.Normal.{HasNoNormalText}
 use Rattle.fluent_json.specs.Json.{HasNoTree}
 use Rattle.fluent_tidy.specs.Sources.{holds_return}
 use Rattle.fluent_tidy.specs.Trees.{IsNotImported}
-use Rattle.ftl_words.specs.Meaning.{Asked, Tidy, run, check, tidy, clean, normalize, join, export, import}
+use Rattle.ftl_words.specs.Meaning.{Asked, Format, Tidy, run, format, check, tidy, clean, normalize, join, export, import}
 use Rattle.ftl_command.specs.Files.{OnFile, OnTexts}
 use Rattle.ftl_command.specs.Faults.{IsOfTidying, NamesOneOf, ReachesFile, SaysNoUtf8}
-use Rattle.ftl_command.specs.Program.{OnValue, files_of}
+use Rattle.ftl_command.specs.Program.{OnFound, OnValue, files_of}
 use Rattle.ftl_command.specs.declared.fault.Fault.{Fault}
-use Rattle.ftl_command.specs.declared.fault.Fault.TheVariants.{CarriageReturn, NotNormal, NotTree, NotJson, CommandLine, UnknownLocale, FileUnreadable, FileNotUtf8, Input, Output, Memory}
+use Rattle.ftl_command.specs.declared.fault.Fault.TheVariants.{CarriageReturn, NotNormal, NotTree, NotJson, NoMessage, CommandLine, UnknownLocale, FileUnreadable, FileNotUtf8, Input, Output, Memory}
 
 -- A source to be tidied holds a carriage return. A file with a JSON tree is no source.
 abbrev pub HoldReturn : (Text → Option Text) → Tidy → Type 0
@@ -52,6 +52,7 @@ IsRightOf contents t CarriageReturn = HoldReturn contents t
 IsRightOf contents t NotNormal = HaveNoNormalText contents t
 IsRightOf contents t NotTree = HoldNoTree contents t
 IsRightOf contents t NotJson = HoldNoJson contents t
+IsRightOf contents t NoMessage = ⊥
 IsRightOf contents t CommandLine = Unit {0}
 IsRightOf contents t (UnknownLocale tag) = Unit {0}
 IsRightOf contents t (FileUnreadable file) = Unit {0}
@@ -75,6 +76,7 @@ RefusesNothing CarriageReturn = ⊥
 RefusesNothing NotNormal = ⊥
 RefusesNothing NotTree = ⊥
 RefusesNothing NotJson = ⊥
+RefusesNothing NoMessage = ⊥
 RefusesNothing CommandLine = Unit {0}
 RefusesNothing (UnknownLocale tag) = Unit {0}
 RefusesNothing (FileUnreadable file) = Unit {0}
@@ -83,9 +85,25 @@ RefusesNothing Input = Unit {0}
 RefusesNothing Output = Unit {0}
 RefusesNothing Memory = Unit {0}
 
--- The same for whatever the words ask for: only what is to be tidied can be refused so.
+-- where the fault says that there is no such message, the files' texts have none
+abbrev pub SaysNoMessage : (Text → Option Text) → Format → Fault → Type 0
+SaysNoMessage contents f CarriageReturn = ⊥
+SaysNoMessage contents f NotNormal = ⊥
+SaysNoMessage contents f NotTree = ⊥
+SaysNoMessage contents f NotJson = ⊥
+SaysNoMessage contents f NoMessage = OnFound contents f (λ found. found ≡ None)
+SaysNoMessage contents f CommandLine = Unit {0}
+SaysNoMessage contents f (UnknownLocale tag) = Unit {0}
+SaysNoMessage contents f (FileUnreadable file) = Unit {0}
+SaysNoMessage contents f (FileNotUtf8 file) = Unit {0}
+SaysNoMessage contents f Input = Unit {0}
+SaysNoMessage contents f Output = Unit {0}
+SaysNoMessage contents f Memory = Unit {0}
+
+-- The same for whatever the words ask for: only what is to be tidied can be refused, and only a message can be missing.
 abbrev pub IsRight : (Text → Option Text) → Option Asked → Fault → Type 0
 IsRight contents None fault = RefusesNothing fault
 IsRight contents (Some (run r)) fault = RefusesNothing fault
+IsRight contents (Some (format f)) fault = SaysNoMessage contents f fault
 IsRight contents (Some (check files)) fault = RefusesNothing fault
 IsRight contents (Some (tidy t)) fault = IsRightOf contents t fault

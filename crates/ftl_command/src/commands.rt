@@ -2,11 +2,11 @@
 ghost use Rattle.std.specs.Prelude.{◌≡◌, ◌≢◌, ◌∷◌, [], None, Contains, OnOk, IfErr, IsErrOf};
 ghost use Rattle.fluent_serve.specs.Devices.{HasFailed};
 ghost use Rattle.fluent_serve.specs.Exchange.{GivesUp};
-ghost use Rattle.ftl_words.specs.Meaning.{AskForHelp, AskForHelpAlone, command_of, texts};
+ghost use Rattle.ftl_words.specs.Meaning.{AskForText, AskForHelpAlone, AskForVersionAlone, command_of, texts};
 ghost use Rattle.ftl_command.specs.Ends.{EndsOn, EndsOver};
 ghost use Rattle.ftl_command.specs.Faults.{FailsAsTold, NamesOneOf, ReachesFile, SaysNoUtf8, SaysUnknown};
 ghost use Rattle.ftl_command.specs.Faults.{IsBeforeInput, IsOfLocale};
-ghost use Rattle.ftl_command.specs.Program.{CommandEndsOn, WithoutInput};
+ghost use Rattle.ftl_command.specs.Program.{CommandEndsOn, ShowsVersionOn, WithoutInput};
 ghost use Rattle.ftl_command.specs.Program.{IsRefused, files_named, locale_named};
 ghost use Rattle.ftl_command.specs.Refusals.{IsRight};
 
@@ -14,9 +14,10 @@ use crate::checking::check_files;
 use crate::ended::Ended;
 use crate::fault::Fault;
 use crate::folder::{Folder, FromFiles};
-use crate::output::write_help;
+use crate::formatting::write_formatted;
+use crate::output::write_asked;
 use crate::running::run_files;
-use crate::telling::tell_on;
+use crate::telling::{tell_errors_on, tell_on};
 use crate::tidying::write_tidied;
 use fluent_run::Settings;
 use fluent_serve::stream::{FromRead, FromWrite, Sink, Source};
@@ -38,8 +39,9 @@ pub fn program<R: Files, I: io::Read + Drop, O: io::Write + Drop, F: io::Write +
     ensures statuses { Contains (0 ∷ 1 ∷ 2 ∷ 3 ∷ 4 ∷ []) result }
     ensures refused { result ≡ 2 → IsRefused (command_of (texts words.now)) }
     ensures not_help { result ≡ 2 → ¬ AskForHelpAlone (texts words.now) }
+    ensures not_version { result ≡ 2 → ¬ AskForVersionAlone (texts words.now) }
     ensures served { result ≡ 0 → command_of (texts words.now) ≡ None
-        → AskForHelp (texts words.now) }
+        → AskForText (texts words.now) }
     ensures ended { EndsOver (I.remaining input) (O.contents output) (F.contents faults)
         (texts words.now) result }
 {
@@ -70,20 +72,21 @@ pub fn program_on<F: Folder, I: Source, O: Sink, T: Sink>(
     ensures statuses { Contains (0 ∷ 1 ∷ 2 ∷ 3 ∷ 4 ∷ []) result }
     ensures refused { result ≡ 2 → IsRefused (command_of (texts words.now)) }
     ensures not_help { result ≡ 2 → ¬ AskForHelpAlone (texts words.now) }
+    ensures not_version { result ≡ 2 → ¬ AskForVersionAlone (texts words.now) }
     ensures served { result ≡ 0 → command_of (texts words.now) ≡ None
-        → AskForHelp (texts words.now) }
+        → AskForText (texts words.now) }
     ensures ended { EndsOn F.Folder folder.old folder.new I.Source reader.old reader.new
         O.Sink writer.old writer.new T.Sink faults.old faults.new (texts words.now) result }
 {
     match run_command(folder, alloc, words, reader, writer) {
-        Ok(end) => end.status(),
+        Ok(end) => tell_errors_on(faults, &end),
         Err(fault) => tell_on(faults, fault),
     }
 }
 
 /// Does what the words behind the program's name ask for. The words are read first, then a run's locale is looked up, then the
 /// files are read in their order, and for a run then the request lines that `reader` gives: see `docs/protocol.md`. Where the
-/// words ask for help, it is written.
+/// words ask for help or for the version, that is written.
 ///
 /// # Errors
 /// The first fault. What was written before it stays written.
@@ -98,8 +101,10 @@ pub fn run_command<'words, F: Folder, I: Source, O: Sink>(
     // before a fault stays written.
     ensures ended { CommandEndsOn F.Folder folder.old I.Source reader.old reader.new
         O.Sink writer.old writer.new (command_of (texts words.now)) result }
-    ensures help { OnOk result (command_of (texts words.now) ≡ None
-        → AskForHelp (texts words.now)) }
+    ensures text { OnOk result (command_of (texts words.now) ≡ None
+        → AskForText (texts words.now)) }
+    ensures version { AskForVersionAlone (texts words.now)
+        → ShowsVersionOn O.Sink writer.old writer.new result }
     ensures opens { OnOk result (F.failures folder.new ≡ F.failures folder.old) }
     ensures reads { OnOk result (I.failures reader.new ≡ I.failures reader.old) }
     ensures writes { OnOk result (O.failures writer.new ≡ O.failures writer.old) }
@@ -108,6 +113,8 @@ pub fn run_command<'words, F: Folder, I: Source, O: Sink>(
     // Before the words and all files are read, nothing else is read and nothing is written.
     ensures refused { IsErrOf result Fault.CommandLine → command_of (texts words.now) ≡ None }
     ensures not_help { IsErrOf result Fault.CommandLine → ¬ AskForHelpAlone (texts words.now) }
+    ensures not_version { IsErrOf result Fault.CommandLine
+        → ¬ AskForVersionAlone (texts words.now) }
     ensures unknown { IfErr result (SaysUnknown (locale_named (command_of (texts words.now)))) }
     ensures unopened { IfErr result (λ fault. IsOfLocale fault → folder.new ≡ folder.old) }
     ensures named { IfErr result (NamesOneOf (files_named (command_of (texts words.now)))) }
@@ -142,9 +149,11 @@ pub fn run_command<'words, F: Folder, I: Source, O: Sink>(
             };
             run_files(folder, alloc, settings, locale, &files, reader, writer)
         }
+        Ok(Command::Format(format)) => write_formatted(folder, alloc, &format, writer),
         Ok(Command::Check { files }) => check_files(folder, alloc, &files, writer),
         Ok(Command::Tidy(tidy)) => write_tidied(folder, alloc, &tidy, writer),
-        Err(WordsError::Help(text)) => write_help(writer, text.as_str()),
+        Err(WordsError::Help(text)) => write_asked(writer, text.as_str()),
+        Err(WordsError::Version(line)) => write_asked(writer, line.as_str()),
         Err(WordsError::Bad) => Err(Fault::CommandLine),
         Err(WordsError::Memory) => Err(Fault::Memory),
     }

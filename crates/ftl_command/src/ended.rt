@@ -3,22 +3,24 @@ ghost use Rattle.std.specs.Prelude.{◌≡◌};
 ghost use Rattle.ftl_command.specs.Faults.{end_status};
 
 /// How a command ended that met no fault.
-#[derive(Clone, Copy, Debug, PartialEq, Eq)]
+#[derive(Debug, PartialEq, Eq, Drop)]
 pub enum Ended {
     /// What was asked for is done.
     Done,
     /// It is done, and something was found in the sources.
     Found,
+    /// The text of a message is written, and these are the lines of what went wrong in it.
+    Incomplete { errors: String },
 }
 
 impl Ended {
     /// The status that the program ends with.
-    pub fn status(self) -> u8
-        ensures { result ≡ end_status self }
+    pub fn status(&self) -> u8
+        ensures { result ≡ end_status self.now }
     {
         match self {
             Ended::Done => 0,
-            Ended::Found => 1,
+            Ended::Found | Ended::Incomplete { .. } => 1,
         }
     }
 }

@@ -20,6 +20,8 @@ pub enum Fault<'words> {
     NotTree,
     /// The file's text is no JSON, or nested too deep.
     NotJson,
+    /// The message that is asked for has no such value or attribute, or there is none.
+    NoMessage,
     /// The words are no command.
     CommandLine,
     /// The locale has no plural rules.
@@ -42,7 +44,11 @@ impl<'words> Fault<'words> {
         ensures { result ≡ status_of self.now }
     {
         match self {
-            Fault::CarriageReturn | Fault::NotNormal | Fault::NotTree | Fault::NotJson => 1,
+            Fault::CarriageReturn
+            | Fault::NotNormal
+            | Fault::NotTree
+            | Fault::NotJson
+            | Fault::NoMessage => 1,
             Fault::CommandLine | Fault::UnknownLocale { .. } => 2,
             Fault::FileUnreadable { .. }
             | Fault::FileNotUtf8 { .. }
@@ -61,6 +67,7 @@ impl<'words> Fault<'words> {
             Fault::NotNormal => ("", "not normal"),
             Fault::NotTree => ("", "not a tree"),
             Fault::NotJson => ("", "not JSON"),
+            Fault::NoMessage => ("", "no such message"),
             Fault::CommandLine => ("", "bad command line"),
             Fault::UnknownLocale { tag } => (tag, ": unknown locale"),
             Fault::FileUnreadable { file } => (file, ": cannot read"),

@@ -12,6 +12,7 @@ mod errors;
 pub mod fault;
 pub mod files;
 pub mod folder;
+pub mod formatting;
 pub mod output;
 pub mod plurals;
 pub mod running;
@@ -19,4 +20,4 @@ pub mod telling;
 pub mod tidying;
 
 pub use commands::program;
-pub use ftl_words::{Command, Tidy, WordsError, command};
+pub use ftl_words::{Command, Format, Tidy, VERSION, WordsError, command};

@@ -28,11 +28,11 @@ pub fn write_text<'words, O: Sink>(writer: &mut O, text: &str) -> Result<(), Fau
     }
 }
 
-/// Writes the text of help, and ends with that.
+/// Writes a text that the words ask for, of help or of the version, and ends with that.
 ///
 /// # Errors
 /// [`Fault::Output`] if the writer fails, or takes none of a piece that isn't empty; a front of the text was written.
-pub fn write_help<'words, O: Sink>(writer: &mut O, text: &str) -> Result<Ended, Fault<'words>>
+pub fn write_asked<'words, O: Sink>(writer: &mut O, text: &str) -> Result<Ended, Fault<'words>>
     ensures ended { IfOk result (λ end. end ≡ Ended.Done) }
     ensures written { OnOk result
         (Appends (O.contents writer.old) (O.contents writer.new) text.now) }

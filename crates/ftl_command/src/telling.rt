@@ -2,11 +2,13 @@
 ghost use Rattle.std.specs.Prelude.{◌≡◌, OnOk, OnErr};
 ghost use Rattle.std.specs.Io.KnownBytes.{Appends};
 ghost use Rattle.fluent_serve.specs.Devices.{HasFailed};
-ghost use Rattle.ftl_command.specs.Ends.{seen, ReportsOver, WritesOrFails};
-ghost use Rattle.ftl_command.specs.Faults.{fault_line, status_of};
+ghost use Rattle.ftl_command.specs.Ends.{seen, ReportsErrors, ReportsOver, WritesOrFails};
+ghost use Rattle.ftl_command.specs.Faults.{end_status, fault_line, status_of};
 ghost use Rattle.ftl_command.specs.Program.{WritesFront};
 
+use crate::ended::Ended;
 use crate::fault::Fault;
+use crate::output::write_text;
 use fluent_serve::serve::write_all;
 use fluent_serve::stream::{FromWrite, Sink, WriteFailed};
 use std::io;
@@ -28,6 +30,18 @@ pub fn tell_on<S: Sink>(faults: &mut S, fault: Fault<'_>) -> u8
 {
     let _ = write_line(faults, fault);
     fault.status()
+}
+
+/// Tells what went wrong in a text, if anything did, and gives the program's status. Where `faults` fails, the status alone tells
+/// it.
+pub fn tell_errors_on<S: Sink>(faults: &mut S, end: &Ended) -> u8
+    ensures status { result ≡ end_status end.now }
+    ensures told { ReportsErrors (seen S.contents S.failures faults.old faults.new) end.now }
+{
+    if let Ended::Incomplete { errors } = end {
+        let _ = write_text(faults, errors.as_str());
+    }
+    end.status()
 }
 
 /// Writes the line of a fault.

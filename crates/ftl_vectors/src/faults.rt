@@ -28,6 +28,7 @@ pub fn try_faults(alloc: Global) -> Tally {
         (Fault::NotNormal, 1, "ftl: not normal\n"),
         (Fault::NotTree, 1, "ftl: not a tree\n"),
         (Fault::NotJson, 1, "ftl: not JSON\n"),
+        (Fault::NoMessage, 1, "ftl: no such message\n"),
         (Fault::CommandLine, 2, "ftl: bad command line\n"),
         (
             Fault::UnknownLocale { tag: "plx" },

@@ -2,10 +2,10 @@
 use Rattle.std.proofs.Common.{◌≡◌, ◌∙◌, Bool, false, List, [], Option, Some, None, Bor, IfOk, IfErr, ap, refl, sym, codes}
 use Rattle.std.specs.Option.{option_map, option_map_or, option_eq, ok_or, unwrap_or}
 use Rattle.std.specs.Str.{bytes_eq}
-use Rattle.clap.specs.Words.{Text, first_value, matched_of, raw_values, rows_of}
+use Rattle.clap.specs.Words.{Text, all_of, first_value, matched_of, raw_values, rows_of}
 use Rattle.clap.specs.declared.parser.matches.Found.{Found}
 use Rattle.clap.proofs.WalkLemmas.{first_value-rows, raw_values-rows}
-use Rattle.ftl_words.specs.Meaning.{is_given, file_in, files_in, texts}
+use Rattle.ftl_words.specs.Meaning.{is_given, file_in, texts}
 
 -- a value that is compared with `true`
 pub given : (same : Bor Text → Bor Text → Bool) → ((a b : Bor Text) → same a b ≡ bytes_eq a.now b.now)
@@ -34,12 +34,12 @@ module _ {E : Type 0} (error : E) (f : Found) where
   told None = refl
   told (Some s) = tt
 
--- all values of `FILE`, or none
-pub all : (o : Option (Bor (List (Bor Text)))) (none : Bor (List (Bor Text))) → none.now ≡ [] → (f : Found)
-    → option_map (λ s. texts s.now) o ≡ option_map raw_values (matched_of f (codes "FILE"))
-    → texts (unwrap_or o none).now ≡ files_in (rows_of f)
-all o none empty f found =
-    read o ∙ ap (λ (v : Option (List Text)). unwrap_or v []) (found ∙ raw_values-rows f (codes "FILE"))
+-- all values of an argument, or none
+pub all : (name : Text) (o : Option (Bor (List (Bor Text)))) (none : Bor (List (Bor Text))) → none.now ≡ [] → (f : Found)
+    → option_map (λ s. texts s.now) o ≡ option_map raw_values (matched_of f name)
+    → texts (unwrap_or o none).now ≡ unwrap_or (all_of name (rows_of f)) []
+all name o none empty f found =
+    read o ∙ ap (λ (v : Option (List Text)). unwrap_or v []) (found ∙ raw_values-rows f name)
   where
     read : (o : Option (Bor (List (Bor Text)))) → texts (unwrap_or o none).now ≡ unwrap_or (option_map (λ s. texts s.now) o) []
     read None = ap texts empty

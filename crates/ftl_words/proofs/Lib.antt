@@ -1,3 +1,4 @@
 pub mod Found
 pub mod Parsed
 mod Rows
+pub mod Asked

@@ -3,10 +3,10 @@ use Rattle.std.proofs.Common.{◌≡◌, ◌∙◌, true, List, [], ◌∷◌, O
 use Rattle.clap.specs.Words.{App, HasKind, HasMatchesOf, IsAmong, Kinds, Text, fault_of, is_simple, is_simple_and_free, kind_of, subcommand_of, subcommand_rows_of}
 use Rattle.clap.specs.declared.error.Error.{Error}
 use Rattle.clap.specs.declared.error.kind.ErrorKind.{ErrorKind}
-use Rattle.clap.specs.declared.error.kind.ErrorKind.TheVariants.{DisplayHelp, OutOfMemory}
+use Rattle.clap.specs.declared.error.kind.ErrorKind.TheVariants.{OutOfMemory}
 use Rattle.clap.specs.declared.parser.matches.ArgMatches.{ArgMatches}
 use Rattle.ftl_words.specs.Commands.{program_app}
-use Rattle.ftl_words.specs.Meaning.{AskForHelpAlone, Asked, asked_of, command_of, faults_of, without_faults}
+use Rattle.ftl_words.specs.Meaning.{Asked, asked_of, command_of, faults_of, without_faults}
 
 program_is_simple : is_simple program_app ≡ true
 program_is_simple = refl
@@ -44,8 +44,10 @@ among_one : (k x : ErrorKind) → IsAmong k (x ∷ []) → k ≡ x
 among_one k x (inl same) = same
 among_one k x (inr none) = absurd none
 
-pub not_help_alone : (words : List Text) (k : ErrorKind) → IsAmong k (faults_of words) → (k ≡ DisplayHelp → ⊥) → AskForHelpAlone words → ⊥
-not_help_alone words k one not_help alone = not_help (among_one k DisplayHelp (rw alone at one))
+-- what was told is not this, so the words don't ask for it alone
+pub not_alone : (words : List Text) (asked k : ErrorKind) → IsAmong k (faults_of words) → (k ≡ asked → ⊥) → faults_of words ≡ asked ∷ [] → ⊥
+not_alone words asked k one other alone = other (among_one k asked (rw alone at one))
 
-pub no_help_asked : (words : List Text) → faults_of words ≡ [] → AskForHelpAlone words → ⊥
-no_help_asked words none alone = let both : ◌≡◌ {A = Kinds} [] (DisplayHelp ∷ []) = sym none ∙ alone in absurd cc
+-- with nothing wrong, the words ask for none of the texts
+pub none_asked : (words : List Text) (asked : ErrorKind) → faults_of words ≡ [] → faults_of words ≡ asked ∷ [] → ⊥
+none_asked words asked none alone = let both : ◌≡◌ {A = Kinds} [] (asked ∷ []) = sym none ∙ alone in absurd cc

@@ -1,8 +1,8 @@
 -- What some words ask for, by computing.
 use Rattle.std.proofs.Common.{◌≡◌, [], ◌∷◌, true, false, Some, None, refl, codes}
-use Rattle.clap.specs.declared.error.kind.ErrorKind.TheVariants.{ArgumentConflict, InvalidValue, MissingRequiredArgument, MissingSubcommand, UnknownArgument}
+use Rattle.clap.specs.declared.error.kind.ErrorKind.TheVariants.{ArgumentConflict, DisplayHelp, InvalidValue, MissingRequiredArgument, MissingSubcommand, UnknownArgument}
 use Rattle.clap.proofs.OnLiterals.{clap_on_literals}
-use Rattle.ftl_words.specs.Meaning.{AskForHelpAlone, check, clean, command_of, faults_of, join, run, tidy}
+use Rattle.ftl_words.specs.Meaning.{AskForHelpAlone, AskForVersionAlone, check, clean, command_of, faults_of, format, join, run, tidy}
 
 no_words : faults_of [] ≡ MissingSubcommand ∷ []
 unfolding clap_on_literals
@@ -27,6 +27,22 @@ two_to_clean = refl
 help : AskForHelpAlone (codes "join" ∷ codes "--help" ∷ [])
 unfolding clap_on_literals
 help = refl
+
+the_version : AskForVersionAlone (codes "--version" ∷ [])
+unfolding clap_on_literals
+the_version = refl
+
+the_version_by_a_letter : AskForVersionAlone (codes "-V" ∷ [])
+unfolding clap_on_literals
+the_version_by_a_letter = refl
+
+help_before_the_version : faults_of (codes "--help" ∷ codes "--version" ∷ []) ≡ DisplayHelp ∷ []
+unfolding clap_on_literals
+help_before_the_version = refl
+
+a_version_of_run : faults_of (codes "run" ∷ codes "--version" ∷ codes "a" ∷ []) ≡ UnknownArgument ∷ []
+unfolding clap_on_literals
+a_version_of_run = refl
 
 two_files : command_of (codes "run" ∷ codes "a" ∷ codes "b-" ∷ [])
     ≡ Some (run (record { isolating = true; overriding = false; locale = None; files = codes "a" ∷ codes "b-" ∷ [] }))
@@ -71,3 +87,33 @@ one_to_clean = refl
 two_to_join : command_of (codes "join" ∷ codes "a" ∷ codes "b" ∷ []) ≡ Some (tidy (join (codes "a" ∷ codes "b" ∷ [])))
 unfolding clap_on_literals
 two_to_join = refl
+
+one_message : command_of (codes "format" ∷ codes "login.title" ∷ codes "a" ∷ codes "--argument" ∷ codes "n=-1" ∷ codes "b" ∷ codes "--argument=n=x=y" ∷ [])
+    ≡ Some (format (record {
+      isolating = true;
+      overriding = false;
+      locale = None;
+      request = record { id = codes "login"; attribute = Some (codes "title"); arguments = (codes "n", codes "-1") ∷ (codes "n", codes "x=y") ∷ [] };
+      files = codes "a" ∷ codes "b" ∷ [];
+    }))
+unfolding clap_on_literals
+one_message = refl
+
+a_message_with_options : command_of (codes "format" ∷ codes "--overriding" ∷ codes "hi" ∷ codes "--locale" ∷ codes "pl" ∷ codes "--no-isolating" ∷ codes "a" ∷ [])
+    ≡ Some (format (record {
+      isolating = false;
+      overriding = true;
+      locale = Some (codes "pl");
+      request = record { id = codes "hi"; attribute = None; arguments = [] };
+      files = codes "a" ∷ [];
+    }))
+unfolding clap_on_literals
+a_message_with_options = refl
+
+no_value : command_of (codes "format" ∷ codes "hi" ∷ codes "a" ∷ codes "--argument" ∷ codes "name" ∷ []) ≡ None
+unfolding clap_on_literals
+no_value = refl
+
+no_file_to_format : faults_of (codes "format" ∷ codes "hi" ∷ []) ≡ MissingRequiredArgument ∷ []
+unfolding clap_on_literals
+no_file_to_format = refl

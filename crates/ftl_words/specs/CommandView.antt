@@ -1,11 +1,13 @@
 -- What the code's commands stand for.
-use Rattle.std.specs.Prelude.{◌≡◌, List, Option, option_map, Result, IfErr}
+use Rattle.std.specs.Prelude.{◌≡◌, List, Option, option_copied, option_map, Result, IfErr}
 use Rattle.clap.specs.Words.{Row, Text, found_of, rows_of}
 use Rattle.clap.specs.declared.parser.matches.ArgMatches.{ArgMatches}
+use Rattle.fluent_serve.specs.RequestView.{arguments_view}
 use Rattle.ftl_words.specs.Meaning as asked
-use Rattle.ftl_words.specs.Meaning.{Asked, asked_by, texts}
+use Rattle.ftl_words.specs.Meaning.{Asked, Format, asked_by, texts}
 use Rattle.ftl_words.specs.declared.commands.Command.{Command}
 use Rattle.ftl_words.specs.declared.commands.Command.TheVariants as command
+use Rattle.ftl_words.specs.declared.commands.Format as code
 use Rattle.ftl_words.specs.declared.commands.Tidy.{Tidy}
 use Rattle.ftl_words.specs.declared.commands.Tidy.TheVariants as of
 use Rattle.ftl_words.specs.declared.reading.WordsError.{WordsError}
@@ -18,9 +20,19 @@ tidy_view (of.Join files) = asked.join (texts files.items)
 tidy_view (of.Export file) = asked.export file.now
 tidy_view (of.Import file) = asked.import file.now
 
+abbrev pub format_view : code.Format → Format
+format_view f = record {
+  isolating = f.isolating;
+  overriding = f.overriding;
+  locale = option_map (λ l. l.now) f.locale;
+  request = record { id = f.id.now; attribute = option_copied f.attribute; arguments = arguments_view f.arguments.items };
+  files = texts f.files.items;
+}
+
 abbrev pub command_view : Command → Asked
 command_view (command.Run isolating overriding locale files) =
     asked.run (record { isolating = isolating; overriding = overriding; locale = option_map (λ l. l.now) locale; files = texts files.items })
+command_view (command.Format f) = asked.format (format_view f)
 command_view (command.Check files) = asked.check (texts files.items)
 command_view (command.Tidy t) = asked.tidy (tidy_view t)
 

@@ -1,9 +1,9 @@
 -- The program `ftl` and its commands, as `clap` is told of them.
-use Rattle.std.specs.Prelude.{◌≡◌, List, [], ◌∷◌, Some, true, false, codes}
+use Rattle.std.specs.Prelude.{◌≡◌, List, [], ◌∷◌, ◌++◌, Some, true, false, codes}
 use Rattle.clap.specs.Lexer.{usize_max}
 use Rattle.clap.specs.Words.{App, Rule, Shape, Text, new_app, new_rule, rule_of, shape_of, with_subcommand}
 use Rattle.clap.specs.Simple.{new_shape, on_top}
-use Rattle.clap.specs.declared.builder.action.ArgAction.TheVariants.{SetTrue}
+use Rattle.clap.specs.declared.builder.action.ArgAction.TheVariants.{Append, SetTrue}
 use Rattle.clap.specs.declared.builder.arg.Arg.{Arg}
 use Rattle.clap.specs.declared.builder.command.Command.{Command}
 use Rattle.clap.specs.declared.builder.command.Command.TheViews.{out-Command as fields_of}
@@ -15,6 +15,14 @@ flag_rule name = record (new_rule name) { long = Some name; action = Some SetTru
 -- `--name VALUE`
 abbrev pub option_rule : Text → Rule
 option_rule name = record (new_rule name) { long = Some name; value_names = 1 }
+
+-- the same, as often as it comes
+abbrev pub each_rule : Text → Rule
+each_rule name = record (option_rule name) { action = Some Append }
+
+-- a message
+abbrev pub id_rule : Rule
+id_rule = record (new_rule (codes "ID")) { required = true }
 
 -- one file
 abbrev pub file_rule : Rule
@@ -32,21 +40,29 @@ shaped name rules = record (new_shape name) { rules = rules }
 abbrev pub with_command : App → Text → Rule → App
 with_command a name argument = with_subcommand a (shaped name (argument ∷ []))
 
+abbrev pub flagged_rules : List Rule
+flagged_rules = flag_rule (codes "no-isolating") ∷ flag_rule (codes "overriding") ∷ []
+
+-- the options that say how texts are made
+abbrev pub asking_rules : List Rule
+asking_rules = flagged_rules ++ option_rule (codes "locale") ∷ []
+
 abbrev pub run_shape : Shape
-run_shape = shaped (codes "run") (flag_rule (codes "no-isolating") ∷ flag_rule (codes "overriding") ∷ option_rule (codes "locale") ∷ files_rule ∷ [])
+run_shape = shaped (codes "run") (asking_rules ++ files_rule ∷ [])
 
--- the same before its option and its files
-abbrev pub flagged_run_shape : Shape
-flagged_run_shape = shaped (codes "run") (flag_rule (codes "no-isolating") ∷ flag_rule (codes "overriding") ∷ [])
+abbrev pub format_shape : Shape
+format_shape = shaped (codes "format") (asking_rules ++ each_rule (codes "argument") ∷ id_rule ∷ files_rule ∷ [])
 
--- the program, of which a command has to be named, and whose first word is no name of its own
+-- the program, which has a version, of which a command has to be named, and whose first word is no name of its own
 abbrev pub bare_program : App
-bare_program = on_top (λ s. record s { no_binary_name = true; subcommand_required = true }) (new_app (codes "ftl"))
+bare_program =
+    on_top (λ s. record s { has_version = true; no_binary_name = true; subcommand_required = true }) (new_app (codes "ftl"))
 
 abbrev pub program_app : App
 program_app = record {
   top = record bare_program.top { is_leaf = false };
   subs = run_shape
+      ∷ format_shape
       ∷ shaped (codes "check") (files_rule ∷ [])
       ∷ shaped (codes "clean") (file_rule ∷ [])
       ∷ shaped (codes "normalize") (file_rule ∷ [])

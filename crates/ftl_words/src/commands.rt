@@ -14,6 +14,8 @@ pub enum Command<'words> {
         /// The names of the sources' files.
         files: Vec<&'words str>,
     },
+    /// Write the text of one message.
+    Format(Format<'words>),
     /// Tell what is damaged in sources, and which ids stand in them more than once.
     Check {
         /// The names of the sources' files.
@@ -21,6 +23,25 @@ pub enum Command<'words> {
     },
     /// Write what sources are tidied into.
     Tidy(Tidy<'words>),
+}
+
+/// Which message is written, from which sources, and how.
+#[derive(Debug, PartialEq, Eq, Drop)]
+pub struct Format<'words> {
+    /// Whether the values of placeables are set between U+2068 and U+2069.
+    pub isolating: bool,
+    /// Whether the last entry of an id counts, and not the first.
+    pub overriding: bool,
+    /// The tag of the locale whose plural rules choose variants, if one is given.
+    pub locale: Option<&'words str>,
+    /// The id of the message.
+    pub id: &'words str,
+    /// The attribute of the message, if its text is asked for.
+    pub attribute: Option<&'words str>,
+    /// The names and values of the arguments, in their order.
+    pub arguments: Vec<(&'words str, &'words str)>,
+    /// The names of the sources' files.
+    pub files: Vec<&'words str>,
 }
 
 /// How sources are tidied, and the names of their files.

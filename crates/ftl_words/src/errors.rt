@@ -7,7 +7,7 @@ use crate::reading::WordsError;
 use std::error::Error;
 use std::fmt;
 
-/// The text of help is the one that was asked for.
+/// The text of help, or of the version, is the one that was asked for.
 impl fmt::Display for WordsError {
     ghost output = { λ error. Some (words_text error) };
 
@@ -16,6 +16,7 @@ impl fmt::Display for WordsError {
             WordsError::Memory => "out of memory",
             WordsError::Bad => "bad command line",
             WordsError::Help(text) => text.as_str(),
+            WordsError::Version(text) => text.as_str(),
         })
     }
 }

@@ -1,10 +1,11 @@
 //! The program and its commands, as `clap` is told of them.
 ghost use Rattle.std.specs.Prelude.{◌≡◌, ◌∷◌, [], false, codes, IfOk};
-ghost use Rattle.clap.specs.Words.{app_of, rule_of};
+ghost use Rattle.clap.specs.Words.{app_of, rule_of, with_subcommand};
 ghost use Rattle.ftl_words.specs.Commands.{IsShaped, IsLocal, shaped, with_command};
-ghost use Rattle.ftl_words.specs.Commands.{flag_rule, option_rule, file_rule, files_rule, bare_program, program_app};
-ghost use Rattle.ftl_words.specs.Commands.{flagged_run_shape, run_shape};
+ghost use Rattle.ftl_words.specs.Commands.{flag_rule, option_rule, each_rule, id_rule, file_rule, files_rule};
+ghost use Rattle.ftl_words.specs.Commands.{bare_program, program_app, asking_rules, flagged_rules, format_shape, run_shape};
 
+use crate::version::VERSION;
 use clap::{Arg, ArgAction, Command};
 use std::alloc::{AllocError, Global};
 
@@ -14,6 +15,7 @@ pub(crate) fn program<'a>(alloc: Global) -> Result<Command<'a>, AllocError>
 {
     let run = run(alloc)?;
     let program = bare_program(alloc)?.subcommand(run)?;
+    let program = with_format(alloc, program)?;
     let program = with_files(
         alloc,
         program,
@@ -53,6 +55,7 @@ fn bare_program<'a>(alloc: Global) -> Result<Command<'a>, AllocError>
 {
     Command::new(alloc, "ftl")
         .about("Answers, checks and tidies Fluent sources")
+        .version(VERSION)
         .no_binary_name(true)
         .subcommand_required(true)
         .bin_name("ftl")
@@ -101,15 +104,43 @@ fn command_of<'a>(
 fn run<'a>(alloc: Global) -> Result<Command<'a>, AllocError>
     ensures { IfOk result (IsShaped run_shape) }
 {
+    asking(alloc, "run", "Answers the request lines of standard input")?.arg(files(alloc))
+}
+
+/// The program with the command `format`, too.
+fn with_format<'a>(alloc: Global, program: Command<'a>) -> Result<Command<'a>, AllocError>
+    ensures { IfOk result (λ more. app_of more ≡ with_subcommand (app_of program.entry) format_shape) }
+{
+    program.subcommand(format(alloc)?)
+}
+
+/// The command `format`.
+fn format<'a>(alloc: Global) -> Result<Command<'a>, AllocError>
+    ensures { IfOk result (IsShaped format_shape) }
+{
+    let argument = each(alloc, "argument", "NAME=VALUE").help(
+        "Sets an argument, once for each: a number if the value is one, or else a text",
+    );
+    asking(alloc, "format", "Writes the text of one message")?
+        .after_help("Example: ftl format welcome hello.ftl --argument name=Jane")
+        .arg(argument)?
+        .arg(id(alloc))?
+        .arg(files(alloc))
+}
+
+/// A command of this name with the options that say how texts are made.
+fn asking<'a>(alloc: Global, name: &'a str, about: &'a str) -> Result<Command<'a>, AllocError>
+    ensures { IfOk result (IsShaped (shaped name.entry.now asking_rules)) }
+{
     let locale = option(alloc, "locale", "TAG").help(
         "Chooses variants by the plural rules of this locale, and not by those of English",
     );
-    flagged_run(alloc)?.arg(locale)?.arg(files(alloc))
+    flagged(alloc, name, about)?.arg(locale)
 }
 
-/// The command `run` with its flags alone.
-fn flagged_run<'a>(alloc: Global) -> Result<Command<'a>, AllocError>
-    ensures { IfOk result (IsShaped flagged_run_shape) }
+/// The same with the flags alone.
+fn flagged<'a>(alloc: Global, name: &'a str, about: &'a str) -> Result<Command<'a>, AllocError>
+    ensures { IfOk result (IsShaped (shaped name.entry.now flagged_rules)) }
 {
     let isolating = flag(alloc, "no-isolating").help(
         "Sets no marks around the values of placeables",
@@ -117,8 +148,8 @@ fn flagged_run<'a>(alloc: Global) -> Result<Command<'a>, AllocError>
     let overriding = flag(alloc, "overriding").help(
         "Lets the last entry of an id count, and not the first",
     );
-    Command::new(alloc, "run")
-        .about("Answers the request lines of standard input")
+    Command::new(alloc, name)
+        .about(about)
         .arg(isolating)?
         .arg(overriding)
 }
@@ -135,6 +166,22 @@ fn option<'a>(alloc: Global, name: &'a str, value: &'a str) -> Arg<'a>
     ensures { IsLocal (option_rule name.entry.now) result }
 {
     Arg::new(alloc, name).long(name).value_name(value)
+}
+
+/// An option of this name that may come more than once, with one value each, which help calls so.
+fn each<'a>(alloc: Global, name: &'a str, value: &'a str) -> Arg<'a>
+    ensures { IsLocal (each_rule name.entry.now) result }
+{
+    option(alloc, name, value).action(ArgAction::Append)
+}
+
+/// The message that a command is on.
+fn id<'a>(alloc: Global) -> Arg<'a>
+    ensures { IsLocal id_rule result }
+{
+    Arg::new(alloc, "ID").required(true).help(
+        "The id of the message, as `login`, or one with an attribute, as `login.title`",
+    )
 }
 
 /// The file that a command is on.

@@ -1,13 +1,17 @@
 //! From words to what they ask for.
-ghost use Rattle.std.specs.Prelude.{◌≡◌, IfOk, IfErr, IsErrOf, Some, None, option_map};
+ghost use Rattle.std.specs.Prelude.{◌≡◌, IfOk, IfErr, IsErrOf, Some, None, option_map, string_bytes};
 ghost use Rattle.clap.specs.Words.{kind_of, subcommand_rows_of};
 ghost use Rattle.ftl_words.specs.Meaning.{AskForHelp, AskForHelpAlone, command_of, texts};
+ghost use Rattle.ftl_words.specs.Meaning.{AskForVersion, AskForVersionAlone};
 ghost use Rattle.ftl_words.specs.Meaning.{asked_of, file_in, files_in, is_given, locale_in};
 ghost use Rattle.ftl_words.specs.CommandView.{asked_with, command_view, found_rows, IfRefused};
+ghost use Rattle.ftl_words.specs.Version.{version_line};
 ghost use Rattle.ftl_words.specs.declared.reading.WordsError.TheVariants.{Memory};
 
 use crate::commands::{Command, Tidy};
+use crate::formatting::format_in;
 use crate::program::program;
+use crate::version::version_line;
 use clap::error::ErrorKind;
 use clap::{ArgMatches, Error};
 use std::alloc::{AllocError, Global};
@@ -21,6 +25,8 @@ pub enum WordsError {
     Bad,
     /// The words ask for help, which is this text.
     Help(String),
+    /// The words ask for the version, which is this line.
+    Version(String),
 }
 
 impl From<AllocError> for WordsError {
@@ -34,7 +40,7 @@ impl From<AllocError> for WordsError {
 /// Reads the words behind the program's name: a command, its flags and its files, as `clap` has them.
 ///
 /// # Errors
-/// `Bad`: the words are no command. `Help`: they ask for help. `Memory`: memory ran out.
+/// `Bad`: the words are no command. `Help`: they ask for help. `Version`: they ask for the version. `Memory`: memory ran out.
 pub fn command<'words>(
     alloc: Global,
     words: &'words [&'words str],
@@ -43,8 +49,14 @@ pub fn command<'words>(
         command_of (texts words.now) ≡ Some (command_view command)) }
     ensures nothing { IfRefused result (command_of (texts words.now) ≡ None) }
     ensures not_help { IsErrOf result WordsError.Bad → ¬ AskForHelpAlone (texts words.now) }
+    ensures not_version { IsErrOf result WordsError.Bad
+        → ¬ AskForVersionAlone (texts words.now) }
     ensures help { (text : _) → IsErrOf result (WordsError.Help text)
         → AskForHelp (texts words.now) }
+    ensures version { (text : _) → IsErrOf result (WordsError.Version text)
+        → AskForVersion (texts words.now) }
+    ensures version_text { (text : _) → IsErrOf result (WordsError.Version text)
+        → string_bytes text ≡ version_line }
 {
     match program(alloc)?.try_get_matches_from(words) {
         Ok(matches) => command_met(alloc, &matches),
@@ -58,13 +70,23 @@ fn refusal(alloc: Global, error: &Error) -> WordsError
         → result ≡ WordsError.Memory }
     ensures not_help { result ≡ WordsError.Bad
         → ¬ (kind_of error.now ≡ ErrorKind.DisplayHelp) }
+    ensures not_version { result ≡ WordsError.Bad
+        → ¬ (kind_of error.now ≡ ErrorKind.DisplayVersion) }
     ensures help { (text : _) → result ≡ WordsError.Help text
         → kind_of error.now ≡ ErrorKind.DisplayHelp }
+    ensures version { (text : _) → result ≡ WordsError.Version text
+        → kind_of error.now ≡ ErrorKind.DisplayVersion }
+    ensures version_text { (text : _) → result ≡ WordsError.Version text
+        → string_bytes text ≡ version_line }
 {
     match error.kind() {
         ErrorKind::OutOfMemory => WordsError::Memory,
         ErrorKind::DisplayHelp => match error.to_string(alloc) {
             Ok(text) => WordsError::Help(text),
+            Err(_) => WordsError::Memory,
+        },
+        ErrorKind::DisplayVersion => match version_line(alloc) {
+            Ok(text) => WordsError::Version(text),
             Err(_) => WordsError::Memory,
         },
         _ => WordsError::Bad,
@@ -80,6 +102,8 @@ fn command_met<'words>(
         asked_of (subcommand_rows_of matches.now) ≡ Some (command_view command)) }
     ensures nothing { IfRefused result (asked_of (subcommand_rows_of matches.now) ≡ None) }
     ensures no_help { IfErr result (λ error. (text : _) → ¬ (error ≡ WordsError.Help text)) }
+    ensures no_version { IfErr result (λ error.
+        (text : _) → ¬ (error ≡ WordsError.Version text)) }
 {
     match matches.subcommand() {
         Some((name, found)) => command_named(alloc, name, found),
@@ -97,6 +121,8 @@ fn command_named<'words>(
         asked_with name.now found.now ≡ Some (command_view command)) }
     ensures nothing { IfRefused result (asked_with name.now found.now ≡ None) }
     ensures no_help { IfErr result (λ error. (text : _) → ¬ (error ≡ WordsError.Help text)) }
+    ensures no_version { IfErr result (λ error.
+        (text : _) → ¬ (error ≡ WordsError.Version text)) }
 {
     match name {
         "run" => Ok(Command::Run {
@@ -105,6 +131,7 @@ fn command_named<'words>(
             locale: locale_in(found),
             files: files_in(alloc, found)?,
         }),
+        "format" => Ok(Command::Format(format_in(alloc, found)?)),
         "check" => Ok(Command::Check {
             files: files_in(alloc, found)?,
         }),
@@ -118,14 +145,14 @@ fn command_named<'words>(
 }
 
 /// Whether a flag was given.
-fn is_given(found: &ArgMatches<'_>, name: &str) -> bool
+pub(crate) fn is_given(found: &ArgMatches<'_>, name: &str) -> bool
     ensures { result ≡ is_given name.now (found_rows found.now) }
 {
     found.get_str(name) == Some("true")
 }
 
 /// The tag of the locale, if one was given.
-fn locale_in<'words>(found: &ArgMatches<'words>) -> Option<&'words str>
+pub(crate) fn locale_in<'words>(found: &ArgMatches<'words>) -> Option<&'words str>
     ensures { option_map (λ locale. locale.now) result ≡ locale_in (found_rows found.now) }
 {
     found.get_str("locale")
@@ -141,7 +168,7 @@ fn file_in<'words>(found: &ArgMatches<'words>) -> Result<&'words str, WordsError
 }
 
 /// The files that were given.
-fn files_in<'words>(
+pub(crate) fn files_in<'words>(
     alloc: Global,
     found: &ArgMatches<'words>,
 ) -> Result<Vec<&'words str>, AllocError>

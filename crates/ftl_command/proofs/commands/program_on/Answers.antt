@@ -1,22 +1,25 @@
 use Rattle.std.proofs.Common.{◌∙◌, Err, Ok, ap, refl, sym}
+use Rattle.clap.specs.declared.error.kind.ErrorKind.TheVariants.{DisplayHelp, DisplayVersion}
 use Rattle.ftl_words.specs.Meaning.{command_of, texts}
-use Rattle.ftl_command.proofs.EndLemmas.{no_help_by, refused_by, untouched, without_input}
+use Rattle.ftl_command.proofs.EndLemmas.{not_alone_by, refused_by, untouched, without_input}
 use Rattle.ftl_command.proofs.FaultLemmas.{status_of-among}
 use Rattle.ftl_command.proofs.commands.program_on.Goals as goal
 
 pub returns-in-Ok-clause-ended : goal.returns-in-Ok-clause-ended
 returns-in-Ok-clause-ended g c = record {
   outcome = Ok c.in-Ok.end;
-  exact = c.status.ensures;
-  reports = (refl, refl);
+  exact = c.tell_errors_on.ensures.status;
+  reports = c.tell_errors_on.ensures.told;
   done = c.in-Ok.ensures.ended.done;
-  help = c.in-Ok.ensures.help;
+  text = c.in-Ok.ensures.text;
+  version = c.in-Ok.ensures.version;
   opens = c.in-Ok.ensures.opens;
   reads = c.in-Ok.ensures.reads;
   writes = c.in-Ok.ensures.writes;
   no_input = without_input (command_of (texts c.args.words.now)) (untouched g.I.Source.remaining g.I.Source.failures) c.run_command.ensures.no_input;
   refused = λ is. absurd cc;
   not_help = λ is. absurd cc;
+  not_version = λ is. absurd cc;
   unknown = tt;
   reached = tt;
   unreadable = tt;
@@ -36,13 +39,15 @@ returns-in-Err-clause-ended g c = record {
   exact = c.tell_on.ensures.status;
   reports = c.tell_on.ensures.told;
   done = tt;
-  help = tt;
+  text = tt;
+  version = c.in-Err.ensures.version;
   opens = tt;
   reads = tt;
   writes = tt;
   no_input = without_input (command_of (texts c.args.words.now)) (untouched g.I.Source.remaining g.I.Source.failures) c.run_command.ensures.no_input;
   refused = c.in-Err.ensures.refused;
   not_help = c.in-Err.ensures.not_help;
+  not_version = c.in-Err.ensures.not_version;
   unknown = c.in-Err.ensures.unknown;
   reached = c.in-Err.ensures.reached;
   unreadable = c.in-Err.ensures.unreadable;
@@ -66,5 +71,10 @@ returns-in-Err-clause-refused g c = λ two.
 
 pub returns-in-Err-clause-not_help : goal.returns-in-Err-clause-not_help
 returns-in-Err-clause-not_help g c = λ two.
-    no_help_by (texts c.args.words.now) c.in-Err.fault (λ is. c.in-Err.ensures.not_help (ap Err is)) c.in-Err.ensures.unknown
+    not_alone_by (texts c.args.words.now) DisplayHelp c.in-Err.fault (λ is. c.in-Err.ensures.not_help (ap Err is)) c.in-Err.ensures.unknown
+    (sym c.tell_on.ensures.status ∙ two)
+
+pub returns-in-Err-clause-not_version : goal.returns-in-Err-clause-not_version
+returns-in-Err-clause-not_version g c = λ two.
+    not_alone_by (texts c.args.words.now) DisplayVersion c.in-Err.fault (λ is. c.in-Err.ensures.not_version (ap Err is)) c.in-Err.ensures.unknown
     (sym c.tell_on.ensures.status ∙ two)

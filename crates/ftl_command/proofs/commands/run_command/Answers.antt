@@ -3,6 +3,7 @@ use Rattle.ftl_words.specs.Meaning.{command_of, texts}
 use Rattle.ftl_command.proofs.Refusals.{memory_is_right}
 use Rattle.fluent_serve.proofs.Outcomes.{on_ok_always}
 use Rattle.ftl_command.specs.declared.fault.Fault.TheVariants.{Input, Memory}
+use Rattle.ftl_command.proofs.EndLemmas.{no_command_asked, no_help_asked}
 use Rattle.ftl_command.proofs.RunLemmas.{done_by, first_by, kept_by, kept_input, never_by, nothing_done, other_by}
 use Rattle.ftl_command.proofs.commands.run_command.Goals as goal
 
@@ -83,10 +84,21 @@ returns-in-Ok-Tidy-clause-ended g c =
 pub returns-in-Err-Help-clause-ended : goal.returns-in-Err-Help-clause-ended
 returns-in-Err-Help-clause-ended g c =
     rw (c.in-Err-Help.ensures.nothing (λ memory. absurd cc)) (record {
-      done = c.write_help.ensures.ended;
-      tidied = on_ok_always c.write_help.result tt;
-      memory = λ memory. absurd (other_by c.write_help.result Memory memory (λ same. absurd cc) c.write_help.ensures.fault);
-      input = λ input. other_by c.write_help.result Input input (λ same. absurd cc) c.write_help.ensures.fault;
+      done = c.write_asked.ensures.ended;
+      tidied = on_ok_always c.write_asked.result tt;
+      memory = λ memory. absurd (other_by c.write_asked.result Memory memory (λ same. absurd cc) c.write_asked.ensures.fault);
+      input = λ input. other_by c.write_asked.result Input input (λ same. absurd cc) c.write_asked.ensures.fault;
+      output = λ output. tt;
+    })
+
+pub returns-in-Err-Version-clause-ended : goal.returns-in-Err-Version-clause-ended
+returns-in-Err-Version-clause-ended g c =
+    let asked = c.write_asked-in-Err-Version in
+    rw (c.in-Err-Version.ensures.nothing (λ memory. absurd cc)) (record {
+      done = asked.ensures.ended;
+      tidied = on_ok_always asked.result tt;
+      memory = λ memory. absurd (other_by asked.result Memory memory (λ same. absurd cc) asked.ensures.fault);
+      input = λ input. other_by asked.result Input input (λ same. absurd cc) asked.ensures.fault;
       output = λ output. tt;
     })
 
@@ -100,3 +112,40 @@ returns-in-Err-Memory-clause-ended g c = record {
   input = λ input. absurd cc;
   output = λ output. absurd cc;
 }
+
+pub returns-in-Ok-Run-clause-version : goal.returns-in-Ok-Run-clause-version
+returns-in-Ok-Run-clause-version g c = λ alone. absurd (no_command_asked _ _ alone c.in-Ok-Run.ensures.command)
+
+pub returns-in-Ok-Check-clause-version : goal.returns-in-Ok-Check-clause-version
+returns-in-Ok-Check-clause-version g c = λ alone. absurd (no_command_asked _ _ alone c.in-Ok-Check.ensures.command)
+
+pub returns-in-Ok-Tidy-clause-version : goal.returns-in-Ok-Tidy-clause-version
+returns-in-Ok-Tidy-clause-version g c = λ alone. absurd (no_command_asked _ _ alone c.in-Ok-Tidy.ensures.command)
+
+pub returns-in-Err-Help-clause-version : goal.returns-in-Err-Help-clause-version
+returns-in-Err-Help-clause-version g c = λ alone. absurd (no_help_asked (texts c.args.words.now) alone (c.in-Err-Help.ensures.help c.in-Err-Help.text cc))
+
+pub returns-in-Ok-Format-clause-named : goal.returns-in-Ok-Format-clause-named
+returns-in-Ok-Format-clause-named g c =
+    rw (c.in-Ok-Format.ensures.command, c.in-Ok-Format.field-0-is) c.write_formatted.ensures.named
+
+pub returns-in-Ok-Format-clause-reached : goal.returns-in-Ok-Format-clause-reached
+returns-in-Ok-Format-clause-reached g c =
+    rw (c.in-Ok-Format.ensures.command, c.in-Ok-Format.field-0-is) c.write_formatted.ensures.reached
+
+pub returns-in-Ok-Format-clause-unknown : goal.returns-in-Ok-Format-clause-unknown
+returns-in-Ok-Format-clause-unknown g c =
+    rw (c.in-Ok-Format.ensures.command, c.in-Ok-Format.field-0-is) c.write_formatted.ensures.unknown
+
+pub returns-in-Ok-Format-clause-version : goal.returns-in-Ok-Format-clause-version
+returns-in-Ok-Format-clause-version g c = λ alone. absurd (no_command_asked _ _ alone c.in-Ok-Format.ensures.command)
+
+pub returns-in-Ok-Format-clause-ended : goal.returns-in-Ok-Format-clause-ended
+returns-in-Ok-Format-clause-ended g c =
+    rw (c.in-Ok-Format.ensures.command, c.in-Ok-Format.field-0-is) (record {
+      done = c.write_formatted.ensures.ended.written;
+      tidied = on_ok_always c.write_formatted.result tt;
+      memory = λ memory. ap g.O.Sink.contents (kept_by c.write_formatted.result Memory memory (λ same. absurd cc) c.write_formatted.ensures.unwritten);
+      input = λ input. never_by c.write_formatted.result Input input c.write_formatted.ensures.not_input;
+      output = λ output. c.write_formatted.ensures.ended.output output;
+    })

@@ -1,4 +1,4 @@
-use Rattle.std.proofs.Common.{◌∙◌, ap, refl}
+use Rattle.std.proofs.Common.{◌∙◌, ap, codes, refl}
 use Rattle.std.proofs.lemmas.Result.{IfOk-weaker}
 use Rattle.ftl_words.specs.Meaning.{texts}
 use Rattle.clap.specs.Words.{found_of}
@@ -8,4 +8,4 @@ use Rattle.ftl_words.proofs.reading.files_in.Goals as goal
 pub returns : goal.returns
 returns c =
     IfOk-weaker c.from_slice.result _ _
-    (λ files h. ap texts (h ∙ ap (λ s. s.now) c.unwrap_or.ensures) ∙ all c.get_raw.result _ refl (found_of c.args.found.now) c.get_raw.ensures) c.from_slice.ensures.items
+    (λ files h. ap texts (h ∙ ap (λ s. s.now) c.unwrap_or.ensures) ∙ all (codes "FILE") c.get_raw.result _ refl (found_of c.args.found.now) c.get_raw.ensures) c.from_slice.ensures.items

@@ -1,0 +1,4 @@
+hi = Hi!
+welcome = Welcome, { $name }.
+login =
+    .title = Log in

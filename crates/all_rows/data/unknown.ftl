@@ -1,0 +1,3 @@
+both = { $a }, { -t } and { $b }.
+two = one
+    two
