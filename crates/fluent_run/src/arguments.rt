@@ -13,7 +13,7 @@ use std::borrow::CowStr;
 ///
 /// # Errors
 /// [`AllocError`] if memory runs out; nothing is left behind.
-pub(crate) fn valued_arguments<'line>(
+pub fn valued_arguments<'line>(
     alloc: Global,
     pairs: &[(&'line str, &'line str)],
 ) -> Result<FluentArgs<'line, NoCustom>, AllocError>

@@ -14,6 +14,7 @@ mod reply;
 mod settings;
 
 pub use answering::run;
+pub use arguments::valued_arguments;
 pub use desk::Desk;
 pub use fluent_serve::serve::RunError;
 pub use fluent_serve::stream::{FromRead, FromWrite, Sink, Source};

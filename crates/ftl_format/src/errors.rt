@@ -25,7 +25,7 @@ pub(crate) fn error_lines(alloc: Global, errors: &[FluentError]) -> Result<Strin
     Ok(text)
 }
 
-/// Puts the line of an error behind `text`: an error of resolving is shown by its own text alone.
+/// Appends the line of an error: an error of resolving is shown by its own text alone.
 fn push_line(text: &mut String, error: &FluentError) -> Result<(), AllocError>
     ensures { OnOk result (string_bytes text.new
         ≡ string_bytes text.old ++ line_told (bundle_view error.now)) }

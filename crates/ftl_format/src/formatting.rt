@@ -4,10 +4,9 @@ ghost use Rattle.std.specs.Prelude.{IfOk, option_map};
 ghost use Rattle.fluent_run.specs.ReplyView.{reply_view};
 ghost use Rattle.ftl_format.specs.FormatView.{IsReply, IsWritten, IsWrittenAs, request_of};
 
-use crate::arguments::valued_arguments;
 use crate::errors::error_lines;
 use fluent_check::sources::read_sources;
-use fluent_run::{Desk, Reply, Settings};
+use fluent_run::{Desk, Reply, Settings, valued_arguments};
 use fluent_value::{FluentArgs, MemoizerKind, NoCustom};
 use std::alloc::{AllocError, Global};
 

@@ -3,7 +3,6 @@
 //! [`format_message`] returns the text with a line feed, and a line for each error, as `ftl: Unknown variable: $name`.
 #![tactic(auto)]
 
-mod arguments;
 mod errors;
 mod formatting;
 

@@ -1,5 +1,6 @@
 -- What the code's commands stand for.
 use Rattle.std.specs.Prelude.{◌≡◌, List, Option, option_copied, option_map, Result, IfErr}
+use denote.Ref.{Bor}
 use Rattle.clap.specs.Words.{Row, Text, found_of, rows_of}
 use Rattle.clap.specs.declared.parser.matches.ArgMatches.{ArgMatches}
 use Rattle.fluent_serve.specs.RequestView.{arguments_view}
@@ -19,6 +20,10 @@ tidy_view (of.Normalize file) = asked.normalize file.now
 tidy_view (of.Join files) = asked.join (texts files.items)
 tidy_view (of.Export file) = asked.export file.now
 tidy_view (of.Import file) = asked.import file.now
+
+-- an id and the name of an attribute
+abbrev pub name_view : Bor Text × Option (Bor Text) → Text × Option Text
+name_view name = (name.0.now, option_copied name.1)
 
 abbrev pub format_view : code.Format → Format
 format_view f = record {

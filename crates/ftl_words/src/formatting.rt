@@ -1,10 +1,10 @@
 //! What `format` is asked for.
-ghost use Rattle.std.specs.Prelude.{◌≡◌, IfOk, IfErr, Some, None, option_copied, option_map};
+ghost use Rattle.std.specs.Prelude.{◌≡◌, IfOk, IfErr, Some, None, option_map};
 ghost use Rattle.fluent_requests.specs.Requests.{argument_of, arguments_of};
 ghost use Rattle.fluent_requests.specs.Text.{cut_at, dot, equals};
 ghost use Rattle.fluent_serve.specs.RequestView.{argument_view, read_view};
 ghost use Rattle.ftl_words.specs.Meaning.{arguments_in, format_in, id_in, texts};
-ghost use Rattle.ftl_words.specs.CommandView.{format_view, found_rows, IfRefused};
+ghost use Rattle.ftl_words.specs.CommandView.{format_view, found_rows, name_view, IfRefused};
 
 use crate::commands::Format;
 use crate::reading::{WordsError, files_in, is_given, locale_in};
@@ -46,8 +46,7 @@ pub(crate) fn format_in<'words>(
 
 /// The id of a message, and after a dot the name of its attribute.
 fn name_in<'words>(found: &ArgMatches<'words>) -> Option<(&'words str, Option<&'words str>)>
-    ensures { option_map (λ name. (name.0.now, option_copied name.1)) result
-        ≡ option_map (cut_at dot) (id_in (found_rows found.now)) }
+    ensures { option_map name_view result ≡ option_map (cut_at dot) (id_in (found_rows found.now)) }
 {
     let name = found.get_str("ID")?;
     Some(cut(name, '.'))
