@@ -1,12 +1,13 @@
 /* Refuses each allocation of the calls on a bundle in turn, and checks what they answer: that memory ran out, and that all is as it
  * was; or as with ample memory. Then it makes and frees a thousand bundles, and has a million answers from one, and checks that no
- * block is left and that the memory in use doesn't grow.
+ * block is left, that the memory in use doesn't grow, and that from the third answer on none is taken for a text.
  *
  * It is linked with malloc, realloc and free wrapped, so that they count and refuse.
  */
 #include <stdio.h>
 #include <stdlib.h>
 #include <string.h>
+#include <sys/resource.h>
 
 #include "fluent_c.h"
 
@@ -18,17 +19,21 @@ void __real_free(void *block);
 static long left = -1;
 /* How many blocks are in use. */
 static long blocks;
+/* How many were taken or grew. */
+static long taken;
 
 static bool refused(void) { return left >= 0 && left-- == 0; }
 
 void *__wrap_malloc(size_t size) {
     void *block = refused() ? NULL : __real_malloc(size);
+    taken++;
     blocks += block != NULL;
     return block;
 }
 
 void *__wrap_realloc(void *block, size_t size) {
     void *moved = refused() ? NULL : __real_realloc(block, size);
+    taken++;
     blocks += block == NULL && moved != NULL;
     return moved;
 }
@@ -155,7 +160,14 @@ static bool try_all(void) {
     return true;
 }
 
+/* The greatest size of the program in memory so far, in KiB. */
+static long greatest_size(void) {
+    struct rusage usage;
+    return getrusage(RUSAGE_SELF, &usage) == 0 ? usage.ru_maxrss : -1;
+}
+
 static bool try_many(long bundles, long answers) {
+    long size_before = greatest_size();
     for (long i = 0; i < bundles; i++) {
         struct Kept kept = {{0}, {0}, {0}, {0}};
         if (make(&kept) != FLUENT_READ)
@@ -167,12 +179,19 @@ static bool try_many(long bundles, long answers) {
     struct Kept kept = {{0}, {0}, {0}, {0}};
     if (make(&kept) != FLUENT_READ || welcome(&kept) != FLUENT_READ)
         return false;
-    long before = blocks;
-    for (long i = 0; i < answers; i++)
-        if (welcome(&kept) != FLUENT_READ || !holds(&kept.text, WELCOME) || blocks != before)
+    /* The second answer takes memory for a second text, and the others take one block less. */
+    long taken_before = taken;
+    if (welcome(&kept) != FLUENT_READ)
+        return false;
+    long before = blocks, wanted = taken - taken_before - 1;
+    for (long i = 0; i < answers; i++) {
+        taken_before = taken;
+        if (welcome(&kept) != FLUENT_READ || !holds(&kept.text, WELCOME) || blocks != before || taken - taken_before != wanted)
             return false;
+    }
     drop(&kept);
-    printf("%ld bundles and %ld answers: %ld blocks left\n", bundles, answers, blocks);
+    printf("%ld bundles and %ld answers: %ld blocks left, %ld KiB more at most\n", bundles, answers, blocks,
+           greatest_size() - size_before);
     return blocks == 0;
 }
 

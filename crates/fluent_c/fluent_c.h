@@ -166,7 +166,9 @@ struct FluentArgument {
 /* Formats a message: its value, or its first attribute of a name. If `attribute_len` is 0, it is the value.
  *
  * If the call returns FLUENT_READ, `text` holds the text, and `errors` a line for each error; without an error,
- * `errors` holds no text. You get the text even if there are errors. Of arguments with one name the last counts.
+ * `errors` holds no text. You get the text even if there are errors. Of arguments with one name the last counts. The
+ * memory of what `text` held is kept with the new text, and the next call writes into it: if you hand over the same
+ * `text` again, a call allocates nothing for it as long as that suffices.
  *
  * Else it returns FLUENT_NO_MESSAGE, FLUENT_NO_PATTERN, FLUENT_BAD_ARGUMENT, FLUENT_NO_BUNDLE, FLUENT_NO_MEMORY, or
  * FLUENT_NOT_UTF8 if the id, a name or a text isn't UTF-8; `text` and `errors` are unchanged then. No call changes what

@@ -159,7 +159,8 @@ pub extern "C" fn fluent_bundle_new(
 /// name.
 ///
 /// The answer is [`FLUENT_READ`](fluent_calls::FLUENT_READ) also if there are errors: then `text` holds the text and `errors` a line
-/// for each error, or no text if there are none, and what they held before is freed.
+/// for each error, or no text if there are none, and what `errors` held before is freed. The memory of what `text` held is kept with
+/// the new text, and the next answer is written into it: an answer allocates nothing for its text if that suffices.
 ///
 /// The answer is [`FLUENT_NOT_UTF8`](fluent_calls::FLUENT_NOT_UTF8) if the id, a name or a text isn't UTF-8,
 /// [`FLUENT_BAD_ARGUMENT`](fluent_calls::FLUENT_BAD_ARGUMENT) if an argument's kind isn't known or its decimal is no number,

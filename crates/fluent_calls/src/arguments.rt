@@ -89,7 +89,7 @@ fn set<'a>(
     ensures taken { OnOk result (IsTaken argument.now) }
     ensures refused { IfErr result (IsRefusedFor argument.now) }
 {
-    let Ok(name) = from_utf8(argument.name) else {
+    let Ok(name) = std::str::from_utf8(argument.name) else {
         return Err(ArgumentRefusal::NotUtf8);
     };
     let Ok(text) = from_utf8(argument.text) else {

@@ -8,7 +8,7 @@ ghost use Rattle.fluent_calls.specs.Made.{HoldsSame};
 ghost use Rattle.fluent_calls.specs.Results.{IsOneOf};
 
 use crate::arguments::{ArgumentRefusal, FluentArgument, arguments_of};
-use crate::filling::fill;
+use crate::filling::{fill, take_spare};
 use crate::names::names_of;
 use crate::text::FluentText;
 use crate::{
@@ -18,6 +18,7 @@ use crate::{
 use fluent_kept::{Answer, FluentBundle, Question};
 use fluent_run::Reply;
 use std::alloc::{AllocError, Global};
+use std::cell::Cell;
 
 /// A line for each error of a reply, or no text if there are none.
 ///
@@ -63,8 +64,8 @@ fn hand_out(
 /// name.
 ///
 /// The answer is [`FLUENT_READ`] also if there are errors: then `text` holds the text and `errors` a line for each error, or no
-/// text if there are none, and what they held before is freed. If `text` held a text, an answer without an error keeps no
-/// new memory but that of its text.
+/// text if there are none, and what `errors` held before is freed. The memory of what `text` held is kept with the new text, and
+/// the next answer is written into it: an answer allocates nothing for its text if that suffices.
 ///
 /// The answer is [`FLUENT_NOT_UTF8`] if the id, a name or a text isn't UTF-8, [`FLUENT_BAD_ARGUMENT`] if an argument's kind isn't known
 /// or its decimal is no number, [`FLUENT_NO_MESSAGE`] if there is no message of the id, [`FLUENT_NO_PATTERN`] if the message lacks the
@@ -107,6 +108,7 @@ pub fn bundle_format<'a>(
         id,
         attribute,
         arguments,
+        spare: Cell::new(take_spare(text, alloc)),
     };
     match bundle.ask(alloc, &question) {
         Some(Answer::Reply(reply)) => match hand_out(alloc, reply, text, errors) {

@@ -6,6 +6,7 @@
 
 mod answering;
 mod arguments;
+mod buffers;
 mod bundles;
 mod counts;
 mod filling;

@@ -3,7 +3,7 @@
 ghost use Rattle.std.specs.Prelude.{MatchOption};
 ghost use Rattle.fluent_calls.specs.Bundles.{AreNamed, AreNames};
 
-use simdutf8::basic::from_utf8;
+use std::str::from_utf8;
 
 /// An id, and the name of an attribute unless it is empty, if both are UTF-8.
 pub(crate) fn names_of<'a>(id: &'a [u8], attribute: &'a [u8]) -> Option<(&'a str, Option<&'a str>)>

@@ -5,6 +5,7 @@ ghost use Rattle.std.specs.Vec.{vec_ptr};
 ghost use Rattle.std.specs.Option.{MatchOption};
 ghost use Rattle.fluent_calls.specs.Texts.{text_owns};
 
+use crate::buffers::Buffers;
 use fluent_kept::Loose;
 use std::alloc::{AllocError, Global};
 use std::marker::Model;
@@ -20,7 +21,7 @@ pub struct FluentText {
     bytes: *const u8,
     /// How many bytes the text has.
     len: usize,
-    /// The vector of the bytes, in a box.
+    /// The vector of the bytes and that of the spare memory, in a box.
     owner: *mut u8,
     pub ghost text: { List ℕ },
 }
@@ -44,10 +45,10 @@ impl FluentText {
         }
     }
 
-    /// The text of a vector in a box, whose first byte and length these are.
-    pub(crate) fn holding(bytes: *const u8, len: usize, owner: Loose<Vec<u8>, Global>) -> FluentText
-        requires { (vec_ptr owner.value ≡ bytes) × (vec_len owner.value ≡ len) }
-        ensures { (result.held ≡ true) × (result.text ≡ vec_items owner.value) }
+    /// The text of buffers in a box, whose first byte and length these are.
+    pub(crate) fn holding(bytes: *const u8, len: usize, owner: Loose<Buffers, Global>) -> FluentText
+        requires { (vec_ptr owner.value.bytes ≡ bytes) × (vec_len owner.value.bytes ≡ len) }
+        ensures { (result.held ≡ true) × (result.text ≡ vec_items owner.value.bytes) }
     {
         let Loose { at, alloc: _ } = owner;
         FluentText {
@@ -58,10 +59,10 @@ impl FluentText {
         }
     }
 
-    /// The vector's box, if there is a text.
-    pub(crate) fn take(self, alloc: Global) -> Option<Loose<Vec<u8>, Global>>
+    /// The buffers' box, if there is a text.
+    pub(crate) fn take(self, alloc: Global) -> Option<Loose<Buffers, Global>>
         ensures { MatchOption result (self.held ≡ false)
-            (λ owner. vec_items owner.value ≡ self.text) }
+            (λ owner. (self.held ≡ true) × (vec_items owner.value.bytes ≡ self.text)) }
     {
         let FluentText {
             held,
@@ -71,7 +72,7 @@ impl FluentText {
         } = self;
         if held {
             Some(Loose {
-                at: owner as *mut Vec<u8>,
+                at: owner as *mut Buffers,
                 alloc,
             })
         } else {
@@ -85,7 +86,8 @@ impl FluentText {
     {
         let first = bytes.as_ptr();
         let len = bytes.len();
-        let owner = Box::new(alloc, bytes)?;
+        let spare = Vec::new(alloc);
+        let owner = Box::new(alloc, Buffers { bytes, spare })?;
         Ok(FluentText::holding(first, len, Loose::of(owner)))
     }
 
@@ -94,7 +96,8 @@ impl FluentText {
         ensures { MatchOption result (self.held ≡ false) (λ bytes. vec_items bytes ≡ self.text) }
     {
         let owner = self.take(alloc)?;
-        Some(Box::into_inner(owner.into_box()))
+        let Buffers { bytes, spare: _ } = Box::into_inner(owner.into_box());
+        Some(bytes)
     }
 
     /// Puts another text in the place of this one, which is freed.

@@ -58,7 +58,7 @@ IsReport sources (answer.Report text) = string_bytes text ≡ report_text source
 
 -- the answer to a question, from an environment and the sources
 abbrev pub IsAnswer : Environment (Unit {0}) NoFunction → List Text → Question → Answer → Type 0
-IsAnswer env sources (question.Format id attribute arguments) answer = IsReply env id.now (option_copied attribute) (arguments_view arguments) answer
+IsAnswer env sources (question.Format id attribute arguments spare) answer = IsReply env id.now (option_copied attribute) (arguments_view arguments) answer
 IsAnswer env sources (question.Has id attribute) answer = IsFound env id.now (option_copied attribute) answer
 IsAnswer env sources question.Report answer = IsReport sources answer
 

@@ -36,18 +36,22 @@ impl<'r, 's> KeptDesk<'r, 's> {
         Ok(KeptDesk { sources, desk })
     }
 
-    /// What a message gives for these arguments.
+    /// What a message gives for these arguments. The text is written into the memory of `spare`.
     fn format(
         &self,
         alloc: Global,
         id: &str,
         attribute: Option<&str>,
         arguments: &FluentArgs<'_, NoCustom>,
+        spare: String,
     ) -> Answer
         ensures { IsReply (desk_environment self.now) id.now (option_copied attribute.entry)
             (arguments_view arguments.now) result }
     {
-        match self.desk.format(alloc, id, attribute, arguments) {
+        match self
+            .desk
+            .format_into(alloc, id, attribute, arguments, spare)
+        {
             Ok(Some(reply)) => Answer::Reply(reply),
             Ok(None) => self.missing(id),
             Err(_) => Answer::Memory,
@@ -98,7 +102,11 @@ impl<'r, 's> KeptDesk<'r, 's> {
                 id,
                 attribute,
                 arguments,
-            } => self.format(alloc, *id, *attribute, arguments),
+                spare,
+            } => {
+                let spare = spare.replace(String::new(alloc));
+                self.format(alloc, *id, *attribute, arguments, spare)
+            }
             Question::Has { id, attribute } => self.has(*id, *attribute),
             Question::Report => match self.report(alloc) {
                 Ok(text) => Answer::Report(text),

@@ -2,15 +2,18 @@
 
 use fluent_run::Reply;
 use fluent_value::{FluentArgs, NoCustom};
+use std::cell::Cell;
 
 /// What a bundle is asked.
 #[derive(Drop)]
 pub enum Question<'a> {
-    /// What a message gives for these arguments: its value, or its first attribute of a name.
+    /// What a message gives for these arguments: its value, or its first attribute of a name. The text is written into the memory
+    /// of `spare`, which is taken.
     Format {
         id: &'a str,
         attribute: Option<&'a str>,
         arguments: FluentArgs<'a, NoCustom>,
+        spare: Cell<String>,
     },
     /// Whether a message has a value, or an attribute of a name.
     Has {

@@ -1,5 +1,5 @@
 -- What lines are answered from, as plain data.
-use Rattle.std.specs.Prelude.{◌≡◌, Bool, List, [], ◌∷◌, Option, None, map, option_map}
+use Rattle.std.specs.Prelude.{◌≡◌, Bool, List, [], ◌∷◌, Option, None, map, option_copied, option_map}
 use denote.Ref.{Bor}
 use Rattle.fluent_answers.specs.Answers.{line_from, pattern_asked, told}
 use Rattle.fluent_ast.specs.View.{pattern_view}
@@ -85,8 +85,8 @@ module _ {M : Type 0} (category_of : M → Plurals) (stringified : M → (S : Ty
   reply_by desk args es = told (answer_written (environment_in desk) args es)
 
   -- this is what a message gives for these arguments, by what a desk has
-  abbrev pub IsFormatted : Desk M → Text → Option Text → FluentArgs NoCustom → Option code.Reply → Type 0
-  IsFormatted desk id attribute args reply = option_map reply_view reply ≡ message_reply (environment_in desk) id attribute (arguments_view args)
+  abbrev pub IsFormatted : Desk M → Text → Option (Bor Text) → FluentArgs NoCustom → Option code.Reply → Type 0
+  IsFormatted desk id attribute args reply = option_map reply_view reply ≡ message_reply (environment_in desk) id (option_copied attribute) (arguments_view args)
 
   -- and for those of a request, the last of a name counting
   abbrev pub reply_for : Desk M → Request Text → Elements → Reply

@@ -105,21 +105,38 @@ impl<'b, 'r, 's, M: MemoizerKind> Desk<'b, 'r, 's, M> {
         attribute: Option<&str>,
         arguments: &FluentArgs<'_, NoCustom>,
     ) -> Result<Option<Reply>, AllocError>
-        ensures { IfOk result (IsFormatted M.category_of M.stringified self.now id.now
-            (option_copied attribute.entry) arguments.now) }
+        ensures { IfOk result (IsFormatted M.category_of M.stringified self.now id.now attribute.entry arguments.now) }
+    {
+        self.format_into(alloc, id, attribute, arguments, String::new(alloc))
+    }
+
+    /// The same as [`Desk::format`], with a text that is written into the memory of `text`, whose old bytes are lost.
+    ///
+    /// # Errors
+    /// [`AllocError`] if memory runs out; nothing is left behind.
+    pub fn format_into(
+        &self,
+        alloc: Global,
+        id: &str,
+        attribute: Option<&str>,
+        arguments: &FluentArgs<'_, NoCustom>,
+        text: String,
+    ) -> Result<Option<Reply>, AllocError>
+        ensures { IfOk result (IsFormatted M.category_of M.stringified self.now id.now attribute.entry arguments.now) }
     {
         let Some(pattern) = self.pattern_named(id, attribute) else {
             return Ok(None);
         };
-        Ok(Some(self.reply_to(alloc, pattern, arguments)?))
+        Ok(Some(self.reply_to(alloc, pattern, arguments, text)?))
     }
 
-    /// What a pattern gives for these arguments.
+    /// What a pattern gives for these arguments. It is written into the memory of `text`, whose old bytes are lost.
     fn reply_to<'x>(
         &'x self,
         alloc: Global,
         pattern: &'r Pattern<&'s str>,
         arguments: &'x FluentArgs<'_, NoCustom>,
+        text: String,
     ) -> Result<Reply, AllocError>
         ensures { IfOk result (λ reply. reply_view reply
             ≡ reply_to M.MemoizerKind self.now arguments.now pattern.now) }
@@ -138,7 +155,7 @@ impl<'b, 'r, 's, M: MemoizerKind> Desk<'b, 'r, 's, M> {
             arguments: Some(arguments),
             locals,
         };
-        resolve(&place, pattern)
+        resolve(&place, pattern, text)
     }
 
     /// Appends the answer to a request that asks for a pattern. After an error `out` may end in a beginning of it.
@@ -157,7 +174,7 @@ impl<'b, 'r, 's, M: MemoizerKind> Desk<'b, 'r, 's, M> {
             return push_text(alloc, text, out);
         }
         let arguments = valued_arguments(alloc, &request.arguments)?;
-        let reply = self.reply_to(alloc, pattern, &arguments)?;
+        let reply = self.reply_to(alloc, pattern, &arguments, String::new(alloc))?;
         reply.push_to(out)
     }
 

@@ -19,7 +19,7 @@ use fluent_value::{FluentType, ValueScope};
 use std::alloc::{AllocError, Global};
 use std::fmt;
 
-/// How many bytes a text has room for at first. Most texts and the lines of their errors take no more, and are never moved.
+/// How many bytes a text has room for at least. Most texts and the lines of their errors take no more, and are never moved.
 const ROOM: usize = 128;
 
 /// A text, and the errors that came up while it was made, in their order.
@@ -46,20 +46,22 @@ impl fmt::Display for ErrorLine<'_> {
     }
 }
 
-/// What a pattern gives.
+/// What a pattern gives. It is written into the memory of `text`, whose old bytes are lost.
 ///
 /// # Errors
 /// [`AllocError`] if memory runs out; nothing is left behind.
 pub(crate) fn resolve<'b, 'r, 's, 'a, C: FluentType + Drop, F, E: Context<C, F>>(
     place: &Place<'b, 'r, 's, 'a, C, F, E>,
     pattern: &'r Pattern<&'s str>,
+    mut text: String,
 ) -> Result<Reply, AllocError>
     ensures { IfOk result (λ reply. reply_view reply
         ≡ resolved_reply place.now pattern.now) }
 {
     let alloc = place.context.alloc();
+    text.clear();
+    text.reserve(ROOM)?;
     let mut progress = Progress::new(alloc, Some(Vec::new(alloc)));
-    let mut text = String::with_capacity(alloc, ROOM)?;
     write_pattern(&mut text, place, &mut progress, pattern)?;
     let errors = told_by(alloc, progress);
     Ok(Reply { text, errors })

@@ -8,7 +8,7 @@ use prog.Wp.{WpFn}
 use Rattle.std.specs.contracts.alloc.Global as heap
 use Rattle.std.proofs.alloc.Global.TheLaws as heap_laws
 use Rattle.std.specs.contracts.impls.GlobalAllocator.TheImpl.{ghosts}
-use Rattle.fluent_calls.specs.Texts.{bytes_row}
+use Rattle.fluent_calls.specs.Texts.{buffers_row}
 use Rattle.fluent_calls.proofs.Texts.{text_good, held_by, held_in}
 use Rattle.fluent_kept.proofs.Values.{Loose, loose_good, loose_out}
 use Rattle.fluent_calls.proofs.text.FluentText.TheLaws.{lowered}
@@ -18,7 +18,7 @@ use Rattle.fluent_calls.proofs.text.FluentText.holding.Statement.{statement}
 use Rattle.fluent_calls.proofs.text.FluentText.holding.Code as code
 
 abbrev Owner : RattleType
-Owner = Loose bytes_row heap.the_row heap_laws.the_row_laws ghosts
+Owner = Loose buffers_row heap.the_row heap_laws.the_row_laws ghosts
 
 abbrev stayed : Stays f.ended.signature.params f.ended.kept
 stayed = (stay_dropped (plain (λ _. RawPtr)) yes, (stay_dropped (plain (λ _. usize)) yes, (stay_dropped (plain (λ _. Owner)) yes, tt)))
@@ -33,11 +33,11 @@ holding_spec 𝓤 𝓛 𝓜 𝓡 wired =
     let start = args.0 in let n = args.1.0 in let v = args.1.1.0 in
     qed 𝓛 ((‵ ftrue ⊛ ‵ (owns (types_at f.ended.signature.params κs) args words)) ∷ raw ((c κs args).requires z.1) ∷ []) ∵
     split ! $ drop ! $ fsplit ! $ drop ! $ fsplit ! $ drop ! $ fsplit ! $
-    loose_out bytes_row Z LZ ghosts ! v words.1.1.0 (λ b o h e ws fits.
+    loose_out buffers_row Z LZ ghosts ! v words.1.1.0 (λ b o h e ws fits.
     move ! (3 ∷ []) $ heard ! _ (λ same. move ! (1 ∷ []) $ drop ! $ move ! (1 ∷ []) $ drop ! $
     regoal ! (λ us. prop (WpFn 𝓤 H 𝓣.C 𝓣.Λ fn us Post)) (λ i. are.0 i ++ (are.1.0.0 i ++ (ws i ++ []))) refl $
     let d : the_row.Denot = held_by start n (block_ptr b o) v.value in
-    enter ! _ _ _ _ _ $ alloc_all ! (λ l. pass_all ! refl (((rawptr_Lawful 𝓛).typed start _ refl).0, ((tt, record { fits = are.1.0.1 }), (loose_good bytes_row Z LZ ghosts b o h fits, tt))) $
+    enter ! _ _ _ _ _ $ alloc_all ! (λ l. pass_all ! refl (((rawptr_Lawful 𝓛).typed start _ refl).0, ((tt, record { fits = are.1.0.1 }), (loose_good buffers_row Z LZ ghosts b o h fits, tt))) $
     sets ! (of_opd ! (get_in ! (fld ! refl (stop !)) (sub ! 0 refl (whole !)))) refl (tt, tt) $
     sets ! (of_opd ! (get ! refl)) refl (tt, tt) $
     sets ! (agg ! (and_then ! (true_lit !) (and_then ! (get ! refl) (and_then ! (get ! refl) (and_then ! (get ! refl) (no_more !)))))) refl (text_good 𝓛 d are.1.0.1) $
