@@ -16,6 +16,11 @@ pub mod laws;
 use std::alloc::Global;
 
 /// A whole source: its entries in the order of their places. Production `Resource`.
+///
+/// ```no_run
+/// let resource = parse(alloc, SOURCE)?;
+/// println!(rt; "{} entries", resource.body.len())?; // 3 entries
+/// ```
 #[derive(Debug, PartialEq, Eq, Drop)]
 pub struct Resource<S> {
     pub body: Vec<Entry<S>>,
@@ -44,6 +49,12 @@ pub enum Entry<S> {
 }
 
 /// A message: a value, attributes, or both. Production `Message`.
+///
+/// ```no_run
+/// if let Entry::Message(message) = entry {
+///     let count = message.attributes.len();
+///     println!(rt; "{} has {count} attributes", message.id.name)?; // welcome has 2 attributes
+/// ```
 #[derive(Debug, PartialEq, Eq, Drop)]
 pub struct Message<S> {
     pub id: Identifier<S>,
@@ -55,6 +66,12 @@ pub struct Message<S> {
 }
 
 /// A term, a text for use in other texts. Production `Term`.
+///
+/// ```no_run
+/// if let Entry::Term(term) = entry {
+///     println!(rt; "-{}", term.id.name)?; // -brand
+/// }
+/// ```
 #[derive(Debug, PartialEq, Eq, Drop)]
 pub struct Term<S> {
     /// The name without the minus sign.
@@ -79,6 +96,19 @@ pub struct Pattern<S> {
 }
 
 /// A part of a pattern. Production `PatternElement`.
+///
+/// ```
+/// for element in &pattern.elements {
+///     match element {
+///         PatternElement::TextElement { value } => text.push_str(value)?,
+///         PatternElement::Placeable { expression } => {
+///             text.push('[')?;
+///             scope.maybe_track(&mut text, pattern, expression)?;
+///             text.push(']')?;
+///         }
+///     }
+/// }
+/// ```
 #[cycle(tree)]
 #[derive(Debug, PartialEq, Eq, Drop)]
 pub enum PatternElement<S> {
@@ -89,6 +119,12 @@ pub enum PatternElement<S> {
 }
 
 /// A named pattern of a message or a term. Production `Attribute`.
+///
+/// ```no_run
+/// for attribute in &message.attributes {
+///     println!(rt; ".{}", attribute.id.name)?; // .title, then .tooltip
+/// }
+/// ```
 #[derive(Debug, PartialEq, Eq, Drop)]
 pub struct Attribute<S> {
     pub id: Identifier<S>,
@@ -96,12 +132,25 @@ pub struct Attribute<S> {
 }
 
 /// A name. Production `Identifier`.
+///
+/// ```
+/// if message.id.name == id {
+///     message.value = Some(plain_pattern(alloc, text)?);
+/// ```
 #[derive(Debug, PartialEq, Eq, Drop)]
 pub struct Identifier<S> {
     pub name: S,
 }
 
 /// One choice of a select expression. Productions `Variant` and `DefaultVariant`.
+///
+/// ```no_run
+/// for variant in variants {
+///     if variant.default {
+///         let count = variant.value.elements.len();
+///         println!(rt; "by default {count} elements")?; // by default 2 elements
+///     }
+/// ```
 #[cycle(tree)]
 #[derive(Debug, PartialEq, Eq, Drop)]
 pub struct Variant<S> {
@@ -112,6 +161,13 @@ pub struct Variant<S> {
 }
 
 /// The key of a variant. Production `VariantKey`.
+///
+/// ```no_run
+/// match &variant.key {
+///     VariantKey::Identifier { name } => println!(rt; "name {name}")?, // name other
+///     VariantKey::NumberLiteral { value } => println!(rt; "number {value}")?, // number 0
+/// }
+/// ```
 #[derive(Debug, PartialEq, Eq, Drop)]
 pub enum VariantKey<S> {
     Identifier { name: S },
@@ -119,12 +175,26 @@ pub enum VariantKey<S> {
 }
 
 /// A comment: its lines, each without its sign and the space behind it. Production `CommentLine`.
+///
+/// ```no_run
+/// if let Some(comment) = &message.comment {
+///     for line in &comment.content {
+///         println!(rt; "{line}")?; // Shown first.
+///     }
+/// }
+/// ```
 #[derive(Debug, PartialEq, Eq, Drop)]
 pub struct Comment<S> {
     pub content: Vec<S>,
 }
 
 /// The arguments of a call. Production `CallArguments`.
+///
+/// ```no_run
+/// if let InlineExpression::FunctionReference { id, arguments } = inline {
+///     let count = arguments.positional.len();
+///     println!(rt; "{} with {count} positional", id.name)?; // NUMBER with 1 positional
+/// ```
 #[cycle(tree)]
 #[derive(Debug, PartialEq, Eq, Drop)]
 pub struct CallArguments<S> {
@@ -146,6 +216,12 @@ impl<S> CallArguments<S> {
 }
 
 /// An argument with a name. Production `NamedArgument`.
+///
+/// ```no_run
+/// for argument in &arguments.named {
+///     println!(rt; "{}:", argument.name.name)?; // minimumFractionDigits:
+/// }
+/// ```
 #[cycle(tree)]
 #[derive(Debug, PartialEq, Eq, Drop)]
 pub struct NamedArgument<S> {
@@ -154,6 +230,12 @@ pub struct NamedArgument<S> {
 }
 
 /// An expression that stands on one line. Production `InlineExpression`.
+///
+/// ```no_run
+/// if let InlineExpression::VariableReference { id } = inline {
+///     println!(rt; "${}", id.name)?; // $name
+/// }
+/// ```
 #[cycle(tree)]
 #[derive(Debug, PartialEq, Eq, Drop)]
 pub enum InlineExpression<S> {
@@ -190,6 +272,14 @@ pub enum InlineExpression<S> {
 }
 
 /// The expression of a placeable. Productions `SelectExpression` and `InlineExpression`.
+///
+/// ```no_run
+/// match expression {
+///     Expression::Inline(inline) => show_inline(rt, inline)?,
+///     Expression::Select { selector, variants } => {
+///         show_inline(rt, selector)?;
+///         println!(rt; "{} variants", variants.len())?; // 2 variants
+/// ```
 #[cycle(tree)]
 #[derive(Debug, PartialEq, Eq, Drop)]
 pub enum Expression<S> {

@@ -7,6 +7,14 @@ use std::alloc::{AllocError, AllocFailed};
 use std::fmt;
 
 /// Why [`from_value`](crate::from_value) gave no tree.
+///
+/// ```
+/// match from_value(alloc, &value) {
+///     Ok(back) => Ok(back),
+///     Err(FromValueError::Shape) => unreachable!(),
+///     Err(FromValueError::Memory) => Err(AllocError),
+/// }
+/// ```
 #[derive(Clone, Copy, Debug, PartialEq, Eq)]
 pub enum FromValueError {
     /// Memory ran out. The same call may succeed later.

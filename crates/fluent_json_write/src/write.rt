@@ -20,6 +20,12 @@ use std::alloc::{AllocError, Global};
 ///
 /// An object holds its members in the order of their keys' bytes, and the compact text of the value writes them so.
 ///
+/// ```
+/// let value = to_value(alloc, tree)?;
+/// match from_value(alloc, &value) {
+///     Ok(back) => Ok(back),
+/// ```
+///
 /// # Errors
 /// [`AllocError`] if memory runs out; nothing is left behind.
 pub fn to_value(alloc: Global, resource: &Resource<String>) -> Result<Value, AllocError>

@@ -8,6 +8,14 @@ use fluent_ast::Resource;
 use std::fmt;
 
 /// Why a source isn't read whole.
+///
+/// ```
+/// match parse(alloc, source) {
+///     Ok(resource) => Ok(resource),
+///     Err(Error::Broken(resource, _)) => Ok(resource),
+///     Err(Error::Memory) => bail!("out of memory"),
+/// }
+/// ```
 #[derive(Debug, PartialEq, Eq, Drop)]
 pub enum Error<S> {
     /// Parts of the source are no entries. The tree has them as junk, and each junk has one error, in the same order.
@@ -31,4 +39,14 @@ impl<S> fmt::Display for Error<S> {
 impl<S: fmt::Debug + Drop> std::error::Error for Error<S> {}
 
 /// What reading a source gives: its tree, or why it isn't read whole.
+///
+/// ```no_run
+/// fn tree_of<'s>(read: parser::Result<&'s str>) -> Result<Resource<&'s str>, AllocError> {
+///     match read {
+///         Ok(resource) => Ok(resource),
+///         Err(Error::Broken(resource, _)) => Ok(resource),
+///         Err(Error::Memory) => Err(AllocError),
+///     }
+/// }
+/// ```
 pub type Result<S> = std::result::Result<Resource<S>, Error<S>>;

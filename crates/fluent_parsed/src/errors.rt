@@ -22,6 +22,12 @@ pub struct ParserError {
 }
 
 /// What was wrong. Its text is the name of its variant.
+///
+/// ```no_run
+/// if let ErrorKind::ExpectedToken(token) = &error.kind {
+///     println!(rt; "{token} is missing at byte {}", error.pos.start)?; // } is missing at byte 9
+/// }
+/// ```
 #[derive(Debug, PartialEq, Eq, Drop)]
 pub enum ErrorKind {
     /// This character had to stand there.

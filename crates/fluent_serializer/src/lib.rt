@@ -21,6 +21,11 @@ use fluent_slice::Slice;
 use std::alloc::{AllocError, Global};
 
 /// What is written of a tree.
+///
+/// ```no_run
+/// let text = serialize_with_options(alloc, &resource, Options { with_junk: true })?;
+/// print!(rt; "{text}")?;
+/// ```
 #[derive(Clone, Copy, Debug, Default, PartialEq, Eq)]
 pub struct Options {
     /// Whether junk is written, as it stands in the tree. By default it is left out.

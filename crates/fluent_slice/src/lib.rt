@@ -13,6 +13,14 @@ use std::marker::PhantomData;
 use std::ops::Range;
 
 /// A text of a source that lives for `'s`. Contracts see it as its bytes. Lengths and offsets are bytes.
+///
+/// ```no_run
+/// /// What is before the first space of a text.
+/// fn first_word<'s, S: Slice<'s>>(alloc: Global, text: S) -> Result<S, AllocError> {
+///     let end = text.as_str().find(' ').unwrap_or(text.as_str().len());
+///     text.slice(alloc, 0..end)
+/// }
+/// ```
 pub trait Slice<'s>: PartialEq + Drop {
     /// The bytes of the text, in UTF-8.
     ghost text: { Self → List ℕ };

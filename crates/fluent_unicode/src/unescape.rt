@@ -36,6 +36,11 @@ pub fn unescape_unicode<W: TextWrite>(w: &mut W, text: &str) -> fmt::Result
 /// What the raw text of a string literal stands for, as [`unescape_unicode`] writes it. A text without a backslash is
 /// borrowed, which takes no memory and succeeds; any other is a text of its own.
 ///
+/// ```no_run
+/// let text = unescape_unicode_to_string(rt.alloc(), "caf\\u00e9")?;
+/// println!(rt; "{text}")?; // café
+/// ```
+///
 /// # Errors
 /// [`AllocError`] if memory runs out; nothing is left behind.
 pub fn unescape_unicode_to_string(alloc: Global, text: &str) -> Result<CowStr<'_>, AllocError>

@@ -8,6 +8,14 @@ use std::alloc::AllocError;
 use std::fmt;
 
 /// Why a text could not be written whole.
+///
+/// ```no_run
+/// match bundle.write_pattern(&mut text, pattern, Some(&args), &mut errors) {
+///     Ok(()) => println!(rt; "{text}")?,
+///     Err(WriteError::Writer) => bail!("the writer takes no more"),
+///     Err(WriteError::Memory) => bail!("out of memory"),
+/// }
+/// ```
 #[derive(Clone, Copy, Debug, PartialEq, Eq)]
 pub enum WriteError {
     /// The writer refused a piece.

@@ -5,6 +5,21 @@ ghost use Rattle.std.specs.Prelude.{◌≡◌, ℕ, List, ◌++◌, OnOk, OnErr,
 use std::fmt;
 
 /// A writer of texts that tells contracts what it holds.
+///
+/// ```
+/// impl TextWrite for Pieces {
+///     ghost text = { λ pieces. string_bytes pieces.text };
+///
+///     fn write_str(&mut self, piece: &str) -> fmt::Result {
+///         if self.left == 0 {
+///             return Err(fmt::Error);
+///         }
+///         self.text.push_str(piece)?;
+///         self.left -= 1;
+///         Ok(())
+///     }
+/// }
+/// ```
 pub trait TextWrite {
     /// The bytes that the writer holds, in the order of the pieces that it took.
     ghost text: { Self → List ℕ };
