@@ -7,6 +7,16 @@ ghost use Rattle.fluent_errors.specs.View.{entry_view};
 use std::fmt;
 
 /// What an id of a bundle stands for. Its text is `message`, `term` or `function`.
+///
+/// ```no_run
+/// if let FluentError::Overriding {
+///     kind: EntryKind::Message,
+///     id,
+/// } = notice
+/// {
+///     println!(rt; "{id} is there twice")?; // checkout is there twice
+/// }
+/// ```
 #[derive(Clone, Copy, Debug, PartialEq, Eq)]
 pub enum EntryKind {
     Message,

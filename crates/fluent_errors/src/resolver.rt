@@ -9,6 +9,15 @@ use std::alloc::{AllocError, Global};
 use std::fmt;
 
 /// What went wrong while a pattern was resolved. The pattern has a text all the same.
+///
+/// ```
+/// if let FluentError::ResolverError(
+///     ResolverError::Reference(ReferenceKind::Variable { id }),
+/// ) = error
+/// {
+///     println!(rt; "missing: {id}")?; // missing: count
+/// }
+/// ```
 #[derive(Debug, PartialEq, Eq, Drop)]
 pub enum ResolverError {
     /// What an expression refers to isn't there.

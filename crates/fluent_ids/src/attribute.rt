@@ -47,6 +47,12 @@ impl<'m, 's> From<&'m Attribute<&'s str>> for FluentAttribute<'m, 's> {
 }
 
 /// The attributes of a message, in their order.
+///
+/// ```no_run
+/// for attribute in message.attributes() {
+///     println!(rt; ".{}", attribute.id())?; // .title
+/// }
+/// ```
 #[derive(Drop)]
 pub struct Attributes<'m, 's> {
     left: slice::Iter<'m, Attribute<&'s str>>,

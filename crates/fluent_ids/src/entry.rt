@@ -10,6 +10,12 @@ use fluent_ast::{self as ast, Message, Resource, Term};
 use fluent_errors::EntryKind;
 
 /// What an id stands for. A message and a term stand beside the tree of the resource that they come from.
+///
+/// ```no_run
+/// if let Some(Entry::Term((_, term))) = ids.get("brand") {
+///     println!(rt; "{}", term.id.name)?;
+/// }
+/// ```
 #[derive(Drop)]
 pub enum Entry<'r, 's, F> {
     Message((&'r Resource<&'s str>, &'r Message<&'s str>)),
@@ -21,6 +27,14 @@ pub enum Entry<'r, 's, F> {
 }
 
 /// A function that an id stands for.
+///
+/// ```no_run
+/// match bundle.get_entry_function(id) {
+///     Some(FunctionRef::Number) => "NUMBER",
+///     Some(FunctionRef::Own(_)) => "a function of the program",
+///     None => "no function",
+/// }
+/// ```
 #[derive(Drop)]
 pub enum FunctionRef<'b, F> {
     /// A function of the program's own.

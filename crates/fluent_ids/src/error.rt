@@ -31,6 +31,14 @@ pub enum AddResourceError {
 }
 
 /// Why a function wasn't added. Nothing was changed then.
+///
+/// ```no_run
+/// match bundle.add_builtins() {
+///     Ok(()) => {}
+///     Err(AddFunctionError::Overriding(notice)) => bail!("{notice}"),
+///     Err(AddFunctionError::Memory) => bail!("out of memory"),
+/// }
+/// ```
 #[derive(Debug, PartialEq, Eq, Drop)]
 pub enum AddFunctionError {
     /// The id stands for another entry already.

@@ -11,6 +11,11 @@ use std::borrow::CowStr;
 use std::collections::HashMap;
 
 /// What ids stand for. Messages, terms and functions share the ids.
+///
+/// ```no_run
+/// let mut ids: FluentIds<'_, '_, NoFunction> = FluentIds::new(rt.alloc());
+/// println!(rt; "{}", ids.get("checkout").is_some())?; // false
+/// ```
 #[derive(Drop)]
 pub struct FluentIds<'r, 's, F> {
     pub(crate) entries: HashMap<CowStr<'s>, Entry<'r, 's, F>>,

@@ -13,6 +13,12 @@ use crate::message::FluentMessage;
 use fluent_ast::{Message, Term};
 
 /// What has messages, terms and functions by their ids. No call allocates.
+///
+/// ```no_run
+/// if let Some(term) = bundle.get_entry_term("brand") {
+///     println!(rt; "-{}", term.id.name)?; // -brand
+/// }
+/// ```
 pub trait GetEntry<'s, F> {
     ghost ids: { Self → Ids F };
 

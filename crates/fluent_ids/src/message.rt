@@ -38,6 +38,11 @@ impl<'m, 's> FluentMessage<'m, 's> {
     }
 
     /// The first attribute of this name.
+    ///
+    /// ```
+    /// let title = message.get_attribute("title").context("no such attribute")?;
+    /// let pattern = title.value();
+    /// ```
     pub fn get_attribute(&self, name: &str) -> Option<FluentAttribute<'m, 's>>
         ensures { option_map attribute_of result ≡ first_named name.now
             (message_of self.now).attributes }

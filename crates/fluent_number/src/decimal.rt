@@ -46,6 +46,12 @@ pub(crate) fn power_of_ten(exponent: usize) -> u64
 ///
 /// A contract sees it as an integer, the number of its units of 10<sup>-18</sup>. So zero has no sign, and two
 /// decimals are equal where they are the same number.
+///
+/// ```no_run
+/// let half = Decimal::from_parts(true, 2, 500_000_000_000_000_000).context("not a fraction")?;
+/// let number = FluentNumber::new(half, FluentNumberOptions::default());
+/// println!(rt; "{}", number.as_string(alloc)?)?; // -2.5
+/// ```
 #[derive(Clone, Copy, Debug, PartialEq, Eq, Hash)]
 pub struct Decimal {
     negative: bool,

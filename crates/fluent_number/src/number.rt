@@ -13,6 +13,11 @@ use std::fmt;
 use std::str::FromStr;
 
 /// A number: its value, and how it is to be shown.
+///
+/// ```no_run
+/// let number = FluentNumber::from_str("7.50")?;
+/// println!(rt; "{}", number.as_string(alloc)?)?; // 7.50
+/// ```
 #[derive(Debug, Drop, PartialEq, Eq, Hash)]
 pub struct FluentNumber {
     /// The value.
@@ -74,6 +79,13 @@ impl FromStr for FluentNumber {
 }
 
 /// A text that is no number.
+///
+/// ```
+/// match FluentNumber::from_str(input) {
+///     Ok(number) => Ok(Some(number.as_string(alloc)?)),
+///     Err(NotANumber) => Ok(None),
+/// }
+/// ```
 #[derive(Clone, Copy, Debug, PartialEq, Eq)]
 pub struct NotANumber;
 

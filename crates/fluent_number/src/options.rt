@@ -6,6 +6,11 @@ use crate::source::OptionSource;
 use std::alloc::{AllocError, Global};
 
 /// Whether a number counts things or tells a place in an order.
+///
+/// ```no_run
+/// let mut place = FluentNumber::from(2_u8);
+/// place.options.number_type = FluentNumberType::Ordinal;
+/// ```
 #[derive(Clone, Copy, Debug, Default, PartialEq, Eq, Hash)]
 pub enum FluentNumberType {
     /// It counts things, as in "2 days".
@@ -29,6 +34,11 @@ impl From<&str> for FluentNumberType {
 }
 
 /// What a number is shown as.
+///
+/// ```no_run
+/// options.style = FluentNumberStyle::Currency;
+/// options.currency = Some(String::from_str(alloc, "EUR")?);
+/// ```
 #[derive(Clone, Copy, Debug, Default, PartialEq, Eq, Hash)]
 pub enum FluentNumberStyle {
     /// A plain number.
@@ -54,6 +64,10 @@ impl From<&str> for FluentNumberStyle {
 }
 
 /// How a currency is named.
+///
+/// ```no_run
+/// options.currency_display = FluentNumberCurrencyDisplayStyle::Code;
+/// ```
 #[derive(Clone, Copy, Debug, Default, PartialEq, Eq, Hash)]
 pub enum FluentNumberCurrencyDisplayStyle {
     /// By its sign, as "€".
@@ -82,6 +96,14 @@ impl From<&str> for FluentNumberCurrencyDisplayStyle {
 ///
 /// Only `number_type` and `minimum_fraction_digits` have an effect in this crate; the other options are kept and compared,
 /// for formatters to look at.
+///
+/// ```no_run
+/// let mut options = FluentNumberOptions::default();
+/// options.minimum_fraction_digits = Some(2);
+/// ..
+/// let price = FluentNumber::new(three, options);
+/// println!(rt; "{}", price.as_string(alloc)?)?; // 3.00
+/// ```
 #[derive(Debug, Drop, PartialEq, Eq, Hash)]
 pub struct FluentNumberOptions {
     /// Whether it counts or tells a place, which decides between the rules of plurals.

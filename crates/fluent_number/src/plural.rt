@@ -8,6 +8,11 @@ use crate::number::FluentNumber;
 use crate::writing::significant_digits;
 
 /// What plural rules look at, by the names of Unicode's plural rules.
+///
+/// ```
+/// let number = FluentNumber::from(count);
+/// english_category(PluralRuleType::CARDINAL, &PluralOperands::from(&number))
+/// ```
 #[derive(Clone, Copy, Debug, PartialEq, Eq, Hash)]
 pub struct PluralOperands {
     /// The value without its sign.
@@ -52,6 +57,11 @@ fn shown_digits(significant: usize, minimum: Option<usize>) -> usize
 }
 
 /// The category of a number in a language's plural rules, by the names of Unicode's plural rules.
+///
+/// ```no_run
+/// let category = english_category(PluralRuleType::ORDINAL, &operands); // as in "2nd"
+/// println!(rt; "{}", category == PluralCategory::TWO)?; // true
+/// ```
 #[derive(Clone, Copy, Debug, PartialEq, Eq, Hash)]
 pub enum PluralCategory {
     /// `zero`.
@@ -69,6 +79,10 @@ pub enum PluralCategory {
 }
 
 /// Which rules: those for counts, as in "2 days", or those for places in an order, as in "the 2nd day".
+///
+/// ```
+/// polish.category(PluralRuleType::CARDINAL, &PluralOperands::from(count))
+/// ```
 #[derive(Clone, Copy, Debug, PartialEq, Eq, Hash)]
 pub enum PluralRuleType {
     /// The rules for counts.

@@ -6,6 +6,11 @@ use crate::number::FluentNumber;
 
 /// Where [`merge`](crate::FluentNumberOptions::merge) finds options: values under keys, of which it looks at texts and
 /// at numbers.
+///
+/// ```no_run
+/// wanted.set("minimumFractionDigits", 2_u8)?;
+/// options.merge(alloc, &wanted)?; // as { NUMBER($amount, minimumFractionDigits: 2) } does
+/// ```
 pub trait OptionSource {
     /// The text under a key, if a text stands there.
     ghost text_under: { Self → Text → Option Text };

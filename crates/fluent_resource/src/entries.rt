@@ -9,6 +9,14 @@ use fluent_ast::Entry;
 use std::slice;
 
 /// The entries of a resource, in the order of their places.
+///
+/// ```no_run
+/// for entry in resource.entries() {
+///     if let ast::Entry::Message(message) = entry {
+///         println!(rt; "{}", message.id.name)?; // checkout
+///     }
+/// }
+/// ```
 #[derive(Drop)]
 pub struct Entries<'r, 's> {
     left: slice::Iter<'r, Entry<&'s str>>,

@@ -16,6 +16,12 @@ use fluent_parser::{self as parser, parse_runtime};
 use std::alloc::Global;
 
 /// A source and its entries, as they are needed at run time: its messages and terms, without comments, and its junk.
+///
+/// ```
+/// let resource = FluentResource::try_new(alloc, SOURCE)?;
+/// ..
+/// bundle.add_resource(&resource)?;
+/// ```
 #[derive(Debug, Drop)]
 pub struct FluentResource<'s> {
     source: &'s str,

@@ -10,6 +10,21 @@ use crate::value::FluentValue;
 use std::alloc::{AllocError, Global};
 
 /// What a program shows values by, before the rules of Fluent. It may ask the plural source `M`.
+///
+/// ```
+/// impl<M> ValueFormatter<NoCustom, M> for Hidden {
+///     ghost formats = { λ _ _ _. Some (codes "?") };
+///
+///     fn format(
+///         &self,
+///         alloc: Global,
+///         _value: &FluentValue<'_, NoCustom>,
+///         _plurals: &M,
+///     ) -> Result<Option<String>, AllocError> {
+///         Ok(Some(String::from_str(alloc, "?")?))
+///     }
+/// }
+/// ```
 pub trait ValueFormatter<C: FluentType, M> {
     /// The text of a value, if the formatter has one for it.
     ghost formats: { Self → M → Value C.Meaning → Option (List ℕ) };
@@ -29,6 +44,10 @@ pub trait ValueFormatter<C: FluentType, M> {
 }
 
 /// The type that stands in for a program without a formatter. Its one value has no text for any value.
+///
+/// ```
+/// type Bundle<'r, 's> = FluentBundle<'r, 's, EnglishPlurals, Day, IsOpen, NoFormatter, NoTransform>;
+/// ```
 #[derive(Clone, Copy, Debug, PartialEq, Eq)]
 pub struct NoFormatter;
 

@@ -38,6 +38,10 @@ pub trait FluentFunction<C: FluentType> {
 }
 
 /// The type that stands in for a program without functions of its own. Its one value gives an error.
+///
+/// ```
+/// type Bundle<'r, 's> = FluentBundle<'r, 's, EnglishPlurals, NoCustom, NoFunction, Hidden>;
+/// ```
 #[derive(Clone, Copy, Debug, PartialEq, Eq)]
 pub struct NoFunction;
 

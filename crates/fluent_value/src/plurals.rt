@@ -13,6 +13,10 @@ use std::borrow::CowStr;
 /// A plural source: the plural rules of a language, and how values of a program's own type are shown in it.
 ///
 /// The name is that of the Rust crate, whose memoizers keep the formatters that they made. Nothing is cached here.
+///
+/// ```
+/// polish.category(PluralRuleType::CARDINAL, &PluralOperands::from(count))
+/// ```
 pub trait MemoizerKind {
     /// The category of a number by these rules, from its operands.
     ghost category_of: { Self → Plurals };
@@ -41,6 +45,10 @@ pub trait MemoizerKind {
 ///
 /// Of counts, 1 shown without digits behind the point is `one` and all else `other`. Of places, a whole number is `one`,
 /// `two` or `few` where its last digit is 1, 2 or 3 and its last two aren't 11, 12 or 13, and all else is `other`.
+///
+/// ```
+/// let mut bundle = Bundle::new(alloc, Vec::new(alloc), EnglishPlurals);
+/// ```
 #[derive(Clone, Copy, Debug, PartialEq, Eq)]
 pub struct EnglishPlurals;
 

@@ -15,6 +15,13 @@ use std::borrow::CowStr;
 
 /// What values are compared and shown by: a formatter, which may be absent, and a plural source. A bundle is one, and so is a
 /// scope of it.
+///
+/// ```no_run
+/// /// Whether 1 is `one` by the plural rules of a scope.
+/// fn is_one<S: ValueScope<NoCustom>>(scope: &S) -> bool {
+///     FluentValue::from("one").matches(&FluentValue::from(1_u8), scope)
+/// }
+/// ```
 pub trait ValueScope<C: FluentType> {
     /// Whether a formatter is set.
     ghost has_formatter: { Self → Bool };

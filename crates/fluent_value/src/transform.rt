@@ -7,6 +7,16 @@ use std::alloc::{AllocError, Global};
 use std::borrow::CowStr;
 
 /// What a program makes of the texts of messages before they are shown: a pseudolocalization, say.
+///
+/// ```
+/// impl TextTransform for Capitals {
+///     ghost transformed = { λ _ text. map to_ascii_uppercase text };
+///
+///     fn transform<'t>(&self, alloc: Global, text: &'t str) -> Result<CowStr<'t>, AllocError> {
+///         Ok(CowStr::Owned(text.to_ascii_uppercase(alloc)?))
+///     }
+/// }
+/// ```
 pub trait TextTransform: Drop {
     /// What becomes of a text.
     ghost transformed: { Self → List ℕ → List ℕ };
@@ -28,6 +38,10 @@ impl TextTransform for Box<dyn TextTransform> {
 }
 
 /// The type that stands in for a program without a transform. Its one value leaves each text as it is.
+///
+/// ```
+/// type Bundle<'r, 's> = FluentBundle<'r, 's, EnglishPlurals, Day, IsOpen, NoFormatter, NoTransform>;
+/// ```
 #[derive(Clone, Copy, Debug, PartialEq, Eq)]
 pub struct NoTransform;
 

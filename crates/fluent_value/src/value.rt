@@ -37,6 +37,10 @@ pub enum FluentValue<'a, C = NoCustom> {
 impl<'a, C: FluentType> FluentValue<'a, C> {
     /// The number that a text is, with a digit behind the point asked for each one that stands there, or else the text
     /// itself, borrowed. It takes no memory.
+    ///
+    /// ```
+    /// args.set("amount", FluentValue::try_number("3.5"))?;
+    /// ```
     pub fn try_number(text: &'a str) -> Self
         ensures { value_view C.meaning result ≡ number_or_text text.now }
     {

@@ -23,6 +23,10 @@ where
     /// Adds the messages and terms of a resource. Where two entries have one id, the first stays, whatever it is and wherever it
     /// comes from.
     ///
+    /// ```
+    /// bundle.add_resource(&resource)?;
+    /// ```
+    ///
     /// # Errors
     /// - [`AddResourceError::Overriding`] has a notice for each entry whose id stood for another one, in the order of the
     ///   entries. All other entries were added.
@@ -51,6 +55,10 @@ where
     }
 
     /// Adds a function under an id that stands for nothing yet.
+    ///
+    /// ```
+    /// bundle.add_function("IS_OPEN", IsOpen)?;
+    /// ```
     ///
     /// # Errors
     /// After each of them the bundle is unchanged, and the function was dropped.

@@ -48,6 +48,11 @@ where
     }
 
     /// The message of an id.
+    ///
+    /// ```
+    /// let message = bundle.get_message("intro").context("no such message")?;
+    /// let pattern = message.value().context("the message has no value")?;
+    /// ```
     pub fn get_message(&self, id: &str) -> Option<FluentMessage<'r, 's>>
         ensures { option_map message_of result ≡ message_in (find (bundle_of self.now).ids id.now) }
     {

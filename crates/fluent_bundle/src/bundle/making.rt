@@ -59,6 +59,10 @@ where
 {
     /// A new bundle without locales, with the plural rules of the language that a tag such as `pl` or `pt-PT` names, or `None` if
     /// none are known. It doesn't allocate.
+    ///
+    /// ```
+    /// let mut bundle = LanguageBundle::for_tag(alloc, "en-US").context("unknown locale")?;
+    /// ```
     pub fn for_tag(alloc: Global, tag: &str) -> Option<Self>
         ensures { option_map bundle_of result ≡ option_map (empty []) (plurals_for tag.now) }
     {

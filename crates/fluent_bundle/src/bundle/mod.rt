@@ -55,6 +55,13 @@ where
 }
 
 /// A bundle by English plural rules, for a program that brings no values, functions, formatter or transform of its own.
+///
+/// ```
+/// let mut bundle = EnglishBundle::english(rt.alloc());
+/// bundle.set_use_isolating(false);
+/// bundle.add_builtins()?;
+/// bundle.add_resource(&resource)?;
+/// ```
 pub type EnglishBundle<'r, 's> = FluentBundle<
     'r,
     's,
@@ -67,6 +74,12 @@ pub type EnglishBundle<'r, 's> = FluentBundle<
 
 /// A bundle by the plural rules of any language, for a program that brings no values, functions, formatter or transform of its
 /// own.
+///
+/// ```
+/// let mut bundle = LanguageBundle::for_tag(alloc, "pl").context("no rules")?;
+/// bundle.set_use_isolating(false);
+/// bundle.add_resource(&resource)?;
+/// ```
 pub type LanguageBundle<'r, 's> = FluentBundle<
     'r,
     's,

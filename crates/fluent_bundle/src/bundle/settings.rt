@@ -16,6 +16,10 @@ where
 {
     /// Sets whether placeables stand between the marks U+2068 and U+2069, which keep their direction from that of the text
     /// around them.
+    ///
+    /// ```
+    /// bundle.set_use_isolating(false);
+    /// ```
     pub fn set_use_isolating(&mut self, isolating: bool)
         ensures { bundle_of self.new ≡ record (bundle_of self.old) { isolating = isolating } }
     {

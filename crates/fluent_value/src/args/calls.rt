@@ -61,6 +61,11 @@ impl<'args, C: FluentType + Drop> FluentArgs<'args, C> {
     /// Gives a name a value, in the place of the one that it has, if it has one; then it takes no memory and succeeds. A name
     /// is whatever converts to a [`CowStr`], and a value whatever converts to a [`FluentValue`]: `args.set("count", 3)`.
     ///
+    /// ```
+    /// args.set("name", "Jane")?;
+    /// args.set("count", 3_u32)?;
+    /// ```
+    ///
     /// # Errors
     /// [`AllocError`] if memory runs out; the arguments are unchanged.
     pub fn set<K: Into<CowStr<'args>>, V: Into<FluentValue<'args, C>>>(

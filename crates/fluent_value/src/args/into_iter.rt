@@ -18,6 +18,12 @@ use std::borrow::CowStr;
 use std::vec;
 
 /// The names and values of arguments, owned, in the order of the names' bytes.
+///
+/// ```no_run
+/// for (name, value) in args {
+///     renamed.set_value(CowStr::Owned(format!(in alloc; "user-{name}")?), value)?;
+/// }
+/// ```
 #[derive(Drop)]
 pub struct IntoIter<'args, C> {
     left: vec::IntoIter<Argument<'args, C>>,

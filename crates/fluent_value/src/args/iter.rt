@@ -17,6 +17,13 @@ use crate::value::FluentValue;
 use std::slice;
 
 /// The names and values of arguments, in the order of the names' bytes.
+///
+/// ```no_run
+/// for (name, value) in args.iter() {
+///     let is_number = matches!(value, FluentValue::Number(_));
+///     println!(rt; "{name} {is_number}")?; // count true, then name false
+/// }
+/// ```
 #[derive(Drop)]
 pub struct Iter<'a, 'args, C> {
     left: slice::Iter<'a, Argument<'args, C>>,
