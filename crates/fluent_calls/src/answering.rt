@@ -14,6 +14,12 @@ use simdutf8::basic::from_utf8;
 use std::alloc::{AllocError, Global};
 
 /// A source: its first byte, and its length in bytes.
+///
+/// ```
+/// const WELCOME: FluentSource<'_> = FluentSource {
+///     text: b"welcome = Welcome, { $name }.\n",
+/// };
+/// ```
 #[repr(C)]
 #[derive(Clone, Copy)]
 pub struct FluentSource<'s> {

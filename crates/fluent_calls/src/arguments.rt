@@ -14,6 +14,14 @@ use std::alloc::{AllocError, Global};
 use std::borrow::CowStr;
 
 /// An argument: its name, and a text, a decimal or an integer, as its kind says.
+///
+/// ```
+/// let integer = FluentArgument {
+///     integer: -3,
+///     kind: FLUENT_INTEGER,
+///     ..NOTHING
+/// };
+/// ```
 #[repr(C)]
 #[derive(Clone, Copy)]
 pub struct FluentArgument<'a> {

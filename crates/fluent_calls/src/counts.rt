@@ -12,6 +12,17 @@ use simdutf8::basic::from_utf8;
 use std::alloc::{AllocError, Global};
 
 /// What a source is made of.
+///
+/// ```
+/// let mut counts = FluentCounts {
+///     messages: 0,
+///     terms: 0,
+///     comments: 0,
+///     junk: 0,
+///     errors: 0,
+/// };
+/// let answer = count(alloc, text, reading, &mut counts);
+/// ```
 #[repr(C)]
 #[derive(Clone, Copy)]
 pub struct FluentCounts {
@@ -52,6 +63,10 @@ impl FluentCounts {
 }
 
 /// The entries that a source is read for.
+///
+/// ```
+/// count(alloc, text, Reading::Whole, counts)
+/// ```
 #[derive(Clone, Copy)]
 pub enum Reading {
     /// All of them.

@@ -13,6 +13,14 @@ use std::marker::Model;
 /// A text that was written, or none.
 ///
 /// Only this crate makes one that holds a text. A caller in C reads the fields; the text is freed by [`FluentText::clear`].
+///
+/// ```
+/// let mut made = FluentText::none();
+/// made.clear(alloc);
+/// let form = Form::Written { with_junk: false };
+/// let read = hand_out(alloc, b"a = b\n", form, &mut made) == FLUENT_READ;
+/// made.clear(alloc);
+/// ```
 #[repr(C)]
 pub struct FluentText {
     /// Whether there is a text. If there is none, the other fields say nothing.

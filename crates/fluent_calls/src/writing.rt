@@ -62,6 +62,11 @@ fn json_text(alloc: Global, text: &str) -> Result<FluentText, AllocError>
 }
 
 /// What a tree is handed out as.
+///
+/// ```
+/// let form = Form::Written { with_junk: false };
+/// let read = hand_out(alloc, b"a = b\n", form, &mut made) == FLUENT_READ;
+/// ```
 #[derive(Clone, Copy)]
 pub enum Form {
     /// Its written text, with its junk or without.

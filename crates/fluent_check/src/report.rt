@@ -11,6 +11,16 @@ use fluent_value::NoFunction;
 use std::alloc::{AllocError, Global};
 
 /// What a check of sources found.
+///
+/// ```no_run
+/// let report = check(rt.alloc(), &["a = b\na = c\n!\n"])?;
+/// for (number, errors) in report.errors.iter().enumerate() {
+///     println!(rt; "errors of source {number}: {}", errors.len())?; // errors of source 0: 1
+/// }
+/// for notice in report.notices.iter() {
+///     println!(rt; "{notice}")?; // Attempt to override an existing message: "a".
+/// }
+/// ```
 #[derive(Debug, PartialEq, Eq, Drop)]
 pub struct Report {
     /// For each source its errors, one for each stretch that is no entry, in the order of their places.

@@ -15,6 +15,14 @@ use std::marker::Model;
 /// A bundle that is kept, or none.
 ///
 /// A caller in C keeps it, and reads only whether there is one. It isn't `Drop`: [`FluentBundle::clear`] frees what it keeps.
+///
+/// ```
+/// let mut bundle = FluentBundle::none();
+/// ..
+/// bundle_new(alloc, &SOURCES, locale, false, false, bundle)
+/// ..
+/// bundle_free(alloc, &mut bundle);
+/// ```
 #[repr(C)]
 pub struct FluentBundle {
     /// Whether there is a bundle. If there is none, the other fields say nothing.

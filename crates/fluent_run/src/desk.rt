@@ -28,6 +28,13 @@ use fluent_value::{FluentArgs, MemoizerKind, NoCustom, NoFormatter, NoFunction, 
 use std::alloc::{AllocError, Global};
 
 /// What lines are answered from: the ids of the sources, the plural source, and whether placeables stand between isolation marks.
+///
+/// ```no_run
+/// let desk = Desk::new(alloc, resources, settings, &plurals)?;
+/// let reply = desk
+///     .format(alloc, "a", None, &FluentArgs::new(alloc))?
+///     .context("no such message")?;
+/// ```
 #[derive(Drop)]
 pub struct Desk<'b, 'r, 's, M> {
     ids: FluentIds<'r, 's, NoFunction>,

@@ -23,6 +23,13 @@ use std::fmt;
 const ROOM: usize = 128;
 
 /// A text, and the errors that came up while it was made, in their order.
+///
+/// ```no_run
+/// let reply = desk
+///     .format(alloc, "a", None, &FluentArgs::new(alloc))?
+///     .context("no such message")?;
+/// println!(rt; "{}, errors: {}", reply.text, reply.errors.len())?; // b {$c}, errors: 1
+/// ```
 #[derive(Debug, Drop)]
 pub struct Reply {
     /// The text, which is there in spite of the errors.

@@ -9,6 +9,17 @@ use std::alloc::{AllocError, Global};
 use std::fmt::Display;
 
 /// The answer to a request line.
+///
+/// ```no_run
+/// match read_request(alloc, line)? {
+///     Some(request) => Answer::Text {
+///         text: request.id,
+///         errors: &none,
+///     }
+///     .push_to(alloc, out),
+///     None => Answer::<&str>::Bad.push_to(alloc, out),
+/// }
+/// ```
 #[derive(Clone, Copy, Debug)]
 pub enum Answer<'a, E> {
     /// The line is no request.

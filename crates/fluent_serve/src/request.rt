@@ -9,6 +9,13 @@ use std::alloc::{AllocError, Global};
 use std::str;
 
 /// What a line asks for. An argument's value is its text.
+///
+/// ```no_run
+/// let request = read_request(alloc, b"total.title\tcount=3")?.context("not a request")?;
+/// for (name, value) in request.arguments.iter() {
+///     println!(rt; "{name} is {value}")?; // count is 3
+/// }
+/// ```
 #[derive(Debug, Drop)]
 pub struct Request<'line> {
     pub id: &'line str,

@@ -18,6 +18,15 @@ const BLOCK: usize = 8_192;
 const PIECE: usize = 65_536;
 
 /// Why a run stopped before the end of its input.
+///
+/// ```no_run
+/// match run(alloc, &["a = b\n"], settings, &plurals, &mut requests, &mut answers) {
+///     Ok(()) => {}
+///     Err(RunError::Read) => bail!("the requests can't be read"),
+///     Err(RunError::Write) => bail!("the answers can't be written"),
+///     Err(RunError::Memory) => bail!("out of memory"),
+/// }
+/// ```
 #[derive(Clone, Copy, Debug, PartialEq, Eq)]
 pub enum RunError {
     /// A growth was refused.
@@ -53,6 +62,16 @@ impl From<WriteFailed> for RunError {
 }
 
 /// What answers request lines.
+///
+/// ```
+/// impl Engine for Echo {
+///     ghost reply = { λ _ line. line };
+///
+///     fn reply(&self, _alloc: Global, line: &[u8], out: &mut Vec<u8>) -> Result<(), AllocError> {
+///         out.extend_from_slice(line)
+///     }
+/// }
+/// ```
 pub trait Engine {
     /// What is written for a line, given without its line feed.
     ghost reply: { Self → List ℕ → List ℕ };

@@ -10,14 +10,54 @@ ghost use Rattle.fluent_serve.specs.Devices.{failures_after_read, failures_after
 use std::io;
 
 /// A call of `Source::read` failed: no byte was taken.
+///
+/// ```
+/// match self.requests.read(buffer) {
+///     Some(count) => {
+///         self.given = self.given.saturating_add(count as u64);
+///         Ok(count)
+///     }
+///     None => {
+///         self.failures = self.failures.saturating_add(1);
+///         Err(ReadFailed)
+///     }
+/// }
+/// ```
 #[derive(Clone, Copy, Debug, PartialEq, Eq)]
 pub struct ReadFailed;
 
 /// A call of `Sink::write` failed: no byte was taken.
+///
+/// ```
+/// match self.answers.write(bytes) {
+///     Some(count) if count > 0 || bytes.is_empty() => Ok(count),
+///     taken => {
+///         self.failures = self.failures.saturating_add(1);
+///         taken.ok_or(WriteFailed)
+///     }
+/// }
+/// ```
 #[derive(Clone, Copy, Debug, PartialEq, Eq)]
 pub struct WriteFailed;
 
 /// A reader of bytes.
+///
+/// ```
+/// impl Source for Letters {
+///     ghost remaining = { λ _. None };
+///
+///     ghost failures = { λ _. 0 };
+///
+///     ghost given = { λ letters. letters.given };
+///
+///     fn read(&mut self, buffer: &mut [u8]) -> Result<usize, ReadFailed> {
+///         self.calls = self.calls.saturating_add(1);
+///         let count = self.fill(buffer);
+///         self.given = self.given.saturating_add(count as u64);
+///         Ok(count)
+///     }
+/// }
+/// ```
 pub trait Source {
     /// The bytes that reads will give from here on, where they are known.
     ghost remaining: { Self → Option (List ℕ) };
@@ -41,6 +81,24 @@ pub trait Source {
 }
 
 /// A writer of bytes.
+///
+/// ```
+/// impl Sink for Writer<'_> {
+///     ghost contents = { λ _. None };
+///
+///     ghost failures = { λ writer. writer.failures };
+///
+///     fn write(&mut self, bytes: &[u8]) -> Result<usize, WriteFailed> {
+///         match self.answers.write(bytes) {
+///             Some(count) if count > 0 || bytes.is_empty() => Ok(count),
+///             taken => {
+///                 self.failures = self.failures.saturating_add(1);
+///                 taken.ok_or(WriteFailed)
+///             }
+///         }
+///     }
+/// }
+/// ```
 pub trait Sink {
     /// The bytes that were written, where they are known.
     ghost contents: { Self → Option (List ℕ) };
@@ -61,6 +119,10 @@ pub trait Sink {
 }
 
 /// A `Source` of a reader of std. It tells the bytes that the reader tells.
+///
+/// ```no_run
+/// let mut requests = FromRead::new("a\n".as_bytes());
+/// ```
 #[derive(Drop)]
 pub struct FromRead<R> {
     reader: R,
@@ -105,6 +167,12 @@ impl<R: io::Read> Source for FromRead<R> {
 }
 
 /// A `Sink` of a writer of std. It tells the bytes that the writer tells.
+///
+/// ```no_run
+/// let mut answers = FromWrite::new(Vec::new(alloc));
+/// ..
+/// let written = answers.into_inner(); // ok 1 0, then b
+/// ```
 #[derive(Drop)]
 pub struct FromWrite<W> {
     writer: W,

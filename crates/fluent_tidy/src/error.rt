@@ -12,6 +12,14 @@ use std::alloc::AllocError;
 use std::fmt;
 
 /// Why [`clean`](crate::clean), [`join`](crate::join) or [`export`](crate::export) gave nothing.
+///
+/// ```no_run
+/// match clean(alloc, "a = b\r\n") {
+///     Ok(text) => print!(rt; "{text}")?,
+///     Err(CleanError::CarriageReturn) => println!(rt; "convert the line ends first")?,
+///     Err(CleanError::Memory) => bail!("out of memory"),
+/// }
+/// ```
 #[derive(Clone, Copy, Debug, PartialEq, Eq)]
 pub enum CleanError {
     /// Memory ran out. The same call may succeed later.
@@ -21,6 +29,14 @@ pub enum CleanError {
 }
 
 /// Why [`normalize`](crate::normalize) gave no text.
+///
+/// ```no_run
+/// match normalize(alloc, "a = { b }\n") {
+///     Ok(text) => print!(rt; "{text}")?, // a = { b }
+///     Err(NormalizeError::NotNormal) => println!(rt; "it has no normal text")?,
+///     Err(error) => bail!("{error}"),
+/// }
+/// ```
 #[derive(Clone, Copy, Debug, PartialEq, Eq)]
 pub enum NormalizeError {
     /// Memory ran out. The same call may succeed later.
@@ -32,6 +48,15 @@ pub enum NormalizeError {
 }
 
 /// Why [`import`](crate::import) gave no text.
+///
+/// ```no_run
+/// let tree = export(alloc, "a = b\n")?;
+/// match import(alloc, &tree) {
+///     Ok(text) => print!(rt; "{text}")?, // a = b
+///     Err(ImportError::Shape) => println!(rt; "no tree has this value")?,
+///     Err(error) => bail!("{error}"),
+/// }
+/// ```
 #[derive(Clone, Copy, Debug, PartialEq, Eq)]
 pub enum ImportError {
     /// Memory ran out. The same call may succeed later.

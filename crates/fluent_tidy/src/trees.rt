@@ -45,6 +45,11 @@ pub fn export(alloc: Global, source: &str) -> Result<Value, CleanError>
 ///
 /// What [`export`] gives of a source is imported as the source's normal text.
 ///
+/// ```
+/// let tree = export(alloc, SOURCE)?;
+/// let imported = import(alloc, &tree)?;
+/// ```
+///
 /// # Errors
 /// `Shape` exactly where no tree has the value. `NotNormal` where the written text isn't read back as the tree. `Memory`
 /// where memory ran out.
