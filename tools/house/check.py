@@ -3,13 +3,15 @@
 
     tools/house/check.py [ROOT]
 
-Each block of code in a page or in the doc comment of a public crate is cut from an example; each link leads to a file and a
-heading that are there, and each page that a comment names is there; no line of prose in a page is wider than 120 columns;
-no page has words that the glossary leaves out;
-each call in a shell block of a page prints what follows it there; each public call that can fail says how, under `# Errors`;
-no clause is longer than 200 characters, and at most 20 are longer than 120. Prints what isn't so, then how many of these seven
-checks passed and failed, and ends with 1 if one failed. The calls need the built program, `crates/ftl/out/ftl`: without it
-they are skipped.
+Each block of code in a page is cut from an example, and each in the doc comment of a public crate from an example or another
+crate that the gate proves, unless its fence is `no_run`: such a block was only tried. Each public type that programs use has
+a block. Each link leads to a file and a heading that are there, and each page that a comment names is there; no line of prose
+in a page is wider than 120 columns; no page has words that the glossary leaves out; each call in a shell block of a page
+prints what follows it there; each public call that can fail says how, under `# Errors`; no clause is longer than 200
+characters, and at most 20 are longer than 120.
+
+Prints what isn't so, then how many public types there are, and how many of these eight checks passed and failed, and ends
+with 1 if one failed. The calls need the built program, `crates/ftl/out/ftl`: without it they are skipped.
 """
 import re
 import shutil
@@ -27,11 +29,24 @@ LONGEST_CLAUSE, LONG_CLAUSE, LONG_CLAUSES = 200, 120, 20
 WIDEST = 120
 PROGRAM = ROOT / 'crates/ftl/out/ftl'
 GLOSSARY = ROOT / 'docs/glossary.md'
+# The crates that programs call, with those whose types they pass on, and the types of these that only crates of this
+# repository use.
+CALLED = '''
+    fluent_ast fluent_parsed fluent_parser fluent_serializer fluent_unicode fluent_slice fluent_write fluent_syntax fluent_json
+    fluent_json_read fluent_json_write fluent_number fluent_value fluent_plurals fluent_errors fluent_resource fluent_ids
+    fluent_bundle fluent_check fluent_tidy fluent_serve fluent_run fluent_desk fluent_kept fluent_calls fluent_c
+'''.split()
+INNER = {
+    'fluent_parsed': ['Collected'],
+    'fluent_slice': ['Texts', 'Slices'],
+    'fluent_kept': ['Bundle', 'Loose', 'Question', 'Answer', 'Sources'],
+}
 # What names pages by their paths in comments.
-NAMING = ['crates/*/src/**/*.rt', 'crates/*/specs/**/*.antt', 'crates/*/*.h', 'crates/*/CALLING.md', 'bench/**/*.sh', 'bench/**/*.py']
-# Where a block of code is cut from, by the language of its fence. In a doc comment a fence names none.
+NAMING = ['crates/*/src/**/*.rt', 'crates/*/specs/**/*.antt', 'crates/*/*.h', 'crates/*/CALLING.md', 'bench/**/*.sh',
+          'bench/**/*.py']
+# Where a block of code is cut from, by the language of its fence. In a doc comment a fence names none, or is `no_run`.
 EXAMPLES = {
-    '': ['crates/example_*/src/**/*.rt'],
+    '': [f'crates/{crate}/src/**/*.rt' for crate in ('example_*', '*_rows', '*_vectors', 'ftl_*', 'fluent_c')],
     'rust': ['crates/example_*/src/**/*.rt', 'bindings/rust/README.md'],
     'c': ['*s/c/*.c'],
     'python': ['examples/python/*.py', 'bindings/python/README.md'],
@@ -98,8 +113,15 @@ def stretches(block):
             stretch.append(line)
 
 
+def code_of(path, language):
+    """The code of an example, squeezed. For doc comments, which name no language, it is without its own doc comments."""
+    lines = path.read_text().split('\n')
+    return squeezed(line for line in lines if language or not re.match(r'\s*//[/!]', line))
+
+
 def wrong_quotes():
-    examples = {language: [squeezed(path.read_text().split('\n')) for name in files for path in ROOT.glob(name)] for language, files in EXAMPLES.items()}
+    examples = {language: [code_of(path, language) for name in files for path in ROOT.glob(name)]
+                for language, files in EXAMPLES.items()}
     quoted = [(page, page.read_text().split('\n')) for page in PAGES]
     quoted += [(path, doc_lines(path)) for path in SOURCES if not PRIVATE.search(crate_of(path))]
     for path, lines in quoted:
@@ -235,6 +257,35 @@ def silent_calls():
                     yield f'{place_of(path, number)}: `{name}` has no `# Errors`'
 
 
+def is_public(path, name):
+    """Whether a crate lets others use a type of one of its files: by `pub mod`, by `pub use`, or since it is in the root file."""
+    source = ROOT / 'crates' / crate_of(path) / 'src'
+    roots = [root for root in (source / 'lib.rt', path.parent / 'mod.rt', path.parent.with_suffix('.rt')) if root.exists()]
+    if path in roots:
+        return True
+    text = '\n'.join(root.read_text() for root in roots)
+    return bool(re.search(rf'pub mod {path.stem};|pub use [^;]*\b{name}\b', text))
+
+
+def public_types():
+    """The types that programs use, as (place, name, doc comment)."""
+    for path in SOURCES:
+        lines = path.read_text().split('\n') if crate_of(path) in CALLED else []
+        for start, line in enumerate(lines):
+            named = re.match(r'pub (?:struct|enum|trait|type) (\w+)', line)
+            if named and is_public(path, named.group(1)) and named.group(1) not in INNER.get(crate_of(path), ()):
+                first = start
+                while re.match(r'///|#\[', lines[first - 1]):
+                    first -= 1
+                yield place_of(path, start + 1), named.group(1), '\n'.join(lines[first:start])
+
+
+def types_without_examples():
+    for place, name, doc in public_types():
+        if '```' not in doc:
+            yield f'{place}: `{name}` has no example'
+
+
 def clauses_of(path):
     """The clauses of a source, each on one line, as (line number, clause)."""
     text = path.read_text()
@@ -258,7 +309,7 @@ def long_clauses():
 
 
 def main():
-    failed, checks = 0, [wrong_quotes, wrong_links, wide_prose, wrong_words, silent_calls, long_clauses]
+    failed, checks = 0, [wrong_quotes, types_without_examples, wrong_links, wide_prose, wrong_words, silent_calls, long_clauses]
     if PROGRAM.exists():
         checks.append(wrong_outputs)
     else:
@@ -267,6 +318,7 @@ def main():
         faults = list(check())
         print(*faults, sep='\n', end='\n' if faults else '')
         failed += bool(faults)
+    print(f'{len(list(public_types()))} public types, {len(list(types_without_examples()))} of them without an example')
     print(f'{len(checks) - failed} passed, {failed} failed')
     sys.exit(failed > 0)
 
