@@ -34,7 +34,7 @@ GLOSSARY = ROOT / 'docs/glossary.md'
 CALLED = '''
     fluent_ast fluent_parsed fluent_parser fluent_serializer fluent_unicode fluent_slice fluent_write fluent_syntax fluent_json
     fluent_json_read fluent_json_write fluent_number fluent_value fluent_plurals fluent_errors fluent_resource fluent_ids
-    fluent_bundle fluent_check fluent_tidy fluent_serve fluent_run fluent_desk fluent_kept fluent_calls fluent_c
+    fluent_bundle fluent_check fluent_tidy fluent_serve fluent_run fluent_desk fluent_kept fluent_calls fluent_c_calls fluent_c
 '''.split()
 INNER = {
     'fluent_parsed': ['Collected'],
@@ -46,7 +46,7 @@ NAMING = ['crates/*/src/**/*.rt', 'crates/*/specs/**/*.antt', 'crates/*/*.h', 'c
           'bench/**/*.py']
 # Where a block of code is cut from, by the language of its fence. In a doc comment a fence names none, or is `no_run`.
 EXAMPLES = {
-    '': [f'crates/{crate}/src/**/*.rt' for crate in ('example_*', '*_rows', '*_vectors', 'ftl_*', 'fluent_c')],
+    '': [f'crates/{crate}/src/**/*.rt' for crate in ('example_*', '*_rows', '*_vectors', 'rows_*', 'ftl_*', 'fluent_c')],
     'rust': ['crates/example_*/src/**/*.rt', 'bindings/rust/README.md'],
     'c': ['*s/c/*.c'],
     'python': ['examples/python/*.py', 'bindings/python/README.md'],
