@@ -17,12 +17,13 @@ pub fn tidied_sources_keep_answers<C: FluentType, F>()
     ensures { TidiedSourcesKeepAnswers C.Meaning F }
 {}
 
-/// The joined text of sources without carriage returns has the notices of the sources, where the first entry of an id counts.
+/// The joined text of sources without carriage returns has the notices of the sources, if the first entry of an id
+/// counts.
 pub fn joined_sources_keep_notices<F>()
     ensures { JoinedSourcesKeepNotices F }
 {}
 
-/// Sources that are read for use at run time, and added one after the other, come to the ids and the notices of them all.
+/// Sources that are read for use at run time, and added one after the other, give the ids and the notices of them all.
 pub fn sources_in_turn<F>()
     ensures same { RuntimeHasTheSameIds F }
     ensures ids { IdsGoOn F }
@@ -30,7 +31,7 @@ pub fn sources_in_turn<F>()
 {}
 
 /// No placeable of the messages and terms of sources has more references and selects than the longest source has bytes. So a
-/// request for a pattern of theirs enters at most 1 + 100 * n patterns, where that source has n bytes.
+/// request for a pattern of theirs enters at most 1 + 100 * n patterns, if that source has n bytes.
 pub fn references_fit<C: FluentType, F>()
     ensures references { ReferencesFit F }
     ensures entered { RequestsFit C.Meaning F }

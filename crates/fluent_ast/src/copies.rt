@@ -45,7 +45,7 @@ pub(crate) fn clone_key<S: Drop, T: Texts<S>>(
     }
 }
 
-/// The name of an attribute behind a reference, if there is one.
+/// The name of an attribute after a reference, if there is one.
 fn clone_accessor<S: Drop, T: Texts<S>>(
     texts: &T,
     alloc: Global,

@@ -9,7 +9,7 @@ use crate::{
 };
 use fluent_slice::Slice;
 
-/// `==` of nodes of each type is an equivalence, and two nodes are equal exactly where they are the same plain data. So a
+/// `==` of nodes of each type is an equivalence, and two nodes are equal exactly if they are the same plain data. So a
 /// copy equals what it copies.
 pub fn equal_nodes<'s, S: Slice<'s>>()
     ensures resources { Compares ⟦<Resource<S> as PartialEq>⟧.eq (resource_view S S.text) }

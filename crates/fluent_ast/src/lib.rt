@@ -15,7 +15,7 @@ pub mod laws;
 
 use std::alloc::Global;
 
-/// A whole source: its entries in the order of their places. Production `Resource`.
+/// A source: its entries, in the order in which they are written. Production `Resource`.
 ///
 /// ```no_run
 /// let resource = parse(alloc, SOURCE)?;
@@ -38,13 +38,13 @@ pub struct Resource<S> {
 pub enum Entry<S> {
     Message(Message<S>),
     Term(Term<S>),
-    /// A comment that stands by itself, of lines with `#`.
+    /// A standalone comment, of lines with `#`.
     Comment(Comment<S>),
-    /// A comment on the entries behind it, of lines with `##`.
+    /// A comment on the entries after it, of lines with `##`.
     GroupComment(Comment<S>),
     /// A comment on the whole source, of lines with `###`.
     ResourceComment(Comment<S>),
-    /// A stretch of the source in which no entry could be read, as it stands there.
+    /// A stretch of the source in which no entry could be read, as it is written.
     Junk { content: S },
 }
 
@@ -82,7 +82,7 @@ pub struct Term<S> {
     pub comment: Option<Comment<S>>,
 }
 
-/// A value: texts and placeables in their order. Production `Pattern`.
+/// A value: text elements and placeables, in their order. Production `Pattern`.
 ///
 /// ```
 /// let mut elements = Vec::new(alloc);
@@ -112,7 +112,7 @@ pub struct Pattern<S> {
 #[cycle(tree)]
 #[derive(Debug, PartialEq, Eq, Drop)]
 pub enum PatternElement<S> {
-    /// A text without its common indent. It ends with its line's line feed, where that stands before another element.
+    /// A text without its common indent. It ends with its line's line feed if another element follows.
     TextElement { value: S },
     /// An expression in braces.
     Placeable { expression: Expression<S> },
@@ -174,7 +174,7 @@ pub enum VariantKey<S> {
     NumberLiteral { value: S },
 }
 
-/// A comment: its lines, each without its sign and the space behind it. Production `CommentLine`.
+/// A comment: its lines, each without its sign and the space after it. Production `CommentLine`.
 ///
 /// ```no_run
 /// if let Some(comment) = &message.comment {
@@ -203,7 +203,7 @@ pub struct CallArguments<S> {
 }
 
 impl<S> CallArguments<S> {
-    /// No arguments. It takes no memory and succeeds.
+    /// No arguments. It doesn't allocate, and succeeds.
     pub fn new(alloc: Global) -> Self
         ensures { (text_of : S → List ℕ) → arguments_view S text_of result
             ≡ arguments no_inlines no_nameds }
@@ -229,7 +229,7 @@ pub struct NamedArgument<S> {
     pub value: InlineExpression<S>,
 }
 
-/// An expression that stands on one line. Production `InlineExpression`.
+/// An expression that isn't a select. Production `InlineExpression`.
 ///
 /// ```no_run
 /// if let InlineExpression::VariableReference { id } = inline {
@@ -239,11 +239,11 @@ pub struct NamedArgument<S> {
 #[cycle(tree)]
 #[derive(Debug, PartialEq, Eq, Drop)]
 pub enum InlineExpression<S> {
-    /// The raw text between the quotes, escapes as they stand.
+    /// The raw text between the quotes, escapes as they are written.
     StringLiteral {
         value: S,
     },
-    /// The digits, with a minus and a point where they stand.
+    /// The digits, with the minus and the point if there are any.
     NumberLiteral {
         value: S,
     },

@@ -58,9 +58,9 @@ pub extern "C" fn fluent_parse_runtime(alloc: Global, text: &[u8], counts: &mut 
 
 /// Reads a source and writes its tree back.
 ///
-/// `text` is the source's bytes. Its junk is written as it is if `with_junk` is true, and else left out.
+/// `text` is the source's bytes. Its junk is written as it is if `with_junk` is true, and otherwise left out.
 /// The answers are those of [`fluent_parse`]: if the source was read, `made` holds the written text, and what it
-/// held before is freed; else `made` is unchanged. All other memory is freed when it returns.
+/// held before is freed; otherwise `made` is unchanged. All other memory is freed when it returns.
 #[unsafe(no_mangle)]
 pub extern "C" fn fluent_write(
     alloc: Global,
@@ -95,7 +95,7 @@ pub extern "C" fn fluent_write_json(alloc: Global, text: &[u8], made: &mut Fluen
 ///
 /// The function `NUMBER` is there, and variants are chosen by the plural rules of the locale, a tag such as `pl` or `pt-PT`, and by
 /// those of English if it is empty. Placeables are between marks if `isolating` is true. Of duplicate ids the last
-/// entry counts if `overriding` is true, and else the first. `docs/protocol.md` says what a request line and its
+/// entry counts if `overriding` is true, and otherwise the first. `docs/protocol.md` says what a request line and its
 /// answer are, and `docs/plurals.md` which locales have plural rules.
 ///
 /// The answers are those of [`fluent_write`], also if a request is bad; and
@@ -134,7 +134,7 @@ pub extern "C" fn fluent_free_text(alloc: Global, made: &mut FluentText)
 /// Reads sources, and keeps a bundle of them, which answers as [`fluent_answer`] does.
 ///
 /// The sources are copied. The settings, the locale and the answers are those of [`fluent_answer`]: if the sources were read, `made`
-/// keeps the bundle, and what it kept before is freed; else `made` is unchanged.
+/// keeps the bundle, and what it kept before is freed; otherwise `made` is unchanged.
 #[unsafe(no_mangle)]
 pub extern "C" fn fluent_bundle_new(
     alloc: Global,
@@ -155,8 +155,8 @@ pub extern "C" fn fluent_bundle_new(
     bundle_new(alloc, sources, locale, isolating, overriding, made)
 }
 
-/// Hands out what a message of a bundle gives for arguments: its value, or its first attribute of a name, and the value for the empty
-/// name.
+/// Formats a message of a bundle with these arguments: its value if `attribute` is empty, and otherwise its first
+/// attribute of that name.
 ///
 /// The answer is [`FLUENT_READ`](fluent_calls::FLUENT_READ) also if there are errors: then `text` holds the text and `errors` a line
 /// for each error, or no text if there are none, and what `errors` held before is freed. The memory of what `text` held is kept with
@@ -224,8 +224,8 @@ pub extern "C" fn fluent_bundle_has<'a>(
     bundle_has(alloc, bundle, id, attribute)
 }
 
-/// Hands out what a check of a bundle's sources reports, as the command `ftl check` does: a line for each error and for each message
-/// or term whose id was there before it, or the empty text.
+/// Reports what a check of a bundle's sources finds, as the command `ftl check` does: a line for each error and for each
+/// message or term whose id was there before it, or the empty text.
 ///
 /// The answer is [`FLUENT_READ`](fluent_calls::FLUENT_READ), [`FLUENT_NO_BUNDLE`](fluent_calls::FLUENT_NO_BUNDLE) if there is no
 /// bundle, or [`FLUENT_NO_MEMORY`](fluent_calls::FLUENT_NO_MEMORY): then `report` holds what it held.

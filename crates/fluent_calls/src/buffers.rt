@@ -1,4 +1,4 @@
-//! The memory of a text that is handed out.
+//! The memory of a text that a caller gets.
 
 /// The bytes of a text, and memory that the next one is written into.
 #[derive(Drop)]

@@ -69,8 +69,8 @@ fn kept(
 ///
 /// The sources are copied. The settings and the locale are those of [`answer`](crate::answer). The answer is [`FLUENT_READ`], also
 /// if a source has errors: then `made` keeps the bundle, and what it kept before is freed. The answer is [`FLUENT_NOT_UTF8`] if a
-/// source isn't UTF-8, which is seen before memory is taken, [`FLUENT_UNKNOWN_LOCALE`] if the locale has no plural rules, or
-/// [`FLUENT_NO_MEMORY`] otherwise, and `made` is unchanged then.
+/// source isn't UTF-8, which is seen before anything is allocated, [`FLUENT_UNKNOWN_LOCALE`] if the locale has no
+/// plural rules, or [`FLUENT_NO_MEMORY`] otherwise, and `made` is unchanged then.
 pub fn bundle_new(
     alloc: Global,
     sources: &[FluentSource<'_>],
@@ -109,7 +109,7 @@ pub fn bundle_new(
 ///
 /// The answer is [`FLUENT_READ`] if it has, [`FLUENT_NO_MESSAGE`] if there is no message of the id, [`FLUENT_NO_PATTERN`] if the
 /// message lacks the value or the attribute, [`FLUENT_NOT_UTF8`] if the id or the name isn't UTF-8, and [`FLUENT_NO_BUNDLE`] if there
-/// is no bundle. It takes no memory.
+/// is no bundle. It doesn't allocate.
 pub fn bundle_has<'a>(
     alloc: Global,
     bundle: &mut FluentBundle,
@@ -138,8 +138,8 @@ pub fn bundle_has<'a>(
     }
 }
 
-/// Hands out what a check of a bundle's sources reports, as the command `ftl check` does: a line for each error and for each message
-/// or term whose id was there before it, or the empty text.
+/// Reports what a check of a bundle's sources finds, as the command `ftl check` does: a line for each error and for each
+/// message or term whose id was there before it, or the empty text.
 ///
 /// The answer is [`FLUENT_READ`], [`FLUENT_NO_BUNDLE`] if there is no bundle, or [`FLUENT_NO_MEMORY`]. If it isn't
 /// [`FLUENT_READ`], `report` holds what it held.

@@ -34,7 +34,7 @@ fn error_lines(alloc: Global, reply: &Reply) -> Result<FluentText, AllocError>
     FluentText::of(alloc, lines.into_bytes())
 }
 
-/// Hands out a reply.
+/// Puts a reply into the texts of the caller.
 ///
 /// # Errors
 /// [`AllocError`] if memory runs out; the texts hold what they held.
@@ -60,8 +60,8 @@ fn hand_out(
     }
 }
 
-/// Hands out what a message of a bundle gives for arguments: its value, or its first attribute of a name, and the value for the empty
-/// name.
+/// Formats a message of a bundle with these arguments: its value if `attribute` is empty, and otherwise its first
+/// attribute of that name.
 ///
 /// The answer is [`FLUENT_READ`] also if there are errors: then `text` holds the text and `errors` a line for each error, or no
 /// text if there are none, and what `errors` held before is freed. The memory of what `text` held is kept with the new text, and

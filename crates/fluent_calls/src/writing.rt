@@ -61,7 +61,7 @@ fn json_text(alloc: Global, text: &str) -> Result<FluentText, AllocError>
     FluentText::of(alloc, written.into_bytes())
 }
 
-/// What a tree is handed out as.
+/// The form in which a caller gets a tree.
 ///
 /// ```
 /// let form = Form::Written { with_junk: false };
@@ -85,7 +85,7 @@ fn text_of(alloc: Global, text: &str, form: Form) -> Result<FluentText, AllocErr
     }
 }
 
-/// Hands out the text of a source's tree in this form.
+/// Writes a source's tree in this form.
 ///
 /// `text` is the source's bytes. The answer is [`FLUENT_READ`], also if the source has errors: then `made` holds the
 /// text, and what it held before is freed. The answer is [`FLUENT_NOT_UTF8`] or [`FLUENT_NO_MEMORY`] otherwise, and `made`

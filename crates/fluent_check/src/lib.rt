@@ -1,4 +1,4 @@
-//! Checks sources: what is damaged in each, and which of their messages and terms have an id that another one has.
+//! Checks sources: the syntax errors of each, and the messages and terms whose id an earlier one has.
 //!
 //! [`check`] reads all sources whole, comments included, and gives a [`Report`]. [`sources::read_sources`] reads them for use at
 //! run time, for those who ask them for messages.

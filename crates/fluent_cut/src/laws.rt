@@ -27,8 +27,8 @@ pub fn joined_texts_keep_lists()
     ensures { JoinedTextsKeepLists }
 {}
 
-/// Behind lines of any kind a text without errors keeps its messages and terms, or loses the first. It keeps all where
-/// it begins with `#`, or where those lines have no errors.
+/// After lines of any kind a text without errors keeps its messages and terms, or loses the first. It keeps all if
+/// it begins with `#`, or if those lines have no errors.
 pub fn damage_stays()
     ensures { DamageStays }
 {}

@@ -1,6 +1,6 @@
 #![tactic(auto)]
 
-//! What a desk does with Fluent sources: it answers from them, checks them and tidies them, and tidying changes no text that
+//! Answers from Fluent sources, checks them and tidies them. Tidying changes no text that
 //! they show.
 //!
 //! A translation file gets damaged, is put together from others, or has been written by another tool. The calls that tidy give
@@ -10,12 +10,12 @@
 //! |---|---|
 //! | [`run`] | the answers to a stream of request lines |
 //! | [`answers`] | the same, for request lines in memory |
-//! | [`check`] | what is damaged in sources, and which of their ids stand twice |
-//! | [`clean`] | the source without the stretches that can't be read |
+//! | [`check`] | the syntax errors of sources, and the duplicate ids |
+//! | [`clean`] | the source without its junk |
 //! | [`join`] | several sources as one, each cleaned |
-//! | [`normalize`] | the source as the serializer writes it, where that is read back as the same tree |
+//! | [`normalize`] | the source as the serializer writes it, if that is read back as the same tree |
 //! | [`export`] | the JSON tree of the cleaned source |
-//! | [`import`] | the text of a JSON tree, where that is read back as the same tree |
+//! | [`import`] | the text of a JSON tree, if that is read back as the same tree |
 //!
 //! ```
 //! let cleaned = clean(alloc, SOURCE)?; // key1 = Value 1, an empty line, key2={ $x }
@@ -23,7 +23,7 @@
 //! ```
 //!
 //! The calls that tidy refuse sources with a carriage return, since written text ends its lines in a line feed alone. No call
-//! changes what it was handed. [`laws`] says what stays when sources are tidied, over plain data.
+//! changes what is passed to it. [`laws`] says what stays when sources are tidied, over plain data.
 //!
 //! The calls stand in three crates: `fluent_run` answers, `fluent_check` checks, and `fluent_tidy` tidies.
 

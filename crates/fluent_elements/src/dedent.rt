@@ -31,7 +31,7 @@ pub fn dedent_all<S: Drop, T: Texts<S>>(
     Ok(())
 }
 
-/// Takes its part of the common indent off a text that begins a line, and says whether a line begins behind the element.
+/// Takes its part of the common indent off a text that begins a line, and says whether a line begins after the element.
 fn dedent<S: Drop, T: Texts<S>>(
     alloc: Global,
     texts: &T,

@@ -9,7 +9,7 @@ ghost use Rattle.fluent_ids.specs.AttributesLeft.{attributes_left};
 use fluent_ast::{Attribute, Pattern};
 use std::slice;
 
-/// An attribute of a message. Two are equal where their ids and values are.
+/// An attribute of a message. Two are equal if their ids and values are.
 ///
 /// ```
 /// let message = bundle.get_message("checkout").context("no such message")?;

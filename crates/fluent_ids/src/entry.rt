@@ -9,7 +9,7 @@ ghost use Rattle.fluent_meaning.specs.Ids.{entries_by_id, kind_of};
 use fluent_ast::{self as ast, Message, Resource, Term};
 use fluent_errors::EntryKind;
 
-/// What an id stands for. A message and a term stand beside the tree of the resource that they come from.
+/// What an id stands for. A message and a term are next to the tree of the resource that they come from.
 ///
 /// ```no_run
 /// if let Some(Entry::Term((_, term))) = ids.get("brand") {

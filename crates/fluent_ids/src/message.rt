@@ -10,7 +10,7 @@ ghost use Rattle.fluent_ids.specs.Attributes.{first_named};
 use crate::attribute::{Attributes, FluentAttribute};
 use fluent_ast::{Message, Pattern};
 
-/// A message. Two are equal where their ids, values, attributes and comments are.
+/// A message. Two are equal if their ids, values, attributes and comments are.
 ///
 /// ```
 /// let message = bundle.get_message("intro").context("no such message")?;

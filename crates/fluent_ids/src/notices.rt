@@ -70,7 +70,7 @@ impl<'s> Notices<'s> {
 }
 
 impl<'r, 's, F: Drop> FluentIds<'r, 's, F> {
-    /// The notices that adding a resource gives, where the first entry of an id stays.
+    /// The notices that adding a resource gives, if the first entry of an id stays.
     pub(crate) fn notices(
         &self,
         resource: &'r Resource<&'s str>,

@@ -20,7 +20,7 @@ impl<'v> Members<'v> {
     ghost use Rattle.serde_json.specs.Data.{Members as MembersData};
     ghost use Rattle.fluent_json_objects.specs.Left.{left};
 
-    /// All members of `value`, or None where it is no object.
+    /// All members of `value`, or None if it is no object.
     fn of(value: &'v Value) -> Option<Self>
         ensures some { IfSome result (λ members. view value.now ≡ object (left members)) }
         ensures none { IfNone result ((ms : MembersData) → view value.now ≢ object ms) }
@@ -29,7 +29,7 @@ impl<'v> Members<'v> {
         Some(Members { entries })
     }
 
-    /// The next member's value, or None where the next key is another one.
+    /// The next member's value, or None if the next key is another one.
     fn take(&mut self, key: &str) -> Option<&'v Value>
         ensures some { IfSome result (λ value. left self.old
             ≡ member key.now (view value.now) (left self.new)) }
@@ -44,7 +44,7 @@ impl<'v> Members<'v> {
         }
     }
 
-    /// None where a member is left.
+    /// None if a member is left.
     fn end(mut self) -> Option<()>
         ensures some { IfSome result (λ _. left self.entry ≡ no_members) }
         ensures none { IfNone result (left self.entry ≢ no_members) }
@@ -55,7 +55,7 @@ impl<'v> Members<'v> {
         }
     }
 
-    /// The value at this key, or None where another key or more than one is left.
+    /// The value at this key, or None if another key or more than one is left.
     fn one(mut self, key: &str) -> Option<&'v Value>
         ensures some { IfSome result (λ v. left self.entry
             ≡ member key.now (view v.now) no_members) }
@@ -66,7 +66,7 @@ impl<'v> Members<'v> {
         Some(value)
     }
 
-    /// The values at these two keys, or None where others are left.
+    /// The values at these two keys, or None if others are left.
     fn two(mut self, first: &str, second: &str) -> Option<(&'v Value, &'v Value)>
         ensures some { IfSome result (IsOfTwo (two_members first.now second.now)
             (left self.entry)) }
@@ -77,7 +77,7 @@ impl<'v> Members<'v> {
         Some((value, self.one(second)?))
     }
 
-    /// The values at these three keys, or None where others are left.
+    /// The values at these three keys, or None if others are left.
     fn three(
         mut self,
         first: &str,
@@ -94,7 +94,7 @@ impl<'v> Members<'v> {
         Some((value, other, last))
     }
 
-    /// The values at these four keys, or None where others are left.
+    /// The values at these four keys, or None if others are left.
     fn four(
         mut self,
         first: &str,
@@ -172,7 +172,7 @@ pub(crate) fn five<'v>(
     Some((at_first, at_second, at_third, at_fourth, at_fifth))
 }
 
-/// Some where a value is this text.
+/// Some if a value is this text.
 pub(crate) fn is_text(value: &Value, text: &str) -> Option<()>
     ensures some { IfSome result (λ _. view value.now ≡ string text.now) }
     ensures none { IfNone result (view value.now ≢ string text.now) }

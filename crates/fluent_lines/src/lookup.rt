@@ -45,8 +45,8 @@ impl<'a> Lines<'a> {
         self.find(place).end.saturating_sub(place)
     }
 
-    /// How many bytes stand before the next line behind this place that may begin an entry: all that are left, where there is
-    /// none.
+    /// How many bytes stand before the next line after this place that may begin an entry: all that are left, if there
+    /// is none.
     pub fn entry_start(&mut self, place: usize) -> usize
         requires { place ≤ length self.old.text.now }
         ensures value { drop result (drop place self.old.text.now)
@@ -96,9 +96,9 @@ impl<'a> Lines<'a> {
         self.find(place)
     }
 
-    /// The length of a text that is all of a pattern: of one line, with its line feed, behind which the pattern ends. It is
-    /// told by the rows; only the first byte is looked at, and the one behind the line. `None` where the text is none, or where
-    /// it isn't told.
+    /// The length of a text that is all of a pattern: of one line, with its line feed, after which the pattern ends. It
+    /// is read from the rows; only the first byte is looked at, and the one after the line. `None` if the text is none,
+    /// or if the rows don't say it.
     #[inline(always)]
     pub fn one_line_len(&mut self, place: usize) -> Option<usize>
         requires { place ≤ length self.old.text.now }
@@ -116,7 +116,7 @@ impl<'a> Lines<'a> {
         }
     }
 
-    /// Whether a line feed stands at this place, behind which a pattern ends.
+    /// Whether a line feed stands at this place, after which a pattern ends.
     pub fn is_last_feed(&mut self, place: usize) -> bool
         requires { place ≤ length self.old.text.now }
         ensures value { result ≡ is_last_feed (drop place self.old.text.now) }
@@ -130,7 +130,7 @@ impl<'a> Lines<'a> {
         feeds_last(&row, self.later(), place)
     }
 
-    /// The rows behind `near`.
+    /// The rows after `near`.
     fn later(&self) -> &'a [Row]
         ensures { result.now ≡ drop (self.now.near + 1) self.now.rows.now }
     {
@@ -155,7 +155,8 @@ impl<'a> Lines<'a> {
     }
 }
 
-/// How many bytes the plain line at the front has with its line feed, where its length is this: its text, as that of a pattern.
+/// How many bytes the plain line at the front has with its line feed, if its length is this: its text, as that of a
+/// pattern.
 fn plain_text_len(text: &[u8], len: usize) -> usize
     requires line { len ≡ length (rest_of_line text.now).0 }
     requires plain { is_plain (take len text.now) ≡ true }
@@ -166,7 +167,7 @@ fn plain_text_len(text: &[u8], len: usize) -> usize
     len + usize::from(has_line_feed)
 }
 
-/// Whether a pattern ends behind the line feed of a line, or behind one more. The rows behind that of the line tell it.
+/// Whether a pattern ends after the line feed of a line, or after one more. The rows after that of the line say so.
 fn is_last_line(row: &Row, later: &[Row]) -> bool
     ensures { result ≡ is_last_line row.now later.now }
 {
@@ -181,7 +182,8 @@ fn is_last_line(row: &Row, later: &[Row]) -> bool
     }
 }
 
-/// Whether the last byte of a line stands at this place, and a pattern ends behind it. The rows behind that of the line tell it.
+/// Whether the last byte of a line stands at this place, and a pattern ends after it. The rows after that of the line
+/// say so.
 fn feeds_last(row: &Row, later: &[Row], place: usize) -> bool
     ensures { result ≡ feeds_last row.now later.now place }
 {

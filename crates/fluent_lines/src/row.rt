@@ -22,14 +22,15 @@ pub struct Row {
     pub spaces: u32,
     /// Whether an entry can begin here: an ASCII letter, `-` or `#` stands at column 0.
     pub begins_entry: bool,
-    /// Whether a pattern ends before this line, by the byte that stands behind its spaces.
+    /// Whether a pattern ends before this line, by the byte that is after its spaces.
     pub ends_pattern: bool,
     /// Whether the line is plain: no brace stands in it.
     pub is_plain: bool,
 }
 
 impl Row {
-    /// The row of the line at the front of a text, which has so many bytes, is plain or not, and begins at `start` of a source.
+    /// The row of the line at the front of a text, which has this many bytes, is plain or not, and begins at `start` of
+    /// a source.
     ///
     /// # Errors
     ///

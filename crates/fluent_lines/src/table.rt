@@ -13,13 +13,13 @@ use std::alloc::{AllocError, Global};
 /// shorter lines grows, and is moved then.
 const SHORT: usize = 24;
 
-/// The lines of a text, in their order. Behind a line feed at the end of the text there is one more, which is empty.
+/// The lines of a text, in their order. After a line feed at the end of the text there is one more, which is empty.
 ///
 /// A line ends at LF or CR LF; a carriage return alone belongs to its line.
 ///
 /// # Errors
 ///
-/// Where memory runs out, or a line has 4,294,967,296 spaces at its front, nothing of the table is left.
+/// If memory runs out, or a line has 4,294,967,296 spaces at its front, nothing of the table is left.
 pub fn line_table(alloc: Global, text: &[u8]) -> Result<Vec<Row>, AllocError>
     ensures { IfOk result (λ rows. map row_view rows.items ≡ lines text.now) }
 {

@@ -17,15 +17,15 @@ pub fn ids_in_turn<F>()
     ensures notices { NoticesInTurn F }
 {}
 
-/// An id stands for the first entry that was put in under it, or for the last where later ones override. The ids stay in the
-/// order of their bytes, each once.
+/// An id stands for the first entry that was put in under it, or for the last if later ones override. The ids stay in
+/// the order of their bytes, each once.
 pub fn one_entry_stays<F>()
     ensures first { FirstStays F }
     ensures last { LastStays F }
     ensures ascending { IdsAscend F }
 {}
 
-/// Patterns are compared by content: the test holds exactly where they are equal.
+/// Patterns are compared by content: the test holds exactly if they are equal.
 pub fn same_decides()
     ensures { SameDecides }
 {}
@@ -49,9 +49,10 @@ pub fn limit_stays<C: FluentType, F>()
     ensures one { UnlimitedIsOne C.Meaning F }
 {}
 
-/// With k placeables to open, at most k are opened, and the rest is left; one too many is told at most once, exactly where the
-/// answer ends shut. An asked pattern and a reference enter at most 1 + k * R patterns, an expression, a placeable that was
-/// opened before, and arguments (k + 1) * R, where R is the most references and selects in one placeable.
+/// With k placeables to open, at most k are opened, and the rest is left; one too many is reported at most once,
+/// exactly if the answer ends shut. An asked pattern and a reference enter at most 1 + k * R patterns, an expression, a
+/// placeable that was opened before, and arguments (k + 1) * R, where R is the most references and selects in one
+/// placeable.
 pub fn work_is_bounded<C: FluentType, F>()
     ensures entered { EntersWithinBound C.Meaning F }
     ensures opened { OpensWithinBudget C.Meaning F }

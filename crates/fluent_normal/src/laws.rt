@@ -2,7 +2,7 @@
 
 ghost use Rattle.fluent_normal.specs.NormalLaws.{CanonicalTreesAreToldApart, NoNormalTextMeansShaped, NormalTextsAreFixed, NormalTextsKeepTheList, TidiedSourcesKeepLists, UnshapedIsCanonical, WellFormedIsCanonical};
 
-/// The tree of a cut text without a shape is canonical, for sources of UTF-8 without carriage returns. So where such a
+/// The tree of a cut text without a shape is canonical, for sources of UTF-8 without carriage returns. So if such a
 /// source has no normal text, its cut text has a shape.
 pub fn reading_is_unique()
     ensures unshaped { UnshapedIsCanonical }

@@ -4,13 +4,13 @@ ghost use Rattle.fluent_number.specs.Conversion.{from_integer, truncated};
 
 use std::marker::Model;
 
-/// How many digits a decimal has behind its point.
+/// How many digits a decimal has after its point.
 pub(crate) const FRACTION_DIGITS: usize = 18;
 
 /// How many units make one.
 pub(crate) const UNITS_PER_ONE: u64 = 1_000_000_000_000_000_000;
 
-/// The powers of ten up to that of all digits behind the point.
+/// The powers of ten up to that of all digits after the point.
 const POWERS_OF_TEN: [u64; 19] = [
     1,
     10,
@@ -45,7 +45,7 @@ pub(crate) fn power_of_ten(exponent: usize) -> u64
 /// An exact decimal number: a sign, a whole part below 2<sup>64</sup>, and a fraction of at most 18 digits.
 ///
 /// A contract sees it as an integer, the number of its units of 10<sup>-18</sup>. So zero has no sign, and two
-/// decimals are equal where they are the same number.
+/// decimals are equal if they are the same number.
 ///
 /// ```no_run
 /// let half = Decimal::from_parts(true, 2, 500_000_000_000_000_000).context("not a fraction")?;
@@ -127,7 +127,7 @@ impl Decimal {
         }
     }
 
-    /// The integer that is left where what stands behind the point is dropped.
+    /// The integer that is left if the digits after the point are dropped.
     pub(crate) fn truncated(self) -> i128
         ensures value { result ≡ truncated self }
         ensures small { unsigned_abs result < 2 ^ 64 }
@@ -150,7 +150,7 @@ impl Decimal {
         self.whole
     }
 
-    /// What stands behind the point, in units of 10<sup>-18</sup>.
+    /// What is after the point, in units of 10<sup>-18</sup>.
     pub fn fraction(self) -> u64
         ensures value { result ≡ fraction_of self }
         ensures small { result < units_per_one }

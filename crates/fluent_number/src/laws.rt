@@ -11,13 +11,13 @@ use crate::{
 };
 use std::hash::Hash;
 
-/// A text is read as a number exactly where it spells that number.
+/// A text is read as a number exactly if it spells that number.
 pub fn reads_what_is_spelled()
     ensures { ReadsWhatIsSpelled }
 {}
 
-/// The text of a number is read as that number: of its options the count of digits shown behind the point stays, and
-/// nothing is read where more than 18 are shown.
+/// The text of a number is read as that number: of its options the count of digits shown after the point stays, and
+/// nothing is read if more than 18 are shown.
 pub fn reads_its_text()
     ensures { ReadsItsText }
 {}
@@ -33,7 +33,7 @@ pub fn writes_what_was_read()
     ensures { WritesWhatWasRead }
 {}
 
-/// The plural operands of a number are what the digits of its text say, of which at most 18 behind the point count.
+/// The plural operands of a number are what the digits of its text say, of which at most 18 after the point count.
 pub fn operands_agree_with_text()
     ensures { OperandsAgreeWithText }
 {}
@@ -67,7 +67,7 @@ pub fn unsigned_integers_become_their_numbers<'a>()
         (λ n. pos n.now) }
 {}
 
-/// Each number becomes the integer of a signed type that is nearest to it once what stands behind its point is dropped, by
+/// Each number becomes the integer of a signed type that is nearest to it once what is after its point is dropped, by
 /// value and by reference.
 pub fn numbers_become_signed_integers<'a>()
     ensures i8 { BecomesSigned 8 ⟦<i8 as From<FluentNumber>>⟧.from_gives (λ n. n.value) }
@@ -90,7 +90,7 @@ pub fn numbers_become_signed_integers<'a>()
         (λ n. n.now.value) }
 {}
 
-/// Each number becomes the integer of an unsigned type that is nearest to it once what stands behind its point is dropped,
+/// Each number becomes the integer of an unsigned type that is nearest to it once what is after its point is dropped,
 /// by value and by reference.
 pub fn numbers_become_unsigned_integers<'a>()
     ensures u8 { BecomesUnsigned 8 ⟦<u8 as From<FluentNumber>>⟧.from_gives (λ n. n.value) }
@@ -145,15 +145,15 @@ fn equality_of<T: Eq>()
     ensures { IsEquivalence T.eq }
 {}
 
-/// Decimals are equal where they are the same number, options where each of them is the same, with `currency` compared
-/// as a text, and numbers where value and options are.
+/// Decimals are equal if they are the same number, options if each of them is the same, with `currency` compared
+/// as a text, and numbers if value and options are.
 pub fn equal_values_look_the_same()
     ensures decimals { EqualWhereSeenSame ⟦<Decimal as PartialEq>⟧.eq (λ value. value) }
     ensures options { EqualWhereSeenSame ⟦<FluentNumberOptions as PartialEq>⟧.eq options_of }
     ensures numbers { EqualWhereSeenSame ⟦<FluentNumber as PartialEq>⟧.eq number_of }
 {}
 
-/// Choices that options hold are equal where they are the same.
+/// Choices that options hold are equal if they are the same.
 pub fn equal_choices_are_the_same()
     ensures types { EqualWhereSeenSame ⟦<FluentNumberType as PartialEq>⟧.eq (λ value. value) }
     ensures styles { EqualWhereSeenSame ⟦<FluentNumberStyle as PartialEq>⟧.eq (λ value. value) }
@@ -161,7 +161,7 @@ pub fn equal_choices_are_the_same()
         ⟦<FluentNumberCurrencyDisplayStyle as PartialEq>⟧.eq (λ value. value) }
 {}
 
-/// Plural operands are equal where each of them is the same, categories and kinds of rules where they are the same.
+/// Plural operands are equal if each of them is the same, categories and kinds of rules if they are the same.
 pub fn equal_plurals_are_the_same()
     ensures operands { EqualWhereSeenSame ⟦<PluralOperands as PartialEq>⟧.eq (λ value. value) }
     ensures categories { EqualWhereSeenSame ⟦<PluralCategory as PartialEq>⟧.eq (λ value. value) }

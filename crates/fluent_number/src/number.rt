@@ -35,7 +35,7 @@ impl FluentNumber {
         FluentNumber { value, options }
     }
 
-    /// A copy. Only the text of the option `currency` takes memory.
+    /// A copy. Only the text of the option `currency` is allocated.
     ///
     /// # Errors
     /// [`AllocError`] if memory runs out; nothing is left behind.
@@ -46,11 +46,11 @@ impl FluentNumber {
         Ok(FluentNumber::new(self.value, self.options.try_clone(alloc)?))
     }
 
-    /// The text of the number: a minus if it is negative, the whole part and, where there are any, a point and the digits
-    /// behind it without zeros at the end.
+    /// The text of the number: a minus if it is negative, the whole part and, if there are any, a point and the digits
+    /// after it without zeros at the end.
     ///
-    /// Where `minimum_fraction_digits` is set a point is always written, and zeros are added until so many digits
-    /// stand behind it.
+    /// If `minimum_fraction_digits` is set a point is always written, and zeros are added until this many digits
+    /// follow it.
     ///
     /// # Errors
     /// [`AllocError`] if memory runs out; nothing is left behind. A count that no memory holds is refused at once.
@@ -64,8 +64,8 @@ impl FluentNumber {
 
 /// Reads a number: an optional sign, and digits with at most one point among them.
 ///
-/// At least one digit is needed, at most 18 may stand behind the point, and the whole part has to be below
-/// 2<sup>64</sup>. Where there is a point, `minimum_fraction_digits` is the count of digits behind it; all other options
+/// At least one digit is needed, at most 18 may follow the point, and the whole part has to be below
+/// 2<sup>64</sup>. If there is a point, `minimum_fraction_digits` is the count of digits after it; all other options
 /// have their defaults. Every other text is [`NotANumber`].
 impl FromStr for FluentNumber {
     type Err = NotANumber;

@@ -5,7 +5,7 @@ ghost use Rattle.fluent_number.specs.Options.{options_of, default_options};
 use crate::source::OptionSource;
 use std::alloc::{AllocError, Global};
 
-/// Whether a number counts things or tells a place in an order.
+/// Whether a number counts things or is a place in an order.
 ///
 /// ```no_run
 /// let mut place = FluentNumber::from(2_u8);
@@ -16,7 +16,7 @@ pub enum FluentNumberType {
     /// It counts things, as in "2 days".
     #[default]
     Cardinal,
-    /// It tells a place, as in "the 2nd day".
+    /// It is a place in an order, as in "the 2nd day".
     Ordinal,
 }
 
@@ -106,7 +106,7 @@ impl From<&str> for FluentNumberCurrencyDisplayStyle {
 /// ```
 #[derive(Debug, Drop, PartialEq, Eq, Hash)]
 pub struct FluentNumberOptions {
-    /// Whether it counts or tells a place, which decides between the rules of plurals.
+    /// Whether it counts or is a place in an order, which decides between the plural rules.
     pub number_type: FluentNumberType,
     /// What it is shown as.
     pub style: FluentNumberStyle,
@@ -118,9 +118,9 @@ pub struct FluentNumberOptions {
     pub use_grouping: bool,
     /// The least count of digits before the point.
     pub minimum_integer_digits: Option<usize>,
-    /// The least count of digits behind the point; where it is set, the text of the number has a point.
+    /// The least count of digits after the point; if it is set, the text of the number has a point.
     pub minimum_fraction_digits: Option<usize>,
-    /// The greatest count of digits behind the point.
+    /// The greatest count of digits after the point.
     pub maximum_fraction_digits: Option<usize>,
     /// The least count of significant digits.
     pub minimum_significant_digits: Option<usize>,
@@ -149,7 +149,7 @@ impl Default for FluentNumberOptions {
 }
 
 impl FluentNumberOptions {
-    /// A copy. Only the text of `currency` takes memory.
+    /// A copy. Only the text of `currency` is allocated.
     ///
     /// # Errors
     /// [`AllocError`] if memory runs out; nothing is left behind.
@@ -175,7 +175,7 @@ impl FluentNumberOptions {
     /// `useGrouping` by a text, `minimumIntegerDigits`, `minimumFractionDigits`, `maximumFractionDigits`,
     /// `minimumSignificantDigits` and `maximumSignificantDigits` by a number, of which the whole part counts.
     ///
-    /// A key with no value or one of another kind changes nothing. Only the text of `currency` takes memory.
+    /// A key with no value or one of another kind changes nothing. Only the text of `currency` is allocated.
     ///
     /// # Errors
     /// [`AllocError`] if memory runs out; the options are unchanged.
@@ -194,7 +194,7 @@ impl FluentNumberOptions {
         Ok(())
     }
 
-    /// Sets the options that a text sets and that take no memory.
+    /// Sets the options that a text sets without an allocation.
     fn merge_texts<S: OptionSource>(&mut self, source: &S)
         ensures { options_of self.new ≡ with_texts (S.text_under source.now) (options_of self.old) }
     {

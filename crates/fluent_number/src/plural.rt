@@ -19,13 +19,13 @@ pub struct PluralOperands {
     pub n: Decimal,
     /// The whole part.
     pub i: u64,
-    /// How many digits are shown behind the point, at most 18.
+    /// How many digits are shown after the point, at most 18.
     pub v: usize,
-    /// How many digits stand behind the point without zeros at the end.
+    /// How many digits are after the point, without zeros at the end.
     pub w: usize,
-    /// The number that the digits shown behind the point write.
+    /// The number that the digits shown after the point write.
     pub f: u64,
-    /// The number that the digits behind the point write without zeros at the end.
+    /// The number that the digits after the point write without zeros at the end.
     pub t: u64,
 }
 
@@ -49,7 +49,7 @@ impl From<&FluentNumber> for PluralOperands {
     }
 }
 
-/// How many digits are shown behind the point: at least the significant ones, and at most 18 for the count asked for.
+/// How many digits are shown after the point: at least the significant ones, and at most 18 for the count asked for.
 fn shown_digits(significant: usize, minimum: Option<usize>) -> usize
     ensures { result ≡ max significant (min (unwrap_or minimum 0) 18) }
 {
@@ -93,8 +93,8 @@ pub enum PluralRuleType {
 
 /// The category of a number in English, from its operands.
 ///
-/// Of counts, 1 shown without digits behind the point is `one` and all else `other`. Of places, a whole number is `one`,
-/// `two` or `few` where its last digit is 1, 2 or 3 and its last two aren't 11, 12 or 13, and all else is `other`.
+/// Of counts, 1 shown without digits after the point is `one` and all else `other`. Of places, a whole number is `one`,
+/// `two` or `few` if its last digit is 1, 2 or 3 and its last two aren't 11, 12 or 13, and all else is `other`.
 pub fn english_category(rule: PluralRuleType, operands: &PluralOperands) -> PluralCategory
     ensures { result ≡ english rule operands.now }
 {
@@ -104,7 +104,7 @@ pub fn english_category(rule: PluralRuleType, operands: &PluralOperands) -> Plur
     }
 }
 
-/// One of something, shown without digits behind the point, as in "1 day" but "1.0 days".
+/// One of something, shown without digits after the point, as in "1 day" but "1.0 days".
 fn english_cardinal(operands: &PluralOperands) -> PluralCategory
     ensures { result ≡ cardinal_category operands.now }
 {

@@ -13,7 +13,7 @@ use crate::decimal::{Decimal, FRACTION_DIGITS, power_of_ten};
 use crate::number::{FluentNumber, NotANumber};
 use crate::options::FluentNumberOptions;
 
-/// So many digits write a number that fits in any case.
+/// This many digits write a number that fits in any case.
 const SAFE_DIGITS: usize = 19;
 
 /// The number that a text is, if it is one.
@@ -30,21 +30,21 @@ pub(crate) fn read(text: &str) -> Option<FluentNumber>
     Some(FluentNumber::new(value, options_showing(count_behind(numeral.fraction))))
 }
 
-/// The digits behind a point, none where there is no point.
+/// The digits after a point, none if there is no point.
 fn digits_behind(fraction: Option<&[u8]>) -> &[u8]
     ensures { result.now ≡ unwrap_or (option_copied fraction.entry) [] }
 {
     fraction.unwrap_or(b"")
 }
 
-/// How many digits stand behind a point, if there is one.
+/// How many digits are after a point, if there is one.
 fn count_behind(fraction: Option<&[u8]>) -> Option<usize>
     ensures { result ≡ option_map length (option_copied fraction.entry) }
 {
     Some(fraction?.len())
 }
 
-/// The options that ask for so many digits behind the point and for nothing else.
+/// The options that ask for this many digits after the point and for nothing else.
 fn options_showing(minimum_fraction_digits: Option<usize>) -> FluentNumberOptions
     ensures { options_of result ≡ record default_options
         { minimum_fraction_digits = minimum_fraction_digits } }
@@ -74,7 +74,7 @@ struct Numeral<'a> {
     count: usize,
     /// The number that they write.
     whole: u64,
-    /// What stands behind the point, if there is one.
+    /// What is after the point, if there is one.
     fraction: Option<&'a [u8]>,
 }
 
@@ -99,7 +99,7 @@ fn split_at_point(text: &[u8]) -> Option<Numeral<'_>>
     })
 }
 
-/// What stands behind a point, or nothing where the text ends before it; no other byte may stand first.
+/// What is after a point, or nothing if the text ends before it; no other byte may stand first.
 fn fraction_behind(text: &[u8]) -> Result<Option<&[u8]>, NotANumber>
     ensures ok { IfOk result (λ fraction. text.now ≡ point_text (option_copied fraction)) }
     ensures err { OnErr result ((fraction : Option Text) → text.now ≢ point_text fraction) }
@@ -156,7 +156,7 @@ fn followed_by(worth: u64, digit: u8) -> Option<u64>
     worth.checked_mul(10)?.checked_add(u64::from(digit - b'0'))
 }
 
-/// How many units the digits behind a point are, if they are digits and not too many.
+/// How many units the digits after a point are, if they are digits and not too many.
 fn units_of_fraction(digits: &[u8]) -> Option<u64>
     ensures { SomeIff result (IsFraction digits.now) (fraction_units digits.now) }
 {

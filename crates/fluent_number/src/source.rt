@@ -18,11 +18,11 @@ pub trait OptionSource {
     /// The number under a key, if a number stands there.
     ghost number_under: { Self → Text → Option Number };
 
-    /// The text under a key; `None` where there is no value or another kind of value.
+    /// The text under a key; `None` if there is no value or another kind of value.
     fn text(&self, key: &str) -> Option<&str>
         ensures { option_copied result ≡ text_under self.now key.now };
 
-    /// The number under a key; `None` where there is no value or another kind of value.
+    /// The number under a key; `None` if there is no value or another kind of value.
     fn number(&self, key: &str) -> Option<&FluentNumber>
         ensures { option_map number_of (option_copied result) ≡ number_under self.now key.now };
 }

@@ -1,5 +1,5 @@
-//! The integers of Rust from numbers: what is behind the point is dropped, and what a type can't hold becomes its nearest
-//! end.
+//! The integers of Rust from numbers: what is after the point is dropped, and what a type can't hold becomes its
+//! nearest end.
 
 ghost use Rattle.std.specs.Prelude.{◌≡◌, ◌≤ℤ◌};
 ghost use Rattle.fluent_number.specs.Conversion.{integer_within, signed_of, unsigned_of};
@@ -16,7 +16,7 @@ fn within(number: &FluentNumber, low: i128, high: i128) -> i128
     number.value.truncated().clamp(low, high)
 }
 
-/// Cut toward zero, and the nearest end where it doesn't fit.
+/// Cut toward zero, and the nearest end if it doesn't fit.
 impl From<&FluentNumber> for i8 {
     ghost from_gives = { λ number n. n ≡ signed_of 8 number.now.value };
 
@@ -25,7 +25,7 @@ impl From<&FluentNumber> for i8 {
     }
 }
 
-/// Cut toward zero, and the nearest end where it doesn't fit.
+/// Cut toward zero, and the nearest end if it doesn't fit.
 impl From<FluentNumber> for i8 {
     ghost from_gives = { λ number n. n ≡ signed_of 8 number.value };
 
@@ -34,7 +34,7 @@ impl From<FluentNumber> for i8 {
     }
 }
 
-/// Cut toward zero, and the nearest end where it doesn't fit.
+/// Cut toward zero, and the nearest end if it doesn't fit.
 impl From<&FluentNumber> for i16 {
     ghost from_gives = { λ number n. n ≡ signed_of 16 number.now.value };
 
@@ -43,7 +43,7 @@ impl From<&FluentNumber> for i16 {
     }
 }
 
-/// Cut toward zero, and the nearest end where it doesn't fit.
+/// Cut toward zero, and the nearest end if it doesn't fit.
 impl From<FluentNumber> for i16 {
     ghost from_gives = { λ number n. n ≡ signed_of 16 number.value };
 
@@ -52,7 +52,7 @@ impl From<FluentNumber> for i16 {
     }
 }
 
-/// Cut toward zero, and the nearest end where it doesn't fit.
+/// Cut toward zero, and the nearest end if it doesn't fit.
 impl From<&FluentNumber> for i32 {
     ghost from_gives = { λ number n. n ≡ signed_of 32 number.now.value };
 
@@ -61,7 +61,7 @@ impl From<&FluentNumber> for i32 {
     }
 }
 
-/// Cut toward zero, and the nearest end where it doesn't fit.
+/// Cut toward zero, and the nearest end if it doesn't fit.
 impl From<FluentNumber> for i32 {
     ghost from_gives = { λ number n. n ≡ signed_of 32 number.value };
 
@@ -70,7 +70,7 @@ impl From<FluentNumber> for i32 {
     }
 }
 
-/// Cut toward zero, and the nearest end where it doesn't fit.
+/// Cut toward zero, and the nearest end if it doesn't fit.
 impl From<&FluentNumber> for i64 {
     ghost from_gives = { λ number n. n ≡ signed_of 64 number.now.value };
 
@@ -79,7 +79,7 @@ impl From<&FluentNumber> for i64 {
     }
 }
 
-/// Cut toward zero, and the nearest end where it doesn't fit.
+/// Cut toward zero, and the nearest end if it doesn't fit.
 impl From<FluentNumber> for i64 {
     ghost from_gives = { λ number n. n ≡ signed_of 64 number.value };
 
@@ -88,7 +88,7 @@ impl From<FluentNumber> for i64 {
     }
 }
 
-/// Cut toward zero, and the nearest end where it doesn't fit.
+/// Cut toward zero, and the nearest end if it doesn't fit.
 impl From<&FluentNumber> for i128 {
     ghost from_gives = { λ number n. n ≡ signed_of 128 number.now.value };
 
@@ -97,7 +97,7 @@ impl From<&FluentNumber> for i128 {
     }
 }
 
-/// Cut toward zero, and the nearest end where it doesn't fit.
+/// Cut toward zero, and the nearest end if it doesn't fit.
 impl From<FluentNumber> for i128 {
     ghost from_gives = { λ number n. n ≡ signed_of 128 number.value };
 
@@ -106,7 +106,7 @@ impl From<FluentNumber> for i128 {
     }
 }
 
-/// Cut toward zero, and the nearest end where it doesn't fit.
+/// Cut toward zero, and the nearest end if it doesn't fit.
 impl From<&FluentNumber> for isize {
     ghost from_gives = { λ number n. n ≡ signed_of 64 number.now.value };
 
@@ -115,7 +115,7 @@ impl From<&FluentNumber> for isize {
     }
 }
 
-/// Cut toward zero, and the nearest end where it doesn't fit.
+/// Cut toward zero, and the nearest end if it doesn't fit.
 impl From<FluentNumber> for isize {
     ghost from_gives = { λ number n. n ≡ signed_of 64 number.value };
 
@@ -124,7 +124,7 @@ impl From<FluentNumber> for isize {
     }
 }
 
-/// Cut toward zero, and the nearest end where it doesn't fit.
+/// Cut toward zero, and the nearest end if it doesn't fit.
 impl From<&FluentNumber> for u8 {
     ghost from_gives = { λ number n. n ≡ unsigned_of 8 number.now.value };
 
@@ -133,7 +133,7 @@ impl From<&FluentNumber> for u8 {
     }
 }
 
-/// Cut toward zero, and the nearest end where it doesn't fit.
+/// Cut toward zero, and the nearest end if it doesn't fit.
 impl From<FluentNumber> for u8 {
     ghost from_gives = { λ number n. n ≡ unsigned_of 8 number.value };
 
@@ -142,7 +142,7 @@ impl From<FluentNumber> for u8 {
     }
 }
 
-/// Cut toward zero, and the nearest end where it doesn't fit.
+/// Cut toward zero, and the nearest end if it doesn't fit.
 impl From<&FluentNumber> for u16 {
     ghost from_gives = { λ number n. n ≡ unsigned_of 16 number.now.value };
 
@@ -151,7 +151,7 @@ impl From<&FluentNumber> for u16 {
     }
 }
 
-/// Cut toward zero, and the nearest end where it doesn't fit.
+/// Cut toward zero, and the nearest end if it doesn't fit.
 impl From<FluentNumber> for u16 {
     ghost from_gives = { λ number n. n ≡ unsigned_of 16 number.value };
 
@@ -160,7 +160,7 @@ impl From<FluentNumber> for u16 {
     }
 }
 
-/// Cut toward zero, and the nearest end where it doesn't fit.
+/// Cut toward zero, and the nearest end if it doesn't fit.
 impl From<&FluentNumber> for u32 {
     ghost from_gives = { λ number n. n ≡ unsigned_of 32 number.now.value };
 
@@ -169,7 +169,7 @@ impl From<&FluentNumber> for u32 {
     }
 }
 
-/// Cut toward zero, and the nearest end where it doesn't fit.
+/// Cut toward zero, and the nearest end if it doesn't fit.
 impl From<FluentNumber> for u32 {
     ghost from_gives = { λ number n. n ≡ unsigned_of 32 number.value };
 
@@ -178,7 +178,7 @@ impl From<FluentNumber> for u32 {
     }
 }
 
-/// Cut toward zero, and the nearest end where it doesn't fit.
+/// Cut toward zero, and the nearest end if it doesn't fit.
 impl From<&FluentNumber> for u64 {
     ghost from_gives = { λ number n. n ≡ unsigned_of 64 number.now.value };
 
@@ -187,7 +187,7 @@ impl From<&FluentNumber> for u64 {
     }
 }
 
-/// Cut toward zero, and the nearest end where it doesn't fit.
+/// Cut toward zero, and the nearest end if it doesn't fit.
 impl From<FluentNumber> for u64 {
     ghost from_gives = { λ number n. n ≡ unsigned_of 64 number.value };
 
@@ -196,7 +196,7 @@ impl From<FluentNumber> for u64 {
     }
 }
 
-/// Cut toward zero, and the nearest end where it doesn't fit.
+/// Cut toward zero, and the nearest end if it doesn't fit.
 impl From<&FluentNumber> for u128 {
     ghost from_gives = { λ number n. n ≡ unsigned_of 128 number.now.value };
 
@@ -205,7 +205,7 @@ impl From<&FluentNumber> for u128 {
     }
 }
 
-/// Cut toward zero, and the nearest end where it doesn't fit.
+/// Cut toward zero, and the nearest end if it doesn't fit.
 impl From<FluentNumber> for u128 {
     ghost from_gives = { λ number n. n ≡ unsigned_of 128 number.value };
 
@@ -214,7 +214,7 @@ impl From<FluentNumber> for u128 {
     }
 }
 
-/// Cut toward zero, and the nearest end where it doesn't fit.
+/// Cut toward zero, and the nearest end if it doesn't fit.
 impl From<&FluentNumber> for usize {
     ghost from_gives = { λ number n. n ≡ unsigned_of 64 number.now.value };
 
@@ -223,7 +223,7 @@ impl From<&FluentNumber> for usize {
     }
 }
 
-/// Cut toward zero, and the nearest end where it doesn't fit.
+/// Cut toward zero, and the nearest end if it doesn't fit.
 impl From<FluentNumber> for usize {
     ghost from_gives = { λ number n. n ≡ unsigned_of 64 number.value };
 

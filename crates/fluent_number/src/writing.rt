@@ -8,7 +8,7 @@ use crate::decimal::{Decimal, FRACTION_DIGITS, power_of_ten};
 use itoa::Buffer;
 use std::alloc::{AllocError, Global};
 
-/// The text of a decimal, with at least so many digits behind the point where a count is given.
+/// The text of a decimal, with at least this many digits after the point if a count is given.
 pub(crate) fn text_of(
     alloc: Global,
     value: Decimal,
@@ -39,7 +39,7 @@ fn push_minus(text: &mut String, value: Decimal) -> Result<(), AllocError>
     Ok(())
 }
 
-/// Writes a point and so many digits of a number, filled up with zeros to the least count.
+/// Writes a point and this many digits of a number, filled up with zeros to the least count.
 fn push_point_and(
     text: &mut String,
     least: Option<usize>,
@@ -76,7 +76,7 @@ pub(crate) fn significant_digits(fraction: u64) -> (usize, u64)
     cut_zeros(count, digits, 1)
 }
 
-/// Cuts so many zeros off the end of digits, where there are so many.
+/// Cuts this many zeros off the end of digits, if there are this many.
 #[inline(always)]
 fn cut_zeros(count: usize, digits: u64, zeros: usize) -> (usize, u64)
     requires some { 0 < digits }
@@ -88,7 +88,7 @@ fn cut_zeros(count: usize, digits: u64, zeros: usize) -> (usize, u64)
     ensures below { result.1 < 10 ^ result.0 }
     ensures some { 0 < result.1 }
 
-    // Where there were not twice as many zeros, there are not as many left.
+    // If there were not twice as many zeros, there are not as many left.
     ensures fewer { digits % 10 ^ (zeros + zeros) ≢ 0 → result.1 % 10 ^ zeros ≢ 0 }
 {
     let power = power_of_ten(zeros);
@@ -99,7 +99,7 @@ fn cut_zeros(count: usize, digits: u64, zeros: usize) -> (usize, u64)
     }
 }
 
-/// Writes so many digits of a number, with zeros at the front where it has fewer.
+/// Writes this many digits of a number, with zeros at the front if it has fewer.
 fn push_digits(text: &mut String, count: usize, digits: u64) -> Result<(), AllocError>
     requires short { count ≤ 18 }
     requires below { digits < 10 ^ count }
@@ -111,7 +111,7 @@ fn push_digits(text: &mut String, count: usize, digits: u64) -> Result<(), Alloc
     text.push_str(&one_and_digits[1..])
 }
 
-/// Writes so many zeros.
+/// Writes this many zeros.
 fn push_zeros(text: &mut String, count: usize) -> Result<(), AllocError>
     ensures { OnOk result (string_bytes text.new ≡ string_bytes text.old ++ replicate count 48) }
 {

@@ -16,12 +16,12 @@ use std::alloc::{AllocError, Global};
 pub struct Collected<S> {
     body: Vec<Entry<S>>,
     errors: Vec<ParserError>,
-    /// The last part, if it is a comment of one sign: the message or the term right behind it takes it.
+    /// The last part, if it is a comment of one sign: the message or the term right after it takes it.
     comment: Option<Comment<S>>,
 }
 
 impl<S: Drop> Collected<S> {
-    /// Of no parts, with room for so many entries.
+    /// Of no parts, with room for this many entries.
     ///
     /// # Errors
     /// [`AllocError`] if memory runs out; nothing is left behind.
@@ -77,7 +77,7 @@ impl<S: Drop> Collected<S> {
         }
     }
 
-    /// Puts a message behind the other entries, with the comment right above it.
+    /// Puts a message after the other entries, with the comment right above it.
     fn push_message(&mut self, message: Message<S>, apart: bool) -> Result<(), AllocError>
         ensures entries { OnOk result (TakesEntry S self.old self.new apart (entry.Message message)) }
         ensures errors { OnOk result (self.new.errors.items ≡ self.old.errors.items) }
@@ -89,7 +89,7 @@ impl<S: Drop> Collected<S> {
         Ok(())
     }
 
-    /// Puts a term behind the other entries, with the comment right above it.
+    /// Puts a term after the other entries, with the comment right above it.
     fn push_term(&mut self, term: Term<S>, apart: bool) -> Result<(), AllocError>
         ensures entries { OnOk result (TakesEntry S self.old self.new apart (entry.Term term)) }
         ensures errors { OnOk result (self.new.errors.items ≡ self.old.errors.items) }
@@ -119,7 +119,7 @@ impl<S: Drop> Collected<S> {
         self.body.reserve(1)
     }
 
-    /// Puts the comment that waits behind the other entries.
+    /// Puts the comment that waits after the other entries.
     fn push_comment(&mut self) -> Result<(), AllocError>
         ensures body { OnOk result (Appends S self.old self.new (λ text_of. waiting)) }
         ensures comment { OnOk result (self.new.comment ≡ None) }

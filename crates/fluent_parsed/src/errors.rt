@@ -30,10 +30,10 @@ pub struct ParserError {
 /// ```
 #[derive(Debug, PartialEq, Eq, Drop)]
 pub enum ErrorKind {
-    /// This character had to stand there.
+    /// This character is expected there.
     ExpectedToken(char),
-    /// A character of this range had to stand there: `a-zA-Z` for an identifier, `0-9` for a digit,
-    /// and the line ends behind the arrow of a select.
+    /// A character of this range is expected there: `a-zA-Z` for an identifier, `0-9` for a digit,
+    /// and the line ends after the arrow of a select.
     ExpectedCharRange { range: String },
     /// The message of this name has neither a value nor an attribute.
     ExpectedMessageField { entry_id: String },
@@ -57,16 +57,16 @@ pub enum ErrorKind {
     TermAttributeAsPlaceable,
     /// A string literal isn't closed on its line.
     UnterminatedStringLiteral,
-    /// An argument without a name stands behind one with a name.
+    /// An argument without a name follows one with a name.
     PositionalArgumentFollowsNamed,
-    /// This name stands twice among the arguments of a call.
+    /// Two arguments of a call have this name.
     DuplicatedNamedArgument(String),
-    /// This character stands behind a backslash where none of the four escapes is, or a space for
+    /// This character follows a backslash that begins none of the four escapes; a space stands for
     /// the end of the source.
     UnknownEscapeSequence(String),
     /// Too few hex digits: those that were read, and the character where reading stopped.
     InvalidUnicodeEscapeSequence(String),
-    /// A closing brace stands in a text.
+    /// A text has a closing brace.
     UnbalancedClosingBrace,
     /// No expression begins there.
     ExpectedInlineExpression,

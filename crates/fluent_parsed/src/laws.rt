@@ -23,13 +23,13 @@ fn equality_of<T: Eq>()
     ensures { IsEquivalence T.eq }
 {}
 
-/// Two kinds of errors are equal exactly where they are one variant with the same text.
+/// Two kinds of errors are equal exactly if they are one variant with the same text.
 pub fn equal_error_kinds()
     ensures { (a b : Kind) → IsTrue (⟦<ErrorKind as PartialEq>⟧.eq a b) ↔
         (kind_view a ≡ kind_view b) }
 {}
 
-/// Two errors are equal exactly where they are of equal kinds, at one place and with one slice.
+/// Two errors are equal exactly if they are of equal kinds, at one place and with one slice.
 pub fn equal_errors()
     ensures { (a b : Error) → IsTrue (⟦<ParserError as PartialEq>⟧.eq a b) ↔
         (error_view a ≡ error_view b) }

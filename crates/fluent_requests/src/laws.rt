@@ -2,7 +2,7 @@
 
 ghost use Rattle.fluent_requests.specs.RequestLaws.{StreamsJoin, ValuesAreRead};
 
-/// The answers to two streams joined are the answers joined, where the first stream is empty or ends in a line feed.
+/// The answers to two streams joined are the answers joined, if the first stream is empty or ends in a line feed.
 pub fn streams_join()
     ensures { StreamsJoin }
 {}

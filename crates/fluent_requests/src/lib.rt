@@ -5,7 +5,7 @@
 //! a line asks for, `specs/Frames.antt` what its frame is, and `specs/Lines.antt` which lines a stream has. What there is to
 //! answer is left open: both take it as a function.
 //!
-//! Streams can be cut behind any line feed, and each part answered by itself (`laws::streams_join`).
+//! Streams can be cut after any line feed, and each part answered by itself (`laws::streams_join`).
 #![tactic(auto)]
 
 pub mod laws;

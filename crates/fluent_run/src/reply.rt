@@ -38,7 +38,7 @@ pub struct Reply {
     pub errors: Vec<FluentError>,
 }
 
-/// An error as an answer tells it: what went wrong, without the words that say that it was resolving that went wrong.
+/// An error as an answer reports it: what went wrong, without the words `Resolver error: `.
 #[derive(Clone, Copy, Debug)]
 pub(crate) struct ErrorLine<'e>(&'e FluentError);
 

@@ -13,7 +13,7 @@ use fluent_ast::{Attribute, Comment, Entry, Message, Pattern, Resource, Term};
 use fluent_slice::{Slice, Slices};
 use std::alloc::AllocError;
 
-/// Writes what stands behind the sign of a comment's line: nothing where the line is empty or white space alone.
+/// Writes what is after the sign of a comment's line: nothing if the line is empty or white space alone.
 fn write_comment_text(out: &mut String, line: &str) -> Result<(), AllocError>
     ensures { Writes result out.old out.new (comment_text_signs line.now) }
 {
@@ -32,7 +32,7 @@ fn write_comment_line(out: &mut String, sign: &str, line: &str) -> Result<(), Al
     write_new_line(out)
 }
 
-/// Writes the lines of a comment, each behind its sign.
+/// Writes the lines of a comment, each after its sign.
 fn write_comment<'s, S: Slice<'s>>(
     out: &mut String,
     sign: &str,
@@ -61,7 +61,7 @@ fn write_own_comment<'s, S: Slice<'s>>(
     }
 }
 
-/// Writes the line feed before a comment that stands by itself behind another entry.
+/// Writes the line feed before a comment that stands by itself after another entry.
 fn write_gap(out: &mut String, after: bool) -> Result<(), AllocError>
     ensures { Writes result out.old out.new (gap_signs after) }
 {

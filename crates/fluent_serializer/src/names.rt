@@ -23,7 +23,7 @@ pub(crate) fn write_name<S: Drop, T: Texts<S>>(
     write_piece(out, level, texts.as_str(&id.name))
 }
 
-/// Writes the name of an attribute behind a reference, if there is one.
+/// Writes the name of an attribute after a reference, if there is one.
 pub(crate) fn write_accessor<S: Drop, T: Texts<S>>(
     out: &mut String,
     level: usize,
@@ -75,7 +75,7 @@ pub(crate) fn write_variant_head<S: Drop, T: Texts<S>>(
     write_piece(out, below, "]")
 }
 
-/// Writes the mark of a variant of a select at this level, where the variant is the default.
+/// Writes the mark of a variant of a select at this level, if the variant is the default.
 fn write_mark(out: &mut String, level: usize, default: bool) -> Result<(), AllocError>
     ensures { Writes result out.old out.new (written.mark (level + 1) default) }
 {
@@ -101,7 +101,7 @@ pub(crate) fn write_argument_name<S: Drop, T: Texts<S>>(
     write_piece(out, level, ": ")
 }
 
-/// Writes what stands between two arguments, where one was written before.
+/// Writes what stands between two arguments, if one was written before.
 pub(crate) fn write_separator(out: &mut String, level: usize, after: bool) -> Result<(), AllocError>
     ensures { Writes result out.old out.new (between level after) }
 {

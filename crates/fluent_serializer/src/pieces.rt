@@ -7,7 +7,7 @@ ghost use Rattle.fluent_serializer.specs.Writing.{Writes, with_indent};
 
 use std::alloc::AllocError;
 
-/// The level so many levels in. One past the largest number counts as memory that ran out, since its indent is longer
+/// The level this many levels in. One past the largest number counts as memory that ran out, since its indent is longer
 /// than any text.
 pub(crate) fn deeper(level: usize, by: usize) -> Result<usize, AllocError>
     ensures { IfOk result (λ deep. deep ≡ level + by) }
@@ -26,7 +26,7 @@ fn is_at_line_start(text: &str) -> bool
     }
 }
 
-/// Whether a piece takes an indent where a line feed stands before it.
+/// Whether a piece takes an indent if a line feed stands before it.
 #[inline(always)]
 fn takes_indent(piece: &str) -> bool
     ensures { result ≡ written.takes_indent piece.now }
@@ -46,7 +46,7 @@ fn write_indent(out: &mut String, level: usize) -> Result<(), AllocError>
     Ok(())
 }
 
-/// Writes the indent that a piece takes behind what is written.
+/// Writes the indent that a piece takes after what is written.
 #[inline(always)]
 fn write_indent_before(out: &mut String, level: usize, piece: &str) -> Result<(), AllocError>
     ensures { OnOk result (string_bytes out.new
@@ -58,9 +58,9 @@ fn write_indent_before(out: &mut String, level: usize, piece: &str) -> Result<()
     Ok(())
 }
 
-/// Writes a sign or a text, behind an indent where it begins a line.
+/// Writes a sign or a text, after an indent if it begins a line.
 ///
-/// It is inlined, so that most of it falls away where the sign is known.
+/// It is inlined, so that most of it falls away if the sign is known.
 #[inline(always)]
 pub(crate) fn write_piece(out: &mut String, level: usize, piece: &str) -> Result<(), AllocError>
     ensures { Writes result out.old out.new (sign level piece.now ∷ []) }

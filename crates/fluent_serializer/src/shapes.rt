@@ -95,7 +95,7 @@ fn begins_with_dot<S: Drop, T: Texts<S>>(texts: &T, pattern: &Pattern<S>) -> boo
     }
 }
 
-/// Whether a pattern begins on a line of its own, and not behind a space.
+/// Whether a pattern begins on a line of its own, and not after a space.
 pub(crate) fn begins_on_new_line<S: Drop, T: Texts<S>>(texts: &T, pattern: &Pattern<S>) -> bool
     ensures { result ≡ begins_on_new_line (pattern_view S T.text pattern.now) }
 {

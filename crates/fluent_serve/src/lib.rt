@@ -1,7 +1,8 @@
-//! Serves a stream of request lines: each line of the input is answered as soon as it is whole, by an engine of the caller.
+//! Serves a stream of request lines: each line of the input is answered as soon as it is complete, by an engine of the
+//! caller.
 //!
 //! [`serve::serve`] moves the bytes, between a [`stream::Source`] and a [`stream::Sink`]. A [`serve::Engine`] answers one line:
-//! [`request::read_request`] tells it what the line asks for, and [`answer::Answer`] frames what it found.
+//! [`request::read_request`] returns what the line asks for, and [`answer::Answer`] frames what it found.
 #![tactic(auto)]
 
 pub mod answer;

@@ -24,7 +24,7 @@ pub struct Request<'line> {
     pub arguments: Vec<(&'line str, &'line str)>,
 }
 
-/// Reads a line, without its line feed. `None` where it is not UTF-8, or an argument has no equals sign.
+/// Reads a line, without its line feed. `None` if it is not UTF-8, or an argument has no equals sign.
 ///
 /// # Errors
 /// [`AllocError`] if memory runs out; nothing is left behind.

@@ -128,7 +128,7 @@ fn flush<W: Sink>(writer: &mut W, output: &mut Vec<u8>) -> Result<(), WriteFaile
     Ok(())
 }
 
-/// Answers the line that ends with `end`. The answers are written where many bytes wait.
+/// Answers the line that ends with `end`. The answers are written if many bytes wait.
 fn answer_line<E: Engine, W: Sink>(
     alloc: Global,
     engine: &E,
@@ -263,9 +263,9 @@ fn is_write_failure(outcome: &Result<(), RunError>) -> bool
 /// made.
 ///
 /// # Errors
-/// - [`RunError::Memory`] where memory runs out.
-/// - [`RunError::Read`] where the reader fails, or doesn't end within `reads` calls.
-/// - [`RunError::Write`] where the writer fails, or takes none of a piece that isn't empty.
+/// - [`RunError::Memory`] if memory runs out.
+/// - [`RunError::Read`] if the reader fails, or doesn't end within `reads` calls.
+/// - [`RunError::Write`] if the writer fails, or takes none of a piece that isn't empty.
 pub fn serve<E: Engine, R: Source, W: Sink>(
     alloc: Global,
     engine: &E,

@@ -1,7 +1,7 @@
 //! Where bytes come from and go to.
 //!
-//! A `Source` and a `Sink` tell contracts their bytes, where they are known, and how many of their calls have failed. A `Source`
-//! also tells how many bytes it gave, whether these are known or not.
+//! Contracts see the bytes of a `Source` and a `Sink`, if they are known, and how many of their calls have failed. They
+//! also see how many bytes a `Source` returned, whether these are known or not.
 //! `FromRead` and `FromWrite` make them of std's readers and writers.
 ghost use Rattle.std.specs.Prelude.{◌≡◌, ◌≤◌, ℕ, List, Option, IfOk, length};
 ghost use Rattle.std.specs.Io.KnownBytes.{ReadConsumes, WriteAppends};
@@ -59,7 +59,7 @@ pub struct WriteFailed;
 /// }
 /// ```
 pub trait Source {
-    /// The bytes that reads will give from here on, where they are known.
+    /// The bytes that reads will give from here on, if they are known.
     ghost remaining: { Self → Option (List ℕ) };
 
     /// How many calls have failed. At the greatest `u64` the count stays there.
@@ -68,7 +68,7 @@ pub trait Source {
     /// How many bytes reads have given. At the greatest `u64` the count stays there.
     ghost given: { Self → ℕ };
 
-    /// Fills the front of `buffer`, and gives the count of its bytes: 0 at the end of the input, or where `buffer` is
+    /// Fills the front of `buffer`, and gives the count of its bytes: 0 at the end of the input, or if `buffer` is
     /// empty.
     ///
     /// # Errors
@@ -100,7 +100,7 @@ pub trait Source {
 /// }
 /// ```
 pub trait Sink {
-    /// The bytes that were written, where they are known.
+    /// The bytes that were written, if they are known.
     ghost contents: { Self → Option (List ℕ) };
 
     /// How many calls have failed, or taken none of a piece that was not empty. At the greatest `u64` the count stays
@@ -118,7 +118,7 @@ pub trait Sink {
             result };
 }
 
-/// A `Source` of a reader of std. It tells the bytes that the reader tells.
+/// A `Source` of a reader of std. Its bytes are known if those of the reader are.
 ///
 /// ```no_run
 /// let mut requests = FromRead::new("a\n".as_bytes());
@@ -166,7 +166,7 @@ impl<R: io::Read> Source for FromRead<R> {
     }
 }
 
-/// A `Sink` of a writer of std. It tells the bytes that the writer tells.
+/// A `Sink` of a writer of std. Its bytes are known if those of the writer are.
 ///
 /// ```no_run
 /// let mut answers = FromWrite::new(Vec::new(alloc));

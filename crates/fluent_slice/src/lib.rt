@@ -65,7 +65,7 @@ impl<'s> Slice<'s> for &'s str {
         self
     }
 
-    /// Borrows from the source: it takes no memory and succeeds.
+    /// Borrows from the source: it doesn't allocate, and succeeds.
     fn slice(&self, _alloc: Global, range: Range<usize>) -> Result<&'s str, AllocError>
         requires ordered { range.start ≤ range.end }
         requires start_boundary { IsCharBoundary self.now.now range.start }
@@ -83,7 +83,7 @@ impl<'s> Slice<'s> for &'s str {
         *self = text.trim_end();
     }
 
-    /// Borrows from the source: it takes no memory and succeeds.
+    /// Borrows from the source: it doesn't allocate, and succeeds.
     fn try_clone(&self, _alloc: Global) -> Result<&'s str, AllocError>
         ensures copy { IfOk result (λ copy. copy.now ≡ self.now.now) }
         ensures succeeds { IsOk result }

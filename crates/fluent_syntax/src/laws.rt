@@ -1,7 +1,7 @@
 //! Laws of trees, of errors, of damage and of written texts: each function only carries a law, as its contract.
 
 pub use fluent_ast::laws::equal_nodes;
-// Damage: a text without errors behind any lines.
+// Damage: a text without errors after any lines.
 pub use fluent_cut::laws::damage_stays;
 // The tiling of a source by blank blocks, entries and junk, of which trees and errors are made.
 pub use fluent_grammar::laws::tiling::{
@@ -12,7 +12,7 @@ pub use fluent_grammar::laws::tiling::{
 pub use fluent_grammar::laws::tiling::{
     errors_are_true, junk_is_sliced, places_start_in_slices, slices_ascend,
 };
-// Reading for use at run time, beside full reading.
+// Reading for use at run time, compared with full reading.
 pub use fluent_grammar::laws::tiling::{
     runtime_adds_no_junk, runtime_has_no_comments, runtime_has_the_same_list,
 };

@@ -19,7 +19,7 @@ use std::alloc::{AllocError, Global};
 /// first entry of an id counts. Of no sources it is empty.
 ///
 /// # Errors
-/// `CarriageReturn` exactly where a source holds one, before any memory is taken. `Memory` where memory ran out.
+/// `CarriageReturn` exactly if a source holds one, before anything is allocated. `Memory` if memory runs out.
 #[tactic(auto, using(crate::proofs::NoReturn::any_text))]
 pub fn join(alloc: Global, sources: &[&str]) -> Result<String, CleanError>
     ensures text { IfOk result (λ text. string_bytes text ≡ joined (texts sources.now)) }

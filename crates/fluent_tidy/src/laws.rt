@@ -28,7 +28,7 @@ pub fn replaced_sources_keep_answers<C: FluentType, F>()
     reading_is_unique();
 }
 
-/// The JSON tree of a source is imported as the source's normal text, and isn't imported exactly where the source has
+/// The JSON tree of a source is imported as the source's normal text, and isn't imported exactly if the source has
 /// none. It is never refused as a value that no tree has.
 pub fn exports_are_imported()
     ensures { ExportsAreImported }

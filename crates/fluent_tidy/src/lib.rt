@@ -7,14 +7,14 @@
 //!
 //! | Call | Gives |
 //! |---|---|
-//! | [`clean`] | the source without the stretches that can't be read |
+//! | [`clean`] | the source without its junk |
 //! | [`join`] | several sources as one, each cleaned |
-//! | [`normalize`] | the source as the serializer writes it, where that is read back as the same tree |
+//! | [`normalize`] | the source as the serializer writes it, if that is read back as the same tree |
 //! | [`export`] | the JSON tree of the cleaned source |
-//! | [`import`] | the text of a JSON tree, where that is read back as the same tree |
+//! | [`import`] | the text of a JSON tree, if that is read back as the same tree |
 //!
 //! They refuse sources with a carriage return, since written text ends its lines in a line feed alone. No call changes what it
-//! was handed. [`laws`] says what stays when sources are tidied, over plain data.
+//! is passed. [`laws`] says what stays when sources are tidied, over plain data.
 
 mod cleaning;
 mod cutting;

@@ -17,7 +17,7 @@ use crate::reading::{is_read_as, read_tree};
 use fluent_serializer::serialize;
 use std::alloc::{AllocError, Global};
 
-/// The normal text of a source: its cleaned text's tree as the serializer writes it, where that is read back as that
+/// The normal text of a source: its cleaned text's tree as the serializer writes it, if that is read back as that
 /// very tree.
 ///
 /// It has the messages and terms of the source, in their order, and is its own normal text.
@@ -27,8 +27,8 @@ use std::alloc::{AllocError, Global};
 /// ```
 ///
 /// # Errors
-/// `CarriageReturn` exactly where the source holds one, before any memory is taken. `NotNormal` where the written text
-/// isn't read back as the tree; this takes one of the five shapes of `docs/normal-text.md`. `Memory` where memory ran
+/// `CarriageReturn` exactly if the source holds one, before anything is allocated. `NotNormal` if the written text
+/// isn't read back as the tree; this takes one of the five shapes of `docs/normal-text.md`. `Memory` if memory ran
 /// out.
 pub fn normalize(alloc: Global, source: &str) -> Result<String, NormalizeError>
     ensures text { IfOk result (λ text. IsNormalText source.now (string_bytes text)) }
@@ -43,7 +43,7 @@ pub fn normalize(alloc: Global, source: &str) -> Result<String, NormalizeError>
     normalize_clean(alloc, text.as_str())
 }
 
-/// The written text of the tree of a text, where it is read back as that tree.
+/// The written text of the tree of a text, if it is read back as that tree.
 fn normalize_clean(alloc: Global, text: &str) -> Result<String, NormalizeError>
     ensures text { IfOk result (λ new. IsCanonical (tree text.now)
         × (string_bytes new ≡ written (tree text.now))) }

@@ -34,7 +34,7 @@ pub fn unescape_unicode<W: TextWrite>(w: &mut W, text: &str) -> fmt::Result
 }
 
 /// What the raw text of a string literal stands for, as [`unescape_unicode`] writes it. A text without a backslash is
-/// borrowed, which takes no memory and succeeds; any other is a text of its own.
+/// borrowed, which doesn't allocate, and succeeds; any other is a text of its own.
 ///
 /// ```no_run
 /// let text = unescape_unicode_to_string(rt.alloc(), "caf\\u00e9")?;

@@ -9,7 +9,7 @@ use crate::custom::FluentType;
 use crate::value::FluentValue;
 use std::alloc::{AllocError, Global};
 
-/// The first of the values, if it is a number, with the options that the named ones set; else
+/// The first of the values, if it is a number, with the options that the named ones set; otherwise
 /// [`Error`](FluentValue::Error).
 ///
 /// # Errors

@@ -10,7 +10,7 @@ ghost use Rattle.fluent_value.specs.Value.{Value};
 use crate::{FluentType, FluentValue};
 use fluent_number::laws as number_laws;
 
-/// Texts are equal where they are the same, numbers where value and options are, values of a program's own type by its own
+/// Texts are equal if they are the same, numbers if value and options are, values of a program's own type by its own
 /// test. Nothing else is equal.
 pub fn equal_values<'a, C: FluentType>()
     ensures { TellsAlike C.meaning C.same ⟦<FluentValue<'a, C> as PartialEq>⟧.eq }
@@ -33,7 +33,7 @@ pub fn arguments_are_a_map<C: FluentType>()
     ensures ascending { NamesStayAscending C.Meaning }
 {}
 
-/// A key matches a value exactly where both are the same text or the same number, value and options, or where the key is
+/// A key matches a value exactly if both are the same text or the same number, value and options, or if the key is
 /// the text of the number's category.
 pub fn matching_decides<C: FluentType>()
     ensures { (plurals : Plurals) (k v : Value C.Meaning)

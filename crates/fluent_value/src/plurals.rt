@@ -43,8 +43,8 @@ pub trait MemoizerKind {
 
 /// The plural rules of English. Values of a program's own type are shown by their own text.
 ///
-/// Of counts, 1 shown without digits behind the point is `one` and all else `other`. Of places, a whole number is `one`,
-/// `two` or `few` where its last digit is 1, 2 or 3 and its last two aren't 11, 12 or 13, and all else is `other`.
+/// Of counts, 1 shown without digits after the point is `one` and all else `other`. Of places, a whole number is `one`,
+/// `two` or `few` if its last digit is 1, 2 or 3 and its last two aren't 11, 12 or 13, and all else is `other`.
 ///
 /// ```
 /// let mut bundle = Bundle::new(alloc, Vec::new(alloc), EnglishPlurals);

@@ -26,7 +26,7 @@ pub trait ValueScope<C: FluentType> {
     /// Whether a formatter is set.
     ghost has_formatter: { Self → Bool };
 
-    /// The formatter's text of a value, where a formatter is set and answers one.
+    /// The formatter's text of a value, if a formatter is set and answers one.
     ghost formatted: { Self → Value C.Meaning → Option (List ℕ) };
 
     /// The plural source.
@@ -35,8 +35,8 @@ pub trait ValueScope<C: FluentType> {
     /// The text of a value of the program's own type.
     ghost shown: { Self → C.Meaning → List ℕ };
 
-    /// The formatter's text of a value, if a formatter is set and answers one. If none is set the call takes no memory and
-    /// succeeds.
+    /// The formatter's text of a value, if a formatter is set and answers one. If none is set the call doesn't
+    /// allocate, and succeeds.
     ///
     /// # Errors
     /// [`AllocError`] if memory runs out; nothing is left behind.

@@ -15,8 +15,8 @@ use std::alloc::AllocError;
 use std::borrow::CowStr;
 
 impl<'a, C: FluentType> FluentValue<'a, C> {
-    /// Writes the text that the value is shown as: the formatter's where the scope has one that answers a text; else a
-    /// text as it is, a number by its digits and options, a value of the program's own type by the plural source, and
+    /// Writes the text that the value is shown as: the formatter's if the scope has one that answers a text; otherwise
+    /// a text as it is, a number by its digits and options, a value of the program's own type by the plural source, and
     /// nothing for `None` and `Error`.
     ///
     /// # Errors
@@ -45,7 +45,7 @@ impl<'a, C: FluentType> FluentValue<'a, C> {
     }
 
     /// The text that the value is shown as, as [`write`](FluentValue::write) writes it. If no formatter is set, a borrowed
-    /// text stays borrowed, which takes no memory and succeeds.
+    /// text stays borrowed, which doesn't allocate, and succeeds.
     ///
     /// # Errors
     /// [`AllocError`] if memory runs out; nothing is left behind.
@@ -72,7 +72,7 @@ impl<'a, C: FluentType> FluentValue<'a, C> {
 
 impl<'a, C: FluentType + Drop> FluentValue<'a, C> {
     /// The text that the value is shown as, as [`write`](FluentValue::write) writes it. If no formatter is set, a text is
-    /// handed back as it is, which takes no memory and succeeds.
+    /// returned as it is, which doesn't allocate, and succeeds.
     ///
     /// # Errors
     /// [`AllocError`] if memory runs out; nothing is left behind.

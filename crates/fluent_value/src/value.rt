@@ -35,8 +35,8 @@ pub enum FluentValue<'a, C = NoCustom> {
 }
 
 impl<'a, C: FluentType> FluentValue<'a, C> {
-    /// The number that a text is, with a digit behind the point asked for each one that stands there, or else the text
-    /// itself, borrowed. It takes no memory.
+    /// The number that a text is, which asks for as many digits after the point as the text has, or else the text
+    /// itself, borrowed. It doesn't allocate.
     ///
     /// ```
     /// args.set("amount", FluentValue::try_number("3.5"))?;
@@ -84,7 +84,7 @@ impl<'a, C: FluentType> FluentValue<'a, C> {
     }
 }
 
-/// Texts are equal where they are the same, numbers where value and options are, values of the program's own type by
+/// Texts are equal if they are the same, numbers if value and options are, values of the program's own type by
 /// [`FluentType::equals`]. No other two values are equal: `None` and `Error` don't even equal themselves.
 impl<'a, C: FluentType> PartialEq for FluentValue<'a, C> {
     ghost eq = { value_eq C.meaning C.same ⟦<FluentNumber as PartialEq>⟧.eq };

@@ -20,7 +20,7 @@ pub fn blank_inline_len(text: &[u8]) -> usize
     }
 }
 
-/// The same for any number of spaces, told sixteen at a time.
+/// The same for any number of spaces, read sixteen at a time.
 fn spaces_len(text: &[u8]) -> usize
     ensures { result ≡ w.spaces text.now }
 {
@@ -35,7 +35,7 @@ fn spaces_len(text: &[u8]) -> usize
     end + last_spaces_len(&text[end..])
 }
 
-/// The same for the last bytes of a text, told one by one.
+/// The same for the last bytes of a text, read one by one.
 fn last_spaces_len(text: &[u8]) -> usize
     ensures { result ≡ w.spaces text.now }
 {

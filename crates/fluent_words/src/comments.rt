@@ -23,7 +23,7 @@ fn signs_len(text: &[u8]) -> usize
     text.iter().take_while(|byte| **byte == b'#').count()
 }
 
-/// Whether a comment may go on so behind its sign: with a space, a line end or the end of the text.
+/// Whether a comment may go on so after its sign: with a space, a line end or the end of the text.
 pub fn is_comment_line(text: &[u8]) -> bool
     ensures { result ≡ is_comment_line text.now }
 {

@@ -1,4 +1,4 @@
-//! What a text begins with, told by its first bytes.
+//! What a text begins with, by its first bytes.
 #![tactic(auto)]
 
 ghost use Rattle.std.specs.Prelude.{◌≡◌, ◌||◌};

@@ -22,7 +22,7 @@ pub fn identifier_len(text: &[u8]) -> usize
     }
 }
 
-/// How many bytes of identifiers stand at the front, told sixteen at a time.
+/// How many bytes of identifiers stand at the front, read sixteen at a time.
 fn name_bytes_len(text: &[u8]) -> usize
     ensures { result ≡ prefix_len w.is_name_byte text.now }
 {
@@ -37,14 +37,14 @@ fn name_bytes_len(text: &[u8]) -> usize
     end + last_name_bytes_len(&text[end..])
 }
 
-/// The same for the last bytes of a text, told one by one.
+/// The same for the last bytes of a text, read one by one.
 fn last_name_bytes_len(text: &[u8]) -> usize
     ensures { result ≡ prefix_len w.is_name_byte text.now }
 {
     text.iter().take_while(|byte| is_name_byte(**byte)).count()
 }
 
-/// Whether a byte may stand behind the first one of an identifier.
+/// Whether a byte may follow the first one of an identifier.
 fn is_name_byte(byte: u8) -> bool
     ensures { result ≡ w.is_name_byte byte }
 {

@@ -1,4 +1,4 @@
-//! The bytes of a text, sixteen or 64 told at once.
+//! The bytes of a text, sixteen or 64 read at once.
 #![tactic(auto)]
 
 ghost use Rattle.std.specs.Prelude.{◌≡◌, map};
@@ -7,9 +7,9 @@ ghost use Rattle.fluent_words.specs.Bytes.{is_no_name_byte, is_no_space, is_line
 
 use std::simd::prelude::*;
 
-/// How many bytes are told at once.
+/// How many bytes are read at once.
 pub(crate) const LANES: usize = 16;
-/// How many bytes are told at once of which line feeds and braces are wanted.
+/// How many bytes are read at once for line feeds and braces.
 pub(crate) const LINE_LANES: usize = 64;
 
 /// Which of the bytes no identifier has: bit `k` is that of byte `k`.

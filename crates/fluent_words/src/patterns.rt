@@ -13,7 +13,8 @@ use crate::lanes::{LANES, stops};
 use memchr::memchr3;
 use std::simd::prelude::*;
 
-/// How many bytes are told sixteen at a time. What is farther is left to `memchr3`, which is slower on short texts.
+/// How many bytes are read sixteen at a time. What is farther is left to `memchr3`, which is slower on short
+/// texts.
 const NEAR: usize = 128;
 
 /// How many bytes the text at the front has: up to and with the line feed, or up to an opening brace, a CR LF or the end.
@@ -52,7 +53,7 @@ pub(crate) fn stop(text: &[u8]) -> Option<usize>
     Some(end + behind)
 }
 
-/// The end of the text whose line feed is here: before a CR LF, else behind the line feed.
+/// The end of the text whose line feed is here: before a CR LF, else after the line feed.
 fn line_feed_end(text: &[u8], end: usize) -> usize
     requires { end < length text.now }
     ensures { result ≡ line_feed_end text.now end }
@@ -64,7 +65,7 @@ fn line_feed_end(text: &[u8], end: usize) -> usize
     }
 }
 
-/// Whether a pattern ends at the line start here, behind which so many spaces stand.
+/// Whether a pattern ends at the line start here, after which this many spaces stand.
 pub fn pattern_ends(text: &[u8], indent: usize) -> bool
     requires { indent ≡ w.spaces text.now }
     ensures { result ≡ pattern_ends text.now }
@@ -72,7 +73,7 @@ pub fn pattern_ends(text: &[u8], indent: usize) -> bool
     let Some(byte) = from(text, indent).first() else {
         return indent == 0;
     };
-    // Which byte it is, is told without a branch: it is another in each line, and no processor foresees it.
+    // Which byte it is, is found without a branch: it is another in each line, and no processor foresees it.
     let at_column_zero = indent == 0;
     let goes_on = (*byte == b'{') | (*byte == b'\r') | (*byte == b'\n');
     let ends = (*byte == b'}') | (*byte == b'.') | (*byte == b'[') | (*byte == b'*');

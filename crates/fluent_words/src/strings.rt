@@ -17,7 +17,7 @@ pub enum StringEnd {
     LineFeed(usize),
     /// A backslash at this offset begins no escape.
     UnknownEscape(usize),
-    /// Too few hex digits stand behind `\u` or `\U`: the digits begin at the first offset, and end at the second.
+    /// Too few hex digits are after `\u` or `\U`: the digits begin at the first offset, and end at the second.
     MissingDigit(usize, usize),
 }
 
@@ -48,7 +48,7 @@ enum StringStep {
     Quote,
     LineFeed,
     UnknownEscape,
-    /// An escape with only so many hex digits.
+    /// An escape with only this many hex digits.
     MissingDigit(usize),
 }
 
@@ -87,7 +87,7 @@ fn escape_step(text: &[u8]) -> StringStep
     }
 }
 
-/// An escape of so many hex digits, which these follow. The digits are content like other bytes.
+/// An escape of this many hex digits, which these follow. The digits are content like other bytes.
 fn hex_step(digits: &[u8], wanted: usize) -> StringStep
     ensures { IsHexStep wanted (prefix_len w.is_hex_digit digits.now) result }
 {

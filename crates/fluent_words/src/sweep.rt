@@ -1,4 +1,4 @@
-//! The lines of a text, one behind the other: 64 bytes are told at once, however many lines they hold.
+//! The lines of a text, one after the other: 64 bytes are read at once, however many lines they hold.
 #![tactic(auto, using(crate::proofs::Counted::cuts))]
 
 ghost use Rattle.std.specs.Prelude.{◌≡◌, ◌+◌, ◌<◌, ◌≤◌, List, ℕ, length, drop, take};
@@ -13,7 +13,7 @@ use std::simd::prelude::*;
 /// Which of the first bytes of a text are line feeds, and which are braces: bit `k` is that of byte `k`.
 #[derive(Clone, Copy)]
 pub struct Told {
-    /// How many bytes are told: at most 64.
+    /// How many bytes were read: at most 64.
     count: usize,
     feeds: u64,
     braces: u64,
@@ -26,9 +26,9 @@ pub struct FrontLine {
     pub len: usize,
     /// Whether it is plain: no brace stands in it.
     pub is_plain: bool,
-    /// Where the next line begins. None behind the last one.
+    /// Where the next line begins. None after the last one.
     pub next: Option<usize>,
-    /// What is told of the next line.
+    /// What is known of the next line.
     pub told: Told,
 }
 
@@ -59,7 +59,7 @@ impl Told {
         }
     }
 
-    /// Of what stands behind the byte at this place.
+    /// Of what follows the byte at this offset.
     #[inline(always)]
     fn behind(&self, place: usize) -> Self
         requires place { place < self.now.count }
@@ -74,7 +74,7 @@ impl Told {
     }
 }
 
-/// The line at the front of a text, of which so much is told.
+/// The line at the front of a text, of which this much is known.
 #[inline(always)]
 pub fn measure_line(text: &[u8], told: Told) -> FrontLine
     requires { Tells told text.now }

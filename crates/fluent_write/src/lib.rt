@@ -1,6 +1,6 @@
 //! What texts are written to.
 //!
-//! A [`TextWrite`] takes a text piece by piece and tells contracts what it holds. A [`WriteError`] says why a text could
+//! A [`TextWrite`] takes a text piece by piece, and contracts see what it holds. A [`WriteError`] says why a text could
 //! not be written whole.
 #![tactic(auto)]
 

@@ -4,7 +4,7 @@ ghost use Rattle.std.specs.Prelude.{◌≡◌, ℕ, List, ◌++◌, OnOk, OnErr,
 
 use std::fmt;
 
-/// A writer of texts that tells contracts what it holds.
+/// A writer of texts. Contracts see what it holds.
 ///
 /// ```
 /// impl TextWrite for Pieces {

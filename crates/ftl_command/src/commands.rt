@@ -26,8 +26,8 @@ use std::alloc::Global;
 use std::io;
 use std::rt::Files;
 
-/// Runs the program on the words behind its name, and gives the status that it ends with: 0, or 1 where a check found
-/// something, or that of the first fault, which is told on one line of `faults`.
+/// Runs the program on its command-line arguments, and returns the status that it ends with: 0, or 1 if a check found
+/// something, or that of the first failure, which is reported on one line of `faults`.
 pub fn program<R: Files, I: io::Read + Drop, O: io::Write + Drop, F: io::Write + Drop>(
     rt: &R,
     alloc: Global,
@@ -59,8 +59,8 @@ pub fn program<R: Files, I: io::Read + Drop, O: io::Write + Drop, F: io::Write +
     )
 }
 
-/// The same on a folder, a source and sinks, which tell what became of them: what is read and written, the status and
-/// the line of a fault are exactly those of what the command came to.
+/// The same on a folder, a source and sinks, which contracts can see: what is read and written, the status and the line
+/// of a failure are exactly those that the command results in.
 pub fn program_on<F: Folder, I: Source, O: Sink, T: Sink>(
     folder: &mut F,
     alloc: Global,
@@ -84,9 +84,9 @@ pub fn program_on<F: Folder, I: Source, O: Sink, T: Sink>(
     }
 }
 
-/// Does what the words behind the program's name ask for. The words are read first, then a run's locale is looked up, then the
-/// files are read in their order, and for a run then the request lines that `reader` gives: see `docs/protocol.md`. Where the
-/// words ask for help or for the version, that is written.
+/// Does what the command-line arguments ask for. They are read first, then a run's locale is looked up, then the
+/// files are read in their order, and for a run then the request lines that `reader` gives: see `docs/protocol.md`. If
+/// the words ask for help or for the version, that is written.
 ///
 /// # Errors
 /// The first fault. What was written before it stays written.

@@ -1,4 +1,4 @@
-//! How the program ends where it met no fault.
+//! How the program ends if it met no failure.
 ghost use Rattle.std.specs.Prelude.{◌≡◌};
 ghost use Rattle.ftl_command.specs.Faults.{end_status};
 

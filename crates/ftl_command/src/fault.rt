@@ -9,7 +9,7 @@ use std::alloc::{AllocError, AllocFailed};
 use std::fmt;
 use thiserror::Error;
 
-/// Why the program stops, as it is told on standard error: see `docs/protocol.md`.
+/// Why the program stops, as it is reported on standard error: see `docs/protocol.md`.
 #[derive(Clone, Copy, Debug, PartialEq, Eq, Error)]
 pub enum Fault<'words> {
     /// The source holds a carriage return.
@@ -18,17 +18,17 @@ pub enum Fault<'words> {
     NotNormal,
     /// No tree has the JSON value.
     NotTree,
-    /// The file's text is no JSON, or nested too deep.
+    /// The file's text isn't JSON, or is nested too deep.
     NotJson,
     /// The message that is asked for has no such value or attribute, or there is none.
     NoMessage,
-    /// The words are no command.
+    /// The command-line arguments aren't a command.
     CommandLine,
     /// The locale has no plural rules.
     UnknownLocale { tag: &'words str },
     /// The file could not be opened, or a read of it failed.
     FileUnreadable { file: &'words str },
-    /// The file's bytes are no UTF-8.
+    /// The file's bytes aren't UTF-8.
     FileNotUtf8 { file: &'words str },
     /// A read of standard input failed, or it did not end.
     Input,
@@ -58,7 +58,7 @@ impl<'words> Fault<'words> {
         }
     }
 
-    /// The name of the locale or the file that is at fault, or else an empty text; and what stands after it.
+    /// The name of the locale or the file that is at fault, or otherwise an empty text; and what follows it.
     pub(crate) fn parts(&self) -> (&'words str, &'static str)
         ensures { result.0.now ++ result.1.now ≡ fault_text self.now }
     {

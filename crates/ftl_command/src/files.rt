@@ -13,8 +13,8 @@ use std::alloc::Global;
 /// Reads the files, a text for each, in their order.
 ///
 /// # Errors
-/// Of the first file that gives no text: [`Fault::FileUnreadable`] if it can't be read, [`Fault::FileNotUtf8`] if it isn't UTF-8.
-/// [`Fault::Memory`] if memory runs out; nothing is left behind.
+/// For the first file that has no text: [`Fault::FileUnreadable`] if it can't be read, [`Fault::FileNotUtf8`] if it
+/// isn't UTF-8. [`Fault::Memory`] if memory runs out; nothing is left behind.
 pub fn read_sources<'words, F: Folder>(
     folder: &mut F,
     alloc: Global,

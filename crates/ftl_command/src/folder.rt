@@ -1,7 +1,7 @@
 //! Where the sources' files lie.
 //!
-//! A `Folder` tells contracts what its files hold, where that is known, and how many of its reads have failed. `FromFiles`
-//! makes one of the system's files, of which nothing is known.
+//! Contracts see what the files of a `Folder` hold, if that is known, and how many of its reads have failed.
+//! `FromFiles` makes one of the system's files, of which nothing is known.
 ghost use Rattle.std.specs.Prelude.{◌≡◌, ◌↔◌, ℕ, List, Option, None, IfOk, IfSome};
 ghost use Rattle.std.specs.IoError.{error_kind, raw_os_error};
 ghost use Rattle.ftl_command.specs.Files.{failures_after_file};
@@ -23,10 +23,11 @@ pub enum FileError {
 
 /// Files by their names.
 pub trait Folder {
-    /// The bytes that the file of a name holds, where they are known.
+    /// The bytes that the file of a name holds, if they are known.
     ghost contents: { Self → List ℕ → Option (List ℕ) };
 
-    /// How many reads have failed, but for those that memory was wanting for. At the greatest `u64` the count stays there.
+    /// How many reads have failed, not counting those for which memory ran out. At the greatest `u64` the count stays
+    /// there.
     ghost failures: { Self → ℕ };
 
     /// Reads a file to its end. The files stay as they are.
@@ -84,7 +85,7 @@ fn read_file<R: Files>(files: &R, alloc: Global, name: &str) -> io::Result<Vec<u
     Ok(bytes)
 }
 
-/// What the error of a read is: a growth that was refused, or else the file.
+/// What the error of a read is: a refused allocation, or otherwise the file.
 fn file_error(error: io::Error) -> FileError
     ensures { (result ≡ FileError.Memory)
         ↔ ((error_kind error ≡ ErrorKind.OutOfMemory) × (raw_os_error error ≡ None)) }

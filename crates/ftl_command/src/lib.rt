@@ -1,7 +1,7 @@
 //! The command `ftl`: its commands, its files, its streams and its faults.
 //!
-//! [`program`] does what the words behind the program's name ask for, and gives the status that it ends with. The words are
-//! read by [`command`].
+//! [`program`] does what the command-line arguments ask for, and returns the status that it ends with. These arguments
+//! are read by [`command`].
 #![tactic(auto)]
 
 pub mod borrowed;

@@ -17,11 +17,11 @@ use crate::plurals::RunPlurals;
 use fluent_run::{Settings, Sink, Source, run};
 use std::alloc::Global;
 
-/// Answers what `reader` gives from the sources in `files`, by the plural rules of `locale`, and by those of English without
-/// one.
+/// Answers the request lines of `reader` from the sources in `files`, by the plural rules of `locale`, and by those of
+/// English without one.
 ///
 /// # Errors
-/// The first fault: an unknown locale is found before any file is read. What was written before it stays written.
+/// The first failure: an unknown locale is found before any file is read. What was written before it stays written.
 pub fn run_files<'words, F: Folder, I: Source, O: Sink>(
     folder: &mut F,
     alloc: Global,

@@ -1,4 +1,4 @@
-//! The line that a fault is told on.
+//! The line on which a failure is reported.
 ghost use Rattle.std.specs.Prelude.{◌≡◌, OnOk, OnErr};
 ghost use Rattle.std.specs.Io.KnownBytes.{Appends};
 ghost use Rattle.fluent_serve.specs.Devices.{HasFailed};
@@ -13,8 +13,8 @@ use fluent_serve::serve::write_all;
 use fluent_serve::stream::{FromWrite, Sink, WriteFailed};
 use std::io;
 
-/// Tells a fault on one line, and gives the program's status. No memory is taken. Where `faults` fails, the status alone
-/// tells it.
+/// Reports a failure on one line, and returns the program's status. It doesn't allocate. If `faults` fails, only the
+/// status reports it.
 pub fn tell<F: io::Write + Drop>(faults: F, fault: Fault<'_>) -> u8
     ensures status { result ≡ status_of fault.entry }
     ensures told { ReportsOver (F.contents faults) fault.entry }
@@ -22,7 +22,7 @@ pub fn tell<F: io::Write + Drop>(faults: F, fault: Fault<'_>) -> u8
     tell_on(&mut FromWrite::new(faults), fault)
 }
 
-/// The same on a sink, which tells what it took: the line, or where it failed a front of that.
+/// The same on a sink, of which contracts see what it took: the line, or its beginning if the sink failed.
 pub fn tell_on<S: Sink>(faults: &mut S, fault: Fault<'_>) -> u8
     ensures status { result ≡ status_of fault.entry }
     ensures told { WritesOrFails (seen S.contents S.failures faults.old faults.new)
@@ -32,8 +32,8 @@ pub fn tell_on<S: Sink>(faults: &mut S, fault: Fault<'_>) -> u8
     fault.status()
 }
 
-/// Tells what went wrong in a text, if anything did, and gives the program's status. Where `faults` fails, the status alone tells
-/// it.
+/// Reports what went wrong in a text, if anything did, and returns the program's status. If `faults` fails, only the
+/// status reports it.
 pub fn tell_errors_on<S: Sink>(faults: &mut S, end: &Ended) -> u8
     ensures status { result ≡ end_status end.now }
     ensures told { ReportsErrors (seen S.contents S.failures faults.old faults.new) end.now }

@@ -8,7 +8,7 @@ ghost use Rattle.ftl_report.specs.Report.{error_line, error_lines, errors_text};
 use fluent_parsed::ParserError;
 use std::alloc::AllocError;
 
-/// Puts the lines of all errors behind `text`, source by source.
+/// Puts the lines of all errors after `text`, source by source.
 pub(crate) fn push_errors(text: &mut String, sources: &[Vec<ParserError>]) -> Result<(), AllocError>
     ensures { OnOk result (string_bytes text.new
         ≡ string_bytes text.old ++ errors_text 1 (map errors_view sources.now)) }
@@ -19,7 +19,7 @@ pub(crate) fn push_errors(text: &mut String, sources: &[Vec<ParserError>]) -> Re
     Ok(())
 }
 
-/// Puts the lines of the errors of the source of this number behind `text`.
+/// Puts the lines of the errors of the source of this number after `text`.
 fn push_errors_of(
     text: &mut String,
     number: usize,
@@ -34,7 +34,7 @@ fn push_errors_of(
     Ok(())
 }
 
-/// Puts the line of an error behind `text`.
+/// Puts the line of an error after `text`.
 fn push_error(text: &mut String, number: usize, error: &ParserError) -> Result<(), AllocError>
     ensures { OnOk result (string_bytes text.new
         ≡ string_bytes text.old ++ error_line number (error_view error.now)) }

@@ -7,7 +7,7 @@ ghost use Rattle.ftl_report.specs.Report.{notice_line, notices_text};
 use fluent_errors::FluentError;
 use std::alloc::AllocError;
 
-/// Puts the lines of notices behind `text`.
+/// Puts the lines of notices after `text`.
 pub(crate) fn push_notices(text: &mut String, notices: &[FluentError]) -> Result<(), AllocError>
     ensures { OnOk result (string_bytes text.new
         ≡ string_bytes text.old ++ notices_text (map bundle_view notices.now)) }
@@ -18,7 +18,7 @@ pub(crate) fn push_notices(text: &mut String, notices: &[FluentError]) -> Result
     Ok(())
 }
 
-/// Puts the line of a notice behind `text`.
+/// Puts the line of a notice after `text`.
 fn push_notice(text: &mut String, notice: &FluentError) -> Result<(), AllocError>
     ensures { OnOk result (string_bytes text.new
         ≡ string_bytes text.old ++ notice_line (bundle_view notice.now)) }

@@ -9,8 +9,8 @@ use crate::notices::push_notices;
 use fluent_check::check;
 use std::alloc::{AllocError, Global};
 
-/// The lines of the errors of each source, and then those of the entries whose id was there. The text is empty where nothing was
-/// found.
+/// The lines of the errors of each source, and then those of the entries whose id was there. The text is empty if
+/// nothing was found.
 ///
 /// # Errors
 /// [`AllocError`] if memory runs out; nothing is left behind.

@@ -16,7 +16,7 @@ pub enum Command<'words> {
     },
     /// Write the text of one message.
     Format(Format<'words>),
-    /// Tell what is damaged in sources, and which ids stand in them more than once.
+    /// Report the syntax errors of sources, and the duplicate ids.
     Check {
         /// The names of the sources' files.
         files: Vec<&'words str>,

@@ -1,4 +1,4 @@
-//! The text of why words are no command.
+//! The text that says why command-line arguments aren't a command.
 
 ghost use Rattle.std.specs.Prelude.{Some};
 ghost use Rattle.ftl_words.specs.ErrorTexts.{words_text};

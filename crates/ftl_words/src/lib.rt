@@ -1,7 +1,7 @@
-//! The words behind the name of the program `ftl`, read by `clap`.
+//! The command-line arguments of the program `ftl`, read by `clap`.
 //!
-//! [`command`] gives the [`Command`] that the words ask for, or a [`WordsError`]: the words are bad, or ask for help or
-//! for the version.
+//! [`command`] returns the [`Command`] that the arguments ask for, or a [`WordsError`]: they are bad, or ask for help
+//! or for the version.
 #![tactic(auto)]
 
 mod commands;

@@ -1,4 +1,4 @@
-//! The program and its commands, as `clap` is told of them.
+//! The program and its commands, as `clap` knows them.
 ghost use Rattle.std.specs.Prelude.{◌≡◌, ◌∷◌, [], false, codes, IfOk};
 ghost use Rattle.clap.specs.Words.{app_of, rule_of, with_subcommand};
 ghost use Rattle.ftl_words.specs.Commands.{IsShaped, IsLocal, shaped, with_command};

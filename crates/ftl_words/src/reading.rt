@@ -16,12 +16,12 @@ use clap::error::ErrorKind;
 use clap::{ArgMatches, Error};
 use std::alloc::{AllocError, Global};
 
-/// Why words are no command.
+/// Why command-line arguments aren't a command.
 #[derive(Debug, PartialEq, Eq, Drop)]
 pub enum WordsError {
     /// Memory ran out.
     Memory,
-    /// The words are no command of the program.
+    /// They aren't a command of the program.
     Bad,
     /// The words ask for help, which is this text.
     Help(String),
@@ -37,10 +37,11 @@ impl From<AllocError> for WordsError {
     }
 }
 
-/// Reads the words behind the program's name: a command, its flags and its files, as `clap` has them.
+/// Reads the command-line arguments: a command, its options and its files, as `clap` has them.
 ///
 /// # Errors
-/// `Bad`: the words are no command. `Help`: they ask for help. `Version`: they ask for the version. `Memory`: memory ran out.
+/// `Bad`: the arguments aren't a command. `Help`: they ask for help. `Version`: they ask for the version. `Memory`:
+/// memory ran out.
 pub fn command<'words>(
     alloc: Global,
     words: &'words [&'words str],
@@ -64,7 +65,7 @@ pub fn command<'words>(
     }
 }
 
-/// What an error of `clap` is told as.
+/// What an error of `clap` is reported as.
 fn refusal(alloc: Global, error: &Error) -> WordsError
     ensures memory { kind_of error.now ≡ ErrorKind.OutOfMemory
         → result ≡ WordsError.Memory }

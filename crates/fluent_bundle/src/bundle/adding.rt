@@ -20,8 +20,8 @@ where
     F: FluentFunction<C> + Drop,
     G: ValueFormatter<C, M>,
 {
-    /// Adds the messages and terms of a resource. Where two entries have one id, the first stays, whatever it is and wherever it
-    /// comes from.
+    /// Adds the messages and terms of a resource. If two entries have one id, the first stays, whatever it is and
+    /// wherever it comes from.
     ///
     /// ```
     /// bundle.add_resource(&resource)?;
@@ -30,7 +30,7 @@ where
     /// # Errors
     /// - [`AddResourceError::Overriding`] has a notice for each entry whose id stood for another one, in the order of the
     ///   entries. All other entries were added.
-    /// - [`AddResourceError::Memory`] where memory runs out. The bundle is unchanged then.
+    /// - [`AddResourceError::Memory`] if memory runs out. The bundle is unchanged then.
     pub fn add_resource(&mut self, resource: &'r FluentResource<'s>) -> Result<(), AddResourceError>
         ensures added { AddsFirst result (bundle_of self.old) (bundle_of self.new) (entries_view resource.now) }
         ensures told { TellsNotices result (bundle_of self.old) (entries_view resource.now) }
@@ -38,7 +38,8 @@ where
         self.ids.add_resource(resource.tree())
     }
 
-    /// Adds the messages and terms of a resource. Where two entries have one id, the last stays: it replaces a function too.
+    /// Adds the messages and terms of a resource. If two entries have one id, the last stays: it replaces a function
+    /// too.
     ///
     /// # Errors
     /// Memory ran out. The bundle is unchanged then.
@@ -62,8 +63,8 @@ where
     ///
     /// # Errors
     /// After each of them the bundle is unchanged, and the function was dropped.
-    /// - [`AddFunctionError::Overriding`] where the id stands for a message, a term or a function.
-    /// - [`AddFunctionError::Memory`] where memory runs out.
+    /// - [`AddFunctionError::Overriding`] if the id stands for a message, a term or a function.
+    /// - [`AddFunctionError::Memory`] if memory runs out.
     pub fn add_function(&mut self, id: &str, function: F) -> Result<(), AddFunctionError>
         ensures { AddsFunction result (bundle_of self.old) (bundle_of self.new) (id.now, ids.function function) }
     {
@@ -74,8 +75,8 @@ where
     ///
     /// # Errors
     /// After each of them the bundle is unchanged.
-    /// - [`AddFunctionError::Overriding`] where `NUMBER` stands for a message, a term or a function.
-    /// - [`AddFunctionError::Memory`] where memory runs out.
+    /// - [`AddFunctionError::Overriding`] if `NUMBER` stands for a message, a term or a function.
+    /// - [`AddFunctionError::Memory`] if memory runs out.
     pub fn add_builtins(&mut self) -> Result<(), AddFunctionError>
         ensures { AddsFunction result (bundle_of self.old) (bundle_of self.new) number_pair }
     {

@@ -61,7 +61,7 @@ pub fn blank_blocks_are_skipped()
     ensures { BlankBlocksAreSkipped }
 {}
 
-/// What is left behind a line is what stands behind its line feed, or nothing where it has none.
+/// What is left after a line is what follows its line feed, or nothing if it has none.
 pub fn lines_are_left()
     ensures { LinesAreLeft }
 {}
@@ -86,8 +86,8 @@ pub fn parts_begin_at_column_zero()
     ensures { PartsBeginAtColumnZero }
 {}
 
-/// What is looked for behind a refusal is the end of the junk: the first place, at the refusal's or behind it, that an entry may
-/// begin at, or the end of the text.
+/// What is looked for after a refusal is the end of the junk: the first place, at the refusal's or after it, that an
+/// entry may begin at, or the end of the text.
 pub fn recovery_finds_the_end()
     ensures { RecoveryFindsTheEnd }
 {}
@@ -128,7 +128,7 @@ pub fn runtime_has_the_same_list()
     ensures { RuntimeHasTheSameList }
 {}
 
-/// Where the full reading of a source has no errors, and so no junk, the reading for runtime use has none.
+/// If the full reading of a source has no errors, and so no junk, the reading for runtime use has none.
 pub fn runtime_adds_no_junk()
     ensures { RuntimeAddsNoJunk }
 {}

@@ -24,9 +24,9 @@ use std::alloc::Global;
 /// Names and literals are not examined, and neither are the texts in them. Nothing changes what `value` holds.
 ///
 /// # Errors
-/// `Shape` exactly where no tree has the value: a key is unknown or missing, or a value is of another kind than the
-/// table has there, so also where there is a number; the version is another one; or there is none, and a select is by
-/// a message's attribute. `Memory` where memory ran out. Nothing of the tree is left after either.
+/// `Shape` exactly if no tree has the value: a key is unknown or missing, or a value is of another kind than the
+/// table has there, so also if there is a number; the version is another one; or there is none, and a select is by
+/// a message's attribute. `Memory` if memory runs out. Nothing of the tree is left after either.
 pub fn from_value(alloc: Global, value: &Value) -> Result<Resource<String>, FromValueError>
     ensures ok { IfOk result (λ resource. HasValue (plain resource) (view value.now)) }
     ensures inverse { (tree : List PlainEntry) → HasValue tree (view value.now)

@@ -15,7 +15,7 @@ use std::alloc::{AllocError, Global};
 use std::borrow::CowStr;
 
 impl<'args, C: FluentType> FluentArgs<'args, C> {
-    /// No arguments. It takes no memory.
+    /// No arguments. It doesn't allocate.
     pub fn new(alloc: Global) -> Self
         ensures { args_view C.meaning result ≡ [] }
     {
@@ -24,7 +24,7 @@ impl<'args, C: FluentType> FluentArgs<'args, C> {
         }
     }
 
-    /// No arguments, with room for so many of them.
+    /// No arguments, with room for this many of them.
     ///
     /// # Errors
     /// [`AllocError`] if memory runs out; nothing is left behind.
@@ -58,8 +58,9 @@ impl<'args, C: FluentType> FluentArgs<'args, C> {
 }
 
 impl<'args, C: FluentType + Drop> FluentArgs<'args, C> {
-    /// Gives a name a value, in the place of the one that it has, if it has one; then it takes no memory and succeeds. A name
-    /// is whatever converts to a [`CowStr`], and a value whatever converts to a [`FluentValue`]: `args.set("count", 3)`.
+    /// Gives a name a value, in the place of the one that it has, if it has one; then it doesn't allocate, and
+    /// succeeds. A name is whatever converts to a [`CowStr`], and a value whatever converts to a [`FluentValue`]:
+    /// `args.set("count", 3)`.
     ///
     /// ```
     /// args.set("name", "Jane")?;
