@@ -23,7 +23,7 @@ ListsDecide S F = (sources others : List Text) → lists others ≡ lists source
 abbrev pub TidiedSourcesKeepAnswers : Type 0 → Type 0 → Type 0
 TidiedSourcesKeepAnswers S F = (sources others : List Text) → Tidied sources others → AnswerAlike S F sources others
 
--- The joined text has the notices of the sources, where the first entry of an id counts.
+-- The joined text has the notices of the sources, if the first entry of an id counts.
 abbrev pub JoinedSourcesKeepNotices : Type 0 → Type 0
 JoinedSourcesKeepNotices F = (sources : List Text) → HaveNoReturn sources → AreUtf8 sources → notices_of F (joined sources ∷ []) ≡ notices_of F sources
 
@@ -38,7 +38,7 @@ abbrev pub IdsGoOn : Type 0 → Type 0
 IdsGoOn F = (overriding : Bool) (sources : List Text) (source : Text) →
     ids_of {F = F} overriding (sources ++ source ∷ []) ≡ with_ids overriding (ids_of overriding sources) (entries_by_id (runtime_tree source))
 
--- It has its notices behind those of the sources before it.
+-- It has its notices after those of the sources before it.
 abbrev pub NoticesGoOn : Type 0 → Type 0
 NoticesGoOn F = (sources : List Text) (source : Text) →
     notices_of F (sources ++ source ∷ []) ≡ notices_of F sources ++ notices (ids_of {F = F} false sources) (entries_by_id (runtime_tree source))

@@ -20,7 +20,7 @@ most_bytes (source ∷ sources) = max (length source) (most_bytes sources)
 abbrev pub ReferencesFit : Type 0 → Type 0
 ReferencesFit F = (overriding : Bool) (sources : List Text) → ids_most (ids_of {F = F} overriding sources) ≤ most_bytes sources
 
--- So a request for a pattern of the sources enters at most 1 + 100 * n patterns, where the longest source has n bytes: with all
+-- So a request for a pattern of the sources enters at most 1 + 100 * n patterns, if the longest source has n bytes: with all
 -- settings and plural sources, and whatever the arguments are.
 abbrev pub RequestsFit : Type 0 → Type 0 → Type 0
 RequestsFit S F = (env : Environment S F) (overriding : Bool) (sources : List Text) (id : Text) (attribute : Option Text) (es : Elements) (args : List (Text × Value S)) →

@@ -19,7 +19,7 @@ pub record Settings : Type 0 where
 abbrev pub ids_of : {F : Type 0} → Bool → List Text → Ids F
 ids_of overriding sources = with_ids overriding (number_pair ∷ []) (entries_by_id (lists sources))
 
--- the notices of entries whose id was there, where the first entry of an id counts
+-- the notices of entries whose id was there, if the first entry of an id counts
 abbrev pub notices_of : Type 0 → List Text → List Reported
 notices_of F sources = notices {F = F} (number_pair ∷ []) (entries_by_id (lists sources))
 

@@ -1,4 +1,4 @@
--- What a pattern gives a request, and which of its errors are told.
+-- What a pattern gives a request, and which of its errors are reported.
 use Rattle.std.specs.Prelude.{◌≡◌, List, ◌++◌, map, IfOk, IsSome, OnErr, OnOk, Option, None, Result, Some}
 use Rattle.std.specs.Cow.{cow_str_bytes}
 use Rattle.std.specs.Global.{Global}
@@ -26,17 +26,17 @@ use Rattle.fluent_value.specs.declared.args.FluentArgs.{FluentArgs}
 abbrev pub told : Vec FluentError → List Reported
 told errors = map bundle_view errors.items
 
--- behind the old errors stand those of an answer
+-- after the old errors stand those of an answer
 abbrev pub TellsAll : {A : Type 0} → Vec FluentError → Vec FluentError → Done A → Type 0
 TellsAll old new answer = told new ≡ told old ++ map unresolved answer.errors
 
--- behind the old errors stand the first of an answer's
+-- after the old errors stand the first of an answer's
 pub record TellsFirst {A : Type 0} (old new : Vec FluentError) (answer : Done A) : Type 0 where
   pub some : List Unresolved
   pub first : Begins some answer.errors
   pub errors : told new ≡ told old ++ map unresolved some
 
--- behind what a writer held stands a beginning of an answer's text
+-- after what a writer held stands a beginning of an answer's text
 pub record WritesFirst (held now : Text) (answer : Done Text) : Type 0 where
   pub written : Text
   pub first : Begins written answer.value
@@ -75,7 +75,7 @@ module _ {C S F : Type 0} (meaning : C → S) (env : Environment S F) (args : Op
   abbrev pub asked : Done Text
   asked = answer_written env (args_or_none meaning (given_args meaning args)) (pattern_view _ (λ s. s.now) pattern)
 
-  -- what of it is handed out: the whole text as a value is shown
+  -- what of it is returned: the complete text as a value is shown
   abbrev pub handed : Done Text
   handed = answer_handed env (args_or_none meaning (given_args meaning args)) (pattern_view _ (λ s. s.now) pattern)
 

@@ -16,7 +16,7 @@ use Rattle.fluent_value.specs.declared.scope.ValueScope.{Ghosts as Scope}
 use denote.Ref.{Bor}
 
 module _ {W T E : Type 0} (text : W → Text) (result : Result T E) (held now : W) (old new : Progress) (step : Progress → Budget → Done Text) where
-  -- on Ok the step was written behind what the writer held
+  -- on Ok the step was written after what the writer held
   abbrev pub Writes : Type 0
   Writes = OnOk result (told.Writes (text held) (text now) (state old) (state new) (step old))
 
@@ -26,7 +26,7 @@ module _ {W T E : Type 0} (text : W → Text) (result : Result T E) (held now : 
 
 module _ {C F E S : Type 0} {c : Custom C S} {e : Context E C F S} {v : Scope E C S} {W T X : Type 0} (text : W → Text) (result : Result T X) (held now : W) (old new : Progress)
     (place : Place C F E S c e v) (whole : Pattern (Bor Text)) (expression : Expression (Bor Text)) where
-  -- on Ok a placeable of a pattern was written behind what the writer held
+  -- on Ok a placeable of a pattern was written after what the writer held
   abbrev pub WritesPiece : Type 0
   WritesPiece = Writes text result held now old new (placeable place whole expression)
 

@@ -1,4 +1,4 @@
--- What a call of a scope takes at most, and how often an answer tells of too many placeables.
+-- What a call of a scope takes at most, and how often an answer reports too many placeables.
 use Rattle.std.specs.Prelude.{ℕ, suc, ◌+◌, ◌*◌, ◌≤◌, List, [], ◌∷◌}
 use Rattle.std.specs.Global.{Vec}
 use Rattle.fluent_asking.specs.Asked.{told}
@@ -48,21 +48,21 @@ module _ {M C F G T S : Type 0} {m : PluralSource M} {c : Custom C S} {f : Funct
   abbrev pub enters_by_arguments : Scope M C F G T S m c f g → MaybeArguments → ℕ
   enters_by_arguments scope args = suc (left_in scope) * most_with_arguments (ids_in scope) args
 
-  -- A call counts at most the placeables that it may count, and enters at most so many patterns. Neither count falls, so each stays
-  -- at the greatest value of its type once there.
+  -- A call counts at most the placeables that it may count, and enters at most this many patterns. Neither count falls,
+  -- so each stays at the greatest value of its type once there.
   pub record IsWithinWork (old new : Scope M C F G T S m c f g) (patterns : ℕ) : Type 0 where
     pub placeables : (state_of new).placeables ≤ (state_of old).placeables + may_count (state_of old).budget
     pub entered : (state_of new).entered ≤ (state_of old).entered + patterns
     pub placeables_stay : (state_of old).placeables ≤ (state_of new).placeables
     pub entered_stay : (state_of old).entered ≤ (state_of new).entered
 
--- how often errors tell of too many placeables
+-- how often errors report too many placeables
 abbrev pub times_reported : List Reported → ℕ
 times_reported [] = 0
 times_reported (overriding kind id ∷ errors) = times_reported errors
 times_reported (damaged e ∷ errors) = times_reported errors
 times_reported (unresolved e ∷ errors) = times_too_many (e ∷ []) + times_reported errors
 
--- too many placeables are told at most once more than they were
+-- too many placeables are reported at most once more than they were
 abbrev pub TellsTooManyOnce : Vec FluentError → Vec FluentError → Type 0
 TellsTooManyOnce old new = times_reported (told new) ≤ suc (times_reported (told old))

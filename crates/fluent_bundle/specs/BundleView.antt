@@ -48,7 +48,7 @@ module _ {M C F G T S : Type 0} {m : PluralSource M} {c : Custom C S} {f : Funct
   abbrev pub answer : (T → Text → Text) → FluentBundle M C F G T S m c f g → Option (Bor (FluentArgs C)) → Pattern (Bor Text) → Done Text
   answer t bundle args pattern = asked c.meaning (environment_of t bundle) args pattern
 
-  -- what of it is handed out: the whole text as a value is shown
+  -- what of it is returned: the complete text as a value is shown
   abbrev pub handout : (T → Text → Text) → FluentBundle M C F G T S m c f g → Option (Bor (FluentArgs C)) → Pattern (Bor Text) → Done Text
   handout t bundle args pattern = handed c.meaning (environment_of t bundle) args pattern
 

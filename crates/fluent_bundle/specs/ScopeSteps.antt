@@ -70,15 +70,15 @@ module _ {M C F G T S : Type 0} {m : PluralSource M} {c : Custom C S} {f : Funct
     TellsSome step = OnErr result (refused.TellsSome (state_of old) (state_of new) (step old (state_of old).budget))
 
   module _ {W X E : Type 0} (text : W → Text) (result : Result X E) (held now : W) (old new : Scope M C F G T S m c f g) (step : Scope M C F G T S m c f g → Budget → Done Text) where
-    -- on Ok a step was made whole: its text stands behind what a writer held, and its errors behind those of the scope
+    -- on Ok a step was made whole: its text is after what a writer held, and its errors after those of the scope
     abbrev pub Writes : Type 0
     Writes = OnOk result (told.Writes (text held) (text now) (state_of old) (state_of new) (step old))
 
-    -- on Err it was broken off: behind what a writer held stands a beginning of its text, and its first errors were reported
+    -- on Err it was broken off: after what a writer held stands a beginning of its text, and its first errors were reported
     abbrev pub Starts : Type 0
     Starts = OnErr result (refused.WritesSome (text held) (text now) (state_of old) (state_of new) (step old))
 
-  -- on Ok a step was made whole behind what a string held
+  -- on Ok a step was made whole after what a string held
   abbrev pub WritesText : {X E : Type 0} → Result X E → String Global → String Global → Scope M C F G T S m c f g → Scope M C F G T S m c f g → (Scope M C F G T S m c f g → Budget → Done Text) → Type 0
   WritesText result held now old new step = Writes string_bytes result held now old new step
 

@@ -1,4 +1,4 @@
--- A scope as plain data: what resolving has come to in it, and where it is.
+-- A scope as plain data: what resolving has done in it, and where it is.
 use Rattle.std.specs.Prelude.{◌≡◌, List, [], ◌∷◌, Option, None, Some, map, option_map}
 use denote.Ref.{Bor}
 use Rattle.fluent_ast.specs.Borrowed.{elements_of}
@@ -25,7 +25,7 @@ module _ {M C F G T S : Type 0} {m : PluralSource M} {c : Custom C S} {f : Funct
   abbrev pub path_of : Scope M C F G T S m c f g → List Elements
   path_of scope = root_of scope.root
 
-  -- what resolving has come to
+  -- what resolving has done
   abbrev pub state_of : Scope M C F G T S m c f g → State
   state_of scope = record {
     errors = option_map (λ list. map bundle_view list.now.items) scope.errors;
@@ -42,7 +42,7 @@ module _ {M C F G T S : Type 0} {m : PluralSource M} {c : Custom C S} {f : Funct
     path = path_of scope;
   }
 
-  -- what no call changes: the bundle, the arguments of the request, and which list errors are told to
+  -- what no call changes: the bundle, the arguments of the request, and which list errors are reported to
   pub record Keeps (old new : Scope M C F G T S m c f g) : Type 0 where
     pub bundle : new.bundle ≡ old.bundle
     pub arguments : new.arguments ≡ old.arguments

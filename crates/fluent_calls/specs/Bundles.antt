@@ -1,4 +1,4 @@
--- What C is told of a bundle that it keeps.
+-- What C learns of a bundle that it keeps.
 use Rattle.std.specs.Prelude.{◌≡◌, ◌⊎◌, Bool, true, false, List, [], ◌∷◌, Option, Some, None, IsNone, IsSome, IsUtf8, map, option_copied, option_map}
 use Rattle.std.specs.List.{flat_map}
 use denote.Ref.{Bor}

@@ -1,4 +1,4 @@
--- What a tree is handed out as.
+-- The form in which a caller gets a tree.
 use Rattle.std.specs.Prelude.{ℕ, List}
 use Rattle.serde_json.specs.Written.{compact_text}
 use Rattle.fluent_syntax.specs.Tree.{Entry}

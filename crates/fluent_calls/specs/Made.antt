@@ -1,4 +1,4 @@
--- What a text that was handed out is.
+-- What a text that a caller got is.
 use Rattle.std.specs.Prelude.{◌≡◌, ℕ, true, false, List}
 use Rattle.fluent_calls.specs.declared.text.FluentText.{FluentText}
 

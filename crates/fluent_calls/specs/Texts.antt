@@ -17,7 +17,7 @@ buffers_row = buffers.the_row
 abbrev pub boxed : Ptr → buffers_row.Denot → Global → Fml
 boxed owner v alloc = box_owns (ghosts.dealloc_token alloc) buffers_row owner v
 
--- the bytes begin at this address and are these, so many
+-- the bytes begin at this address and are these, this many
 abbrev pub told : Ptr → ℕ → List ℕ → buffers_row.Denot → Fml
 told bytes n text v = fsep (feq Ptr (vec_ptr v.bytes) bytes) (fsep (feq ℕ (vec_len v.bytes) n) (feq (List ℕ) (vec_items v.bytes) text))
 

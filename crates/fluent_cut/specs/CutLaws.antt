@@ -51,8 +51,8 @@ JoinedTextsKeepLists = (sources : List Text) → HaveNoReturn sources → AreUtf
 
 -- ---- damage
 
--- A text without errors behind any other: it keeps its messages and terms, or loses the first. It keeps all where it begins
--- with `#`, or where the other text has no errors.
+-- A text without errors after any other: it keeps its messages and terms, or loses the first. It keeps all if it begins
+-- with `#`, or if the other text has no errors.
 pub record DamageStaysIn (before text : Text) : Type 0 where
   pub either : (list (before ++ text) ≡ list before ++ list text) ⊎ (list (before ++ text) ≡ list before ++ drop 1 (list text))
   pub whole : (begins_with number_sign text ≡ true) ⊎ (errors before ≡ []) → list (before ++ text) ≡ list before ++ list text

@@ -8,7 +8,7 @@ use Rattle.fluent_grammar.specs.Lines.{ends_line}
 use Rattle.fluent_grammar.specs.Tiling.{list}
 use Rattle.fluent_cut.specs.Cut.{cut}
 
--- a text with a line feed put behind it, where it isn't empty and doesn't end in one
+-- a text with a line feed put after it, if it isn't empty and doesn't end in one
 abbrev pub line_ended : Text → Text
 line_ended [] = []
 line_ended (c ∷ cs) = if ends_line (c ∷ cs) then c ∷ cs else (c ∷ cs) ++ (line_feed ∷ [])
@@ -34,7 +34,7 @@ abbrev pub HaveNoReturn : List Text → Type 0
 HaveNoReturn [] = Unit {0}
 HaveNoReturn (s ∷ ss) = HasNoReturn s × HaveNoReturn ss
 
--- Each of these is UTF-8, as a `&str` is. Of other bytes trimming means nothing, and a line feed behind them may change the last
+-- Each of these is UTF-8, as a `&str` is. Of other bytes trimming means nothing, and a line feed after them may change the last
 -- character.
 abbrev pub AreUtf8 : List Text → Type 0
 AreUtf8 [] = Unit {0}

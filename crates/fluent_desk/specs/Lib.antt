@@ -1,4 +1,4 @@
--- The definitions that the contracts of the calls that tidy are told in, from the crate below.
+-- The definitions by which the contracts of the calls that tidy are stated, from the crate below.
 pub use Rattle.fluent_tidy.specs.Errors
 pub use Rattle.fluent_tidy.specs.Messages
 pub use Rattle.fluent_tidy.specs.Sources

@@ -13,7 +13,7 @@ abbrev pub cut_len : Option ℕ → ℕ → ℕ
 cut_len None n = n
 cut_len (Some common) n = min n common
 
--- whether a line begins behind an element
+-- whether a line begins after an element
 abbrev pub line_behind : Element → Bool
 line_behind (text s) = ends_line s
 line_behind (placeable e) = false

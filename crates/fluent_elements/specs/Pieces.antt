@@ -10,7 +10,7 @@ undented (at_line_start n s) = text (replicate n space ++ s)
 undented (in_line s) = text s
 undented (placed z e) = placeable e
 
--- whether a line begins behind a piece
+-- whether a line begins after a piece
 abbrev pub line_after : Piece → Bool
 line_after (at_line_start n s) = ends_line s
 line_after (in_line s) = ends_line s
@@ -23,12 +23,12 @@ Fits true (in_line s) = spaces s ≡ 0
 Fits false (in_line s) = Unit {0}
 Fits line (placed z e) = Unit {0}
 
--- pieces that may stand one behind the other
+-- pieces that may stand one after the other
 abbrev pub IsLined : Bool → List Piece → Type 0
 IsLined line [] = Unit {0}
 IsLined line (p ∷ ps) = Fits line p × IsLined (line_after p) ps
 
--- whether a line begins behind pieces
+-- whether a line begins after pieces
 abbrev pub line_behind_all : Bool → List Piece → Bool
 line_behind_all line [] = line
 line_behind_all line (p ∷ ps) = line_behind_all (line_after p) ps

@@ -5,12 +5,12 @@ use Rattle.fluent_meaning.specs.Ids.{Meaning, number_function, function, message
 use Rattle.fluent_value.specs.Builtins.{number_called}
 use Rattle.fluent_value.specs.Value.{Value, error}
 
--- the text of a value by a formatter, where one is set and has one
+-- the text of a value by a formatter, if one is set and has one
 abbrev pub formatted_by : {M G S : Type 0} → (G → M → Value S → Option Text) → M → Option G → Value S → Option Text
 formatted_by formats plurals None value = None
 formatted_by formats plurals (Some formatter) value = formats formatter plurals value
 
--- what becomes of a text, where anything is set that changes it
+-- what becomes of a text, if anything is set that changes it
 abbrev pub transformed_by : {T : Type 0} → (T → Text → Text) → Option T → Text → Text
 transformed_by transformed None s = s
 transformed_by transformed (Some transform) s = transformed transform s

@@ -9,7 +9,7 @@ pub data Kind : Type 0 where
   term : Kind
   function : Kind
 
--- what an expression refers to; a message or term with a name behind it is the attribute of that name
+-- what an expression refers to; a message or term with a name after it is the attribute of that name
 pub data Reference : Type 0 where
   to_function : List ℕ → Reference
   to_message : List ℕ → Option (List ℕ) → Reference

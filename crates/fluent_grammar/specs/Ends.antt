@@ -1,4 +1,4 @@
--- The ends of a text: what is left of it behind a construct, and the place of a refusal.
+-- The ends of a text: what is left of it after a construct, and the place of a refusal.
 use Rattle.std.specs.Prelude.{◌≡◌, ◌<◌, true, false, ◌++◌, length}
 use Rattle.fluent_grammar.specs.Words.{Text, line_feed, close_brace, begins_with}
 use Rattle.fluent_grammar.specs.Refusal.{Kind, Reading, got, refused}

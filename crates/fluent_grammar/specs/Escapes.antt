@@ -12,12 +12,12 @@ replacement = encode_utf8 0xFFFD
 abbrev pub hex_value : ℕ → ℕ
 hex_value c = if is_digit c then c - 48 else if is_capital c then c - 55 else c - 87
 
--- the number that hex digits write, behind those of a number
+-- the number that hex digits write, after those of a number
 abbrev pub hex_number : ℕ → Text → ℕ
 hex_number n [] = n
 hex_number n (c ∷ cs) = hex_number (16 * n + hex_value c) cs
 
--- a byte within a character, behind its first
+-- a byte within a character, after its first
 abbrev pub is_continuation : ℕ → Bool
 is_continuation b = is_between 128 191 b
 
@@ -25,18 +25,18 @@ is_continuation b = is_between 128 191 b
 abbrev pub is_scalar : ℕ → Bool
 is_scalar c = nat_lt c 0xD800 || (nat_le 0xE000 c && nat_le c 0x10FFFF)
 
--- The length of an escape's digits: so many bytes, clipped at the end of the text, and extended to the end of a
+-- The length of an escape's digits: this many bytes, clipped at the end of the text, and extended to the end of a
 -- character that the count cuts.
 abbrev pub digits_len : ℕ → Text → ℕ
 digits_len count s = let clipped = min count (length s) in clipped + prefix_len is_continuation (drop clipped s)
 
--- the character of exactly so many hex digits of a scalar value, and U+FFFD for other texts
+-- the character of exactly this many hex digits of a scalar value, and U+FFFD for other texts
 abbrev pub character_of : ℕ → Text → Text
 character_of count s =
     if length s == count && (list_all is_hex_digit s && is_scalar (hex_number 0 s)) then encode_utf8 (hex_number 0 s)
     else replacement
 
--- An escape, from behind its backslash on: what it stands for, and how many bytes it takes.
+-- An escape, from after its backslash on: what it stands for, and how many bytes it takes.
 pub record Escape : Type 0 where
   pub stands_for : Text
   pub len : ℕ
@@ -53,7 +53,7 @@ escape_at (c ∷ cs) =
     else if c == capital_u then unicode_escape 6 cs
     else record { stands_for = replacement; len = suc (continuation_len c) }
 
--- the unescaped text behind so many bytes at the front, which belong to an escape that was read
+-- the unescaped text after this many bytes at the front, which belong to an escape that was read
 unfoldable pub unescaped_behind : ℕ → Text → Text
 unescaped_behind n [] = []
 unescaped_behind (suc n) (c ∷ cs) = unescaped_behind n cs

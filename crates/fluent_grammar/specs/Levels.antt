@@ -1,8 +1,8 @@
--- Readers of so many levels over any others.
+-- Readers of this many levels over any others.
 use Rattle.std.specs.Prelude.{ℕ, zero, suc}
 use Rattle.fluent_grammar.specs.Reading.{Readers, step}
 
--- so many levels, and below them these readers
+-- this many levels, and below them these readers
 abbrev pub levels : Readers → ℕ → Readers
 levels bottom zero = bottom
 levels bottom (suc n) = step (levels bottom n)

@@ -1,5 +1,5 @@
 -- The words of the grammar as relations: a text begins with the word, and the rest is what follows it. Each word is
--- taken greedily. Nothing here reads: a word is told by its bytes, and by what does not go on it.
+-- taken greedily. Nothing here reads: a word is known by its bytes, and by what does not go on it.
 use Rattle.std.specs.Prelude.{◌≡◌, ℕ, Bool, true, false, not, ◌||◌, ◌==◌, [], ◌∷◌, ◌++◌, Option, Some, None}
 use Rattle.std.specs.List.{list_all}
 use Rattle.fluent_grammar.specs.Words.{Text, line_feed, carriage_return, space, quote, hyphen, dot, backslash, open_brace, close_brace, small_u, capital_u, is_letter, is_digit, is_name_byte, begins, begins_with, begins_crlf, hex_digits}
@@ -51,7 +51,7 @@ pub record SpellsDigits (digits text rest : Text) : Type 0 where
   pub digit_first : begins is_digit text ≡ true
   pub run : IsLongestRun is_digit digits text rest
 
--- A number literal behind its sign: digits, and digits behind a point where a point follows.
+-- A number literal after its sign: digits, and digits after a point if a point follows.
 pub data SpellsUnsigned : Text → Text → Text → Type 0 where
   whole : {digits s rest : Text} → SpellsDigits digits s rest → begins_with dot rest ≡ false → SpellsUnsigned digits s rest
   decimal : {digits fraction s u rest : Text} → SpellsDigits digits s (dot ∷ u) → SpellsDigits fraction u rest →
@@ -66,8 +66,8 @@ pub data SpellsNumber : Text → Text → Text → Type 0 where
 abbrev pub is_plain : ℕ → Bool
 is_plain c = not (c == quote || (c == line_feed || c == backslash))
 
--- StringLiteral behind its opening quote, with the quote that closes it. The node holds the raw text between the
--- quotes. Behind `\u` four hex digits follow, behind `\U` six; they are bytes that stand for themselves.
+-- StringLiteral after its opening quote, with the quote that closes it. The node holds the raw text between the
+-- quotes. After `\u` four hex digits follow, after `\U` six; they are bytes that stand for themselves.
 pub data SpellsString : Text → Text → Text → Type 0 where
   closing_quote : {rest : Text} → SpellsString [] (quote ∷ rest) rest
   plain_byte : {c : ℕ} {raw s rest : Text} → is_plain c ≡ true → SpellsString raw s rest → SpellsString (c ∷ raw) (c ∷ s) rest
@@ -76,7 +76,7 @@ pub data SpellsString : Text → Text → Text → Type 0 where
   four_digits : {raw s rest : Text} → hex_digits 4 s ≡ true → SpellsString raw s rest → SpellsString (backslash ∷ small_u ∷ raw) (backslash ∷ small_u ∷ s) rest
   six_digits : {raw s rest : Text} → hex_digits 6 s ≡ true → SpellsString raw s rest → SpellsString (backslash ∷ capital_u ∷ raw) (backslash ∷ capital_u ∷ s) rest
 
--- AttributeAccessor, or nothing where no dot follows.
+-- AttributeAccessor, or nothing if no dot follows.
 pub data SpellsAccessor : Option Text → Text → Text → Type 0 where
   no_accessor : {s : Text} → begins_with dot s ≡ false → SpellsAccessor None s s
   an_accessor : {name s rest : Text} → SpellsName name s rest → SpellsAccessor (Some name) (dot ∷ s) rest

@@ -3,12 +3,12 @@ use Rattle.std.specs.Prelude.{◌≡◌, ◌≤◌, ℕ, true, false, List, [], 
 use Rattle.std.specs.List.{list_all}
 use Rattle.fluent_grammar.specs.Lines.{Piece, is_blank, indent_of, common_indent, without_blank_end}
 
--- One of these pieces tells this indent.
+-- One of these pieces has this indent.
 pub data Tells : ℕ → List Piece → Type 0 where
   first_tells : {n : ℕ} {p : Piece} {ps : List Piece} → indent_of p ≡ Some n → Tells n (p ∷ ps)
   later_tells : {n : ℕ} {p : Piece} {ps : List Piece} → Tells n ps → Tells n (p ∷ ps)
 
--- The least indent that these pieces tell; none where no piece tells any.
+-- The least indent that these pieces have; none if no piece has any.
 abbrev pub IsLeastIndent : Option ℕ → List Piece → Type 0
 IsLeastIndent None ps = (n : ℕ) → Tells n ps → ⊥
 IsLeastIndent (Some n) ps = Tells n ps × ((m : ℕ) → Tells m ps → n ≤ m)

@@ -5,7 +5,7 @@ use Rattle.std.specs.Str.{trim_end}
 use Rattle.fluent_grammar.specs.Words.{Text, space, line_feed, carriage_return, dot, asterisk, open_bracket, open_brace, close_brace, begins, spaces, skip_spaces}
 use Rattle.fluent_grammar.specs.Tree.{Elements, no_elements, text, placeable, Expression}
 
--- A piece of a pattern. A text at the start of a line has the count of its leading spaces apart. A placeable tells whether it
+-- A piece of a pattern. A text at the start of a line has the count of its leading spaces apart. A placeable says whether it
 -- stands at column 0 of the start of a line.
 pub data Piece : Type 0 where
   at_line_start : ℕ → Text → Piece
@@ -22,7 +22,7 @@ ends_line (c ∷ d ∷ ds) = ends_line (d ∷ ds)
 abbrev pub goes_on_at_column_zero : ℕ → Bool
 goes_on_at_column_zero c = c == open_brace || (c == carriage_return || c == line_feed)
 
--- Behind a space or more at a line start it ends before these bytes. (All but these begin indented_char, or a placeable.)
+-- After a space or more at a line start it ends before these bytes. (All but these begin indented_char, or a placeable.)
 abbrev pub ends_behind_spaces : ℕ → Bool
 ends_behind_spaces c = c == close_brace || (c == dot || (c == open_bracket || c == asterisk))
 
@@ -41,7 +41,7 @@ is_blank (at_line_start n s) = is_blank_text s
 is_blank (in_line s) = is_blank_text s
 is_blank (placed column_zero e) = false
 
--- the smaller of two indents, where they are there
+-- the smaller of two indents, if they are there
 abbrev pub lesser : Option ℕ → Option ℕ → Option ℕ
 lesser None b = b
 lesser (Some a) None = Some a
@@ -54,12 +54,12 @@ indent_of (at_line_start n s) = if is_blank_text s then None else Some n
 indent_of (in_line s) = None
 indent_of (placed column_zero e) = if column_zero then Some 0 else None
 
--- the least of these, absent where there is none
+-- the least of these, absent if there is none
 abbrev pub common_indent : List Piece → Option ℕ
 common_indent [] = None
 common_indent (p ∷ ps) = lesser (indent_of p) (common_indent ps)
 
--- Of its leading spaces a text keeps those beyond the common indent. Where that is absent it keeps none.
+-- Of its leading spaces a text keeps those beyond the common indent. If that is absent it keeps none.
 abbrev pub kept_spaces : Option ℕ → ℕ → Text
 kept_spaces None n = []
 kept_spaces (Some common) n = replicate (n - common) space

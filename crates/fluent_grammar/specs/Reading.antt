@@ -22,14 +22,14 @@ digits_at s = if begins is_digit s then got (take (prefix_len is_digit s) s) (dr
 abbrev pub front : Text → Text → Text
 front s rest = take (length s - length rest) s
 
--- A number that begins with this text, behind its whole digits: a point and digits, where a point follows. It is the text up to
+-- A number that begins with this text, after its whole digits: a point and digits, if a point follows. It is the text up to
 -- what is left.
 unfoldable pub fraction_at : Text → Text → Reading Text
 fraction_at s rest =
     if begins_with dot rest then digits_at (drop 1 rest) >>= (λ d. got (front s d.1) d.1)
     else got (front s rest) rest
 
--- NumberLiteral: an optional minus, digits, and a fraction where a point follows.
+-- NumberLiteral: an optional minus, digits, and a fraction if a point follows.
 unfoldable pub number_at : Text → Reading Text
 number_at s = digits_at (if begins_with hyphen s then drop 1 s else s) >>= (λ d. fraction_at s d.1)
 
@@ -48,7 +48,7 @@ missing_hex s =
 abbrev pub before : Text → Reading Text → Reading Text
 before s read = mapped (λ more. s ++ more) read
 
--- StringLiteral, from behind its opening quote on: bytes up to the quote that ends it, which is taken. A backslash goes with
+-- StringLiteral, from after its opening quote on: bytes up to the quote that ends it, which is taken. A backslash goes with
 -- a backslash, a quote, a `u` before 4 hex digits or a `U` before 6.
 unfoldable pub string_content : Text → Reading Text
 string_content [] = refuse (r.expected_token quote) []
@@ -99,7 +99,7 @@ selector_fault (t.term_reference s (Some a) c) = None
 selector_fault (t.variable_reference s) = None
 selector_fault (t.nested e) = Some r.expected_simple_expression_as_selector
 
--- AttributeAccessor directly at the front, or nothing where no dot stands there
+-- AttributeAccessor directly at the front, or nothing if no dot stands there
 unfoldable pub accessor_at : Text → Reading (Option Text)
 accessor_at s = if begins_with dot s then mapped Some (identifier_at (drop 1 s)) else got None s
 
@@ -135,10 +135,10 @@ name_of_argument (t.term_reference s a c) = None
 name_of_argument (t.variable_reference s) = None
 name_of_argument (t.nested e) = None
 
--- Readers of what stands inside a construct, or behind its first part. Each is only asked about a shorter text.
+-- Readers of what stands inside a construct, or after its first part. Each is only asked about a shorter text.
 pub record Readers : Type 0 where
   pub inline : Text → Reading t.Inline
-  -- what is left of call arguments, behind arguments of these names, at one of them or at the closing parenthesis
+  -- what is left of call arguments, after arguments of these names, at one of them or at the closing parenthesis
   pub arguments : List Text → Text → Reading t.Arguments
   -- what is left of a select's variants; whether the default was marked before
   pub variants : Bool → Text → Reading t.Variants
@@ -147,17 +147,17 @@ pub record Readers : Type 0 where
   pub pieces : Text → Reading (List Piece)
 
 module _ (inside : Readers) where
-  -- SelectExpression behind its arrow and blank inline: a line end, blank, variants.
+  -- SelectExpression after its arrow and blank inline: a line end, blank, variants.
   unfoldable pub variants_after : t.Inline → Text → Option Text → Reading t.Expression
   variants_after e s None = refuse r.expected_line_end s
   variants_after e s (Some rest) = mapped (t.select e) (inside.variants false (skip_blank rest))
 
-  -- SelectExpression from its arrow on, where this is the fault of its selector.
+  -- SelectExpression from its arrow on, if this is the fault of its selector.
   unfoldable pub select_at : t.Inline → Option Kind → Text → Reading t.Expression
   select_at e (Some kind) s = refuse kind s
   select_at e None s = variants_after e (skip_spaces (drop 2 s)) (after_line_end (skip_spaces (drop 2 s)))
 
-  -- What a placeable holds, behind its inline expression and the blank there: a select where an arrow follows.
+  -- What a placeable holds, after its inline expression and the blank there: a select if an arrow follows.
   unfoldable pub select_or_inline_at : t.Inline → Text → Reading t.Expression
   select_or_inline_at e s =
       if begins_arrow s then select_at e (selector_fault e) s
@@ -175,13 +175,13 @@ module _ (inside : Readers) where
       select_or_inline_at e.0 (skip_blank e.1) >>= (λ x.
       closing_at x.0 (skip_blank x.1)))
 
-  -- the rest of a TermReference behind its name, attribute and blank: call arguments or nothing
+  -- the rest of a TermReference after its name, attribute and blank: call arguments or nothing
   unfoldable pub term_arguments_at : Text → Option Text → Text → Reading t.Inline
   term_arguments_at id attr s =
       if begins_with open_paren s then mapped (λ args. t.term_reference id attr (t.with_arguments args)) (inside.arguments [] (skip_blank (drop 1 s)))
       else got (t.term_reference id attr t.no_arguments) s
 
-  -- TermReference, behind its minus: the name, directly behind it the attribute, blank, and call arguments
+  -- TermReference, after its minus: the name, directly after it the attribute, blank, and call arguments
   unfoldable pub term_at : Text → Reading t.Inline
   term_at s = identifier_at s >>= (λ id. accessor_at id.1 >>= (λ attr. term_arguments_at id.0 attr.0 (skip_blank attr.1)))
 
@@ -189,7 +189,7 @@ module _ (inside : Readers) where
   unfoldable pub function_of : Text → t.Arguments → Text → Reading t.Inline
   function_of id args s = if list_all is_callee_byte id then got (t.function_reference id args) s else refuse r.forbidden_callee s
 
-  -- behind an identifier and blank: the call arguments of a FunctionReference, or the attribute of a MessageReference
+  -- after an identifier and blank: the call arguments of a FunctionReference, or the attribute of a MessageReference
   unfoldable pub called_at : Text → Text → Reading t.Inline
   called_at id s =
       if begins_with open_paren s then inside.arguments [] (skip_blank (drop 1 s)) >>= (λ args. function_of id args.0 args.1)
@@ -199,7 +199,7 @@ module _ (inside : Readers) where
   unfoldable pub named_at : Text → Reading t.Inline
   named_at s = identifier_at s >>= (λ id. called_at id.0 (skip_blank id.1))
 
-  -- InlineExpression, told by its first byte. A minus before a letter begins a term, any other a number.
+  -- InlineExpression, chosen by its first byte. A minus before a letter begins a term, any other a number.
   unfoldable pub inline_at : Text → Reading t.Inline
   inline_at s =
       if begins_with quote s then mapped t.string_literal (string_content (drop 1 s))
@@ -210,7 +210,7 @@ module _ (inside : Readers) where
       else if begins_with open_brace s then mapped t.nested (placeable_at s)
       else refuse r.expected_inline_expression s
 
-  -- A positional argument, behind its expression, and the arguments that follow. None may stand behind a named one.
+  -- A positional argument, after its expression, and the arguments that follow. None may follow a named one.
   unfoldable pub positional_at : List Text → t.Inline → Text → Reading t.Arguments
   positional_at [] e s = mapped (with_positional e) (inside.arguments [] (skip_separator s))
   positional_at (name ∷ names) e s = refuse r.positional_argument_follows_named s
@@ -221,7 +221,7 @@ module _ (inside : Readers) where
       if is_among name names then refuse (r.duplicated_named_argument name) s
       else literal_at (skip_blank (drop 1 s)) >>= (λ v. mapped (with_named name v.0) (inside.arguments (name ∷ names) (skip_separator v.1)))
 
-  -- Argument, behind its expression: it is named where the expression can be a name and a colon follows.
+  -- Argument, after its expression: it is named if the expression can be a name and a colon follows.
   unfoldable pub argument_at : List Text → t.Inline → Option Text → Text → Reading t.Arguments
   argument_at names e (Some name) s = if begins_with colon s then named_value_at names name s else positional_at names e s
   argument_at names e None s = positional_at names e s
@@ -233,16 +233,16 @@ module _ (inside : Readers) where
       else if begins_with close_paren s then got (t.arguments t.no_inlines t.no_nameds) (drop 1 s)
       else inline_at s >>= (λ e. argument_at names e.0 (name_of_argument e.0) e.1)
 
-  -- the pieces behind a text: from the next line on where the text ended its line, else from within the line on
+  -- the pieces after a text: from the next line on if the text ended its line, otherwise from within the line on
   unfoldable pub after_text_at : Bool → Text → Reading (List Piece)
   after_text_at true s = inside.line s
   after_text_at false s = inside.pieces s
 
-  -- a placeable and the pieces behind it
+  -- a placeable and the pieces after it
   unfoldable pub placeable_piece_at : Bool → Text → Reading (List Piece)
   placeable_piece_at column_zero s = placeable_at s >>= (λ e. mapped (λ ps. placed column_zero e.0 ∷ ps) (inside.pieces e.1))
 
-  -- a text, as such a piece, and the pieces behind it
+  -- a text, as such a piece, and the pieces after it
   unfoldable pub text_piece_at : (Text → Piece) → Text → Reading (List Piece)
   text_piece_at piece s = text_run s >>= (λ x. mapped (λ ps. piece x.0 ∷ ps) (after_text_at (ends_line x.0) x.1))
 
@@ -263,7 +263,7 @@ module _ (inside : Readers) where
       else if begins_crlf (skip_spaces s) then pieces_at (skip_spaces s)
       else text_piece_at (at_line_start (spaces s)) (skip_spaces s)
 
-  -- The pieces of a pattern behind its first blank inline: on this line, or behind the line end and the blank block there.
+  -- The pieces of a pattern after its first blank inline: on this line, or after the line end and the blank block there.
   unfoldable pub first_pieces_at : Text → Option Text → Reading (List Piece)
   first_pieces_at s None = pieces_at s
   first_pieces_at s (Some rest) = line_at (skip_blank_block rest)
@@ -288,14 +288,14 @@ module _ (inside : Readers) where
   unfoldable pub variant_at : Bool → Bool → Text → Reading t.Variants
   variant_at default marked s = key_at (skip_blank (drop 1 s)) >>= (λ key. variant_value_at default key.0 marked (skip_blank key.1))
 
-  -- behind the `*`, or where there is none: a variant, or the end of the variants, of which one has to be the default
+  -- after the `*`, or if there is none: a variant, or the end of the variants, of which one has to be the default
   unfoldable pub variant_or_end_at : Bool → Bool → Text → Reading t.Variants
   variant_or_end_at default marked s =
       if begins_with open_bracket s then variant_at default marked s
       else if marked then got t.no_variants s
       else refuse r.missing_default_variant s
 
-  -- The variants that are left. There is one `*`; it counts where no variant stands behind it, too.
+  -- The variants that are left. There is one `*`; it counts if no variant is after it, too.
   unfoldable pub variants_at : Bool → Text → Reading t.Variants
   variants_at marked s =
       if begins_with asterisk s then (if marked then refuse r.multiple_default_variants (drop 1 s) else variant_or_end_at true true (drop 1 s))
@@ -321,7 +321,7 @@ no_readers = record {
   pieces = λ s. refuse r.expected_inline_expression s;
 }
 
--- so many levels
+-- this many levels
 abbrev pub readers : ℕ → Readers
 readers zero = no_readers
 readers (suc n) = step (readers n)
@@ -344,7 +344,7 @@ abbrev pub more_attributes : (Text → List t.Attribute × Text) → Text → Re
 more_attributes left s (refused fault) = ([], s)
 more_attributes left s (got a rest) = let others = left rest in (a ∷ others.0, others.1)
 
--- attributes, one behind the other, up to the first line that isn't one
+-- attributes, one after the other, up to the first line that isn't one
 unfoldable pub attributes_at : ℕ → Text → List t.Attribute × Text
 attributes_at zero s = ([], s)
 attributes_at (suc n) s = if begins_with dot (skip_spaces s) then more_attributes (attributes_at n) s (attribute_at s) else ([], s)
@@ -381,7 +381,7 @@ term_entry_at s = head_at (drop 1 s) >>= (λ h.
     let attributes = attributes_at (length u) u in
     term_of h.0.0 (value_of h.0.1) attributes.0 attributes.1)
 
--- CommentLine behind its sign: a line end, or a space and the rest of the line. A sign at the end of the text adds no line.
+-- CommentLine after its sign: a line end, or a space and the rest of the line. A sign at the end of the text adds no line.
 unfoldable pub comment_line_at : Text → Reading (List Text)
 comment_line_at s =
     if length s == 0 then got [] []
@@ -404,7 +404,7 @@ comment_lines (suc n) level s =
 abbrev pub comment_of : ℕ → List Text → t.Entry
 comment_of level lines = if level == 1 then t.comment lines else if level == 2 then t.group_comment lines else t.resource_comment lines
 
--- a comment, from its first sign on: its first line tells the level
+-- a comment, from its first sign on: its first line says the level
 unfoldable pub comment_at : Text → Reading t.Entry
 comment_at s =
     let level = comment_level s in
@@ -412,6 +412,6 @@ comment_at s =
     let others = comment_lines (length s) level first.1 in
     got (comment_of level (first.0 ++ others.0)) others.1)
 
--- Entry, told by its first byte
+-- Entry, chosen by its first byte
 unfoldable pub entry_at : Text → Reading t.Entry
 entry_at s = if begins_with number_sign s then comment_at s else if begins_with hyphen s then term_entry_at s else message_at s

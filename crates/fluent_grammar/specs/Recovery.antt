@@ -15,7 +15,7 @@ pub record MayBegin (text rest : Text) : Type 0 where
   pub first_byte : begins begins_entry rest ≡ true
 
 -- The end of junk that begins a text and is read up to a place: the end of the text, or the first end at that place or
--- behind it that an entry may begin at.
+-- after it that an entry may begin at.
 pub record EndsJunk (text place rest : Text) : Type 0 where
   pub behind : EndsIn rest place
   pub stops : (rest ≡ []) ⊎ MayBegin text rest

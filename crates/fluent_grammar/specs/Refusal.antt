@@ -2,7 +2,7 @@
 use Rattle.std.specs.Prelude.{ℕ}
 use Rattle.fluent_grammar.specs.Words.{Text}
 
--- The kinds of refusals; docs/grammar.md tells where each comes. The number of `expected_token` is the byte of the token.
+-- The kinds of refusals; docs/grammar.md says where each is found. The number of `expected_token` is the byte of the token.
 -- `expected_letter`, `expected_digit` and `expected_line_end` are the three ranges that can be expected: letters, digits,
 -- and the characters of a line end. The texts are an entry's name, an escape's text or an argument's name.
 pub data Kind : Type 0 where
@@ -40,7 +40,7 @@ pub data Reading (A : Type 0) : Type 0 where
   refused : Refusal → Reading A
 
 infixl 10 ◌>>=◌
--- One construct behind another: the second is read from the rest of the first. The first refusal is the refusal.
+-- One construct after another: the second is read from the rest of the first. The first refusal is the refusal.
 abbrev pub ◌>>=◌ : {A B : Type 0} → Reading A → (A × Text → Reading B) → Reading B
 (got a rest) >>= f = f (a, rest)
 (refused r) >>= f = refused r

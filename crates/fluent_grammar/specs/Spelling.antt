@@ -45,10 +45,10 @@ mutual
     a_number_literal : {number s rest : Text} → SpellsNumber number s rest → SpellsInline (t.number_literal number) s rest
     -- VariableReference
     a_variable_reference : {name s u rest : Text} → s ≡ dollar ∷ u → SpellsName name u rest → SpellsInline (t.variable_reference name) s rest
-    -- TermReference: the attribute stands directly behind the name.
+    -- TermReference: the attribute stands directly after the name.
     a_term_reference : {name s u v w rest : Text} {attribute : Option Text} {arguments : t.MaybeArguments} → s ≡ hyphen ∷ u → SpellsName name u v →
         SpellsAccessor attribute v w → SpellsMaybeArguments arguments (skip_blank w) rest → SpellsInline (t.term_reference name attribute arguments) s rest
-    -- MessageReference: blank may stand before the dot, and is taken where no dot follows, too.
+    -- MessageReference: blank may stand before the dot, and is taken if no dot follows, too.
     a_message_reference : {name s u rest : Text} {attribute : Option Text} → SpellsName name s u → begins_with open_paren (skip_blank u) ≡ false →
         SpellsAccessor attribute (skip_blank u) rest → SpellsInline (t.message_reference name attribute) s rest
     -- FunctionReference: the name has no small letter.
@@ -57,14 +57,14 @@ mutual
     -- InlinePlaceable
     a_placeable : {s rest : Text} {e : t.Expression} → SpellsPlaceable e s rest → SpellsInline (t.nested e) s rest
 
-  -- CallArguments of a term, which may be absent. The blank before them is behind us.
+  -- CallArguments of a term, which may be absent. The blank before them was read.
   pub data SpellsMaybeArguments : t.MaybeArguments → Text → Text → Type 0 where
     no_call : {s : Text} → begins_with open_paren s ≡ false → SpellsMaybeArguments t.no_arguments s s
     a_call : {s u rest : Text} {arguments : t.Arguments} → s ≡ open_paren ∷ u → SpellsArguments [] arguments (skip_blank u) rest →
         SpellsMaybeArguments (t.with_arguments arguments) s rest
 
-  -- CallArguments, what is left of them behind named arguments of these names, to and with the closing parenthesis.
-  -- Positional arguments come first, and no name comes twice. Behind each there may be blank, a comma and blank.
+  -- CallArguments, what is left of them after named arguments of these names, to and with the closing parenthesis.
+  -- Positional arguments come first, and no name comes twice. After each there may be blank, a comma and blank.
   pub data SpellsArguments : List Text → t.Arguments → Text → Text → Type 0 where
     no_more : {names : List Text} {s rest : Text} → s ≡ close_paren ∷ rest → SpellsArguments names (t.arguments t.no_inlines t.no_nameds) s rest
     -- Argument
@@ -80,7 +80,7 @@ mutual
     in_braces : {s u v rest : Text} {e : t.Expression} → s ≡ open_brace ∷ u → SpellsExpression e (skip_blank u) v → skip_blank v ≡ close_brace ∷ rest →
         SpellsPlaceable e s rest
 
-  -- The expression of a placeable, with the blank behind an inline one.
+  -- The expression of a placeable, with the blank after an inline one.
   pub data SpellsExpression : t.Expression → Text → Text → Type 0 where
     an_inline : {s u : Text} {e : t.Inline} → SpellsInline e s u → begins_arrow (skip_blank u) ≡ false → may_stand_alone e ≡ true →
         SpellsExpression (t.inline e) s (skip_blank u)
@@ -89,7 +89,7 @@ mutual
         may_be_selector e ≡ true → after_line_end (skip_spaces v) ≡ Some w → SpellsVariants false vs (skip_blank w) rest →
         SpellsExpression (t.select e vs) s rest
 
-  -- The variants that are left, where the default was marked before, or not yet.
+  -- The variants that are left, if the default was marked before, or not yet.
   pub data SpellsVariants : Bool → t.Variants → Text → Text → Type 0 where
     all_read : {s : Text} → begins_with asterisk s ≡ false → begins_with open_bracket s ≡ false → SpellsVariants true t.no_variants s s
     -- A `*` without a variant counts as the mark. Fluent Syntax 1.0 has no such rule.
@@ -106,7 +106,7 @@ mutual
     keyed : {s u v w rest : Text} {key : t.VariantKey} {value : t.Elements} → s ≡ open_bracket ∷ u → SpellsKey key (skip_blank u) v →
         skip_blank v ≡ close_bracket ∷ w → SpellsPattern value w rest → value ≢ t.no_elements → SpellsVariant key value s rest
 
-  -- Pattern. Where it has no elements there is no pattern, and what is spelled is blank.
+  -- Pattern. If it has no elements there is no pattern, and what is spelled is blank.
   pub data SpellsPattern : t.Elements → Text → Text → Type 0 where
     on_the_line : {s rest : Text} {ps : List Piece} {value : t.Elements} → after_line_end (skip_spaces s) ≡ None →
         SpellsPieces ps (skip_spaces s) rest → value ≡ elements_of ps → SpellsPattern value s rest
@@ -135,7 +135,7 @@ mutual
     line_of_crlf : {s rest : Text} {ps : List Piece} → pattern_ends s ≡ false → begins_crlf (skip_spaces s) ≡ true → SpellsPieces ps (skip_spaces s) rest →
         SpellsLine ps s rest
 
-  -- What stands behind a text piece: the next line where the piece ended its line, else more of this one.
+  -- What is after a text piece: the next line if the piece ended its line, otherwise more of this one.
   pub data SpellsBehindText : Bool → List Piece → Text → Text → Type 0 where
     next_line : {s rest : Text} {ps : List Piece} → SpellsLine ps s rest → SpellsBehindText true ps s rest
     same_line : {s rest : Text} {ps : List Piece} → SpellsPieces ps s rest → SpellsBehindText false ps s rest
@@ -150,13 +150,13 @@ pub data SpellsAttribute : t.Attribute → Text → Text → Type 0 where
   an_attribute : {id s u rest : Text} {value : t.Elements} → skip_spaces s ≡ dot ∷ u → SpellsHead id value u rest → value ≢ t.no_elements →
       SpellsAttribute (record { id = id; value = value }) s rest
 
--- Attributes, one directly behind the other, as many as can be read.
+-- Attributes, one directly after the other, as many as can be read.
 pub data SpellsAttributes : List t.Attribute → Text → Text → Type 0 where
   no_more_attributes : {s : Text} → ((a : t.Attribute) (rest : Text) → SpellsAttribute a s rest → ⊥) → SpellsAttributes [] s s
   one_more_attribute : {s u rest : Text} {a : t.Attribute} {others : List t.Attribute} → SpellsAttribute a s u → SpellsAttributes others u rest →
       SpellsAttributes (a ∷ others) s rest
 
--- CommentLine behind its sign: a line end, or a space and the rest of the line. Nothing, at the end of the text, adds no
+-- CommentLine after its sign: a line end, or a space and the rest of the line. Nothing, at the end of the text, adds no
 -- line.
 pub data SpellsCommentText : List Text → Text → Text → Type 0 where
   at_end : SpellsCommentText [] [] []
@@ -185,7 +185,7 @@ pub data SpellsEntry : t.Entry → Text → Text → Type 0 where
   a_message : {id s u rest : Text} {value : t.Elements} {attributes : List t.Attribute} → SpellsHead id value s u →
       SpellsAttributes attributes (skip_blank_block u) rest → (value ≢ t.no_elements) ⊎ (attributes ≢ []) →
       SpellsEntry (t.message (record { id = id; value = value_of value; attributes = attributes; comment = None })) s rest
-  -- Term: a pattern, and attributes where there are any.
+  -- Term: a pattern, and attributes if there are any.
   a_term : {id s u v rest : Text} {value : t.Elements} {attributes : List t.Attribute} → s ≡ hyphen ∷ u → SpellsHead id value u v →
       SpellsAttributes attributes (skip_blank_block v) rest → value ≢ t.no_elements →
       SpellsEntry (t.term (record { id = id; value = value; attributes = attributes; comment = None })) s rest

@@ -1,4 +1,4 @@
--- Laws of spelling and reading, as statements: reading gives a node and a rest exactly where the node is spelled up to
+-- Laws of spelling and reading, as statements: reading gives a node and a rest exactly if the node is spelled up to
 -- that rest; so a text begins with at most one node of a kind.
 use Rattle.std.specs.Prelude.{◌≡◌, ◌↔◌, ◌<◌, ◌≤◌, ℕ, Bool, true, List, length, Some}
 use Rattle.fluent_grammar.specs.Words.{Text, begins, begins_with, is_letter, hyphen, number_sign, open_brace, dot, skip_spaces, after_line_end, skip_blank, rest_of_line}
@@ -8,7 +8,7 @@ use Rattle.fluent_grammar.specs.Reading.{identifier_at, number_at, string_conten
 use Rattle.fluent_grammar.specs.Spelling.{SpellsInline, SpellsArguments, SpellsPlaceable, SpellsVariants, SpellsPattern, SpellsPieces, SpellsLine, SpellsAttribute, SpellsAttributes, SpellsEntry}
 use Rattle.fluent_grammar.specs.Tree as t
 
--- On the texts that meet a condition, a reader gives a node and a rest exactly where the node is spelled up to the rest.
+-- On the texts that meet a condition, a reader gives a node and a rest exactly if the node is spelled up to the rest.
 abbrev pub AgreeWhere : {A : Type 0} → (Text → Type 0) → (Text → Reading A) → (A → Text → Text → Type 0) → Type 0
 AgreeWhere {A} Holds read Spells = (s : Text) (node : A) (rest : Text) → Holds s → ((read s ≡ got node rest) ↔ Spells node s rest)
 
@@ -41,7 +41,7 @@ NamesAgree = Agree identifier_at SpellsName
 abbrev pub NumbersAgree : Type 0
 NumbersAgree = Agree number_at SpellsNumber
 
--- behind the opening quote
+-- after the opening quote
 abbrev pub StringsAgree : Type 0
 StringsAgree = Agree string_content SpellsString
 
@@ -66,11 +66,11 @@ ExpressionsAgree = (n : ℕ) → AgreeWhere (λ s. length s < n) (readers n).inl
 abbrev pub PlaceablesAgree : Type 0
 PlaceablesAgree = (n : ℕ) → AgreeWhere (λ s. (length s ≤ n) × (begins_with open_brace s ≡ true)) (placeable_at (readers n)) SpellsPlaceable
 
--- behind the opening parenthesis and blank, and behind named arguments of these names
+-- after the opening parenthesis and blank, and after named arguments of these names
 abbrev pub ArgumentsAgree : Type 0
 ArgumentsAgree = (n : ℕ) (names : List Text) → AgreeWhere (λ s. length s < n) ((readers n).arguments names) (SpellsArguments names)
 
--- behind the line end of a select and blank, where the default was marked before, or not yet
+-- after the line end of a select and blank, if the default was marked before, or not yet
 abbrev pub VariantsAgree : Type 0
 VariantsAgree = (n : ℕ) (marked : Bool) → AgreeWhere (λ s. length s < n) ((readers n).variants marked) (SpellsVariants marked)
 

@@ -11,7 +11,7 @@ use Rattle.fluent_grammar.specs.Recovery.{EndsJunk}
 use Rattle.fluent_grammar.specs.Tiling as p
 use Rattle.fluent_grammar.specs.Tiling.{ParserError, is_field_kind, entries_of, errors_of}
 
--- in full, or for runtime use, where each line that would begin an entry with `#` is passed over
+-- in full, or for runtime use, in which each line that would begin an entry with `#` is passed over
 pub data Mode : Type 0 where
   full : Mode
   runtime : Mode
@@ -64,12 +64,12 @@ error_of_junk at text kind place =
     then record { kind = kind; pos_start = at; pos_end = at + place; slice_start = at; slice_end = at + length text }
     else record { kind = kind; pos_start = at + place; pos_end = at + place + 1; slice_start = at; slice_end = at + length text }
 
--- whether a comment's next entry lies apart from it; where comments are passed over it doesn't matter
+-- whether a comment's next entry lies apart from it; if comments are passed over it doesn't matter
 abbrev pub lies_apart : Mode → Text → Bool
 lies_apart full blanks = not (length blanks == 0)
 lies_apart runtime blanks = false
 
--- The pieces of parts that begin at this offset, behind a blank line or not.
+-- The pieces of parts that begin at this offset, after a blank line or not.
 abbrev pub pieces_of : Mode → ℕ → Bool → List Part → List p.Piece
 pieces_of mode at apart [] = []
 pieces_of mode at apart (blank_block text ∷ parts) = pieces_of mode (at + length text) (lies_apart mode text) parts

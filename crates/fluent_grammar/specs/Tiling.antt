@@ -6,7 +6,8 @@ use Rattle.fluent_grammar.specs.Refusal as r
 use Rattle.fluent_grammar.specs.Tree as t
 use Rattle.fluent_grammar.specs.Reading.{entry_at}
 
--- the first place, from here on, that is at column 0 and holds a byte that begins an entry; else the end of the text
+-- the first place, from here on, that is at column 0 and holds a byte that begins an entry; otherwise the end of the
+-- text
 abbrev pub resume : Bool → Text → Text
 resume column_zero [] = []
 resume column_zero (c ∷ cs) = if column_zero && begins_entry c then c ∷ cs else resume (c == line_feed) cs
@@ -15,7 +16,7 @@ resume column_zero (c ∷ cs) = if column_zero && begins_entry c then c ∷ cs e
 abbrev pub at_column_zero : Text → Text → Bool
 at_column_zero s place = let p = length s - length place in p == 0 || slice_index s (p - 1) == line_feed
 
--- What follows the junk of an entry that was refused: it ends at the first such place at or behind the place where reading stopped.
+-- What follows the junk of an entry that was refused: it ends at the first such place at or after the place where reading stopped.
 abbrev pub behind_junk : Text → Text → Text
 behind_junk s place = resume (at_column_zero s place) place
 
@@ -67,7 +68,7 @@ error_of at s fault =
     then record { kind = fault.kind; pos_start = at; pos_end = p; slice_start = at; slice_end = end }
     else record { kind = fault.kind; pos_start = p; pos_end = p + 1; slice_start = at; slice_end = end }
 
--- the piece at the front of a text that begins at this offset, and the pieces behind it
+-- the piece at the front of a text that begins at this offset, and the pieces after it
 abbrev pub and_pieces : (ℕ → Text → List Piece) → ℕ → Bool → Text → Reading t.Entry → List Piece
 and_pieces left at apart s (got e rest) = entry apart e ∷ left (at + (length s - length rest)) rest
 and_pieces left at apart s (refused fault) =
@@ -97,7 +98,7 @@ errors_of (junk s error ∷ ps) = error ∷ errors_of ps
 abbrev pub errors : Text → List ParserError
 errors source = errors_of (pieces source)
 
--- the comment that a message or a term takes: the one that waits, where no blank line lies between
+-- the comment that a message or a term takes: the one that waits, if no blank line lies between
 abbrev pub attached : Option (List Text) → Bool → Option (List Text)
 attached held apart = if apart then None else held
 
@@ -110,7 +111,7 @@ waiting (Some lines) = t.comment lines ∷ []
 abbrev pub left_alone : Option (List Text) → Bool → List t.Entry
 left_alone held apart = if apart then waiting held else []
 
--- The entries of some pieces, behind a comment that waits. A comment waits for the piece right behind it.
+-- The entries of some pieces, after a comment that waits. A comment waits for the piece right after it.
 abbrev pub entries_of : Option (List Text) → List Piece → List t.Entry
 entries_of held [] = waiting held
 entries_of held (junk s error ∷ ps) = waiting held ++ t.junk s ∷ entries_of None ps

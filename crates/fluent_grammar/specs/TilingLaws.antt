@@ -52,7 +52,7 @@ AttributesTakeSome = (text : Text) → Took (attribute_at text) text
 abbrev pub EntriesTakeSome : Type 0
 EntriesTakeSome = (text : Text) → Took (entry_at text) text
 
--- two readers tell the same of a text
+-- two readers say the same of a text
 pub record ReadAlike (a b : Readers) (text : Text) : Type 0 where
   pub inline : a.inline text ≡ b.inline text
   pub arguments : (names : List Text) → a.arguments names text ≡ b.arguments names text
@@ -137,7 +137,7 @@ StartsInSlice error = (error.slice_start ≤ error.pos_start) × (error.pos_star
 abbrev pub PlacesStartInSlices : Type 0
 PlacesStartInSlices = (mode : Mode) (source : Text) → All StartsInSlice (errors_for mode source)
 
--- What an error tells of the byte at its place is so.
+-- What an error says of the byte at its place is so.
 abbrev pub ErrorsAreTrue : Type 0
 ErrorsAreTrue = (mode : Mode) (source : Text) → All (λ error. Told error.kind (drop error.pos_start source)) (errors_for mode source)
 
@@ -145,7 +145,7 @@ ErrorsAreTrue = (mode : Mode) (source : Text) → All (λ error. Told error.kind
 abbrev pub RuntimeHasTheSameList : Type 0
 RuntimeHasTheSameList = (source : Text) → listed (runtime_tree source) ≡ list source
 
--- Where the full reading has no junk, and so no error, that for runtime use has none.
+-- If the full reading has no junk, and so no error, that for runtime use has none.
 abbrev pub RuntimeAddsNoJunk : Type 0
 RuntimeAddsNoJunk = (source : Text) → errors source ≡ [] → runtime_errors source ≡ []
 
@@ -154,7 +154,7 @@ abbrev pub PiecesNeedNoMoreSteps : Type 0
 PiecesNeedNoMoreSteps = (m n at : ℕ) (text : Text) → length text < m → length text < n →
     (pieces_from m at text ≡ pieces_from n at text) × (runtime_pieces_from m at text ≡ runtime_pieces_from n at text)
 
--- What is looked for behind a refusal is where the junk ends, and junk has one end.
+-- What is looked for after a refusal is where the junk ends, and junk has one end.
 abbrev pub RecoveryFindsTheEnd : Type 0
 RecoveryFindsTheEnd = (text place rest : Text) → EndsIn place text → (EndsJunk text place rest ↔ (behind_junk text place ≡ rest))
 
@@ -173,7 +173,7 @@ RuntimeHasNoComments = (source : Text) → All HasNoComment (runtime_tree source
 abbrev pub BlankBlocksAreSkipped : Type 0
 BlankBlocksAreSkipped = (text rest : Text) → ((blanks : Text) × BlankBlock blanks text rest) ↔ (skip_blank_block text ≡ rest)
 
--- What is left behind a line is what stands behind its line feed.
+-- What is left after a line is what is after its line feed.
 abbrev pub LinesAreLeft : Type 0
 LinesAreLeft = (text rest : Text) → ((line : Text) × Line line text rest) ↔ ((rest_of_line text).1 ≡ rest)
 

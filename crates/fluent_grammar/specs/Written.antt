@@ -11,7 +11,7 @@ pub data Sign : Type 0 where
   sign : ℕ → Text → Sign
   default_mark : ℕ → Sign
 
--- whether what was written ends in a line feed, when a text is written behind something that does or doesn't
+-- whether what was written ends in a line feed, when a text is written after something that does or doesn't
 abbrev pub ends_line : Bool → Text → Bool
 ends_line before [] = before
 ends_line before (c ∷ cs) = ends_line (c == line_feed) cs
@@ -20,7 +20,7 @@ ends_line before (c ∷ cs) = ends_line (c == line_feed) cs
 abbrev pub indent : ℕ → Text
 indent level = replicate (4 * level) space
 
--- whether a piece takes an indent where a line feed stands before it: not where it is empty or begins with one
+-- whether a piece takes an indent if a line feed stands before it: not if it is empty or begins with one
 abbrev pub takes_indent : Text → Bool
 takes_indent [] = false
 takes_indent (c ∷ cs) = not (c == line_feed)
@@ -34,7 +34,7 @@ laid_out at_line_start [] = []
 laid_out at_line_start (sign level s ∷ more) = indent_before at_line_start level s ++ (s ++ laid_out (ends_line at_line_start s) more)
 laid_out at_line_start (default_mark level ∷ more) = replicate (4 * level - 1) space ++ (asterisk ∷ laid_out false more)
 
--- a text with signs laid out behind it
+-- a text with signs laid out after it
 unfoldable pub onto : Text → List Sign → Text
 onto before signs = before ++ laid_out (ends_line false before) signs
 
@@ -71,7 +71,7 @@ begins_with_dot no_elements = false
 begins_with_dot (text s es) = begins_with dot s
 begins_with_dot (placeable e es) = false
 
--- a pattern begins on a line of its own, or behind one space
+-- a pattern begins on a line of its own, or after one space
 abbrev pub pattern_start : ℕ → Elements → Sign
 pattern_start level es = if is_many_lined es && not (begins_with_dot es) then new_line else sign level (space ∷ [])
 
@@ -88,7 +88,7 @@ mark level false = []
 abbrev pub variant_head_signs : ℕ → VariantKey → Bool → List Sign
 variant_head_signs level key default = new_line ∷ mark (level + 1) default ++ sign (level + 1) (open_bracket ∷ []) ∷ sign (level + 1) (key_text key) ∷ sign (level + 1) (close_bracket ∷ []) ∷ []
 
--- the accessor of an attribute, behind a reference
+-- the accessor of an attribute, after a reference
 abbrev pub accessor_signs : ℕ → Option Text → List Sign
 accessor_signs level None = []
 accessor_signs level (Some name) = sign level (dot ∷ []) ∷ sign level name ∷ []
@@ -98,7 +98,7 @@ abbrev pub between : ℕ → Bool → List Sign
 between level false = []
 between level true = sign level (comma ∷ space ∷ []) ∷ []
 
--- an argument's name, behind what separates it from an argument before it
+-- an argument's name, after what separates it from an argument before it
 abbrev pub argument_name_signs : ℕ → Bool → Text → List Sign
 argument_name_signs level after name = between level after ++ sign level name ∷ sign level (colon ∷ space ∷ []) ∷ []
 
@@ -110,7 +110,7 @@ has_positional (positional e ps) = true
 abbrev pub in_braces : ℕ → List Sign → List Sign
 in_braces level inside = sign level (open_brace ∷ space ∷ []) ∷ (inside ++ sign level (space ∷ close_brace ∷ []) ∷ [])
 
--- what closes two placeables that share their braces, behind an inline expression and behind a select
+-- what closes two placeables that share their braces, after an inline expression and after a select
 abbrev pub closing_nested : Expression → Text
 closing_nested (select s vs) = close_brace ∷ close_brace ∷ []
 closing_nested (inline i) = space ∷ close_brace ∷ close_brace ∷ []
@@ -183,11 +183,11 @@ abbrev pub attributes_signs : List Attribute → List Sign
 attributes_signs [] = []
 attributes_signs (a ∷ more) = (new_line ∷ sign 1 (dot ∷ []) ∷ sign 1 a.id ∷ sign 1 (space ∷ equals ∷ []) ∷ pattern_signs 2 a.value) ++ attributes_signs more
 
--- what stands behind the sign of a comment's line: nothing where the line is empty or white space alone
+-- what is after the sign of a comment's line: nothing if the line is empty or white space alone
 abbrev pub comment_text_signs : Text → List Sign
 comment_text_signs line = if length (trim_end line) == 0 then [] else sign 0 (space ∷ []) ∷ sign 0 line ∷ []
 
--- a comment, each line behind its sign
+-- a comment, each line after its sign
 abbrev pub comment_signs : Text → List Text → List Sign
 comment_signs level [] = []
 comment_signs level (line ∷ lines) = (sign 0 level ∷ (comment_text_signs line ++ new_line ∷ [])) ++ comment_signs level lines
@@ -203,7 +203,7 @@ message_signs m = own_comment_signs m.comment ++ ((sign 0 m.id ∷ sign 0 (space
 abbrev pub term_signs : Term → List Sign
 term_signs m = own_comment_signs m.comment ++ ((sign 0 (hyphen ∷ []) ∷ sign 0 m.id ∷ sign 0 (space ∷ equals ∷ []) ∷ pattern_signs 1 m.value) ++ (attributes_signs m.attributes ++ new_line ∷ []))
 
--- the line feed before a comment that stands by itself, behind another entry
+-- the line feed before a comment that stands by itself, after another entry
 abbrev pub gap_signs : Bool → List Sign
 gap_signs after = if after then new_line ∷ [] else []
 

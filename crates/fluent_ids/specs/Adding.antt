@@ -13,7 +13,7 @@ use Rattle.fluent_ids.specs.declared.error.AddResourceError.TheVariants as resou
 use Rattle.fluent_ids.specs.declared.error.AddFunctionError.{AddFunctionError}
 use Rattle.fluent_ids.specs.declared.error.AddFunctionError.TheVariants as function
 
--- The notices are these: none where the call succeeds.
+-- The notices are these: none if the call succeeds.
 abbrev pub TellsNotices : Result (Unit {0}) AddResourceError → List e.Reported → Type 0
 TellsNotices (Ok u) told = told ≡ []
 TellsNotices (Err (resource.Overriding notices)) told = (map bundle_view notices.items ≡ told) × (told ≢ [])
@@ -30,13 +30,13 @@ module _ (F : Type 0) where
   abbrev pub PutsLast : FluentIds F → FluentIds F → Resource (Bor (List ℕ)) → Type 0
   PutsLast old new r = ids_view F new ≡ with_ids true (ids_view F old) (entries_by_id (entries_in r))
 
-  -- where memory ran out, nothing changed
+  -- if memory ran out, nothing changed
   abbrev pub KeepsAtMemory : Result (Unit {0}) AddResourceError → FluentIds F → FluentIds F → Type 0
   KeepsAtMemory (Err resource.Memory) old new = ids_view F new ≡ ids_view F old
   KeepsAtMemory (Err (resource.Overriding notices)) old new = Unit {0}
   KeepsAtMemory (Ok u) old new = Unit {0}
 
-  -- A function is put in where its id stood for nothing. Else nothing changes, and it is told or memory ran out.
+  -- A function is put in if its id stood for nothing. Otherwise nothing changes, and it is reported or memory ran out.
   abbrev pub AddsFunction : Result (Unit {0}) AddFunctionError → FluentIds F → FluentIds F → List ℕ × Meaning F → Type 0
   AddsFunction (Ok u) old new pair = (find (ids_view F old) pair.0 ≡ None) × (ids_view F new ≡ with_id false (ids_view F old) pair)
   AddsFunction (Err (function.Overriding notice)) old new pair =

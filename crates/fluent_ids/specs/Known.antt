@@ -17,7 +17,7 @@ is_known ids notices id = is_some (find ids id) || contains_by (λ k. bytes_eq i
 abbrev pub told : Notices → List e.Reported
 told notices = map bundle_view notices.told.items
 
--- one notice more is told if an entry of this kind has an id that is known
+-- one notice more is reported if an entry of this kind has an id that is known
 abbrev pub TellsIfKnown : {F : Type 0} → Ids F → Notices → Notices → e.Kind → List ℕ → Type 0
 TellsIfKnown ids old new kind id = told new ≡ told old ++ (if is_known ids old id then e.overriding kind id ∷ [] else [])
 

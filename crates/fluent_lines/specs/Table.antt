@@ -15,7 +15,7 @@ pub record Line : Type 0 where
   pub ends_pattern : Bool
   pub is_plain : Bool
 
--- the line at the front of a text, of so many bytes, where the text begins at this offset
+-- the line at the front of a text, of this many bytes, if the text begins at this offset
 abbrev pub cut_line_at : ℕ → ℕ → Text → Line
 cut_line_at at count s = record { start = at; end = at + count; spaces = spaces s; begins_entry = begins begins_entry s; ends_pattern = pattern_ends s; is_plain = is_plain (take count s) }
 
@@ -23,7 +23,7 @@ cut_line_at at count s = record { start = at; end = at + count; spaces = spaces 
 abbrev pub line_at : ℕ → Text → Line
 line_at at s = cut_line_at at (length (rest_of_line s).0) s
 
--- the lines behind the first one: one behind each line feed
+-- the lines after the first one: one after each line feed
 abbrev pub later_lines : ℕ → Text → List Line
 later_lines at [] = []
 later_lines at (c ∷ cs) = let more = later_lines (suc at) cs in if c == line_feed then line_at (suc at) cs ∷ more else more

@@ -16,7 +16,7 @@ pub record Environment (S : Type 0) (F : Type 0) : Type 0 where
   pub isolating : Bool
   -- what becomes of a text element
   pub transformed : Text → Text
-  -- the formatter's text of a value, where a formatter is set and answers one
+  -- the formatter's text of a value, if a formatter is set and answers one
   pub formatted : Value S → Option Text
   -- the plural source
   pub plurals : Plurals

@@ -4,7 +4,7 @@ use Rattle.fluent_grammar.specs.Words.{Text, open_brace, close_brace, quote, hyp
 use Rattle.fluent_grammar.specs.Tree as t
 use Rattle.fluent_grammar.specs.Tree.{Expression, select, inline, Inline}
 
--- a name, with an attribute's name behind a dot
+-- a name, with an attribute's name after a dot
 abbrev pub with_attribute : Text → Option Text → Text
 with_attribute s None = s
 with_attribute s (Some a) = s ++ dot ∷ a

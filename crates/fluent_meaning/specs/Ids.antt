@@ -44,11 +44,11 @@ abbrev pub with_ids : {F : Type 0} → Bool → Ids F → List (Text × Meaning 
 with_ids overriding ids [] = ids
 with_ids overriding ids (pair ∷ pairs) = with_ids overriding (with_id overriding ids pair) pairs
 
--- whether an id was there is told with the kind of the pair that was to come
+-- whether an id was there is reported with the kind of the pair that was to come
 abbrev pub notice : {F : Type 0} → Ids F → Text × Meaning F → List e.Reported
 notice ids pair = if is_some (find ids pair.0) then e.overriding (kind_of pair.1) pair.0 ∷ [] else []
 
--- a notice for each pair whose id was there, in the order of the pairs: where the first of an id stays
+-- a notice for each pair whose id was there, in the order of the pairs: if the first of an id stays
 abbrev pub notices : {F : Type 0} → Ids F → List (Text × Meaning F) → List e.Reported
 notices ids [] = []
 notices ids (pair ∷ pairs) = notice ids pair ++ notices (with_id false ids pair) pairs

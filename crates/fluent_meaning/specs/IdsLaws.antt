@@ -17,7 +17,7 @@ NoticesInTurn F = (ids : Ids F) (pairs more : List (Text × Meaning F)) → noti
 abbrev pub FirstStays : Type 0 → Type 0
 FirstStays F = (ids : Ids F) (pairs : List (Text × Meaning F)) (id : Text) → find (with_ids false ids pairs) id ≡ find (ids ++ pairs) id
 
--- or, where later ones override, for the last
+-- or, if later ones override, for the last
 abbrev pub LastStays : Type 0 → Type 0
 LastStays F = (ids : Ids F) (pairs : List (Text × Meaning F)) (id : Text) → find (with_ids true ids pairs) id ≡ find (reverse pairs ++ ids) id
 

@@ -1,4 +1,4 @@
--- What a refused call leaves: a beginning of what it was to write, and of the errors that it was to tell.
+-- What a refused call leaves: a beginning of what it was to write, and of the errors that it was to report.
 use Rattle.std.specs.Prelude.{◌≡◌, ◌+◌, ◌≤◌, List, ◌++◌, map, option_map}
 use Rattle.fluent_grammar.specs.Words.{Text}
 use Rattle.fluent_errors.specs.Errors.{Unresolved, unresolved}
@@ -18,14 +18,14 @@ pub record CountsSome {A : Type 0} (s t : State) (a : Done A) : Type 0 where
   pub placeables_stay : in_byte s.placeables ≤ t.placeables
   pub entered_stay : capped s.entered ≤ t.entered
 
--- the old errors stand, and behind them the first of a step's, of which no more is counted than it counts
+-- the old errors stand, and after them the first of a step's, of which no more is counted than it counts
 pub record TellsSome {A : Type 0} (s t : State) (a : Done A) : Type 0 where
   pub told : List Unresolved
   pub first : Begins told a.errors
   pub errors : t.errors ≡ option_map (λ es. es ++ map unresolved told) s.errors
   pub counts : CountsSome s t a
 
--- behind what a writer held stands a beginning of a step's text, and some of its errors are told
+-- after what a writer held is a beginning of a step's text, and some of its errors are reported
 pub record WritesSome (held now : Text) (s t : State) (step : Budget → Done Text) : Type 0 where
   pub written : Text
   pub first : Begins written (step s.budget).value

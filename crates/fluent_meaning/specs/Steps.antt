@@ -1,4 +1,4 @@
--- What a step of resolving comes to, and one step after another.
+-- What a step of resolving results in, and one step after another.
 use Rattle.std.specs.Prelude.{ℕ, zero, suc, ◌+◌, Bool, true, false, List, [], ◌∷◌, ◌++◌}
 use Rattle.fluent_grammar.specs.Words.{Text}
 use Rattle.fluent_errors.specs.Errors.{Unresolved, too_many_placeables}
@@ -42,7 +42,7 @@ and_then a next =
 abbrev pub mapped : {A B : Type 0} → (A → B) → Done A → Done B
 mapped f a = record { value = f a.value; errors = a.errors; budget = a.budget; opened = a.opened; entered = a.entered }
 
--- a text, and behind it the text of the next step
+-- a text, and after it the text of the next step
 abbrev pub beside : Done Text → (Budget → Done Text) → Done Text
 beside a next = and_then a (λ s b. mapped (λ r. s ++ r) (next b))
 
@@ -54,7 +54,7 @@ opening a = record { value = a.value; errors = a.errors; budget = a.budget; open
 abbrev pub entering : {A : Type 0} → Done A → Done A
 entering a = record { value = a.value; errors = a.errors; budget = a.budget; opened = a.opened; entered = suc a.entered }
 
--- whether one placeable more may be opened; one too many is told and shuts
+-- whether one placeable more may be opened; one too many is reported and shuts
 abbrev pub opens : Budget → Done Bool
 opens shut = done false shut
 opens (may_open zero) = faulty false too_many_placeables shut

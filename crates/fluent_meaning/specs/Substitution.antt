@@ -21,7 +21,7 @@ use Rattle.fluent_meaning.specs.Steps.{Budget, may_open, shut, left, is_shut, Do
 abbrev pub most_placeables : ℕ
 most_placeables = 100
 
--- What is handed down: the request's arguments, a term's own in their place, and the patterns entered.
+-- What is passed down: the request's arguments, a term's own in their place, and the patterns entered.
 pub record Place (S : Type 0) : Type 0 where
   pub arguments : List (Text × Value S)
   pub locals : Option (List (Text × Value S))
@@ -122,7 +122,7 @@ module _ {S F : Type 0} (env : Environment S F) where
   abbrev pub fallen_back : Inline → Unresolved → Budget → Done Text
   fallen_back i e b = faulty (braced (inline_fallback i)) e b
 
-  -- the fallback in braces, told where the expression refers to something
+  -- the fallback in braces, reported if the expression refers to something
   abbrev pub missed : Inline → Option Reference → Budget → Done Text
   missed i None b = done (braced (inline_fallback i)) b
   missed i (Some r) b = fallen_back i (unknown r) b
@@ -136,16 +136,16 @@ module _ {S F : Type 0} (env : Environment S F) where
       if is_on_path es place.path then fallen_back i cyclic b
       else entering (enter es (deeper es place) b)
 
-  -- what a reference comes to: the pattern that it enters, or its fallback
+  -- what a reference leads to: the pattern that it enters, or its fallback
   abbrev pub target_written : Writer Elements → Inline → Target → Place S → Budget → Done Text
   target_written enter i (there es) place b = referred enter i es place b
   target_written enter i (missing e) place b = fallen_back i e b
 
-  -- the value of a variable: inside a term one of its arguments, else one of the request's
+  -- the value of a variable: inside a term one of its arguments, otherwise one of the request's
   abbrev pub variable : Text → Place S → Option (Value S)
   variable id place = argument id (locals_or place.arguments place.locals)
 
-  -- a missing variable is told outside terms alone
+  -- a missing variable is reported only outside terms
   abbrev pub missing_variable : {A : Type 0} → A → Text → Place S → Budget → Done A
   missing_variable v id place b = if is_some place.locals then done v b else faulty v (unknown (to_variable id)) b
 
@@ -228,7 +228,7 @@ module _ {S F : Type 0} (env : Environment S F) where
       named_with no_nameds place b = done [] b
       named_with (named x e ns) place b = and_then (value_with e place b) (λ v c. mapped (λ pairs. (x, v) ∷ pairs) (named_with ns place c))
 
-  -- an opened placeable that ends shut has its fallback in braces behind what it wrote
+  -- an opened placeable that ends shut has its fallback in braces after what it wrote
   abbrev pub closed : Expression → Done Text → Done Text
   closed e a = if is_shut a.budget then mapped (λ s. s ++ braced (fallback e)) a else a
 
@@ -280,7 +280,7 @@ module _ {S F : Type 0} (env : Environment S F) where
   abbrev pub value_found : Inline → Place S → Budget → Done (Value S)
   value_found = value_with pattern_written
 
-  -- call arguments, where there are any; positional ones, and named ones
+  -- call arguments, if there are any; positional ones, and named ones
   abbrev pub arguments_found : MaybeArguments → Place S → Budget → Done (Called S)
   arguments_found = maybe_arguments_with pattern_written
 
@@ -305,7 +305,7 @@ module _ {S F : Type 0} (env : Environment S F) where
   abbrev pub elements_written : Elements → Writer Elements
   elements_written = elements_with expression_written
 
-  -- an asked pattern, with so many placeables to open
+  -- an asked pattern, with this many placeables to open
   abbrev pub formatted : ℕ → List (Text × Value S) → Elements → Done Text
   formatted k args es = entering (pattern_written es (outset args) (may_open k))
 
@@ -313,6 +313,6 @@ module _ {S F : Type 0} (env : Environment S F) where
   abbrev pub answer_written : List (Text × Value S) → Elements → Done Text
   answer_written = formatted most_placeables
 
-  -- what a request hands out: its whole text goes through the formatter once more
+  -- what a request returns: its complete text goes through the formatter once more
   abbrev pub answer_handed : List (Text × Value S) → Elements → Done Text
   answer_handed args es = mapped (λ r. value_text env (v.text r)) (answer_written args es)

@@ -1,4 +1,4 @@
--- What resolving has come to so far, and what a step makes of it.
+-- What resolving has done so far, and what a step makes of it.
 use Rattle.std.specs.Prelude.{◌≡◌, ℕ, ◌+◌, ◌-◌, ◌^◌, min, Bool, if◌then◌else◌, List, ◌++◌, map, Option, option_map}
 use Rattle.fluent_grammar.specs.Words.{Text}
 use Rattle.fluent_errors.specs.Errors.{Reported, unresolved}
@@ -6,8 +6,8 @@ use Rattle.fluent_meaning.specs.Steps.{Budget, may_open, shut, Done}
 use Rattle.fluent_meaning.specs.Substitution.{most_placeables}
 use Rattle.fluent_meaning.specs.Work.{placeables_of}
 
--- the errors told so far, where they are wanted, the budget, how many placeables were counted, the one too many among them, and how
--- many patterns were entered
+-- the errors reported so far, if they are wanted, the budget, how many placeables were counted, the one too many among
+-- them, and how many patterns were entered
 pub record State : Type 0 where
   pub errors : Option (List Reported)
   pub budget : Budget
@@ -33,12 +33,12 @@ after s a = record {
   entered = capped (s.entered + a.entered);
 }
 
--- a step wrote its text behind what a writer held, and told its errors
+-- a step wrote its text after what a writer held, and reported its errors
 pub record Writes (held now : Text) (s t : State) (step : Budget → Done Text) : Type 0 where
   pub text : now ≡ held ++ (step s.budget).value
   pub state : t ≡ after s (step s.budget)
 
--- a step found this value, and told its errors
+-- a step found this value, and reported its errors
 pub record Finds {A : Type 0} (found : A) (s t : State) (step : Budget → Done A) : Type 0 where
   pub value : found ≡ (step s.budget).value
   pub state : t ≡ after s (step s.budget)

@@ -1,4 +1,4 @@
--- What a pattern gives without a limit on placeables, as relations: one rule for each case. Each tells its value, the errors that
+-- What a pattern gives without a limit on placeables, as relations: one rule for each case. Each says its value, the errors that
 -- it adds, and how many placeables it opens. That each pattern has a result is not claimed.
 use Rattle.std.specs.Prelude.{◌≡◌, ℕ, suc, ◌+◌, true, false, not, ◌&&◌, if◌then◌else◌, List, [], ◌∷◌, ◌++◌, Option, Some, None, encode_utf8}
 use Rattle.fluent_grammar.specs.Words.{Text}
@@ -16,7 +16,7 @@ use Rattle.fluent_meaning.specs.Substitution as s
 use Rattle.fluent_meaning.specs.Substitution.{Place, Called, Target, there, missing, is_on_path, deeper, rooted, in_term, both, several, stands_bare, message_target, term_target}
 
 module _ {S F : Type 0} (env : Environment S F) where
-  -- between isolation marks where they are due
+  -- between isolation marks if they are due
   abbrev pub marked : Elements → Expression → Text → Text
   marked whole e r = if env.isolating && (several whole && not (stands_bare e)) then encode_utf8 0x2068 ++ (r ++ encode_utf8 0x2069) else r
 

@@ -1,4 +1,4 @@
--- Where the limit is not met, it does not matter.
+-- If the limit is not met, it does not matter.
 use Rattle.std.specs.Prelude.{◌≡◌, ℕ, ◌+◌, ◌-◌, ◌≤◌, List}
 use Rattle.fluent_grammar.specs.Words.{Text}
 use Rattle.fluent_grammar.specs.Tree.{Elements, Expression, Inline, Arguments}
@@ -10,7 +10,7 @@ use Rattle.fluent_meaning.specs.Substitution as s
 use Rattle.fluent_meaning.specs.Substitution.{Place, Called, outset}
 use Rattle.fluent_meaning.specs.Unlimited.{Gives, Writes, WritesInline, Finds, Calls}
 
--- a step comes to this value, these errors and this budget
+-- a step results in this value, these errors and this budget
 pub record Comes {A : Type 0} (value : A) (errors : List Unresolved) (budget : Budget) (a : Done A) : Type 0 where
   pub same_value : a.value ≡ value
   pub same_errors : a.errors ≡ errors

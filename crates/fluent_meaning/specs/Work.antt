@@ -6,7 +6,7 @@ use Rattle.fluent_errors.specs.Errors.{Unresolved, unknown, no_value, missing_de
 use Rattle.fluent_meaning.specs.Ids.{Ids, Meaning, number_function, function, message, term}
 use Rattle.fluent_meaning.specs.Steps.{Done}
 
--- how often too many placeables are told
+-- how often too many placeables are reported
 abbrev pub times_too_many : List Unresolved → ℕ
 times_too_many [] = 0
 times_too_many (unknown r ∷ xs) = times_too_many xs

@@ -37,14 +37,14 @@ abbrev pub times_shut : Budget → ℕ
 times_shut (may_open k) = 0
 times_shut shut = 1
 
--- A step leaves as many placeables to open as it had, less those that it opened. Too many are told exactly where it shuts, and once
--- shut it stays so.
+-- A step leaves as many placeables to open as it had, less those that it opened. Too many are reported exactly if it
+-- shuts, and once shut it stays so.
 pub record Opens {A : Type 0} (b : Budget) (a : Done A) : Type 0 where
   pub counted : a.opened + left a.budget ≡ left b
   pub told : times_too_many a.errors + times_shut b ≡ times_shut a.budget
 
 -- So with each pattern, reference, expression, opened placeable and list of arguments. A request with k to open opens at most k, and
--- too many are told of it at most once, exactly where it ends shut.
+-- too many are reported of it at most once, exactly if it ends shut.
 pub record OpensAtMost (S : Type 0) (F : Type 0) (env : Environment S F) : Type 0 where
   pub patterns : (es : Elements) (place : Place S) (b : Budget) → Opens b (s.pattern_written env es place b)
   pub references : (i : Inline) (es : Elements) (place : Place S) (b : Budget) → Opens b (s.reference_written env i es place b)

@@ -11,7 +11,7 @@ pub record IsCanonical (entries : List t.Entry) : Type 0 where
   pub no_junk : errors (written entries) ≡ []
   pub read_back : tree (written entries) ≡ entries
 
--- The normal text of a source: what its cut text's tree is written as, where that tree is canonical.
+-- The normal text of a source: what its cut text's tree is written as, if that tree is canonical.
 pub record IsNormalText (source text : Text) : Type 0 where
   pub canonical : IsCanonical (tree (cut source))
   pub is : text ≡ written (tree (cut source))

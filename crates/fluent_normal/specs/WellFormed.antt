@@ -1,4 +1,4 @@
--- Well-formed trees: what reading gives where there is no shape, and what its written text spells.
+-- Well-formed trees: what reading gives if there is no shape, and what its written text spells.
 use Rattle.std.specs.Prelude.{◌≡◌, ◌≢◌, ℕ, suc, Bool, true, false, not, ◌&&◌, ◌||◌, ◌==◌, if◌then◌else◌, List, [], ◌∷◌, ◌++◌, length, Option, Some, None}
 use Rattle.std.specs.List.{list_all}
 use Rattle.std.specs.Str.{trim_end}
@@ -46,7 +46,7 @@ is_line (c ∷ d ∷ ds) = (is_text_byte c && not (c == carriage_return)) && is_
 abbrev pub may_start : Text → Bool
 may_start s = if is_blank_text s then ends_line s else not (begins ends_behind_spaces (skip_spaces s))
 
--- whether some text at a line start, that isn't blank, begins without a space; where the first is at one or not
+-- whether some text at a line start, that isn't blank, begins without a space; the first is at one or not
 abbrev pub has_margin : Bool → t.Elements → Bool
 has_margin at t.no_elements = false
 has_margin at (t.text s es) = (at && (not (is_blank_text s) && spaces s == 0)) || has_margin (ends_line s) es
@@ -58,13 +58,13 @@ has_no_line at t.no_elements = true
 has_no_line at (t.text s es) = (not at || (is_blank_text s && spaces s == 0)) && has_no_line (ends_line s) es
 has_no_line at (t.placeable e es) = has_no_line false es
 
--- each text is a line, not empty, and stands behind a placeable or a text that ends its line; those at a line start may stand there
+-- each text is a line, not empty, and is after a placeable or a text that ends its line; those at a line start may stand there
 abbrev pub are_lines : Bool → Bool → t.Elements → Bool
 are_lines behind at t.no_elements = true
 are_lines behind at (t.text s es) = (not behind && (is_line s && (not (length s == 0) && (not at || may_start s)))) && are_lines (not (ends_line s)) (ends_line s) es
 are_lines behind at (t.placeable e es) = are_lines false false es
 
--- The last element is a placeable, or a text that isn't blank, ends no line, and comes back when the line feed behind it is trimmed.
+-- The last element is a placeable, or a text that isn't blank, ends no line, and comes back when the line feed after it is trimmed.
 abbrev pub EndsWell : t.Elements → Type 0
 EndsWell t.no_elements = ⊥
 EndsWell (t.text s t.no_elements) = (trim_end (s ++ line_feed ∷ []) ≡ s) × (is_blank_text s ≡ false) × (ends_line s ≡ false)
@@ -118,7 +118,7 @@ abbrev mutual
   WellFormedInlines t.no_inlines = Unit {0}
   WellFormedInlines (t.positional e ps) = WellFormedInline e × WellFormedInlines ps
 
-  -- behind named arguments of these names
+  -- after named arguments of these names
   pub WellFormedNameds : t.Nameds → List Text → Type 0
   WellFormedNameds t.no_nameds names = Unit {0}
   WellFormedNameds (t.named name e ns) names = IsName name × (is_among name names ≡ false) × WellFormedLiteral e × WellFormedNameds ns (name ∷ names)
@@ -176,8 +176,8 @@ WellFormedEntry (t.group_comment c) = WellFormedComment c
 WellFormedEntry (t.resource_comment c) = WellFormedComment c
 WellFormedEntry (t.junk s) = ⊥
 
--- Of neighbours nothing is asked: writing puts an empty line behind a free comment, and one before it, so that no message takes it and
--- no other comment runs on into it.
+-- Of neighbours nothing is asked: writing puts an empty line after a free comment, and one before it, so that no
+-- message takes it and no other comment runs on into it.
 abbrev pub WellFormedTree : List t.Entry → Type 0
 WellFormedTree [] = Unit {0}
 WellFormedTree (e ∷ es) = WellFormedEntry e × WellFormedTree es

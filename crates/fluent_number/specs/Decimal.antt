@@ -5,7 +5,7 @@ use Rattle.std.specs.Prelude.{ℕ, ◌/◌, ◌%◌, ◌^◌, ℤ, pos, negsuc, 
 abbrev pub units_per_one : ℕ
 units_per_one = 10 ^ 18
 
--- so many units with that sign
+-- this many units with that sign
 abbrev pub signed : Bool → ℕ → ℤ
 signed negative units = if negative then neg_ℤ (pos units) else pos units
 
@@ -17,6 +17,6 @@ is_below_zero (negsuc n) = true
 abbrev pub whole_of : ℤ → ℕ
 whole_of value = unsigned_abs value / units_per_one
 
--- what stands behind the point, in units
+-- what is after the point, in units
 abbrev pub fraction_of : ℤ → ℕ
 fraction_of value = unsigned_abs value % units_per_one

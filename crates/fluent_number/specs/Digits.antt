@@ -11,7 +11,7 @@ abbrev pub digits_worth : Text → ℕ
 digits_worth [] = 0
 digits_worth (c ∷ cs) = (c - 48) * 10 ^ length cs + digits_worth cs
 
--- the last k digits of a number, with zeros at the front where it has fewer
+-- the last k digits of a number, with zeros at the front if it has fewer
 unfoldable pub last_digits : ℕ → ℕ → Text
 last_digits zero n = []
 last_digits (suc k) n = last_digits k (n / 10) ++ (48 + n % 10) ∷ []

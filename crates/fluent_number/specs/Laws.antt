@@ -10,11 +10,11 @@ use Rattle.fluent_number.specs.Spelling.{Spells, point_text}
 use Rattle.fluent_number.specs.Text.{number_text, fraction_text, filled_up}
 use Rattle.fluent_number.specs.declared.number.FluentNumber.{FluentNumber}
 
--- A text is read as a number exactly where it spells that number.
+-- A text is read as a number exactly if it spells that number.
 abbrev pub ReadsWhatIsSpelled : Type 0
 ReadsWhatIsSpelled = (text : Text) (number : Number) → (read_number text ≡ Some number) ↔ Spells text number
 
--- the digits that a number's text has behind the point, if it has a point
+-- the digits that a number's text has after the point, if it has a point
 abbrev pub shown_fraction : Number → Option Text
 shown_fraction number =
     let least = number.options.minimum_fraction_digits in
@@ -46,7 +46,7 @@ tidied_whole digits =
     let kept = without_front_zeros digits in if length kept == 0 then 48 ∷ [] else kept
 
 -- A number's text as it is written again: without a plus, without a minus before zero, without zeros before the whole part
--- and with a digit there. What stands behind the point stays.
+-- and with a digit there. What is after the point stays.
 abbrev pub tidied : Text → Text
 tidied text =
     let numeral = numeral_of (without_sign text) in
@@ -58,11 +58,11 @@ tidied text =
 abbrev pub WritesWhatWasRead : Type 0
 WritesWhatWasRead = (text : Text) (number : Number) → read_number text ≡ Some number → number_text number ≡ tidied text
 
--- the digits behind the point in a number's text
+-- the digits after the point in a number's text
 abbrev pub digits_behind : Number → Text
 digits_behind number = unwrap_or (numeral_of (without_sign (number_text number))).fraction []
 
--- The operands are what the digits of the number's text say, of which at most 18 behind the point count.
+-- The operands are what the digits of the number's text say, of which at most 18 after the point count.
 pub record AgreesWithText (number : Number) : Type 0 where
   pub i : (operands_of number).i ≡ digits_worth (numeral_of (without_sign (number_text number))).whole
   pub v : (operands_of number).v ≡ min (length (digits_behind number)) 18
@@ -73,7 +73,7 @@ pub record AgreesWithText (number : Number) : Type 0 where
 abbrev pub OperandsAgreeWithText : Type 0
 OperandsAgreeWithText = (number : Number) → whole_of number.value < 2 ^ 64 → AgreesWithText number
 
--- a test finds two values equal exactly where they look the same
+-- a test finds two values equal exactly if they look the same
 abbrev pub EqualWhereSeenSame : {A B : Type 0} → (A → A → Bool) → (A → B) → Type 0
 EqualWhereSeenSame {A} equal seen = (x y : A) → (equal x y ≡ true) ↔ (seen x ≡ seen y)
 
@@ -85,7 +85,7 @@ HashesEqualAlike {A} equal fed = (x y : A) → equal x y ≡ true → fed x ≡ 
 abbrev pub BecomesNumber : {A : Type 0} → (A → FluentNumber → Type 0) → (A → ℤ) → Type 0
 BecomesNumber {A} gives integer = (x : A) (number : FluentNumber) → gives x number → number_of number ≡ number_from_integer (integer x)
 
--- Whatever a conversion to a signed type of so many bits gives is the type's integer nearest to the number's whole part.
+-- Whatever a conversion to a signed type of this many bits gives is the type's integer nearest to the number's whole part.
 abbrev pub BecomesSigned : {A : Type 0} → ℕ → (A → ℤ → Type 0) → (A → ℤ) → Type 0
 BecomesSigned {A} bits gives value = (x : A) (n : ℤ) → gives x n → n ≡ signed_of bits (value x)
 

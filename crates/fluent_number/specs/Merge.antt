@@ -30,7 +30,7 @@ currency_display_named text =
 abbrev pub asks_for_grouping : Text → Bool
 asks_for_grouping text = not (bytes_eq text (codes "false"))
 
--- a setting read from what stands under its key; it stays where there is nothing of its kind
+-- a setting read from what stands under its key; it stays if there is nothing of its kind
 abbrev pub updated : {V A : Type 0} → (V → A) → Option V → A → A
 updated read found before = unwrap_or (option_map read found) before
 

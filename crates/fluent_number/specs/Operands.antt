@@ -6,7 +6,7 @@ use Rattle.fluent_number.specs.Number.{Number}
 use Rattle.fluent_number.specs.Text.{fraction_text}
 use Rattle.fluent_number.specs.declared.plural.PluralOperands.{PluralOperands}
 
--- w: how many digits stand behind the point, without zeros at the end
+-- w: how many digits are after the point, without zeros at the end
 abbrev pub digits_without_zeros : Number → ℕ
 digits_without_zeros number = length (fraction_text number.value)
 
@@ -15,7 +15,7 @@ abbrev pub digits_with_zeros : Number → ℕ
 digits_with_zeros number =
     max (digits_without_zeros number) (min (unwrap_or number.options.minimum_fraction_digits 0) 18)
 
--- the number that the first k digits behind the point write
+-- the number that the first k digits after the point write
 abbrev pub first_digits_worth : ℕ → Number → ℕ
 first_digits_worth k number = digits_worth (take k (last_digits 18 (fraction_of number.value)))
 

@@ -22,7 +22,7 @@ pub fraction_of-signed : (negative : Bool) (whole fraction : ℕ) → fraction <
 fraction_of-signed negative whole fraction small =
     ap (λ n. n % units_per_one) (unsigned_abs-signed negative (whole * units_per_one + fraction)) ∙ mod-mul-add whole units_per_one fraction small
 
--- the sign of a decimal that isn't zero where it is negative
+-- the sign of a decimal that isn't zero if it is negative
 pub sign_of-signed : (negative : Bool) (whole fraction : ℕ) → (negative ≡ true → 0 < whole + fraction) → is_below_zero (signed negative (whole * units_per_one + fraction)) ≡ negative
 sign_of-signed negative whole fraction h =
     is_below_zero-signed negative (whole * units_per_one + fraction) (λ e. omega (arith, h e))

@@ -7,7 +7,7 @@ use Rattle.fluent_number.specs.Digits.{Text, digits_worth}
 use Rattle.fluent_number.specs.Number.{Number}
 use Rattle.fluent_number.specs.Options.{default_options}
 
--- an unsigned text: what stands before the point and, where there is a point, what stands behind it
+-- an unsigned text: what stands before the point and, if there is a point, what is after it
 pub record Numeral : Type 0 where
   pub whole : Text
   pub fraction : Option Text
@@ -24,14 +24,14 @@ parted text (Some place) = record { whole = take place text; fraction = Some (dr
 abbrev pub numeral_of : Text → Numeral
 numeral_of text = parted text (position is_point text)
 
--- Digits before and behind a point are a decimal: there is at least one, at most 18 are behind the point, and the whole
+-- Digits before and after a point are a decimal: there is at least one, at most 18 are after the point, and the whole
 -- part is below 2 ^ 64.
 abbrev pub are_decimal : Text → Text → Bool
 are_decimal whole behind =
     list_all is_ascii_digit (whole ++ behind)
     && (nat_lt 0 (length (whole ++ behind)) && (nat_le (length behind) 18 && nat_lt (digits_worth whole) (2 ^ 64)))
 
--- how many units they are: all the digits as one number, of which so many stand behind the point
+-- how many units they are: all the digits as one number, of which this many are after the point
 abbrev pub units_of : Text → Text → ℕ
 units_of whole behind = digits_worth (whole ++ behind) * 10 ^ (18 - length behind)
 
@@ -39,7 +39,7 @@ units_of whole behind = digits_worth (whole ++ behind) * 10 ^ (18 - length behin
 abbrev pub IsTooGreatAsDigits : Text → Type 0
 IsTooGreatAsDigits whole = list_all is_ascii_digit whole ≡ true → 2 ^ 64 ≤ digits_worth whole
 
--- digits that may stand behind a point
+-- digits that may follow a point
 abbrev pub IsFraction : Text → Type 0
 IsFraction behind = (list_all is_ascii_digit behind ≡ true) × (length behind ≤ 18)
 
@@ -52,7 +52,7 @@ abbrev pub read_decimal : Bool → Text → Text → Option ℤ
 read_decimal negative whole behind =
     if are_decimal whole behind then Some (signed negative (units_of whole behind)) else None
 
--- a decimal as a number that shows as many digits behind the point as were written there
+-- a decimal as a number that shows as many digits after the point as were written there
 abbrev pub number_read : Option Text → ℤ → Number
 number_read fraction value = record {
   value = value;
@@ -65,7 +65,7 @@ begins_with_minus text = slice_index text 0 == 45
 abbrev pub begins_with_sign : Text → Bool
 begins_with_sign text = begins_with_minus text || slice_index text 0 == 43
 
--- a text without its sign, where it begins with one
+-- a text without its sign, if it begins with one
 abbrev pub without_sign : Text → Text
 without_sign text = if begins_with_sign text then drop 1 text else text
 

@@ -22,7 +22,7 @@ is_minus no_sign = false
 is_minus plus = false
 is_minus minus = true
 
--- a point and what stands behind it, or nothing
+-- a point and what is after it, or nothing
 abbrev pub point_text : Option Text → Text
 point_text None = []
 point_text (Some behind) = 46 ∷ behind
@@ -30,8 +30,8 @@ point_text (Some behind) = 46 ∷ behind
 abbrev pub spelled : Sign → Text → Option Text → Text
 spelled sign whole fraction = sign_text sign ++ (whole ++ point_text fraction)
 
--- The text is a sign, digits and perhaps a point and digits, so many and so large as they may be; and the number is what
--- they write, with as many digits shown behind the point.
+-- The text is a sign, digits and perhaps a point and digits, as many and as large as they may be; and the number is what
+-- they write, with as many digits shown after the point.
 pub record Spells (text : Text) (number : Number) : Type 0 where
   pub sign : Sign
   pub whole : Text

@@ -24,7 +24,7 @@ module _ (S : Type 0) (text_of : S → Text) where
   abbrev pub entries_with : Collected S → List Piece → List t.Entry
   entries_with r ps = body_of r ++ entries_of (held_by r) ps
 
-  -- a piece was taken in: with any more pieces behind it, the entries are the same
+  -- a piece was taken in: with any more pieces after it, the entries are the same
   abbrev pub TakesEntries : Collected S → Collected S → Piece → Type 0
   TakesEntries old new piece = (pieces : List Piece) → entries_with new pieces ≡ entries_with old (piece ∷ pieces)
 
@@ -39,7 +39,7 @@ module _ (S : Type 0) where
   abbrev pub errors_with : Collected S → List Piece → List ErrorView
   errors_with r ps = map error_view r.errors.items ++ map error_told (errors_of ps)
 
-  -- a piece was taken in: with any more pieces behind it, the errors are the same
+  -- a piece was taken in: with any more pieces after it, the errors are the same
   abbrev pub TakesErrors : Collected S → Collected S → Piece → Type 0
   TakesErrors old new piece = (pieces : List Piece) → errors_with new pieces ≡ errors_with old (piece ∷ pieces)
 
@@ -51,11 +51,11 @@ module _ (S : Type 0) where
   abbrev pub HasNoErrors : Collected S → Type 0
   HasNoErrors all = (pieces : List Piece) → errors_with all pieces ≡ map error_told (errors_of pieces)
 
-  -- an entry was taken in, from behind a blank line or not, by whatever the bytes of a text are
+  -- an entry was taken in, from after a blank line or not, by whatever the bytes of a text are
   abbrev pub TakesEntry : Collected S → Collected S → Bool → Entry S → Type 0
   TakesEntry old new apart added = (text_of : S → Text) → TakesEntries S text_of old new (entry apart (entry_view S text_of added))
 
-  -- Entries were put behind those that are there, by whatever the bytes of a text are. Which ones goes by the comment
+  -- Entries were put after those that are there, by whatever the bytes of a text are. Which ones goes by the comment
   -- that waited.
   abbrev pub Appends : Collected S → Collected S → ((S → Text) → Option (List Text) → List t.Entry) → Type 0
   Appends old new more = (text_of : S → Text) → body_of S text_of new ≡ body_of S text_of old ++ more text_of (held_by S text_of old)
@@ -64,7 +64,7 @@ module _ (S : Type 0) where
   abbrev pub KeepsAttached : Collected S → Collected S → Bool → Type 0
   KeepsAttached old new apart = (text_of : S → Text) → held_by S text_of new ≡ attached (held_by S text_of old) apart
 
-  -- The errors that were found are these: a tree alone where there are none, else a tree with them.
+  -- The errors that were found are these: a tree alone if there are none, otherwise a tree with them.
   abbrev pub HasErrors : Result (Resource S) (Error S) → List ErrorView → Type 0
   HasErrors (Ok r) es = es ≡ []
   HasErrors (Err (error.Broken r errors)) es = (map error_view errors.items ≡ es) × (es ≢ [])

@@ -1,4 +1,4 @@
--- Errors as plain data, and which error tells of which refusal.
+-- Errors as plain data, and which error reports which refusal.
 use Rattle.std.specs.Prelude.{ℕ, List, [], ◌∷◌, Option, Some, option_map, codes, string_bytes}
 use Rattle.std.specs.declared.ops.Range.{Range}
 use Rattle.fluent_grammar.specs.Refusal as r
@@ -8,7 +8,7 @@ use Rattle.fluent_parsed.specs.declared.errors.ErrorKind.{ErrorKind}
 use Rattle.fluent_parsed.specs.declared.errors.ErrorKind.TheVariants as kind
 use Rattle.fluent_parsed.specs.declared.errors.ParserError.{ParserError}
 
--- what an `ErrorKind` tells: its variant, and the bytes of its text
+-- what an `ErrorKind` says: its variant, and the bytes of its text
 pub data Told : Type 0 where
   expected_token : ℕ → Told
   expected_char_range : List ℕ → Told
@@ -32,7 +32,7 @@ pub data Told : Type 0 where
   expected_simple_expression_as_selector : Told
   expected_literal : Told
 
--- what an `ErrorKind` tells
+-- what an `ErrorKind` says
 abbrev pub kind_view : ErrorKind → Told
 kind_view (kind.ExpectedToken c) = expected_token c
 kind_view (kind.ExpectedCharRange s) = expected_char_range (string_bytes s)
@@ -84,7 +84,7 @@ kind_name expected_literal = codes "ExpectedLiteral"
 abbrev pub line_end_range : List ℕ
 line_end_range = line_feed ∷ space ∷ 124 ∷ space ∷ carriage_return ∷ line_feed ∷ []
 
--- what tells of a refusal
+-- what reports a refusal
 abbrev pub told : r.Kind → Told
 told (r.expected_token c) = expected_token c
 told r.expected_letter = expected_char_range (codes "a-zA-Z")
@@ -114,7 +114,7 @@ pub record Span : Type 0 where
   pub start : ℕ
   pub end : ℕ
 
--- what a `ParserError` tells, in bytes of the source
+-- what a `ParserError` says, in bytes of the source
 pub record ErrorView : Type 0 where
   pub pos : Span
   pub slice : Option Span
@@ -124,10 +124,10 @@ pub record ErrorView : Type 0 where
 abbrev pub span : Range ℕ → Span
 span range = record { start = range.start; end = range.end }
 
--- what a `ParserError` tells
+-- what a `ParserError` says
 abbrev pub error_view : ParserError → ErrorView
 error_view e = record { pos = span e.pos; slice = option_map span e.slice; kind = kind_view e.kind }
 
--- what tells of an error of the grammar: its place, and its junk as the slice
+-- what reports an error of the grammar: its place, and its junk as the slice
 abbrev pub error_told : grammar.ParserError → ErrorView
 error_told e = record { pos = record { start = e.pos_start; end = e.pos_end }; slice = Some (record { start = e.slice_start; end = e.slice_end }); kind = told e.kind }

@@ -63,7 +63,7 @@ is_whole f o = true
 is_whole t o = true
 is_whole e o = true
 
--- The value, where it is whole.
+-- The value, if it is whole.
 abbrev pub value_of : Expression → PluralOperands → ℕ
 value_of n o = whole_of o.n
 value_of i o = o.i
@@ -85,7 +85,7 @@ holds (this or that) o = holds this o || holds that o
 pub data Rule : Type 0 where
   ◌when◌ : PluralCategory → Condition → Rule
 
--- The category of the first rule whose condition holds, and `other` where none does.
+-- The category of the first rule whose condition holds, and `other` if none does.
 abbrev pub category_by : List Rule → PluralOperands → PluralCategory
 category_by [] o = OTHER
 category_by ((category when condition) ∷ rules) o = if holds condition o then category else category_by rules o

@@ -32,7 +32,7 @@ abbrev pub found : Option Reply → Answer
 found None = none
 found (Some reply) = ok reply
 
--- the answer to a request, where `find` says what there is for it
+-- the answer to a request, if `find` says what there is for it
 abbrev pub answer_to : {V : Type 0} → (Request V → Option Reply) → Option (Request V) → Answer
 answer_to find None = bad
 answer_to find (Some request) = found (find request)

@@ -21,7 +21,7 @@ last_part (p ∷ q ∷ ps) = last_part (q ∷ ps)
 unfoldable pub whole_lines : Text → List Text
 whole_lines bytes = all_but_last (parts_of bytes)
 
--- what stands behind the last line feed
+-- what is after the last line feed
 unfoldable pub unfinished : Text → Text
 unfinished bytes = last_part (parts_of bytes)
 

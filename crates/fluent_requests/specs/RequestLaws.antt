@@ -5,7 +5,7 @@ use Rattle.fluent_requests.specs.Lines.{EndsWhole}
 use Rattle.fluent_requests.specs.Requests.{request_of, with_values}
 use Rattle.fluent_requests.specs.Frames.{answers}
 
--- The answers to two streams joined are the answers joined, where the first stream is empty or ends in a line feed.
+-- The answers to two streams joined are the answers joined, if the first stream is empty or ends in a line feed.
 abbrev pub StreamsJoin : Type 0
 StreamsJoin = (answer : Text → Text) (first second : Text) → EndsWhole first → answers answer (first ++ second) ≡ answers answer first ++ answers answer second
 

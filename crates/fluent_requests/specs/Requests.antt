@@ -21,12 +21,12 @@ and_argument None rest = None
 and_argument (Some a) None = None
 and_argument (Some a) (Some rest) = Some (a ∷ rest)
 
--- all arguments, or none of them where one has no equals sign
+-- all arguments, or none of them if one has no equals sign
 abbrev pub arguments_of : {V : Type 0} → (Text → V) → List Text → Option (List (Text × V))
 arguments_of value_of [] = Some []
 arguments_of value_of (p ∷ ps) = and_argument (argument_of value_of (cut_at equals p)) (arguments_of value_of ps)
 
--- the id ends at the first dot, and the attribute is what stands behind that
+-- the id ends at the first dot, and the attribute is what is after that
 abbrev pub request_with : {V : Type 0} → Text × Option Text → Option (List (Text × V)) → Option (Request V)
 request_with name None = None
 request_with name (Some arguments) = Some (record { id = name.0; attribute = name.1; arguments = arguments })

@@ -35,7 +35,7 @@ open_brace = 123
 abbrev pub close_brace : ℕ
 close_brace = 125
 
--- what stands before the first such byte and, where there is one, what stands behind it
+-- what stands before the first such byte and, if there is one, what is after it
 abbrev pub cut_at : ℕ → Text → Text × Option Text
 cut_at separator s =
     let is_separator : ℕ → Bool = λ b. b == separator in

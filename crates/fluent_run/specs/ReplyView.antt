@@ -17,7 +17,7 @@ use Rattle.fluent_run.specs.declared.reply.Reply.{Reply}
 use Rattle.fluent_value.specs.declared.custom.FluentType.{Ghosts as Custom}
 use Rattle.fluent_value.specs.declared.scope.ValueScope.{Ghosts as Scope}
 
--- an error as an answer tells it: of resolving, by its own text alone
+-- an error as an answer reports it: of resolving, by its own text alone
 abbrev pub error_text : Reported → Text
 error_text (overriding kind id) = bundle_text (overriding kind id)
 error_text (damaged e) = bundle_text (damaged e)

@@ -45,7 +45,7 @@ module _ {M : Type 0} (category_of : M → Plurals) (stringified : M → (S : Ty
 abbrev pub answers_in : {M : Type 0} → KindGhosts M → M → Settings → List (Bor Text) → Text → Text
 answers_in kind plurals settings sources = answers_by kind.category_of kind.stringified plurals settings sources
 
--- What a run from these sources has come to, by how it ended.
+-- What became of a run from these sources, by how it ended.
 pub record RunsFrom {M R W : Type 0} (kind : KindGhosts M) (plurals : M) (settings : Settings) (sources : List (Bor Text))
     (source : SourceGhosts R) (reader reader' : R) (sink : SinkGhosts W) (writer writer' : W) (result : Result (Unit {0}) RunError) : Type 0 where
   -- the answers to all of the input are written, and nothing else
@@ -54,5 +54,5 @@ pub record RunsFrom {M R W : Type 0} (kind : KindGhosts M) (plurals : M) (settin
   -- they are also the answers of whatever the sources are tidied into
   pub tidied : OnOk result (IfSome (source.remaining reader) (λ input. (others : List Text) → Tidied (texts sources) others →
       Appends (sink.contents writer) (sink.contents writer') (answers_of kind.category_of kind.stringified plurals settings others input)))
-  -- Of a reader that doesn't tell its bytes, they are the answers to those that it gave. So it is of an error, too.
+  -- Of a reader whose bytes aren't known, they are the answers to those that it gave. So it is of an error, too.
   pub served : Runs source reader reader' sink writer writer' (line_by kind.category_of kind.stringified plurals settings sources) 4294967296 result

@@ -5,11 +5,11 @@ use Rattle.fluent_grammar.specs.Words.{Text}
 use Rattle.fluent_grammar.specs.Tree as t
 use Rattle.fluent_grammar.specs.Written.{Sign, begins_with_dot, ends_line, indent_before, is_many_lined, onto}
 
--- signs were laid out behind what was written, unless the call fails
+-- signs were laid out after what was written, unless the call fails
 abbrev pub Writes : {A E : Type 0} → Result A E → String Global → String Global → List Sign → Type 0
 Writes result old new signs = OnOk result (string_bytes new ≡ onto (string_bytes old) signs)
 
--- a text with the indent that a piece takes behind it
+-- a text with the indent that a piece takes after it
 abbrev pub with_indent : Text → ℕ → Text → Text
 with_indent text level piece = text ++ indent_before (ends_line false text) level piece
 

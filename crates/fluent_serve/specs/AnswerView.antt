@@ -13,12 +13,12 @@ and_text None rest = None
 and_text (Some s) None = None
 and_text (Some s) (Some rest) = Some (s ∷ rest)
 
--- what errors are shown as, where each says it
+-- what errors are shown as, if each says it
 abbrev pub error_texts : {E : Type 0} → (E → Option Text) → List E → Option (List Text)
 error_texts shown [] = Some []
 error_texts shown (e ∷ es) = and_text (shown e) (error_texts shown es)
 
--- an answer, where its errors say what they are shown as
+-- an answer, if its errors say what they are shown as
 abbrev pub answer_view : {E : Type 0} → (E → Option Text) → Answer E → Option frames.Answer
 answer_view shown given.Bad = Some frames.bad
 answer_view shown given.Nothing = Some frames.none

@@ -23,15 +23,15 @@ abbrev pub failures_after_write : {E : Type 0} → ℕ → List ℕ → Result �
 failures_after_write old bytes (Ok n) = if n == 0 && nat_lt 0 (length bytes) then one_more old else old
 failures_after_write old bytes (Err e) = one_more old
 
--- a call failed between the two counts, as far as counts can tell
+-- a call failed between the two counts, as far as counts can show
 abbrev pub HasFailed : ℕ → ℕ → Type 0
 HasFailed old new = (old < new) ⊎ (greatest_count ≤ old)
 
--- at least so many bytes were given between the two counts, as far as counts can tell
+-- at least this many bytes were given between the two counts, as far as counts can show
 abbrev pub HasGiven : ℕ → ℕ → ℕ → Type 0
 HasGiven old new bytes = min (old + bytes) greatest_count ≤ new
 
--- Why a reader is given up: a call failed, or it gave at least so many bytes without an end.
+-- Why a reader is given up: a call failed, or it gave at least this many bytes without an end.
 abbrev pub IsGivenUp : (failures_before failures_after given_before given_after bound : ℕ) → Type 0
 IsGivenUp failures_before failures_after given_before given_after bound =
     HasFailed failures_before failures_after ⊎ HasGiven given_before given_after bound

@@ -15,7 +15,7 @@ pub record IsFrontOf (front whole : Text) : Type 0 where
   pub back : Text
   pub split : whole ≡ front ++ back
 
--- The bytes that a reader has left and those that a writer holds, before and after, as far as they tell them.
+-- The bytes that a reader has left and those that a writer holds, before and after, as far as they are known.
 pub record Devices : Type 0 where
   pub left_before : Option Text
   pub left_after : Option Text
@@ -26,7 +26,7 @@ abbrev pub devices_of : Option Text → Option Text → Option Text → Option T
 devices_of left_before left_after held_before held_after =
     record { left_before = left_before; left_after = left_after; held_before = held_before; held_after = held_after }
 
--- those of a reader and a writer, each before and after, by what they tell
+-- those of a reader and a writer, each before and after, as far as they are known
 abbrev pub devices : {R W : Type 0} → (R → Option Text) → R → R → (W → Option Text) → W → W → Devices
 devices remaining reader_before reader_after contents writer_before writer_after =
     devices_of (remaining reader_before) (remaining reader_after) (contents writer_before) (contents writer_after)
@@ -51,7 +51,7 @@ pub record AnswersFirst (d : Devices) (answer : Text → Text) : Type 0 where
 pub record AnswersWhole (d : Devices) (answer : Text → Text) (failed : Type 0) (bound : ℕ) : Type 0 where
   pub taken : Text
   pub exchanged : Exchanged d taken (answers_to answer (whole_lines taken))
-  -- the reader failed, or gave at least so many bytes without an end
+  -- the reader failed, or gave at least this many bytes without an end
   pub reason : failed ⊎ (bound ≤ length taken)
 
 -- a front of the answers to what was read is written
@@ -61,13 +61,13 @@ pub record AnswersFront (d : Devices) (answer : Text → Text) : Type 0 where
   pub exchanged : Exchanged d taken given
   pub front : IsFrontOf given (answers answer taken)
 
--- What the devices have come to, by how a run ended. `failed` says that the reader failed.
+-- What became of the devices, by how a run ended. `failed` says that the reader failed.
 pub record RunsOn (d : Devices) (answer : Text → Text) (failed : Type 0) (bound : ℕ) (result : Result (Unit {0}) RunError) : Type 0 where
   -- all lines are answered
   pub ok : OnOk result (AnswersAll d answer)
   -- the first lines are
   pub memory : IsErrOf result Memory → AnswersFirst d answer
-  -- all whole lines are, and the reader failed or gave at least so many bytes without an end
+  -- all whole lines are, and the reader failed or gave at least this many bytes without an end
   pub read : IsErrOf result Read → AnswersWhole d answer failed bound
   -- a front of the answers is written
   pub write : IsErrOf result Write → AnswersFront d answer

@@ -16,7 +16,7 @@ arguments_view arguments = map argument_view arguments
 abbrev pub request_view : Read → Request Text
 request_view r = record { id = r.id.now; attribute = option_copied r.attribute; arguments = arguments_view r.arguments.items }
 
--- the parts of what stands behind a separator, if there is one
+-- the parts of what is after a separator, if there is one
 abbrev pub parts_behind : ℕ → Option Text → List Text
 parts_behind separator None = []
 parts_behind separator (Some s) = slice_split (λ b. b == separator) s

@@ -13,7 +13,7 @@ use Rattle.fluent_serve.specs.declared.serve.Waiting.{Waiting}
 use Rattle.fluent_serve.specs.declared.stream.Source.{Ghosts as SourceGhosts}
 use Rattle.fluent_serve.specs.declared.stream.Sink.{Ghosts as SinkGhosts}
 
--- With `given` put behind what waited, the writer took a front of it, and what is left waits.
+-- With `given` put after what waited, the writer took a front of it, and what is left waits.
 pub record Puts (held_before : Option Text) (waiting_before : Text) (held_after : Option Text) (waiting_after given : Text) : Type 0 where
   pub sent : Text
   pub written : Appends held_before held_after sent
@@ -52,7 +52,7 @@ pub record ServesFront (d : Devices) (answer : Text → Text) : Type 0 where
   pub read : Consumes d.left_before d.left_after taken
   pub puts : PutsFront d.held_before [] d.held_after (answers answer taken)
 
--- What the devices have come to, by how a run ended whose last answers may wait still. `failed` says that the reader failed.
+-- What became of the devices, by how a run ended whose last answers may wait still. `failed` says that the reader failed.
 pub record ServesOn (d : Devices) (waiting : Text) (answer : Text → Text) (failed : Type 0) (bound : ℕ) (result : Result (Unit {0}) RunError) : Type 0 where
   pub ok : OnOk result (ServesAll d waiting answer)
   pub memory : IsErrOf result Memory → ServesFirst d waiting answer

@@ -3,7 +3,7 @@ use Rattle.std.specs.Prelude.{◌≡◌, ◌++◌, Bool, ◌==◌}
 use Rattle.std.specs.List.{list_any}
 use Rattle.fluent_grammar.specs.Words.{Text, backslash}
 
--- behind the text that it held, a writer took a prefix of a whole
+-- after the text that it held, a writer took a prefix of a whole
 pub record TookPrefix (held now whole : Text) : Type 0 where
   pub taken : Text
   pub left : Text

@@ -13,11 +13,11 @@ use Rattle.fluent_value.specs.Value.{Value, text, number, custom, none, error}
 abbrev pub order : List ℕ → List ℕ → Ordering
 order = slice_cmp nat_cmp
 
--- each name is below those behind it
+-- each name is below those after it
 abbrev pub IsAscending : List (List ℕ) → Type 0
 IsAscending names = IsStrictlySortedBy order names
 
--- arguments where this name has this value: in the place of its old one, or else at its place in the order
+-- arguments in which this name has this value: in the place of its old one, or else at its place in the order
 abbrev pub with_argument : {S : Type 0} → List ℕ → Value S → List (List ℕ × Value S) → List (List ℕ × Value S)
 with_argument name value args = insert_entry order args name value
 

@@ -9,7 +9,7 @@ use Rattle.fluent_value.specs.Value.{Value, text, number, custom, none, error}
 abbrev pub with_options : {S : Type 0} → List (List ℕ × Value S) → Number → Number
 with_options named n = record n { options = merged (λ name. text_of (argument name named)) (λ name. number_of (argument name named)) n.options }
 
--- NUMBER: the first value with the options that the named ones set, or an error where it is no number
+-- NUMBER: the first value with the options that the named ones set, or an error if it is no number
 abbrev pub number_called : {S : Type 0} → List (Value S) → List (List ℕ × Value S) → Value S
 number_called [] named = error
 number_called (text s ∷ vs) named = error

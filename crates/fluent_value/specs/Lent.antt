@@ -1,4 +1,4 @@
--- What is handed back as it lies, without a copy.
+-- What is returned as it is, without a copy.
 use Rattle.std.specs.Cow.{IsBorrowedStr}
 use Rattle.fluent_value.specs.declared.value.FluentValue.{FluentValue}
 use Rattle.fluent_value.specs.declared.value.FluentValue.TheVariants as of

@@ -82,7 +82,7 @@ same_option same (Some a) (Some b) = same a b
 abbrev pub same_count : Option ℕ → Option ℕ → Bool
 same_count = same_option (λ a b. a == b)
 
--- options are the same where each of them is
+-- options are the same if each of them is
 abbrev pub same_options : Options → Options → Bool
 same_options a b =
     same_type a.number_type b.number_type && (same_style a.style b.style && (same_option bytes_eq a.currency b.currency
@@ -91,7 +91,7 @@ same_options a b =
     && (same_count a.maximum_fraction_digits b.maximum_fraction_digits && (same_count a.minimum_significant_digits b.minimum_significant_digits
     && same_count a.maximum_significant_digits b.maximum_significant_digits))))))))
 
--- numbers are the same where value and options are
+-- numbers are the same if value and options are
 abbrev pub same_number : Number → Number → Bool
 same_number a b = int_eq a.value b.value && same_options a.options b.options
 

@@ -13,7 +13,7 @@ plain_text shown (custom c) = shown c
 plain_text shown none = []
 plain_text shown error = []
 
--- the formatter's text, where it answers one, or else the plain one
+-- the formatter's text, if it answers one, or else the plain one
 abbrev pub shown_text : {S : Type 0} → (Value S → Option (List ℕ)) → (S → List ℕ) → Value S → List ℕ
 shown_text formatted shown v = unwrap_or (formatted v) (plain_text shown v)
 

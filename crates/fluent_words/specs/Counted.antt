@@ -11,7 +11,7 @@ use Rattle.fluent_words.specs.declared.strings.StringEnd.TheVariants as end
 use Rattle.fluent_words.specs.declared.strings.StringStep.{StringStep}
 use Rattle.fluent_words.specs.declared.strings.StringStep.TheVariants as step
 
--- so many bytes stand at the front, and the text may be cut behind them
+-- this many bytes stand at the front, and the text may be cut after them
 pub record Cuts (text : Text) (count : ℕ) : Type 0 where
   pub within : count ≤ length text
   pub boundary : IsUtf8 text → IsCharBoundary text count
@@ -25,11 +25,11 @@ is_blank_at (c ∷ cs) = (c == space || c == line_feed) || (c == carriage_return
 abbrev pub is_sign : ℕ → Bool
 is_sign c = c == number_sign
 
--- what may stand behind a comment's signs: the end, a space or a line end
+-- what may follow a comment's signs: the end, a space or a line end
 abbrev pub is_comment_line : Text → Bool
 is_comment_line text = (length text == 0 || begins_with space text) || is_some (after_line_end text)
 
--- 0 where no line end stands
+-- 0 if no line end stands
 abbrev pub IsLineEnd : Text → ℕ → Type 0
 IsLineEnd text count = after_line_end text ≡ (if count == 0 then None else Some (drop count text))
 
@@ -68,7 +68,7 @@ abbrev pub char_len : Text → ℕ
 char_len [] = 0
 char_len (b ∷ bs) = suc (continuation_len b)
 
--- what an escape that is none is told by: the character behind the backslash, or a space at the end
+-- what an escape that is none is reported by: the character after the backslash, or a space at the end
 abbrev pub character_or_space : Text → Text
 character_or_space [] = space ∷ []
 character_or_space (b ∷ bs) = first_char (b ∷ bs)
@@ -89,7 +89,7 @@ IsStringStep text step.LineFeed = begins_with line_feed text ≡ true
 IsStringStep text step.UnknownEscape = (begins_with backslash text ≡ true) × (string_content text ≡ refuse (r.unknown_escape_sequence (character_or_space (drop 1 text))) text)
 IsStringStep text (step.MissingDigit count) = (begins_with backslash text ≡ true) × (2 ≤ length text) × (slice_index text 1 < 128) × (string_content text ≡ missing_hex (drop 2 text)) × (count ≡ prefix_len is_hex_digit (drop 2 text))
 
--- an escape of so many hex digits, of which so many are there
+-- an escape of this many hex digits, of which that many are there
 abbrev pub IsHexStep : ℕ → ℕ → StringStep → Type 0
 IsHexStep wanted digits (step.Part count) = (wanted ≤ digits) × (count ≡ 2)
 IsHexStep wanted digits step.Quote = ⊥

@@ -1,4 +1,4 @@
--- How the program ends, by what its devices tell.
+-- How the program ends, by what is known of its devices.
 use Rattle.std.specs.Prelude.{◌≡◌, ◌⊎◌, ℕ, List, Option, None, Result, Ok, Err, IfOk, OnOk, IfErr, IsErrOf, string_bytes}
 use Rattle.std.specs.Io.KnownBytes.{Appends}
 use Rattle.fluent_requests.specs.Text.{Text}
@@ -16,19 +16,19 @@ use Rattle.ftl_command.specs.Faults.{outcome_status, fault_line, ReachesFile, Sa
 use Rattle.ftl_command.specs.Program.{IsDone, AfterMemory, AfterInput, AfterOutput, WithoutInput, ShowsVersion, WritesFront, files_named, locale_named}
 use Rattle.ftl_command.specs.Refusals.{IsRight}
 
--- A device before and after: the bytes that it tells, and how many of its calls have failed.
+-- A device before and after: its bytes, if they are known, and how many of its calls have failed.
 pub record Seen : Type 0 where
   pub before : Option Text
   pub after : Option Text
   pub failures_before : ℕ
   pub failures_after : ℕ
 
--- by what the device tells
+-- by what is known of the device
 abbrev pub seen : {D : Type 0} → (D → Option Text) → (D → ℕ) → D → D → Seen
 seen bytes failures before after =
     record { before = bytes before; after = bytes after; failures_before = failures before; failures_after = failures after }
 
--- what a reader and a writer have come to
+-- what became of a reader and a writer
 abbrev pub exchanged : Seen → Seen → Devices
 exchanged input output = devices_of input.before input.after output.before output.after
 
@@ -56,7 +56,7 @@ abbrev pub Reports : Seen → Result Ended Fault → Type 0
 Reports s (Ok end) = ReportsErrors s end
 Reports s (Err fault) = WritesOrFails s (fault_line fault)
 
--- The status, and the line of a fault, are those of what the command came to; and that is right. The counts are those of
+-- The status, and the line of a fault, are those that the command results in; and these are right. The counts are those of
 -- the files that could not be read, before and after.
 pub record Ends (contents : Text → Option Text) (unread_before unread_after : ℕ) (input output faults : Seen) (words : List Text) (status : ℕ) : Type 0 where
   pub outcome : Result Ended Fault
@@ -87,7 +87,7 @@ pub record Ends (contents : Text → Option Text) (unread_before unread_after : 
   pub output_cut : IsErrOf outcome Output → AfterOutput contents (exchanged input output) (command_of words)
   pub output_failed : IsErrOf outcome Output → HasFailed output.failures_before output.failures_after
 
--- so it is on a folder, a reader and two writers, by what they tell
+-- so it is on a folder, a reader and two writers, by what is known of them
 abbrev pub EndsOn : {F R W V : Type 0} → FolderGhosts F → F → F → SourceGhosts R → R → R → SinkGhosts W → W → W → SinkGhosts V → V → V → List Text → ℕ → Type 0
 EndsOn folders folder folder' source reader reader' sink writer writer' told faults faults' words status =
     Ends (folders.contents folder) (folders.failures folder) (folders.failures folder') (seen source.remaining source.failures reader reader')
@@ -97,7 +97,7 @@ EndsOn folders folder folder' source reader reader' sink writer writer' told fau
 abbrev pub Begins : Seen → Option Text → Type 0
 Begins s bytes = (s.before ≡ bytes) × (s.failures_before ≡ 0)
 
--- The same over files of which nothing is known, and devices that are handed over with these bytes.
+-- The same over files of which nothing is known, and devices that are passed with these bytes.
 pub record EndsOver (left held reported : Option Text) (words : List Text) (status : ℕ) : Type 0 where
   pub unread : ℕ
   pub input : Seen
@@ -108,7 +108,7 @@ pub record EndsOver (left held reported : Option Text) (words : List Text) (stat
   pub faults_new : Begins faults reported
   pub ends : Ends (λ _. None) 0 unread input output faults words status
 
--- the line of a fault is reported on a device that is handed over with these bytes
+-- the line of a fault is reported on a device that is passed with these bytes
 pub record ReportsOver (reported : Option Text) (fault : Fault) : Type 0 where
   pub faults : Seen
   pub faults_new : Begins faults reported

@@ -18,7 +18,7 @@ use Rattle.fluent_serve.specs.declared.serve.RunError.TheVariants.{Memory as Run
 use Rattle.ftl_command.specs.declared.ended.Ended.{Ended}
 use Rattle.ftl_command.specs.declared.ended.Ended.TheVariants.{Done, Found, Incomplete}
 
--- without a fault the status is 0, or 1 where something was found in the sources or went wrong in a text
+-- without a fault the status is 0, or 1 if something was found in the sources or went wrong in a text
 abbrev pub end_status : Ended → ℕ
 end_status Done = 0
 end_status Found = 1
@@ -39,7 +39,7 @@ status_of Input = 3
 status_of Output = 3
 status_of Memory = 4
 
--- the status of what a command came to
+-- the status of what a command results in
 abbrev pub outcome_status : Result Ended Fault → ℕ
 outcome_status (Ok end) = end_status end
 outcome_status (Err fault) = status_of fault
@@ -78,7 +78,7 @@ NamesOneOf names Input = Unit {0}
 NamesOneOf names Output = Unit {0}
 NamesOneOf names Memory = Unit {0}
 
--- where the fault says that a file is no UTF-8, what the file holds is none, if that is known
+-- if the failure says that a file isn't UTF-8, what the file holds is none, if that is known
 abbrev pub SaysNoUtf8 : (Text → Option Text) → Fault → Type 0
 SaysNoUtf8 contents CarriageReturn = Unit {0}
 SaysNoUtf8 contents NotNormal = Unit {0}
@@ -93,7 +93,7 @@ SaysNoUtf8 contents Input = Unit {0}
 SaysNoUtf8 contents Output = Unit {0}
 SaysNoUtf8 contents Memory = Unit {0}
 
--- where the fault calls a locale unknown, it is this one, which has no plural rules
+-- if the fault calls a locale unknown, it is this one, which has no plural rules
 abbrev pub SaysUnknown : Option Text → Fault → Type 0
 SaysUnknown locale CarriageReturn = Unit {0}
 SaysUnknown locale NotNormal = Unit {0}
@@ -138,7 +138,7 @@ ReachesFile contents files Input = Unit {0}
 ReachesFile contents files Output = Unit {0}
 ReachesFile contents files Memory = Unit {0}
 
--- the folder's counts of failures before and after: a read has failed exactly where the fault says so
+-- the folder's counts of failures before and after: a read has failed exactly if the fault says so
 abbrev pub FailsAsTold : ℕ → ℕ → Fault → Type 0
 FailsAsTold before after CarriageReturn = after ≡ before
 FailsAsTold before after NotNormal = after ≡ before
@@ -198,7 +198,7 @@ IsBeforeInput Input = ⊥
 IsBeforeInput Output = ⊥
 IsBeforeInput Memory = ⊥
 
--- what a run's end is told as: its reader is standard input, and its writer standard output
+-- what a run's end is reported as: its reader is standard input, and its writer standard output
 abbrev pub run_fault : RunError → Fault
 run_fault RunMemory = Memory
 run_fault RunRead = Input
@@ -219,7 +219,7 @@ IsOfTidying Input = ⊥
 IsOfTidying Output = ⊥
 IsOfTidying Memory = Unit {0}
 
--- what the desk's refusals are told as
+-- what the engine's refusals are reported as
 abbrev pub clean_fault : CleanError → Fault
 clean_fault clean.Memory = Memory
 clean_fault clean.CarriageReturn = CarriageReturn

@@ -1,4 +1,4 @@
--- What files hold. `contents` is what a file of a name holds, where that is known.
+-- What files hold. `contents` is what a file of a name holds, if that is known.
 use Rattle.std.specs.Prelude.{◌≡◌, ℕ, List, [], ◌∷◌, ◌++◌, ⊤, Option, IfSome, Result, Ok, Err}
 use Rattle.fluent_requests.specs.Text.{Text}
 use Rattle.fluent_cut.specs.Joined.{AreUtf8}
@@ -6,7 +6,7 @@ use Rattle.fluent_serve.specs.Devices.{one_more}
 use Rattle.ftl_command.specs.declared.folder.FileError.{FileError}
 use Rattle.ftl_command.specs.declared.folder.FileError.TheVariants.{Memory, Unreadable}
 
--- a text for each file: what the file holds, where that is known
+-- a text for each file: what the file holds, if that is known
 abbrev pub AreHeld : (Text → Option Text) → List Text → List Text → Type 0
 AreHeld contents [] [] = ⊤
 AreHeld contents [] (s ∷ ss) = ⊥

@@ -60,7 +60,7 @@ OnRunBy plurals contents r Outcome = OnTexts contents r.files (λ sources. Outco
 abbrev pub OnRun : (Text → Option Text) → Run → ((Text → Text) → Type 0) → Type 0
 OnRun contents r Outcome = IsSomeAnd (plurals_asked r.locale) (λ plurals. OnRunBy plurals contents r Outcome)
 
--- The answers to all of the input are written, and nothing else. Of a reader that doesn't tell its bytes: to those that it gave.
+-- The answers to all of the input are written, and nothing else. Of a reader whose bytes aren't known: to those that it gave.
 pub record Answered (d : Devices) (line : Text → Text) : Type 0 where
   pub exact : IfSome d.left_before (λ input. Appends d.held_before d.held_after (answers line input))
   pub given : AnswersAll d line
@@ -74,7 +74,7 @@ AnsweredAlike d plurals r sources = (others : List Text) → tidying.Tidied sour
 abbrev pub OnRunAlike : (Text → Option Text) → Devices → Run → Type 0
 OnRunAlike contents d r = IsSomeAnd (plurals_asked r.locale) (λ plurals. OnTexts contents r.files (AnsweredAlike d plurals r))
 
--- what a run on files has come to, by how it ended; `failed` says that the input failed
+-- what became of a run on files, by how it ended; `failed` says that the input failed
 pub record RunEnds (contents : Text → Option Text) (d : Devices) (failed : Type 0) (r : Run) (result : Result Ended Fault) : Type 0 where
   pub answered : OnOk result (OnRun contents r (Answered d))
   -- of whatever the sources are tidied into, what is written is the answers too
@@ -84,7 +84,7 @@ pub record RunEnds (contents : Text → Option Text) (d : Devices) (failed : Typ
   pub input : IsErrOf result Input → OnRun contents r (λ line. AnswersWhole d line failed 4294967296)
   pub output : IsErrOf result Output → OnRun contents r (AnswersFront d)
 
--- so it is on a folder, a reader and a writer, by what they tell
+-- so it is on a folder, a reader and a writer, by what is known of them
 abbrev pub RunEndsOn : {F R W : Type 0} → FolderGhosts F → F → SourceGhosts R → R → R → SinkGhosts W → W → W → Run → Result Ended Fault → Type 0
 RunEndsOn folders folder source reader reader' sink writer writer' r result =
     RunEnds (folders.contents folder) (devices source.remaining reader reader' sink.contents writer writer') (HasFailed (source.failures reader) (source.failures reader')) r result
@@ -101,12 +101,12 @@ pub record WritesFront (before after : Option Text) (text : Text) : Type 0 where
   pub written : Appends before after given
   pub front : IsFrontOf given text
 
--- The line of the version is written, or where the output failed a front of it.
+-- The line of the version is written, or, if the output failed, a front of it.
 pub record ShowsVersion (before after : Option Text) (result : Result Ended Fault) : Type 0 where
   pub shown : OnOk result (Appends before after version_line)
   pub output : IsErrOf result Output → WritesFront before after version_line
 
--- so it is on a writer, by what it tells
+-- so it is on a writer, by what is known of it
 abbrev pub ShowsVersionOn : {W : Type 0} → SinkGhosts W → W → W → Result Ended Fault → Type 0
 ShowsVersionOn sink writer writer' result = ShowsVersion (sink.contents writer) (sink.contents writer') result
 
@@ -123,7 +123,7 @@ OnReport contents files Outcome = OnTexts contents files (λ sources. Outcome (r
 abbrev pub IsReport : (Text → Option Text) → List Text → Text → Type 0
 IsReport contents files text = OnReport contents files (λ report. text ≡ report)
 
--- what a check has come to, by how it ended
+-- what became of a check, by how it ended
 pub record CheckEnds {F W : Type 0} (folders : FolderGhosts F) (folder : F) (files : List Text) (sink : SinkGhosts W) (writer writer' : W) (result : Result Ended Fault) : Type 0 where
   pub checked : IfOk result (λ end. OnReport (folders.contents folder) files (λ text. Appends (sink.contents writer) (sink.contents writer') text × (end ≡ end_by text)))
   -- a front of the report is written
@@ -155,7 +155,7 @@ errors_in Done = []
 errors_in Found = []
 errors_in (Incomplete errors) = string_bytes errors
 
--- the status of a text with these errors, or with these lines of them: 0 where there are none
+-- the status of a text with these errors, or with these lines of them: 0 if there are none
 abbrev pub status_by : {X : Type 0} → List X → ℕ
 status_by [] = 0
 status_by (x ∷ xs) = 1
@@ -164,7 +164,7 @@ status_by (x ∷ xs) = 1
 abbrev pub EndsWith : List Text → Ended → Type 0
 EndsWith errors end = (errors_in end ≡ flat_map error_line errors) × (end_status end ≡ status_by errors)
 
--- what formatting has come to, by how it ended
+-- what became of formatting, by how it ended
 pub record FormatEnds {F W : Type 0} (folders : FolderGhosts F) (folder : F) (f : Format) (sink : SinkGhosts W) (writer writer' : W) (result : Result Ended Fault) : Type 0 where
   pub written : IfOk result (λ end. OnReply (folders.contents folder) f (λ reply. Appends (sink.contents writer) (sink.contents writer') (ended reply.text) × EndsWith reply.errors end))
   -- a front of the text is written
@@ -212,7 +212,7 @@ pub record Tidied (contents : Text → Option Text) (t : Tidy) (Outcome : Text �
   pub tidies : Tidies contents t text
   pub outcome : Outcome text
 
--- what tidying has come to, by how it ended
+-- what became of tidying, by how it ended
 pub record TidyEnds {F W : Type 0} (folders : FolderGhosts F) (folder : F) (t : Tidy) (sink : SinkGhosts W) (writer writer' : W) (result : Result Ended Fault) : Type 0 where
   pub written : OnOk result (Tidied (folders.contents folder) t (Appends (sink.contents writer) (sink.contents writer')))
   -- a front of the text is written
@@ -236,7 +236,7 @@ IsDoneAlike contents d (Some (format f)) = ⊤
 IsDoneAlike contents d (Some (check files)) = ⊤
 IsDoneAlike contents d (Some (tidy t)) = ⊤
 
--- the first lines of a run are answered by these plural rules; where the locale has none, nothing is written
+-- the first lines of a run are answered by these plural rules; if the locale has none, nothing is written
 abbrev pub AnswersFirstBy : Option RunPlurals → (Text → Option Text) → Devices → Run → Type 0
 AnswersFirstBy None contents d r = d.held_after ≡ d.held_before
 AnswersFirstBy (Some plurals) contents d r = OnRunBy plurals contents r (AnswersFirst d)
@@ -265,7 +265,7 @@ AfterOutput contents d (Some (format f)) = OnReply contents f (λ reply. WritesF
 AfterOutput contents d (Some (check files)) = OnReport contents files (WritesFront d.held_before d.held_after)
 AfterOutput contents d (Some (tidy t)) = Tidied contents t (WritesFront d.held_before d.held_after)
 
--- What a command has come to, by how it ended. `failed` says that the input failed.
+-- What became of a command, by how it ended. `failed` says that the input failed.
 pub record CommandEnds (contents : Text → Option Text) (d : Devices) (failed : Type 0) (asked : Option Asked) (result : Result Ended Fault) : Type 0 where
   pub done : IfOk result (IsDone contents d asked)
   pub tidied : OnOk result (IsDoneAlike contents d asked)
@@ -274,7 +274,7 @@ pub record CommandEnds (contents : Text → Option Text) (d : Devices) (failed :
   pub input : IsErrOf result Input → AfterInput contents d failed asked
   pub output : IsErrOf result Output → AfterOutput contents d asked
 
--- so it is on a folder, a reader and a writer, by what they tell
+-- so it is on a folder, a reader and a writer, by what is known of them
 abbrev pub CommandEndsOn : {F R W : Type 0} → FolderGhosts F → F → SourceGhosts R → R → R → SinkGhosts W → W → W → Option Asked → Result Ended Fault → Type 0
 CommandEndsOn folders folder source reader reader' sink writer writer' asked result =
     CommandEnds (folders.contents folder) (devices source.remaining reader reader' sink.contents writer writer') (HasFailed (source.failures reader) (source.failures reader')) asked result

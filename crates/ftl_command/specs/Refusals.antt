@@ -85,7 +85,7 @@ RefusesNothing Input = Unit {0}
 RefusesNothing Output = Unit {0}
 RefusesNothing Memory = Unit {0}
 
--- where the fault says that there is no such message, the files' texts have none
+-- if the fault says that there is no such message, the files' texts have none
 abbrev pub SaysNoMessage : (Text → Option Text) → Format → Fault → Type 0
 SaysNoMessage contents f CarriageReturn = ⊥
 SaysNoMessage contents f NotNormal = ⊥

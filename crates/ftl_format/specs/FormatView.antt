@@ -53,6 +53,6 @@ abbrev pub IsWritten : {M : Type 0} → KindGhosts M → M → Settings → List
 IsWritten kind plurals settings sources request formatted =
     IsWrittenAs (reply_asked NoFunction (kind.category_of plurals) (kind.stringified plurals (Unit {0}) no_text) (settings_view settings) (texts sources) request) formatted
 
--- the line of an error that was told
+-- the line of an error that was reported
 abbrev pub line_told : Reported → Text
 line_told e = error_line (error_text e)

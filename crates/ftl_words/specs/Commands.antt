@@ -1,4 +1,4 @@
--- The program `ftl` and its commands, as `clap` is told of them.
+-- The program `ftl` and its commands, as `clap` knows them.
 use Rattle.std.specs.Prelude.{◌≡◌, List, [], ◌∷◌, ◌++◌, Some, true, false, codes}
 use Rattle.clap.specs.Lexer.{usize_max}
 use Rattle.clap.specs.Words.{App, Rule, Shape, Text, new_app, new_rule, rule_of, shape_of, with_subcommand}
@@ -72,10 +72,10 @@ program_app = record {
       ∷ [];
 }
 
--- the argument is told so, and for its own command alone
+-- `clap` knows the argument so, and for its own command alone
 abbrev pub IsLocal : Rule → Arg → Type 0
 IsLocal rule a = (rule_of a ≡ rule) × (a.global ≡ false)
 
--- the command is told so, with no argument for other commands
+-- `clap` knows the command so, with no argument for other commands
 abbrev pub IsShaped : Shape → Command → Type 0
 IsShaped shape c = (shape_of c ≡ shape) × ((fields_of c).has_globals ≡ false)

@@ -120,7 +120,7 @@ abbrev pub without_faults : Kinds → Option Asked → Option Asked
 without_faults [] asked = asked
 without_faults (k ∷ ks) asked = None
 
--- what the words ask for, where nothing is wrong with them
+-- what the words ask for, if nothing is wrong with them
 abbrev pub command_of : List Text → Option Asked
 command_of words = without_faults (faults_of words) (asked_of (subcommand_of program_app words))
 
