@@ -1,4 +1,4 @@
-//! The words of the grammar: how many bytes of them stand at the front of a text.
+//! The tokens of the grammar: how many bytes each takes at the start of a text.
 #![tactic(auto)]
 
 mod blanks;
