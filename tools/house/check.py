@@ -38,6 +38,7 @@ CALLED = '''
 '''.split()
 INNER = {
     'fluent_parsed': ['Collected'],
+    'fluent_run': ['Desk'],
     'fluent_slice': ['Texts', 'Slices'],
     'fluent_kept': ['Bundle', 'Loose', 'Question', 'Answer', 'Sources'],
 }

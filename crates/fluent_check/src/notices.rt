@@ -49,7 +49,7 @@ impl<'r, 's> Added<'r, 's> {
         })
     }
 
-    /// Adds a resource, and its notices after the earlier ones.
+    /// Adds a resource, with its notices behind those that came before.
     fn add(&mut self, resource: &'r FluentResource<'s>) -> Result<(), AllocError>
         ensures ids { OnOk result (ids_in self.new
             ≡ with_ids false (ids_in self.old) (by_id resource.now)) }

@@ -16,8 +16,8 @@ use std::alloc::AllocError;
 use std::borrow::CowStr;
 
 impl<'r, 's, F: Drop> FluentIds<'r, 's, F> {
-    /// Adds the messages and terms of a resource, by its tree. If two entries have one id, the first stays, whatever it
-    /// is and wherever it comes from.
+    /// Adds the messages and terms of a resource, by its tree. Where two entries have one id, the first stays, whatever it is
+    /// and wherever it comes from.
     ///
     /// # Errors
     /// - [`AddResourceError::Overriding`] has a notice for each entry whose id stood for another one, in the order of the
@@ -39,7 +39,7 @@ impl<'r, 's, F: Drop> FluentIds<'r, 's, F> {
         }
     }
 
-    /// Adds the messages and terms of a resource, by its tree. If two entries have one id, the last stays.
+    /// Adds the messages and terms of a resource, by its tree. Where two entries have one id, the last stays.
     ///
     /// # Errors
     /// [`AllocError`] if memory runs out; the ids are unchanged.

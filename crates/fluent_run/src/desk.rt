@@ -28,13 +28,6 @@ use fluent_value::{FluentArgs, MemoizerKind, NoCustom, NoFormatter, NoFunction, 
 use std::alloc::{AllocError, Global};
 
 /// What lines are answered from: the ids of the sources, the plural source, and whether placeables stand between isolation marks.
-///
-/// ```no_run
-/// let desk = Desk::new(alloc, resources, settings, &plurals)?;
-/// let reply = desk
-///     .format(alloc, "a", None, &FluentArgs::new(alloc))?
-///     .context("no such message")?;
-/// ```
 #[derive(Drop)]
 pub struct Desk<'b, 'r, 's, M> {
     ids: FluentIds<'r, 's, NoFunction>,
@@ -102,6 +95,13 @@ impl<'b, 'r, 's, M: MemoizerKind> Desk<'b, 'r, 's, M> {
 
     /// What a message gives for these arguments: its value, or its first attribute of a name. `None` if there is no such
     /// message, value or attribute.
+    ///
+    /// ```no_run
+    /// let desk = Desk::new(alloc, resources, settings, &plurals)?;
+    /// let reply = desk
+    ///     .format(alloc, "a", None, &FluentArgs::new(alloc))?
+    ///     .context("no such message")?;
+    /// ```
     ///
     /// # Errors
     /// [`AllocError`] if memory runs out; nothing is left behind.
