@@ -1,4 +1,4 @@
--- The slices of the errors stand between characters: what is left of the text behind each part is UTF-8.
+-- The slices of the errors stand between characters: what is left of the text after each part is UTF-8.
 use Rattle.std.proofs.Common.{◌≡◌, ℕ, ◌+◌, Bool, false, List, [], ◌∷◌, ◌++◌, length, All, sym, ap, ◌∙◌, arith, append_assoc, subst, refl}
 use Rattle.std.specs.Str.{IsUtf8, IsCharBoundary}
 use Rattle.std.proofs.lemmas.Str.{IsCharBoundary-at_seam}

@@ -70,7 +70,7 @@ line-goes {s} q f =
     (λ b. rw (z.0, z.1, o, e, lf-begins (λ y. y == space) q f, b) (space-goes q b f))
     (λ b. rw (z.0, z.1, o, e, lf-begins (λ y. y == space) q f, b) (line_refused f)))
 
--- behind the signs
+-- after the signs
 sign-drop : {s : Text} (q : Text) (n : ℕ) → n ≤ prefix_len (λ c. c == number_sign) s → EndsInFeed s → EndsInFeed (drop n s) × (drop n (s ++ q) ≡ drop n s ++ q)
 sign-drop q zero h f = (f, refl)
 sign-drop q (suc n) h lf_last = absurd (omega arith)

@@ -65,7 +65,7 @@ listed-joins : {e : t.Entry} {s rest blanks r : Text} {es : List t.Entry} → Sp
 listed-joins {blanks = blanks} d k some b x stops c =
     joins-at (ap (λ z. z ++ x) (block-empty (entry-over d k) b).0) (listed-clean d k some x stops c)
 
--- The text of an entry, and of what follows it when cut. Behind a message or a term no blank block stands.
+-- The text of an entry, and of what follows it when cut. After a message or a term no blank block stands.
 entry-joins : {e : t.Entry} {s rest blanks r : Text} {es : List t.Entry} → SpellsEntry e s rest → rest ≢ [] → BlankBlock blanks rest r → (x : Text) → Stops x → Clean x es → Clean (blanks ++ x) es →
     Joins s rest (blanks ++ x) (listed (e ∷ []) ++ es)
 entry-joins (a_message d m h) some b x stops c k = listed-joins (a_message d m h) tt some b x stops c

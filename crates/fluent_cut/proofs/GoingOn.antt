@@ -1,5 +1,5 @@
 -- Reading goes on from a text into the next, which has blank lines and then the end, or the head of an entry: where it stopped
--- before, it does so again; else it stops where the head begins, or is refused in the head.
+-- before, it does so again; otherwise it stops where the head begins, or is refused in the head.
 use Rattle.std.proofs.Common.{◌≡◌, ℕ, Bool, true, false, ◌&&◌, ◌||◌, [], ◌∷◌, ◌++◌, length, drop, replicate, Option, Some, None, refl, ◌∙◌, arith, append_assoc}
 use Rattle.std.specs.Prelude.{◌==◌}
 use Rattle.std.proofs.lemmas.Bool.Decides.{nat_tests}
@@ -31,7 +31,7 @@ pub record Next (q next : Text) : Type 0 where
   pub whole : q ≡ blanks ++ next
   pub head : Head next
 
--- a place where reading is refused: before the head, at its equals sign, or behind its minus
+-- a place where reading is refused: before the head, at its equals sign, or after its minus
 pub data Place (next : Text) : Text → Type 0 where
   in_front : Place next next
   at_equals : {v : Text} → begins is_letter next ≡ true → skip_spaces (drop (name_len next) next) ≡ equals ∷ v → Place next (equals ∷ v)
@@ -258,7 +258,7 @@ refused-bind f (refused_in p) = refused_in p
 pub refused-mapped : {A B : Type 0} {next : Text} {y : Reading A} (f : A → B) → RefusedIn next y → RefusedIn next (mapped f y)
 refused-mapped f (refused_in p) = refused_in p
 
--- behind what is got before the end, or at the end the same
+-- after what is got before the end, or at the end the same
 pub goes-bind : {A B : Type 0} {S : B → B → Type 0} {q next : Text} {x y : Reading A} (f f' : A × Text → Reading B) → Goes q next Equal x y →
     ((a : A) (r r' : Text) → At q next r r' → Goes q next S (f (a, r)) (f' (a, r'))) → Goes q next S (x >>= f) (y >>= f')
 goes-bind f f' (same_got {a} {rest} {rest'} h) k = k a rest rest' (at_before h)
@@ -266,7 +266,7 @@ goes-bind f f' (same_refused h) k = same_refused h
 goes-bind f f' (crossed_got equal) k = k _ [] _ at_next
 goes-bind f f' (crossed_refused h) k = crossed_refused (refused-bind f' h)
 
--- behind what is got before the end
+-- after what is got before the end
 pub goes-then : {A B : Type 0} {S : B → B → Type 0} {q next : Text} {x y : Reading A} (f f' : A × Text → Reading B) → Goes q next Never x y →
     ((a : A) (r r' : Text) → Before q r r' → Goes q next S (f (a, r)) (f' (a, r'))) → Goes q next S (x >>= f) (y >>= f')
 goes-then f f' (same_got {a} {rest} {rest'} h) k = k a rest rest' h

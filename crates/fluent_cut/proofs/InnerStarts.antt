@@ -53,7 +53,7 @@ pub record On_line (u s : Text) : Type 0 where
 -- ---- texts whose inner starts read no entry
 
 mutual
-  -- up to a rest, which is empty or stands behind a line feed
+  -- up to a rest, which is empty or is after a line feed
   pub data EntryFree (rest : Text) : Text → Type 0 where
     free_end : rest ≡ [] → EntryFree rest []
     free_byte : {s : Text} (c : ℕ) → (c == line_feed) ≡ false → EntryFree rest s → EntryFree rest (c ∷ s)
@@ -132,7 +132,7 @@ blank-place (c ∷ s) i = cases (c == space || c == line_feed)
     (λ k. let j = blank-place s (place-at (sym (skip-return c s e k)) i) in let r = and-left (c == carriage_return) _ k in quiet (return-begins-none c r) (free_byte c (return-byte c r) j.free))
     (λ k. place-at (sym (skip-none c s e k)) i))
 
--- what no equals sign follows, behind blank
+-- what no equals sign follows, after blank
 abbrev NotEquals : Text → Type 0
 NotEquals s = begins_with equals (skip_blank s) ≡ false
 

@@ -19,7 +19,7 @@ returned_joined : list (joined ((97 ∷ equals ∷ carriage_return ∷ []) ∷ [
 unfolding computing
 returned_joined = refl
 
--- a= and a byte that begins a character of two bytes: the line feed behind it becomes part of one
+-- a= and a byte that begins a character of two bytes: the line feed after it becomes part of one
 halved : lists ((97 ∷ equals ∷ 195 ∷ []) ∷ []) ≡ a_message [] ∷ []
 unfolding computing
 halved = refl

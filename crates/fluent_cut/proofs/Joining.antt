@@ -1,4 +1,4 @@
--- Texts without errors, each on lines of its own, put behind one another: their lists follow one another, and there are no errors.
+-- Texts without errors, each on lines of its own, put after one another: their lists follow one another, and there are no errors.
 use Rattle.std.proofs.Common.{◌≡◌, ℕ, zero, suc, ◌<◌, true, false, List, [], ◌∷◌, ◌++◌, refl, sym, ap, ◌∙◌, arith, append_assoc, append-nil, inl, inr, replicate}
 use Rattle.std.specs.Prelude.{◌≢◌, ◌⊎◌}
 use Rattle.std.specs.Str.{IsUtf8}
@@ -99,7 +99,7 @@ tiles-begin : {parts : List Part} {s : Text} → Tiles full parts s → has_junk
 tiles-begin (blank_first {rest = rest} b d) h some =
     begins-at b.split (block-begins b.lines rest (λ k. begins-ascii rest (items-begin d h k)) (λ e. some (b.split ∙ e)))
 
--- behind a message or a term another entry begins, or nothing stands
+-- after a message or a term another entry begins, or nothing stands
 stops-behind : {e : Entry} {s rest : Text} {parts : List Part} (t : Text) → SpellsEntry e s rest → Tiles full parts rest → has_junk parts ≡ false → rest ≢ [] → IsListed e → Stops (rest ++ t)
 stops-behind {rest = rest} t d (blank_first {rest = r} b items) h some k =
     let e : r ≡ rest = (block-empty (entry-over d k) b).1 in

@@ -1,4 +1,4 @@
--- Patterns, attributes, messages and terms that end at the end of a text end where blank lines are put behind it, before what stops.
+-- Patterns, attributes, messages and terms that end at the end of a text end where blank lines are put after it, before what stops.
 use Rattle.std.proofs.Common.{◌≡◌, ℕ, List, [], ◌∷◌, ◌++◌, Some, refl, sym, ap, ◌∙◌, arith, append_assoc, inl, inr, replicate, zero, suc}
 use Rattle.std.specs.Prelude.{◌≢◌, ◌⊎◌}
 use Rattle.fluent_grammar.specs.Words.{Text, space, line_feed, carriage_return, equals, dot, skip_spaces, skip_blank_block, after_line_end}

@@ -1,4 +1,4 @@
--- A pattern that ends at the end of a text is spelled where blank lines and a rest at which patterns are over are put behind that
+-- A pattern that ends at the end of a text is spelled where blank lines and a rest at which patterns are over are put after that
 -- text, as the same pattern.
 use Rattle.std.proofs.Common.{◌≡◌, ℕ, suc, ◌<◌, Bool, true, false, List, [], ◌∷◌, ◌++◌, replicate, refl, sym, ap, ◌∙◌, arith, append_assoc, inl, inr, subst, append-nil, drop}
 use Rattle.std.specs.Str.{IsUtf8}
@@ -140,7 +140,7 @@ start-later : (n : ℕ) {piece piece' : Text} {ps qs : List Piece} → PieceLate
 start-later n (same_piece h) = alike _ h
 start-later n (more_piece e h b) = rw e (grown (grown_start n h) b)
 
--- ---- what is put behind
+-- ---- what is put after
 
 pub begins-later : {s : Text} (t : Text) → Whole s → BeginsText s → BeginsText (s ++ t)
 begins-later {s} t w b = record {

@@ -95,7 +95,7 @@ comment-begins {k} {lines} {s} d = sign-begins s (comment_complete d k refl).0
 lists-drop : {s : Text} {x es fs : List t.Entry} → x ≡ [] → es ≡ x ++ fs → Clean s fs → Clean s es
 lists-drop h e c = rw (e, h) c
 
--- what stands behind the lines of a comment in a clean text
+-- what is after the lines of a comment in a clean text
 pub behind-lines : (k : ℕ) {others : List Text} {s end : Text} {es : List t.Entry} → suc k ≤ 3 → SpellsCommentLines (suc k) others s end → Clean s es → Clean end es
 behind-lines k h (no_more_lines none) c = c
 behind-lines k h (one_more_line {line = line} {others = others} d m) c =

@@ -101,7 +101,7 @@ attributes-moves (one_more_attribute d m) rest' some stops =
 pub attributes-at : {attributes : List t.Attribute} {s s' u : Text} → s ≡ s' → SpellsAttributes attributes s' u → SpellsAttributes attributes s u
 attributes-at h d = rw h d
 
--- a head with the attributes behind it
+-- a head with the attributes after it
 pub body-moves : {id : Text} {value : t.Elements} {attributes : List t.Attribute} {s u rest : Text} → SpellsHead id value s u → SpellsAttributes attributes (skip_blank_block u) rest →
     (rest' : Text) → rest ≢ [] → Stops rest' →
     (s' : Text) × Alike line_feed rest rest' s s' × (u' : Text) × SpellsHead id value s' u' × SpellsAttributes attributes (skip_blank_block u') rest'

@@ -134,7 +134,7 @@ module _ {q next : Text} where
 
 -- ---- the next head
 
--- behind its name, up to its equals sign
+-- after its name, up to its equals sign
 pub named-equals : (u : Text) (v : Text) → skip_spaces u ≡ equals ∷ v → (begins_with dot u ≡ false) × (skip_blank u ≡ equals ∷ v)
 named-equals [] v e = absurd cc
 named-equals (c ∷ cs) v e = cases (c == space)
@@ -251,7 +251,7 @@ arrow-drop b at_next = absurd cc
 
 -- ---- text pieces
 
--- a text piece that ends its line goes up to the end; else it is the same
+-- a text piece that ends its line goes up to the end; otherwise it is the same
 pub data RunsOn (q : Text) : Reading Text → Reading Text → Type 0 where
   run_refused : {kind kind' : Kind} {at at' : Text} → Before q at at' → RunsOn q (refuse kind at) (refuse kind' at')
   run_got : {x rest rest' : Text} → Before q rest rest' → RunsOn q (got x rest) (got x rest')

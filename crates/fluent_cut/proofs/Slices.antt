@@ -21,7 +21,7 @@ chosen-slice at t false x y p q = q
 pub junk-slice : (at : ℕ) (t : Text) (kind : Kind) (place : ℕ) → ((error_of_junk at t kind place).slice_start ≡ at) × ((error_of_junk at t kind place).slice_end ≡ at + length t)
 junk-slice at t kind place = chosen-slice at t (is_field_kind kind) _ _ (refl, refl) (refl, refl)
 
--- one slice, behind what is kept
+-- one slice, after what is kept
 slice-cut : (from at : ℕ) (pre t rest : Text) (error : ParserError) (others : List ParserError) → from + length pre ≡ at → error.slice_start ≡ at → error.slice_end ≡ at + length t →
     without_slices from (error ∷ others) (pre ++ (t ++ rest)) ≡ pre ++ without_slices (at + length t) others rest
 slice-cut from at pre t rest error others h start end =

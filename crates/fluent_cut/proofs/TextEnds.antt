@@ -1,4 +1,5 @@
--- The end of a text that is joined to another: it ends in a line feed, or one is put behind it, which its last text piece loses again.
+-- The end of a text that is joined to another: it ends in a line feed, or one is put after it, which its last text
+-- piece loses again.
 use Rattle.std.proofs.Common.{◌≡◌, ℕ, ◌<◌, true, false, not, [], ◌∷◌, ◌++◌, replicate, None, refl, sym, ap, ◌∙◌, arith, append_assoc, inl, inr, subst}
 use Rattle.std.specs.Prelude.{◌==◌, ◌≢◌, ◌⊎◌}
 use Rattle.std.specs.Str.{IsUtf8, trim_end}
@@ -16,14 +17,14 @@ use Rattle.fluent_grammar.proofs.Blanks.{skip_spaces-other, not-false}
 
 -- ---- a line feed is trimmed
 
--- a text that loses a line feed behind it, whatever spaces stand before it
+-- a text that loses a line feed after it, whatever spaces stand before it
 abbrev pub Trims : Text → Type 0
 Trims s = (n : ℕ) → trim_end ((replicate n space ++ s) ++ line_feed ∷ []) ≡ trim_end (replicate n space ++ s)
 
 pub trims : (s : Text) → IsUtf8 s → Trims s
 trims s u n = feed_is_trimmed (replicate n space ++ s) (spaced-utf8 n s u)
 
--- ---- UTF-8 behind ASCII
+-- ---- UTF-8 after ASCII
 
 -- ---- how two texts meet
 
@@ -63,13 +64,13 @@ pub lined-tail : {blanks : Text} (c : ℕ) (u : Text) → c < 128 → Joint blan
 lined-tail c u a (ended f) = elim (lf-behind f c u refl) [ inl e ↦ inl e | inr g ↦ inr (ended g) ]
 lined-tail c u a (unended n h l e) = inr (unended (no_return-tail c u n) (utf8-tail c u h a) l e)
 
--- ---- behind a front that two texts share
+-- ---- after a front that two texts share
 
 pub alike-whole : {a : ℕ} {x x' s s' : Text} → Alike a x x' s s' → (f : Text) × (s ≡ f ++ a ∷ x) × (s' ≡ f ++ a ∷ x')
 alike-whole last = ([], refl, refl)
 alike-whole (more c h) = let g = alike-whole h in (c ∷ g.0, ap (λ z. c ∷ z) g.1, ap (λ z. c ∷ z) g.2)
 
--- where the second goes on behind the end of the first
+-- where the second goes on after the end of the first
 pub alike-append : {a : ℕ} {x s s' : Text} (t : Text) → Alike a x (x ++ t) s s' → s' ≡ s ++ t
 alike-append {a} {x} t h =
     let g = alike-whole h in
@@ -98,7 +99,7 @@ pub alike-joint : {blanks : Text} {a : ℕ} {x x' s s' : Text} → Alike a x x' 
 alike-joint h l k (ended f) = ended (alike-fed_other h k f)
 alike-joint h l k (unended n u b e) = unended (alike-no_return h n) (alike-utf8 h l u) b e
 
--- ---- what is put behind a text that isn't empty
+-- ---- what is put after a text that isn't empty
 
 -- A text at whose end no carriage return stands.
 abbrev pub Whole : Text → Type 0

@@ -41,7 +41,7 @@ no_return-append a b h k = list_all-append (λ c. not (c == carriage_return)) a 
 pub no_return-tail : (c : ℕ) (s : Text) → HasNoReturn (c ∷ s) → HasNoReturn s
 no_return-tail c s h = and-right (not (c == carriage_return)) _ h
 
--- ---- UTF-8, cut before an ASCII byte and behind one
+-- ---- UTF-8, cut before an ASCII byte and after one
 
 ascii-at : (a : Text) (c : ℕ) (b : Text) → c < 128 → (length a < length (a ++ c ∷ b)) × (get_or (a ++ c ∷ b) (length a) 0 < 128)
 ascii-at a c b lt = let e : get_or (a ++ c ∷ b) (length a) 0 ≡ c = get_or-append_seam a c b 0 in (omega (arith, length-append a (c ∷ b)), omega (arith, e))
@@ -74,7 +74,7 @@ pub spaced-utf8 : (n : ℕ) (s : Text) → IsUtf8 s → IsUtf8 (replicate n spac
 spaced-utf8 zero s u = u
 spaced-utf8 (suc n) s u = IsUtf8-append (space ∷ []) (replicate n space ++ s) space-utf8 (spaced-utf8 n s u)
 
--- ---- a line feed behind a text is trimmed
+-- ---- a line feed after a text is trimmed
 
 pub feed-dropped : (cs : List ℕ) → drop_trailing_whitespace (cs ++ line_feed ∷ []) ≡ drop_trailing_whitespace cs
 feed-dropped [] = refl

@@ -27,7 +27,7 @@ blank_lines-spaced : (n : ℕ) (line s : Text) → blank_lines line (replicate n
 blank_lines-spaced zero line s = refl
 blank_lines-spaced (suc n) line s = blank_lines-spaced n line s
 
--- where no line end stands behind spaces
+-- where no line end is after spaces
 no_lf : (c : ℕ) (cs : Text) → (c == line_feed) ≡ true → after_line_end (skip_spaces (c ∷ cs)) ≡ None → ⊥
 no_lf c cs h e = let e' : after_line_end (skip_spaces (line_feed ∷ cs)) ≡ None = rw (eqb-true c line_feed h) at e in absurd cc
 
@@ -65,7 +65,7 @@ lines-skipped (ends_crlf {more} n d) line rest =
 pub block-skipped : (blanks text rest : Text) → BlankBlock blanks text rest → skip_blank_block text ≡ rest
 block-skipped blanks text rest b = ap skip_blank_block b.split ∙ lines-skipped b.lines [] rest ∙ none-skipped rest rest b.longest
 
--- within a blank line: behind spaces, or behind the carriage return of its line end
+-- within a blank line: after spaces, or after the carriage return of its line end
 Seen : Text → Text → Type 0
 Seen line s = ((n : ℕ) × (line ≡ replicate n space ++ s)) ⊎ ((n : ℕ) × (line ≡ replicate n space ++ carriage_return ∷ s) × (begins_with line_feed s ≡ true))
 

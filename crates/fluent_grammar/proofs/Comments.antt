@@ -12,7 +12,7 @@ use Rattle.fluent_grammar.proofs.Got.{bind_got, got_node, which, begins_is, no_t
 use Rattle.fluent_grammar.proofs.Lengths.{line_end-lt}
 use Rattle.fluent_grammar.proofs.BlankWords.{line_end_sound, line_end_complete, rest_of_line_sound, rest_of_line_complete}
 
--- ---- the text behind a sign
+-- ---- the text after a sign
 
 -- the rest of a line that is empty is what follows the line end
 line_end-rest : (s w : Text) → after_line_end s ≡ Some w → (rest_of_line s).1 ≡ w

@@ -143,7 +143,7 @@ module _ (inside : Readers) where
   inline-begun [] e u h = absurd (nothing-refused e u h)
   inline-begun (c ∷ cs) e u h = grind arith
 
-  -- an argument, behind its expression
+  -- an argument, after its expression
   argument-read : (names : List Text) (s : Text) (e : t.Inline) (u : Text) → inline_at inside s ≡ got e u → arguments_at inside names s ≡ argument_at inside names e (name_of_argument e) u
   unfolding arguments_at
   argument-read names s e u h = rw (inline-begun s e u h, no_paren _ s e u refl h, h) refl
@@ -300,7 +300,7 @@ ArgumentsRead names a s rest = (m : ℕ) → length s ≤ m → arguments_at (re
 abbrev pub PlaceableRead : t.Expression → Text → Text → Type 0
 PlaceableRead e s rest = (m : ℕ) → length s ≤ m → placeable_at (readers m) s ≡ got e rest
 
--- an inline expression is read by the readers inside, and a select or nothing behind it
+-- an inline expression is read by the readers inside, and a select or nothing after it
 abbrev pub ExpressionRead : t.Expression → Text → Text → Type 0
 ExpressionRead e s rest = (m : ℕ) → length s < m →
     (i : t.Inline) × (u : Text) × ((readers m).inline s ≡ got i u) × (select_or_inline_at (readers m) i (skip_blank u) ≡ got e rest)

@@ -1,4 +1,4 @@
--- Signs laid out behind a text, one list of them after another.
+-- Signs laid out after a text, one list of them after another.
 use Rattle.std.proofs.Common.{◌≡◌, ℕ, zero, suc, ◌+◌, ◌-◌, ◌*◌, Bool, true, false, cond, List, [], ◌∷◌, ◌++◌, replicate, refl, sym, ap, ◌∙◌, append_assoc, append-nil, ◌<◌, length, get_or, arith}
 use Rattle.std.proofs.lemmas.List.{replicate-append-replicate}
 use Rattle.std.specs.Prelude.{not, ◌&&◌, ◌==◌}
@@ -14,7 +14,7 @@ ends_line-spaces : (n : ℕ) → ends_line false (replicate n space) ≡ false
 ends_line-spaces zero = refl
 ends_line-spaces (suc n) = ends_line-spaces n
 
--- an indent changes nothing of what ends a line behind it
+-- an indent changes nothing of what ends a line after it
 ends_line-behind_spaces : (before : Bool) (n c : ℕ) (cs : Text) → ends_line before (replicate n space ++ c ∷ cs) ≡ ends_line false (c ∷ cs)
 ends_line-behind_spaces before zero c cs = refl
 ends_line-behind_spaces before (suc n) c cs = ends_line-behind_spaces false n c cs
@@ -31,7 +31,7 @@ ends_line-piece before at level (c ∷ cs) more =
 ends_line-mark : (before : Bool) (n : ℕ) (more : Text) → ends_line before (replicate n space ++ (asterisk ∷ more)) ≡ ends_line false more
 ends_line-mark before n more = ends_line-behind_spaces before n asterisk more
 
--- signs behind signs
+-- signs after signs
 pub laid_out-append : (before : Bool) (first then : List Sign) → laid_out before (first ++ then) ≡ laid_out before first ++ laid_out (ends_line before (laid_out before first)) then
 laid_out-append before [] then = refl
 laid_out-append before (sign level s ∷ more) then =
@@ -44,7 +44,7 @@ laid_out-append before (default_mark level ∷ more) then =
     ∙ ap (λ b. replicate (4 * level - 1) space ++ (asterisk ∷ (laid_out false more ++ laid_out b then))) (sym (ends_line-mark before (4 * level - 1) (laid_out false more)))
     ∙ sym (append_assoc (replicate (4 * level - 1) space) (asterisk ∷ laid_out false more) _)
 
--- a text with one list of signs behind another
+-- a text with one list of signs after another
 pub onto-append : (before : Text) (first then : List Sign) → onto before (first ++ then) ≡ onto (onto before first) then
 unfolding onto
 onto-append before first then =
@@ -56,7 +56,7 @@ pub onto-nil : (before : Text) → onto before [] ≡ before
 unfolding onto
 onto-nil before = append-nil before
 
--- what is laid out behind nothing
+-- what is laid out after nothing
 pub onto-empty : (signs : List Sign) → onto [] signs ≡ laid_out false signs
 unfolding onto
 onto-empty signs = refl

@@ -239,12 +239,12 @@ blank_before_the_dot_of_a_selector :
 unfolding computing message_of one_text selected
 blank_before_the_dot_of_a_selector = refl
 
--- behind it a line end is needed
+-- after it a line end is needed
 line_end_behind_a_messages_attribute : Refuses (codes "a={b.c ->") r.expected_line_end 9
 unfolding computing Refuses error_at
 line_end_behind_a_messages_attribute = refl
 
--- a minus directly behind its name is of the name
+-- a minus directly after its name is of the name
 minus_behind_a_messages_attribute : Refuses (codes "a={b.c->") (r.expected_token close_brace) 7
 unfolding computing Refuses error_at
 minus_behind_a_messages_attribute = refl
@@ -278,7 +278,7 @@ unknown_escape_sequence : Refuses (codes "a={\"\\q\"}") (r.unknown_escape_sequen
 unfolding computing Refuses error_at
 unknown_escape_sequence = refl
 
--- the character behind the digits, whole: two bytes
+-- the character after the digits, whole: two bytes
 invalid_unicode_escape_sequence :
     Refuses (codes "a = { \"\\u12" ++ 195 ∷ 169 ∷ codes "\" }") (r.invalid_unicode_escape_sequence (49 ∷ 50 ∷ 195 ∷ 169 ∷ [])) 11
 unfolding computing Refuses error_at
@@ -288,7 +288,7 @@ positional_argument_follows_named : Refuses (codes "a = { F(x: 1, 2) }") r.posit
 unfolding computing Refuses error_at
 positional_argument_follows_named = refl
 
--- the blank behind a term reference without arguments is taken
+-- the blank after a term reference without arguments is taken
 positional_term_follows_named : Refuses (codes "a={F(x:1,-t )}") r.positional_argument_follows_named 12
 unfolding computing Refuses error_at
 positional_term_follows_named = refl

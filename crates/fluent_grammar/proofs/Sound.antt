@@ -56,7 +56,7 @@ none-accessor : {a : Option Text} {s rest : Text} → SpellsAccessor a s rest �
 none-accessor (no_accessor h) e = refl
 none-accessor (an_accessor d) e = absurd cc
 
--- a message reference without attribute is an identifier, with the blank behind it
+-- a message reference without attribute is an identifier, with the blank after it
 name-parts : {e : t.Inline} {s u : Text} (name : Text) → SpellsInline e s u → e ≡ t.message_reference name None → (w : Text) × SpellsName name s w × (skip_blank w ≡ u)
 name-parts name (a_string_literal b d) e = absurd cc
 name-parts name (a_number_literal d) e = absurd cc

@@ -23,7 +23,7 @@ no_hex_here : (s : Text) {raw rest : Text} {A : Type 0} → missing_hex s ≡ go
 unfolding missing_hex
 no_hex_here s e = absurd cc
 
--- a backslash and the byte behind it
+-- a backslash and the byte after it
 escaped : (c d : ℕ) (s raw rest : Text) → (c == backslash) ≡ true → (d == backslash || d == quote) ≡ true → SpellsString raw s rest → SpellsString (c ∷ d ∷ raw) (c ∷ d ∷ s) rest
 escaped c d s raw rest h k more =
     rw (same c backslash h) (elim (either (d == backslash) (d == quote) k) [

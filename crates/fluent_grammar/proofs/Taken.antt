@@ -1,4 +1,4 @@
--- Readers that take at least one byte where they give a node: what is left behind the node is an end of the text behind
+-- Readers that take at least one byte where they give a node: what is left after the node is an end of the text after
 -- its first byte.
 use Rattle.std.proofs.Common.{◌≡◌, ℕ, suc, ◌+◌, Bool, true, false, cond, ◌&&◌, List, [], ◌∷◌, length, drop, refl, arith}
 use Rattle.std.specs.Prelude.{◌==◌, nat_le}

@@ -20,7 +20,7 @@ use Rattle.fluent_grammar.proofs.TilesRecovery.{junk-ended, junk-end-once}
 use Rattle.fluent_grammar.proofs.TilesJunk.{junk-end, place-end}
 use Rattle.fluent_grammar.proofs.Repeated.{rest_of_line-tail}
 
--- the tiling, computed: in so many steps
+-- the tiling, computed: in this many steps
 abbrev pub item : (Text → List Part) → Text → Reading t.Entry → List Part
 item left s (got e rest) = entry (front s rest) e ∷ left rest
 item left s (refused fault) = junk (front s (behind_junk s fault.at)) fault.kind (length s - length fault.at) ∷ left (behind_junk s fault.at)
@@ -80,7 +80,7 @@ parts-tiled mode (suc n) s h =
     let e : EndsIn (skip_blank_block s) s = end-blank_block (end-same s) in
     blank_first (front-blank s) (items-tiled mode (parts mode n) (skip_blank_block s) (λ u k. parts-tiled mode n u (omega (arith, end-le e, k, h))))
 
--- the rest behind junk is the one that is computed
+-- the rest after junk is the one that is computed
 pub junk-rest : (s : Text) (fault : Refusal) (rest : Text) → entry_at s ≡ refused fault → EndsJunk s fault.at rest → behind_junk s fault.at ≡ rest
 junk-rest s fault rest read ends = junk-end-once s fault.at _ rest (junk-ended s fault.at (place-end s fault read)) ends
 

@@ -1,4 +1,4 @@
--- What is left behind an entry stands at column 0, or is nothing.
+-- What is left after an entry stands at column 0, or is nothing.
 use Rattle.std.proofs.Common.{◌≡◌, ℕ, zero, suc, Bool, true, false, cond, ◌&&◌, List, [], ◌∷◌, ◌++◌, length, drop, Option, Some, None, refl, sym, ap, ◌∙◌, append_assoc, append-nil, inl, inr, eqb-true, replicate}
 use Rattle.std.specs.Prelude.{◌==◌, ◌⊎◌, is_some}
 use Rattle.fluent_grammar.specs.Words.{Text, number_sign, hyphen, equals, line_feed, carriage_return, space, dot, begins_with, begins_crlf, open_brace, close_brace, skip_spaces, after_line_end, skip_blank_block, rest_of_line, comment_level}
@@ -19,7 +19,7 @@ use Rattle.fluent_grammar.proofs.Within.{FairReaders, readers-fair, ends, end-sa
 use Rattle.fluent_grammar.proofs.Blanks.{block-at, line-at}
 use Rattle.fluent_grammar.proofs.Cases.{cases, and-right}
 
--- what stands behind a line feed of a text
+-- what is after a line feed of a text
 Behind : Text → Text → Type 0
 Behind rest whole = (line : Text) × (whole ≡ line ++ line_feed ∷ rest)
 
@@ -50,7 +50,7 @@ stays-end : (rest whole : Text) → StopsOrStays rest whole → EndsIn rest whol
 unfolding StopsOrStays
 stays-end rest whole s = elim s [ inl e ↦ rw e (end-same whole) | inr l ↦ stops-end rest whole l ]
 
--- what is left behind a line feed, or further on
+-- what is left after a line feed, or further on
 stops-behind : (rest u whole : Text) → Behind u whole → StopsOrStays rest u → Stops rest whole
 unfolding StopsOrStays Stops Behind
 stops-behind rest u whole b s = elim s [
@@ -86,7 +86,7 @@ line-stops s = let l = line-at s in elim l.1.ends [
   | inr last ↦ inl last.0
 ]
 
--- what holds of a node that is read and what is left behind it
+-- what holds of a node that is read and what is left after it
 abbrev GetsParts : {A : Type 0} → (A → Text → Type 0) → Reading A → Type 0
 GetsParts P (got a rest) = P a rest
 GetsParts P (refused fault) = Unit {0}

@@ -1,4 +1,4 @@
--- Where junk ends: behind its first byte.
+-- Where junk ends: after its first byte.
 use Rattle.std.proofs.Common.{◌≡◌, ℕ, ◌<◌, Bool, true, false, ◌&&◌, ◌||◌, [], ◌∷◌, ◌++◌, length, drop, refl, sym, inl, inr, arith}
 use Rattle.std.specs.Prelude.{◌==◌, ◌⊎◌}
 use Rattle.fluent_grammar.specs.Words.{Text, line_feed, hyphen, number_sign, begins, begins_with, begins_entry, is_letter}
@@ -40,7 +40,7 @@ letter-left (c ∷ cs) e p q = first (is_letter c) (c == hyphen) (c == number_si
     first true b c e p q = refl
     first false b c e p q = absurd cc
 
--- an entry that begins as entries do stops behind its first byte
+-- an entry that begins as entries do stops after its first byte
 entry-inside : (s : Text) {w : Text} → begins begins_entry s ≡ true → EndsIn (drop 1 s) w → Fair (entry_at s) w
 unfolding entry_at
 entry-inside s e h = fair-if (begins_with number_sign s) (λ p. comment-inside s p h) (λ p. fair-if (begins_with hyphen s) (λ q. term-inside s h) (λ q. message-inside s (letter-left s e p q) h))
@@ -75,7 +75,7 @@ junk-end c cs fault e = by_first (begins_entry c) refl
 pub place-end : (s : Text) (fault : Refusal) → entry_at s ≡ refused fault → EndsIn fault.at s
 place-end s fault e = (rw e at (entry-fair (end-same s))).parts.0
 
--- what is left behind an entry, and behind junk, is shorter
+-- what is left after an entry, and after junk, is shorter
 pub entry_is_shorter : (s : Text) (e : t.Entry) (rest : Text) → entry_at s ≡ got e rest → length rest < length s
 entry_is_shorter s e rest read = rw read at (entry-took s)
 

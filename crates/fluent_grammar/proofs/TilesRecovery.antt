@@ -1,4 +1,4 @@
--- What is looked for behind a refusal is the first place that an entry may begin at.
+-- What is looked for after a refusal is the first place that an entry may begin at.
 use Rattle.std.proofs.Common.{◌≡◌, ℕ, suc, ◌-◌, ◌≤◌, Bool, true, false, cond, ◌&&◌, [], ◌∷◌, ◌++◌, length, drop, get_or, refl, sym, ap, ◌∙◌, append_assoc, arith, inl, inr, eqb-true, eq-eqb}
 use Rattle.std.specs.Prelude.{◌==◌, ◌⊎◌}
 use Rattle.std.proofs.lemmas.List.{length-append, append_cancel_right, drop_at}

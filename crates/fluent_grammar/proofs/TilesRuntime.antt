@@ -42,7 +42,7 @@ resume-past false c cs e = refl
 spaced-begins-none : (c : ℕ) (b : Bool) → (c == space || (c == carriage_return && b)) ≡ true → begins_entry c ≡ false
 spaced-begins-none c b e = cases (c == space) (λ h. space-begins-none c h) (λ h. return-begins-none c (and-left (c == carriage_return) b (rw h at e)))
 
--- what is looked for behind a blank block is what is looked for before it
+-- what is looked for after a blank block is what is looked for before it
 blank_lines-resume : (b : Bool) (line s : Text) → resume true line ≡ resume b s → resume true line ≡ resume true (blank_lines line s)
 blank_lines-resume b line [] e = refl
 blank_lines-resume b line (c ∷ cs) e = cases (c == line_feed)
@@ -72,7 +72,7 @@ line_feed-resume : (s : Text) → begins_with line_feed s ≡ true → resume fa
 line_feed-resume [] e = absurd cc
 line_feed-resume (c ∷ cs) e = rw e refl
 
--- behind the start of a line the next line is looked at
+-- after the start of a line the next line is looked at
 resume-line : (s : Text) → resume false s ≡ resume true (rest_of_line s).1
 resume-line [] = refl
 resume-line (c ∷ cs) = cases (c == line_feed)
@@ -249,7 +249,7 @@ none-begins c cs e =
 behind-itself : (s : Text) → behind_junk s s ≡ resume true s
 behind-itself s = let none : length s - length s ≡ 0 = omega arith in rw none refl
 
--- An item at the start of a line where full reading is within junk: what is left of the junk, or what stands behind it.
+-- An item at the start of a line where full reading is within junk: what is left of the junk, or what is after it.
 items-in-junk : (s : Text) (ps qs : List Part) → skip_blank_block s ≡ s → Follows (resume true s) ps → listed_parts qs ≡ listed_parts ps → (NoJunk qs → ⊥) → FollowsItems s qs
 items-in-junk [] ps qs done f same dirty =
     let k = without-blank [] ps done f in
@@ -272,7 +272,7 @@ line-in-junk s ps qs f same dirty =
 not-zero : (n : ℕ) → 1 ≤ n → (n == 0) ≡ false
 not-zero n h = grind arith
 
--- behind the signs of a comment isn't column 0
+-- after the signs of a comment isn't column 0
 signs-column : (s : Text) → begins_with number_sign s ≡ true → at_column_zero s (drop (comment_level s) s) ≡ false
 signs-column s sign =
     let level = comment_level s in
@@ -292,7 +292,7 @@ comment-refused s fault read = by_line (comment_line_at (drop (comment_level s) 
     by_line (refused other) left h = let same : other ≡ fault = cc in rw (← same) left
     by_line (got line first) left h = absurd cc
 
--- A comment that fails is passed over, and so is what full reading skips behind it.
+-- A comment that fails is passed over, and so is what full reading skips after it.
 comment-in-junk : (s front : Text) (fault : Refusal) (place : ℕ) (rest : Text) (ps : List Part) → begins_with number_sign s ≡ true → comment_at s ≡ refused fault → behind_junk s fault.at ≡ rest →
     Follows rest ps → FollowsItems s (junk front fault.kind place ∷ ps)
 comment-in-junk s front fault place rest ps sign read b f =

@@ -1,4 +1,4 @@
--- What is left behind a construct, or at a refusal, is an end of the text; and what a refusal says of its place is so.
+-- What is left after a construct, or at a refusal, is an end of the text; and what a refusal says of its place is so.
 use Rattle.std.proofs.Common.{◌≡◌, ℕ, zero, suc, ◌≤◌, Bool, true, false, cond, ◌&&◌, List, [], ◌∷◌, ◌++◌, length, take, drop, Option, Some, None, refl, sym, ap, ◌∙◌, append_assoc, append-nil, arith}
 use Rattle.std.specs.Prelude.{◌==◌}
 use Rattle.std.proofs.lemmas.List.{take-append-drop, length-append}
@@ -65,7 +65,7 @@ blank_lines-end line (c ∷ cs) whole h k =
 pub end-blank_block : {s whole : Text} → EndsIn s whole → EndsIn (skip_blank_block s) whole
 end-blank_block h = blank_lines-end _ _ _ h h
 
--- the text behind a line end, where there is one
+-- the text after a line end, where there is one
 abbrev pub MaybeEnd : Option Text → Text → Type 0
 MaybeEnd None s = Unit {0}
 MaybeEnd (Some rest) s = EndsIn rest s

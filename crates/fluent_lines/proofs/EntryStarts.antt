@@ -11,12 +11,12 @@ use Rattle.fluent_words.proofs.Scanned.{test_of}
 use Rattle.fluent_lines.specs.declared.row.Row.{Row}
 use Rattle.fluent_lines.specs.Table.{Line, line_at, later_lines, row_view}
 
--- where the first of some lines that begins an entry does, else the end of the text
+-- where the first of some lines that begins an entry does, otherwise the end of the text
 abbrev pub next_entry : ℕ → List Line → ℕ
 next_entry end [] = end
 next_entry end (l ∷ ls) = cond l.begins_entry l.start (next_entry end ls)
 
--- so many bytes stand before it, in a text that begins at this offset
+-- this many bytes stand before it, in a text that begins at this offset
 record Entry (at : ℕ) (s : Text) (place : ℕ) : Type 0 where
   count : ℕ
   at_count : place ≡ at + count
@@ -77,7 +77,7 @@ entry_is at (c ∷ cs) =
     let n : suc at + length cs ≡ at + suc (length cs) = omega arith in
     subst (λ (m : ℕ). Entry at (c ∷ cs) (next_entry m (later_lines at (c ∷ cs)))) n (entry_by (c == line_feed) at c cs refl (entry_is (suc at) cs))
 
--- behind a place in a text
+-- after a place in a text
 entry_behind : (text : Text) (place n : ℕ) → place ≤ length text → n ≡ next_entry (length text) (later_lines place (drop place text)) → Entry place (drop place text) n
 entry_behind text place n h e =
     let all : place + length (drop place text) ≡ length text = omega (arith, h, length-drop place text) in

@@ -8,7 +8,7 @@ use Rattle.fluent_words.proofs.Measured.{line_length}
 use Rattle.fluent_lines.specs.declared.row.Row.{Row}
 use Rattle.fluent_lines.specs.Table.{Line, line_at, cut_line_at, later_lines, lines, row_view}
 
--- the lines behind a line end, of a text that ends at this offset
+-- the lines after a line end, of a text that ends at this offset
 pub behind : ℕ → Option Text → List Line
 behind end None = []
 behind end (Some v) = line_at (end - length v) v ∷ later_lines (end - length v) v
@@ -50,7 +50,7 @@ step_crlf at c b bs e f h =
     let next : later_lines at (c ∷ b ∷ bs) ≡ line_at (suc (suc at)) bs ∷ later_lines (suc (suc at)) bs = rw (e, h) refl in
     next ∙ same_place (at + suc (suc (length bs))) (suc (suc at)) bs (omega arith) ∙ ap (behind (at + suc (suc (length bs)))) (sym (tail_crlf c b bs e f h))
 
--- behind the first byte
+-- after the first byte
 step : (b d : Bool) (at c : ℕ) (cs : Text) → (c == line_feed) ≡ b → (c == carriage_return && begins_with line_feed cs) ≡ d
     → later_lines (suc at) cs ≡ behind (suc at + length cs) (tail cs) → later_lines at (c ∷ cs) ≡ behind (at + suc (length cs)) (tail (c ∷ cs))
 unfolding tail
@@ -63,13 +63,13 @@ step false false at c cs e f h =
     let n : suc at + length cs ≡ at + suc (length cs) = omega arith in
     rw (e, f) (h ∙ ap (λ (k : ℕ). behind k (tail cs)) n)
 
--- a line behind each line end
+-- a line after each line end
 pub later_is : (at : ℕ) (s : Text) → later_lines at s ≡ behind (at + length s) (tail s)
 unfolding behind tail
 later_is at [] = refl
 later_is at (c ∷ cs) = step (c == line_feed) (c == carriage_return && begins_with line_feed cs) at c cs refl refl (later_is (suc at) cs)
 
--- ---- a row behind others
+-- ---- a row after others
 
 one_more : {A B : Type 0} (f : A → B) (old new : List A) (row : A) (whole rest : List B) → whole ≡ map f old ++ f row ∷ rest → new ≡ old ++ row ∷ [] → whole ≡ map f new ++ rest
 one_more f old new row whole rest h e =
@@ -81,7 +81,7 @@ nothing_more : {A : Type 0} (l : List A) → l ++ [] ≡ l
 nothing_more [] = refl
 nothing_more (x ∷ xs) = ap (λ ys. x ∷ ys) (nothing_more xs)
 
--- the first line, and those behind it
+-- the first line, and those after it
 split : (at len : ℕ) (s : Text) → IsLine s len → len ≤ length s → line_at at s ∷ later_lines at s ≡ cut_line_at at len s ∷ behind (at + length s) (after_line_end (drop len s))
 unfolding tail
 split at len s h n =

@@ -13,7 +13,7 @@ use Rattle.fluent_lines.proofs.LineEnds.{line_len, at_feed, at_crlf, at_other}
 use Rattle.fluent_lines.proofs.OneByOne.{both}
 use Rattle.fluent_lines.proofs.Places.{head_of, tail_of}
 
--- ---- the lines behind a line of so many bytes that ends in a line feed alone
+-- ---- the lines after a line of this many bytes that ends in a line feed alone
 record Fed (s : Text) (l : Line) (ls : List Line) (n : ℕ) : Type 0 where
   feed : begins_with line_feed (drop n s) ≡ true
   are : l ∷ ls ≡ line_at l.start (drop (suc n) s) ∷ later_lines l.start (drop (suc n) s)
@@ -83,7 +83,7 @@ or_left : (a b : Bool) → a ≡ true → (a || b) ≡ true
 or_left true b h = refl
 or_left false b h = absurd cc
 
--- what stands behind the line
+-- what is after the line
 record Ended (s : Text) (n : ℕ) : Type 0 where
   feed : begins_with line_feed (drop n s) ≡ true
   pattern : (pattern_ends (drop (suc n) s) || is_last_feed (drop (suc n) s)) ≡ true
@@ -136,7 +136,7 @@ one_line s place count row later e h b z c t =
       ap (λ (k : ℕ). pattern_ends (drop k s) || is_last_feed (drop k s)) n ∙ f.pattern,
     )
 
--- ---- a line feed behind which a pattern ends, by rows
+-- ---- a line feed after which a pattern ends, by rows
 first_view : (at : ℕ) (s : Text) (next : Row) (rows : List Row) (l : Line) (ls : List Line) → map row_view (next ∷ rows) ≡ l ∷ ls → row_view next ≡ l
 first_view at s next rows l ls h = ap (head_of l) h
 

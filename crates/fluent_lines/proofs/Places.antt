@@ -13,7 +13,7 @@ use Rattle.fluent_lines.specs.Table.{Line, line_at, later_lines, lines, row_view
 use Rattle.fluent_lines.specs.Lookup.{Holds}
 use Rattle.fluent_lines.proofs.OneByOne.{both}
 
--- the first of some rows begins at or before a place, or behind it
+-- the first of some rows begins at or before a place, or after it
 abbrev pub IsReached : ℕ → List Row → Type 0
 IsReached place [] = Unit {0}
 IsReached place (row ∷ rows) = row.start ≤ place
@@ -26,7 +26,7 @@ IsAhead place (row ∷ rows) = place < row.start
 abbrev NoFeed : Text → ℕ → Type 0
 NoFeed s k = (j : ℕ) → j < k → get_or s j 0 ≢ 10
 
--- what stands behind a front is as plain as all of it
+-- what is after a front is as plain as all of it
 none_plain : (m : ℕ) → is_plain (take m []) ≡ true
 none_plain zero = refl
 none_plain (suc m) = refl
@@ -76,7 +76,7 @@ clear : (at : ℕ) (s : Text) (k : ℕ) → LineAhead (at + k) (later_lines at s
 clear at [] k a = λ j h e. absurd cc
 clear at (c ∷ cs) k a = clear_by (c == line_feed) at c cs k refl (clear (suc at) cs) a
 
--- the lines behind are the same
+-- the lines after are the same
 later_past : (at : ℕ) (s : Text) (k : ℕ) → k ≤ length s → NoFeed s k → later_lines at s ≡ later_lines (at + k) (drop k s)
 later_past at s zero h f = ap (λ (n : ℕ). later_lines n s) (omega arith)
 later_past at [] (suc k) h f = absurd (omega (arith, h))
@@ -151,7 +151,7 @@ plain_from : (text : Text) (ls : List Line) (f : From 0 text ls) → ls ≡ line
 plain_from text ls f = f.are ∙ at_once f.skipped (0 + f.skipped) (drop f.skipped text) (omega arith)
 
 -- ---- a row that holds a place
--- the first of some lines, and those behind it
+-- the first of some lines, and those after it
 abbrev pub head_of : Line → List Line → Line
 head_of d [] = d
 head_of d (l ∷ ls) = l

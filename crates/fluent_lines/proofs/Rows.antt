@@ -16,7 +16,7 @@ braced start end spaces begins_entry ends_pattern = record { start = start; end 
 no_byte : lines [] ≡ line 0 0 0 false true ∷ []
 no_byte = refl
 
--- behind a line feed at the end there is one more line
+-- after a line feed at the end there is one more line
 message : lines (codes "a = b\n") ≡ line 0 5 0 true true ∷ line 6 6 0 false true ∷ []
 message = refl
 

@@ -26,13 +26,13 @@ pub record IsPart (s : Text) : Type 0 where
   pub line : is_line s ≡ true
   pub some : s ≢ []
 
--- one at a line start, behind its spaces
+-- one at a line start, after its spaces
 pub record IsStart (s : Text) : Type 0 where
   pub part : IsPart s
   pub flush : spaces s ≡ 0
   pub goes_on : begins ends_behind_spaces s ≡ false
 
--- The pieces of an unmarked pattern, behind a text that doesn't end its line or not, at a line start or not.
+-- The pieces of an unmarked pattern, after a text that doesn't end its line or not, at a line start or not.
 abbrev pub Lined : Bool → Bool → List Piece → Type 0
 Lined behind at [] = Unit {0}
 Lined behind at (at_line_start n s ∷ ps) = (behind ≡ false) × (at ≡ true) × IsStart s × Lined (not (ends_line s)) (ends_line s) ps
@@ -204,7 +204,7 @@ line-start true {s} {x} f l = by (is_blank_text x) refl
     by true e = let k : is_blank_text s ≡ true = sym l.blank ∙ e in l.ends k ∙ f.ended refl k
     by false e = let k : begins ends_behind_spaces (skip_spaces x) ≡ false = l.begun ends_behind_spaces ∙ f.goes_on refl in rw k refl
 
--- behind the last nothing is asked
+-- after the last nothing is asked
 lines-behind : (c : Option ℕ) (ps : List Piece) (s : Text) (b : Bool) → ends_line s ≡ b → are_lines (not b) b (elements_from c ps) ≡ true →
     are_lines (not (ends_line (trimmed_if_last ps s))) (ends_line (trimmed_if_last ps s)) (elements_from c ps) ≡ true
 lines-behind c [] s b e h = refl

@@ -141,7 +141,7 @@ alone-well_formed : (held : Option (List Text)) (apart : Bool) → Plain held �
 alone-well_formed held true p h = waiting-well_formed held p h
 alone-well_formed held false p h = tt
 
--- what stands behind a comment that waits, and it
+-- what is after a comment that waits, and it
 behind-waiting : (held : Option (List Text)) (es : List t.Entry) → Plain held → tree_shaped (waiting held ++ es) ≡ false → (tree_shaped es ≡ false → WellFormedTree es) → WellFormedTree (waiting held ++ es)
 behind-waiting held es p h f = well_formed-append (waiting held) es (waiting-well_formed held p (unshaped-left (waiting held) es h)) (f (unshaped-right (waiting held) es h))
 

@@ -95,7 +95,7 @@ pub record Sound (s : Text) : Type 0 where
 pub sound-end : {s u : Text} → EndsIn u s → Sound s → Sound u
 sound-end e d = record { source = d.source; utf8 = d.utf8; no_return = d.no_return; within = end-trans e d.within }
 
--- behind an ASCII byte
+-- after an ASCII byte
 pub sound-behind : (c : ℕ) (s : Text) → Sound (c ∷ s) → c < 128 → IsUtf8 s
 sound-behind c s d lt = let u : IsUtf8 (d.within.front ++ c ∷ s) = rw (← d.within.whole) d.utf8 in utf8-behind d.within.front c s u lt
 
@@ -127,7 +127,7 @@ text-line (to_crlf h) r = refl
 text-line to_end r = refl
 text-line (text_byte {c} {piece} h n d) r = line-cons c piece h (and-left _ _ r) (text-line d (and-right _ _ r))
 
--- what stands behind it
+-- what is after it
 pub data Stop : Text → Text → Type 0 where
   at_feed : {x u : Text} → ends_line x ≡ true → Stop x u
   at_brace : {x : Text} (u : Text) → ends_line x ≡ false → Stop x (open_brace ∷ u)

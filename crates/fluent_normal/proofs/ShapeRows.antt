@@ -65,7 +65,7 @@ some_value e = absurd cc
 some_attribute : {a : t.Attribute} {others : List t.Attribute} → a ∷ others ≢ []
 some_attribute e = absurd cc
 
--- ---- patterns, as they stand behind an equals sign
+-- ---- patterns, as they are after an equals sign
 
 -- \n{1}: the first line of the pattern is the one below, and it begins with the placeable.
 abbrev below_the_sign : SpellsPattern (t.placeable one_expression t.no_elements) (codes "\n{1}") []
@@ -95,14 +95,14 @@ below_blank_lines = on_the_next refl (line_of_placeable refl (braced []) nothing
 below_blank_lines-marked : pattern_marked below_blank_lines ≡ true
 below_blank_lines-marked = refl
 
--- x\n{1}: on the second line of the pattern, behind a text
+-- x\n{1}: on the second line of the pattern, after a text
 abbrev below_a_text : SpellsPattern (elements_of (in_line (codes "x\n") ∷ placed true one_expression ∷ [])) (codes "x\n{1}") []
 below_a_text = on_the_line refl (text_piece (begins_x _) (x_line _) (next_line (line_of_placeable refl (braced []) nothing_left))) refl
 
 below_a_text-marked : pattern_marked below_a_text ≡ true
 below_a_text-marked = refl
 
--- x{1}: behind a text of the same line
+-- x{1}: after a text of the same line
 abbrev behind_a_text : SpellsPattern (elements_of (in_line (codes "x") ∷ placed false one_expression ∷ [])) (codes "x{1}") []
 behind_a_text = on_the_line refl (text_piece (begins_x _) (x_brace _) (same_line (placeable_piece (braced []) nothing_left))) refl
 
@@ -157,7 +157,7 @@ argument_below-unmarked = refl
 abbrev one_variant : t.Elements → t.Expression
 one_variant value = t.select (t.number_literal (codes "1")) (t.variant (t.identifier_key (codes "b")) value true t.no_variants)
 
--- {1->\n*[b]{1}\n}: in a variant, behind its key
+-- {1->\n*[b]{1}\n}: in a variant, after its key
 abbrev behind_a_key : SpellsPlaceable (one_variant (elements_of (placed false one_expression ∷ in_line (codes "\n") ∷ []))) (codes "{1->\n*[b]{1}\n}") []
 behind_a_key =
     in_braces refl

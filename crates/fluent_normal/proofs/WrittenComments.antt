@@ -16,7 +16,7 @@ use Rattle.fluent_cut.proofs.MovingComments.{content-at}
 
 -- ---- signs
 
--- a comment's sign, of so many number signs and one
+-- a comment's sign, of this many number signs and one
 pub record Marks (k : ℕ) (marks : Text) : Type 0 where
   pub flat : (more : List Sign) → laid_out true (sign 0 marks ∷ more) ≡ marks ++ laid_out false more
   pub start : (more : List Sign) → laid_out false (sign 0 marks ∷ more) ≡ laid_out true (sign 0 marks ∷ more)
@@ -77,7 +77,7 @@ module _ (k : ℕ) (marks : Text) (m : Marks k marks) where
   text-written : (line rest : Text) → IsPlain line → SpellsCommentLine (suc k) (line ∷ []) (marks ++ space ∷ (line ++ line_feed ∷ rest)) rest
   text-written line rest h = record { sign = m.at_space _; content = content-at (m.behind (space ∷ (line ++ line_feed ∷ rest))) (some_line (rest-written line rest h)) }
 
-  -- a line with its sign, before what is laid out behind it
+  -- a line with its sign, before what is laid out after it
   abbrev line_signs : Text → List Sign → List Sign
   line_signs line behind = sign 0 marks ∷ ((comment_text_signs line ++ new_line ∷ []) ++ behind)
 

@@ -17,7 +17,7 @@ use Rattle.fluent_normal.proofs.WrittenPatterns.{ends-some}
 use Rattle.fluent_normal.proofs.WrittenSelects.{pattern_is_written}
 use Rattle.fluent_grammar.proofs.Blanks.{skip_spaces-spaced}
 
--- attributes behind the line feed before them
+-- attributes after the line feed before them
 abbrev attribute_signs : t.Attribute → List Sign → List Sign
 attribute_signs a more = sign 1 (dot ∷ []) ∷ sign 1 a.id ∷ sign 1 (space ∷ equals ∷ []) ∷ (pattern_signs 2 a.value ++ new_line ∷ more)
 

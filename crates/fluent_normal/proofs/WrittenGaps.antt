@@ -127,7 +127,7 @@ attributes-gap (one_more_attribute d (one_more_attribute e m)) k some =
 gap-at : {u v s s' : Text} → u ≡ v → Alike line_feed u (line_feed ∷ u) s s' → Alike line_feed v (line_feed ∷ v) s s'
 gap-at e h = rw (← e) h
 
--- a head with the attributes behind it
+-- a head with the attributes after it
 body-gap : {id : Text} {value : t.Elements} {attributes : List t.Attribute} {s u rest : Text} → SpellsHead id value s u → SpellsAttributes attributes (skip_blank_block u) rest →
     (value ≢ t.no_elements) ⊎ (attributes ≢ []) → rest ≢ [] →
     (s' : Text) × Alike line_feed rest (line_feed ∷ rest) s s' × (u' : Text) × SpellsHead id value s' u' × SpellsAttributes attributes (skip_blank_block u') rest
@@ -142,7 +142,7 @@ body-gap {u = u} d (one_more_attribute a m) k some =
     let d' = head-moves d u'.0 (alike-some u'.1) (alike-over refl u'.1 (head-over d)) in
     (d'.0, alike-then {s' = d'.0} d'.1 u'.1, u'.0, d'.2, attributes-at u'.2 m'.2)
 
--- A message or a term takes an empty line behind it.
+-- A message or a term takes an empty line after it.
 pub entry-gap : {e : t.Entry} {s rest : Text} → SpellsEntry e s rest → IsListed e → rest ≢ [] →
     (s' : Text) × Alike line_feed rest (line_feed ∷ rest) s s' × SpellsEntry e s' rest
 entry-gap (a_message d m h) k some = let b = body-gap d m h some in (b.0, b.1, a_message b.3 b.4 h)

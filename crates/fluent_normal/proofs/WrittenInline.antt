@@ -20,14 +20,14 @@ use Rattle.fluent_grammar.proofs.Blanks.{skip_spaces-spaced}
 
 -- ---- signs within a line
 
--- a sign that ends no line, and what is laid out behind it
+-- a sign that ends no line, and what is laid out after it
 pub within : (level : ℕ) (s : Text) (more : List Sign) → ends_line false s ≡ false → laid_out false (sign level s ∷ more) ≡ s ++ laid_out false more
 within level s more h = ap (λ b. s ++ laid_out b more) h
 
 name-within : (level : ℕ) (name : Text) (more : List Sign) → IsName name → laid_out false (sign level name ∷ more) ≡ name ++ laid_out false more
 name-within level name more n = within level name more (name-line name n.bytes)
 
--- an expression that is spelled by what is written, up to what follows, with the blank behind it or not
+-- an expression that is spelled by what is written, up to what follows, with the blank after it or not
 pub record Spelled (e : t.Inline) (s rest : Text) : Type 0 where
   pub end : Text
   pub spells : SpellsInline e s end
@@ -130,7 +130,7 @@ arrow-none s u e = rw e refl
 
 -- ---- everything, where selects are spelled
 
--- What is written of a select spells it, before what begins with a brace behind blank.
+-- What is written of a select spells it, before what begins with a brace after blank.
 abbrev pub SelectsAreWritten : Type 0
 SelectsAreWritten = (i : t.Inline) (vs : t.Variants) (level : ℕ) (more : List Sign) (rest : Text) → WellFormedExpression (t.select i vs) → skip_blank (laid_out true more) ≡ close_brace ∷ rest → Over (laid_out true more) →
     Enclosed (t.select i vs) (laid_out false (expression_signs level (t.select i vs) ++ more)) rest
@@ -141,7 +141,7 @@ selects_are_written i vs level more rest f k o = f.4 level more rest k o
 pub enclosed-at : {e : t.Expression} {s u rest : Text} → s ≡ u → Enclosed e u rest → Enclosed e s rest
 enclosed-at h d = rw h d
 
--- a brace behind an indent ends a pattern
+-- a brace after an indent ends a pattern
 pub indented-spaces : (n : ℕ) (s : Text) → spaces (replicate n space ++ s) ≡ n + spaces s
 indented-spaces zero s = omega arith
 indented-spaces (suc n) s = ap (λ k. cond true (1 + k) 0) (indented-spaces n s) ∙ omega arith
@@ -167,7 +167,7 @@ placeable-of d = in_braces refl (expression-moved (expression-no_blank d.1) d.1)
 pub placeable-spaced : {e : t.Expression} {s rest : Text} → Enclosed e s rest → SpellsPlaceable e (open_brace ∷ space ∷ s) rest
 placeable-spaced d = in_braces refl (expression-moved (expression-no_blank d.1) d.1) d.2
 
--- where a list of arguments goes on: behind one, or at its first
+-- where a list of arguments goes on: after one, or at its first
 start : Bool → Text → Text
 start true s = skip_separator s
 start false s = skip_blank s
@@ -309,7 +309,7 @@ module _ (selects : SelectsAreWritten) where
         (positional-body (inline-written e level (inlines_signs level true ps ++ (nameds_signs level true ns ++ sign level (close_paren ∷ []) ∷ more)) f.0 (follows-inlines ps ns level more))
         (behind-written ps ns level more f.1 g))
 
-    -- behind a positional argument
+    -- after a positional argument
     behind-written : (ps : t.Inlines) (ns : t.Nameds) (level : ℕ) (more : List Sign) → WellFormedInlines ps → WellFormedNameds ns [] →
         SpellsArguments [] (t.arguments ps ns) (skip_separator (laid_out false (inlines_signs level true ps ++ (nameds_signs level true ns ++ sign level (close_paren ∷ []) ∷ more)))) (laid_out false more)
     behind-written t.no_inlines ns level more f g = nameds-behind ns level more g

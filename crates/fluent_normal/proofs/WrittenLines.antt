@@ -99,13 +99,13 @@ written-ends before (c ∷ d ∷ ds) h = written-ends (c == line_feed) (d ∷ ds
 
 -- ---- an indent
 
--- behind at least one space a pattern ends before these bytes alone
+-- after at least one space a pattern ends before these bytes alone
 goes-on : (n : ℕ) (s : Text) → 0 < n → begins ends_behind_spaces (skip_spaces s) ≡ false → pattern_ends (replicate n space ++ s) ≡ false
 goes-on n s h k =
     let z : (spaces (replicate n space ++ s) == 0) ≡ false = let e = indented-spaces n s in grind arith in
     rw (z, skip_spaces-spaced n s) k
 
--- a brace behind an indent and a space
+-- a brace after an indent and a space
 pub spaced-over : (level : ℕ) (s : Text) → begins ends_behind_spaces (skip_spaces s) ≡ true → Over (indent level ++ (space ∷ s))
 spaced-over level s h = indented-over (4 * level) (space ∷ s) refl (ap (begins ends_behind_spaces) (skip_spaces-more space s refl) ∙ h)
 
@@ -150,7 +150,7 @@ module _ (selects : SelectsAreWritten) where
   placeable-written (t.inline (t.term_reference s a c)) level more f = braces-written (t.term_reference s a c) level more f
   placeable-written (t.inline (t.variable_reference s)) level more f = braces-written (t.variable_reference s) level more f
 
-  -- at the start of a line it stands behind the indent
+  -- at the start of a line it is after the indent
   pub placeable-indent : (e : t.Expression) (level : ℕ) (more : List Sign) → laid_out true (placeable_signs level e ++ more) ≡ indent level ++ laid_out false (placeable_signs level e ++ more)
   placeable-indent (t.select i vs) level more = refl
   placeable-indent (t.inline (t.nested e)) level more = refl
@@ -171,7 +171,7 @@ module _ (selects : SelectsAreWritten) where
   placeable-brace (t.inline (t.term_reference s a c)) level more = (_, refl)
   placeable-brace (t.inline (t.variable_reference s)) level more = (_, refl)
 
--- ---- the text of an element, and what stands behind it
+-- ---- the text of an element, and what is after it
 
 -- how far a text's spaces go
 text-spaces : {piece s u : Text} → SpellsText piece s u → spaces s ≡ spaces piece
@@ -255,7 +255,7 @@ pub At : Bool → List Piece → Text → Text → Type 0
 At true ps s rest = SpellsLine ps s rest
 At false ps s rest = SpellsPieces ps s rest
 
--- a text as it is spelled, with what stands behind it
+-- a text as it is spelled, with what is after it
 TextBehind : Text → List Piece → Text → Text → Type 0
 TextBehind piece ps s rest = (u : Text) × SpellsText piece s u × SpellsBehindText (ends_line piece) ps u rest
 
@@ -390,7 +390,7 @@ placeable-line n (c ∷ cs) h b d m =
 -- ---- a pattern in lines
 
 module _ (selects : SelectsAreWritten) (level : ℕ) (deep : 0 < 4 * level) (behind : List Sign) (over : Over (laid_out true behind)) where
-  -- the signs from some elements on, with the line feed behind them
+  -- the signs from some elements on, with the line feed after them
   abbrev signs_from : t.Elements → List Sign
   signs_from es = elements_signs level es ++ new_line ∷ behind
 

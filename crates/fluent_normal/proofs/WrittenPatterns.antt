@@ -65,7 +65,7 @@ no_end-first s h k = rw (h, no_return-crlf s k) refl
 brace-no_end : (s x : Text) → s ≡ open_brace ∷ x → after_line_end (skip_spaces s) ≡ None
 brace-no_end s x e = rw e refl
 
--- no line end stands behind the spaces of a line that isn't blank
+-- no line end is after the spaces of a line that isn't blank
 shown : (s x : Text) → is_line s ≡ true → (is_blank_text s ≡ false) → skip_spaces s ≢ [] → after_line_end (skip_spaces (s ++ x)) ≡ None
 shown s x h b k =
     let l = line-bare s h in
@@ -157,6 +157,6 @@ module _ (selects : SelectsAreWritten) (level : ℕ) (deep : 0 < 4 * level) (beh
       rw (m, no_dot es first lines) (next-written es h e f)
   by-lines es false m h e f = rw m (line-written es m h e f)
 
-  -- A well-formed pattern is spelled by what is written of it, with the line feed behind it.
+  -- A well-formed pattern is spelled by what is written of it, with the line feed after it.
   pub pattern-written : (es : t.Elements) → WellFormedPattern es → SpellsPattern es (laid_out false (pattern_signs level es ++ new_line ∷ behind)) (laid_out true behind)
   pattern-written es f = by-lines es (is_many_lined es) refl f.0 f.1 f.2

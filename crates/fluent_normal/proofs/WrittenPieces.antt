@@ -14,7 +14,7 @@ use Rattle.fluent_cut.proofs.MovingWords.{skip_spaces-more}
 use Rattle.fluent_cut.proofs.TextParts.{blank-grown}
 use Rattle.fluent_grammar.proofs.Blanks.{skip_spaces-other}
 
--- ---- the pieces of what is written of a pattern, whose lines are indented by so many spaces
+-- ---- the pieces of what is written of a pattern, whose lines are indented by this many spaces
 
 -- a text as a piece, within a line or at its start; a text that is a line feed takes no indent
 abbrev pub line_piece : Bool → ℕ → Text → Piece
@@ -43,7 +43,7 @@ all_lines t.no_elements = true
 all_lines (t.text s es) = is_line s && all_lines es
 all_lines (t.placeable e es) = all_lines es
 
--- the last element is a placeable, or a text that comes back when the line feed behind it is trimmed
+-- the last element is a placeable, or a text that comes back when the line feed after it is trimmed
 abbrev pub EndsRight : t.Elements → Type 0
 EndsRight t.no_elements = Unit {0}
 EndsRight (t.text s t.no_elements) = (trim_end (s ++ line_feed ∷ []) ≡ s) × (is_blank_text s ≡ false) × (ends_line s ≡ false)
@@ -205,7 +205,7 @@ none-common (t.placeable e es) at n h k = none-common es false n h k
 
 -- ---- the elements that come back
 
--- the pieces that are kept: without the line feed behind a placeable
+-- the pieces that are kept: without the line feed after a placeable
 abbrev pub kept_for : Bool → ℕ → t.Elements → List Piece
 kept_for at n t.no_elements = []
 kept_for at n (t.text s es) = line_piece at n (with_feed es s) ∷ kept_for (ends_line s) n es
@@ -216,7 +216,7 @@ kept-behind t.no_elements at n h = refl
 kept-behind (t.text x es) at n h = h
 kept-behind (t.placeable x es) at n h = h
 
--- a text is kept where something that isn't blank stands behind it, or it isn't blank
+-- a text is kept where something that isn't blank is after it, or it isn't blank
 Holds : t.Elements → Text → Type 0
 Holds t.no_elements s = is_blank_text s ≡ false
 Holds (t.text x es) s = Unit {0}

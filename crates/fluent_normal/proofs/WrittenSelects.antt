@@ -14,7 +14,7 @@ use Rattle.fluent_normal.proofs.WrittenWords.{Follows, name-written, name-line, 
 use Rattle.fluent_normal.proofs.WrittenInline.{selects_are_written, blank-twice, inline-written, within, letter-no_blank, number-no_blank, indented-over, indent-over, enclosed-at}
 use Rattle.fluent_normal.proofs.WrittenPatterns.{pattern-written, ends-some}
 
--- the signs of variants behind their first line feed, up to those that follow
+-- the signs of variants after their first line feed, up to those that follow
 abbrev key_signs : ℕ → t.VariantKey → List Sign → List Sign
 key_signs level key more = sign (level + 1) (open_bracket ∷ []) ∷ sign (level + 1) (key_text key) ∷ sign (level + 1) (close_bracket ∷ []) ∷ more
 

@@ -8,11 +8,11 @@ use Rattle.fluent_grammar.specs.Written.{Sign, laid_out, expression_signs, is_ma
 use Rattle.fluent_normal.specs.WellFormed.{IsName, IsNumber, IsRaw, IsAttribute, IsKey, are_texts, EndsWell, default_count}
 use Rattle.fluent_cut.proofs.MovingWords.{Over}
 
--- an expression that is spelled by what is written, and the closing brace behind it
+-- an expression that is spelled by what is written, and the closing brace after it
 abbrev pub Enclosed : t.Expression → Text → Text → Type 0
 Enclosed e s rest = (end : Text) × SpellsExpression e s end × (skip_blank end ≡ close_brace ∷ rest)
 
--- What is written of a select spells it, before what begins with a brace behind blank.
+-- What is written of a select spells it, before what begins with a brace after blank.
 abbrev pub SelectIsWritten : t.Inline → t.Variants → Type 0
 SelectIsWritten i vs = (level : ℕ) (more : List Sign) (rest : Text) → skip_blank (laid_out true more) ≡ close_brace ∷ rest → Over (laid_out true more) →
     Enclosed (t.select i vs) (laid_out false (expression_signs level (t.select i vs) ++ more)) rest
@@ -38,7 +38,7 @@ abbrev mutual
   WellFormedInlines t.no_inlines = Unit {0}
   WellFormedInlines (t.positional e ps) = WellFormedInline e × WellFormedInlines ps
 
-  -- behind named arguments of these names
+  -- after named arguments of these names
   pub WellFormedNameds : t.Nameds → List Text → Type 0
   WellFormedNameds t.no_nameds names = Unit {0}
   WellFormedNameds (t.named name e ns) names = IsName name × (is_among name names ≡ false) × WellFormedLiteral e × WellFormedNameds ns (name ∷ names)

@@ -24,7 +24,7 @@ feed-first : (b : Bool) (behind : List Sign) → laid_out b (new_line ∷ behind
 feed-first true behind = refl
 feed-first false behind = refl
 
--- signs up to a line feed, and what is laid out behind them
+-- signs up to a line feed, and what is laid out after them
 laid-feed : (b : Bool) (signs behind : List Sign) → laid_out b (signs ++ new_line ∷ behind) ≡ laid_out b (signs ++ new_line ∷ []) ++ laid_out true behind
 laid-feed b [] behind = feed-first b behind ∙ ap (λ z. z ++ laid_out true behind) (sym (feed-first b []))
 laid-feed b (sign level s ∷ more) behind =
@@ -40,7 +40,7 @@ laid-feed b (default_mark level ∷ more) behind =
 abbrev signs_of : List t.Entry → List Sign
 signs_of es = entries_signs false false es
 
--- the same behind another entry
+-- the same after another entry
 abbrev signs_behind : List t.Entry → List Sign
 signs_behind es = entries_signs false true es
 
@@ -53,11 +53,11 @@ record Whole (s : Text) (es : List t.Entry) : Type 0 where
   stops : Stops s
   some : es ≢ [] → s ≢ []
 
--- directly behind an entry
+-- directly after an entry
 tiled-behind : {parts : List Part} {s : Text} → TilesItems full parts s → Stops s → Tiles full (blank_block [] ∷ parts) s
 tiled-behind d h = blank_first (record { split = refl; lines = no_lines; longest = stops-no_end h }) d
 
--- behind blank lines
+-- after blank lines
 tiled-apart : {parts : List Part} {blanks s u : Text} → u ≡ blanks ++ s → BlankLines blanks → TilesItems full parts s → Stops s → Tiles full (blank_block blanks ∷ parts) u
 tiled-apart e l d h = blank_first (record { split = e; lines = l; longest = stops-no_end h }) d
 
@@ -197,7 +197,7 @@ term-own m es lines c f b w =
 
 -- ---- comments that stand by themselves
 
--- the line feed before a comment, behind another entry
+-- the line feed before a comment, after another entry
 record Gap (es : List t.Entry) : Type 0 where
   blanks : Text
   lines : BlankLines blanks
@@ -218,7 +218,7 @@ gap-of (t.group_comment c ∷ es) = one-gap (t.group_comment c ∷ es) refl
 gap-of (t.resource_comment c ∷ es) = one-gap (t.resource_comment c ∷ es) refl
 gap-of (t.junk s ∷ es) = no-gap (t.junk s ∷ es) refl
 
--- what is laid out of a comment and the entries behind it
+-- what is laid out of a comment and the entries after it
 abbrev comment_before : Text → List Text → List t.Entry → List Sign
 comment_before marks lines es = comment_signs marks lines ++ new_line ∷ signs_behind es
 

@@ -25,7 +25,7 @@ numeral_shown number small =
     ∙ ap numeral_of (sign_parts (sign_shown number.value) whole (shown_fraction number) digits).1
     ∙ numeral_of-digits whole (shown_fraction number) digits
 
--- so many of digits and zeros behind them
+-- this many of digits and zeros after them
 take-parted : (ds : Text) (front back n : ℕ) → length ds + front ≡ n → take n (ds ++ zeros (front + back)) ≡ ds ++ zeros front
 take-parted ds front back n total =
     let joined = length-append ds (zeros front) in

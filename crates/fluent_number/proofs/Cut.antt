@@ -7,7 +7,7 @@ use Rattle.fluent_number.specs.Digits.{last_digits, without_end_zeros}
 use Rattle.fluent_number.proofs.EndZeros.{last_digits_step, without_end_zeros_other}
 use Rattle.fluent_number.proofs.Zeros.{without_end_zeros-zeros, last_digits-scaled}
 
--- a number that ends in so many zeros is that many powers of ten
+-- a number that ends in this many zeros is that many powers of ten
 divided : (digits m : ℕ) → digits % 10 ^ m ≡ 0 → digits ≡ digits / 10 ^ m * 10 ^ m
 divided digits m ends = sym (div-add-mod' digits (10 ^ m)) ∙ omega (arith, ends)
 

@@ -34,13 +34,13 @@ front_digits text =
     let less : k < n = omega (arith, low, long) in
     ap is_ascii_digit (get_or-take n text k d less) ∙ prefix_len_passes is_ascii_digit text k d less)
 
--- where a point or nothing stands behind them, they are the whole part
+-- where a point or nothing is after them, they are the whole part
 pub numeral_of-front : (text : Text) (fraction : Option Text) → drop (leading text) text ≡ point_text fraction → numeral_of text ≡ record { whole = take (leading text) text; fraction = fraction }
 numeral_of-front text fraction rest =
     ap numeral_of (sym (take-append-drop (leading text) text) ∙ ap (λ r. take (leading text) text ++ r) rest)
     ∙ numeral_of-digits (take (leading text) text) fraction (front_digits text)
 
--- where the whole part is digits, they are it, and a point or nothing stands behind them
+-- where the whole part is digits, they are it, and a point or nothing is after them
 pub record IsFront (text : Text) : Type 0 where
   pub front : take (leading text) text ≡ (numeral_of text).whole
   pub rest : drop (leading text) text ≡ point_text (numeral_of text).fraction
@@ -79,7 +79,7 @@ not_all_leading text short digits =
     let same = ap leading (append-nil text) in
     omega (arith, all, same, short)
 
--- what stands behind the digits at the front, as a slice
+-- what is after the digits at the front, as a slice
 rest_of : (text : Text) (count : ℕ) → count ≡ leading text → drop (leading text) text ≡ take (length text - count) (drop count text)
 rest_of text count same = ap (λ n. drop n text) (sym same) ∙ sym (take_rest text count)
 

@@ -27,14 +27,14 @@ digits_worth_lt s digits = digits_value_short by_places s (length s) digits (ome
 pub power_split : (n : ℕ) → n ≤ 18 → 10 ^ n * 10 ^ (18 - n) ≡ 10 ^ 18
 power_split n short = sym (pow-add 10 n (18 - n)) ∙ ap (λ k. 10 ^ k) (let e : n + (18 - n) ≡ 18 = omega arith in e)
 
--- digits behind a point are less than one
+-- digits after a point are less than one
 pub fraction_lt : (s : Text) → list_all is_ascii_digit s ≡ true → length s ≤ 18 → digits_worth s * 10 ^ (18 - length s) < 10 ^ 18
 fraction_lt s digits short =
     let positive = one-le-pow (18 - length s) 10 (omega arith) in
     let below : digits_worth s + 1 ≤ 10 ^ length s = omega (arith, digits_worth_lt s digits) in
     omega (arith, mul-le-mul_right (10 ^ (18 - length s)) below, power_split (length s) short, positive)
 
--- digits before and behind a point are a decimal
+-- digits before and after a point are a decimal
 pub record AreDecimal (whole behind : Text) : Type 0 where
   pub whole_digits : list_all is_ascii_digit whole ≡ true
   pub digits_behind : list_all is_ascii_digit behind ≡ true

@@ -3,7 +3,7 @@ use Rattle.std.proofs.Common.{◌≡◌, ℕ, ◌^◌, ◌<◌, List, ap, ◌∙
 use Rattle.std.specs.List.{range_with_len}
 use Rattle.std.proofs.lemmas.List.FromFn.{get_or-map-range_with_len}
 
--- the powers below so many, as a list
+-- the powers below this many, as a list
 abbrev pub powers : ℕ → List ℕ
 powers n = map (λ e. 10 ^ e) (range_with_len 0 n)
 

@@ -46,7 +46,7 @@ number_text-spelled number =
     ap (λ m. m ++ (decimal (whole_of number.value) ++ point_and least digits)) (minus_shown number.value)
     ∙ ap (λ p. sign_text (sign_shown number.value) ++ (decimal (whole_of number.value) ++ p)) (chosen_point (is_none least && length digits == 0) (filled_up (unwrap_or least 0) digits))
 
--- what is shown behind the point: the digits of the fraction, and zeros
+-- what is shown after the point: the digits of the fraction, and zeros
 pub record IsShown (value : ℤ) (shown : Text) : Type 0 where
   pub count : ℕ
   pub shown_is : shown ≡ fraction_text value ++ zeros count
@@ -77,7 +77,7 @@ eighteen value =
 pub fraction_small : (value : ℤ) → fraction_of value < 10 ^ 18
 fraction_small value = omega arith
 
--- what is shown behind the point is worth the fraction
+-- what is shown after the point is worth the fraction
 pub shown_worth : (value : ℤ) (count : ℕ) → length (fraction_text value ++ zeros count) ≤ 18 → digits_worth (fraction_text value ++ zeros count) * 10 ^ (18 - length (fraction_text value ++ zeros count)) ≡ fraction_of value
 shown_worth value count short =
     let digits = fraction_text value in

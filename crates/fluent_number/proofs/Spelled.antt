@@ -24,7 +24,7 @@ not_minus c digit = let range = is_digit c digit in ne_eqb c 45 (λ e. absurd (o
 not_plus : (c : ℕ) → is_ascii_digit c ≡ true → (c == 43) ≡ false
 not_plus c digit = let range = is_digit c digit in ne_eqb c 43 (λ e. absurd (omega (arith, e, range)))
 
--- the first point stands behind the digits
+-- the first point is after the digits
 first_point-append : (whole rest : Text) → list_all is_ascii_digit whole ≡ true → position_or_len is_point (whole ++ rest) ≡ length whole + position_or_len is_point rest
 first_point-append [] rest digits = sym (zero-add (position_or_len is_point rest))
 first_point-append (c ∷ cs) rest digits =

@@ -18,7 +18,7 @@ use Rattle.fluent_number.proofs.Shown.{sign_shown, number_text-spelled, reads_it
 use Rattle.fluent_number.proofs.Spelled.{WasRead, was_read}
 use Rattle.fluent_number.proofs.Zeros.{zeros, zeros_back, without_end_zeros-zeros, last_digits-worth, last_digits-scaled}
 
--- the value that digits before and behind a point have
+-- the value that digits before and after a point have
 abbrev value_of : Bool → Text → Text → ℤ
 value_of negative whole behind = signed negative (units_of whole behind)
 
@@ -34,7 +34,7 @@ fraction_of-read negative whole behind are =
     ap (λ n. fraction_of (signed negative n)) (units_parted whole behind are.short)
     ∙ fraction_of-signed negative (digits_worth whole) fraction (fraction_lt behind are.digits_behind are.short)
 
--- the digits behind the point that are written of what was read
+-- the digits after the point that are written of what was read
 pub fraction_text-read : (negative : Bool) (whole behind : Text) → AreDecimal whole behind → fraction_text (value_of negative whole behind) ≡ without_end_zeros behind
 fraction_text-read negative whole behind are =
     let n = length behind in

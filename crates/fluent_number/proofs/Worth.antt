@@ -32,7 +32,7 @@ worth-take-le s i =
     let more = le-mul_of_pos_right {m = 10 ^ length (drop i s)} (digits_worth (take i s)) (one-le-pow (length (drop i s)) 10 (omega arith)) in
     omega (arith, split, joined, more)
 
--- so many digits stand at the front, and are worth this
+-- this many digits stand at the front, and are worth this
 pub record AreLeading (s : Text) (i worth : ℕ) : Type 0 where
   pub digits : (k : ℕ) → k < i → is_ascii_digit (get_or s k 0) ≡ true
   pub worth_is : worth ≡ digits_worth (take i s)
@@ -92,7 +92,7 @@ are_short_leading_more s i worth low before digit range =
       small = omega (arith, power, range, small);
     }
 
--- the text ends behind them
+-- the text ends after them
 pub are_leading_end : (s : Text) (i worth : ℕ) → length s ≤ i → i ≤ length s → AreLeading s i worth → (length s ≡ prefix_len is_ascii_digit s) × (worth ≡ digits_worth (take (prefix_len is_ascii_digit s) s))
 are_leading_end s i worth high within before =
     let all = are_leading_all s i worth within before (λ low. absurd (omega (arith, low, high))) in

@@ -11,7 +11,7 @@ use Rattle.fluent_number.specs.Digits.{Text, digits_worth, last_digits, without_
 use Rattle.fluent_number.proofs.EndZeros.{is_zero, last_digits_step, last_digits_none, without_end_zeros_zero}
 use Rattle.fluent_number.proofs.Worth.{worth-append}
 
--- so many zeros
+-- this many zeros
 abbrev pub zeros : ℕ → Text
 zeros n = replicate n 48
 

@@ -45,7 +45,7 @@ entries-other S text_of held apart (of.GroupComment c) ps message term comment =
 entries-other S text_of held apart (of.ResourceComment c) ps message term comment = refl
 entries-other S text_of held apart (of.Junk s) ps message term comment = refl
 
--- items behind two lists, and one more behind them
+-- items after two lists, and one more after them
 pub appended_twice : {A : Type 0} (new body waits : List A) (e : A) (rest whole : List A) → new ≡ (body ++ waits) ++ e ∷ [] → whole ≡ waits ++ e ∷ rest → new ++ rest ≡ body ++ whole
 appended_twice new body waits e rest whole is more =
     ap (λ l. l ++ rest) is ∙ append_assoc (body ++ waits) (e ∷ []) rest ∙ append_assoc body waits (e ∷ rest) ∙ ap (λ l. body ++ l) (sym more)

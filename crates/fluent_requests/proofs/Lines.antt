@@ -125,7 +125,7 @@ at_line_feed s end found =
           ∙ ap (λ t. line_feed ∷ t) (drop_suc end s))),
     )
 
--- what stands behind the last line feed is unfinished
+-- what is after the last line feed is unfinished
 pub unfinished_open : (s : Text) → IsUnfinished (unfinished s)
 unfolding unfinished
 unfinished_open [] = refl

@@ -6,7 +6,7 @@ use Rattle.fluent_requests.specs.Lines.{whole_lines, unfinished, unless_empty, l
 use Rattle.fluent_requests.specs.RequestLaws.{StreamsJoin}
 use Rattle.fluent_requests.proofs.Lines.{whole_lines-append, unfinished-append, unfinished_first, unfinished_open}
 
--- nothing is left behind the last line feed
+-- nothing is left after the last line feed
 nothing_left : (first : Text) → EndsWhole first → unfinished first ≡ []
 unfolding unfinished
 nothing_left first (inl is) = rw is refl

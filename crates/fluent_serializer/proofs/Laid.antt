@@ -86,7 +86,7 @@ attributes_signs-append (b ∷ bs) cs =
     ap (λ x. attribute_signs b ++ x) (attributes_signs-append bs cs)
     ∙ sym (append_assoc (attribute_signs b) (attributes_signs bs) (attributes_signs cs))
 
--- whether an entry that isn't junk stands right behind some entries
+-- whether an entry that isn't junk stands right after some entries
 abbrev pub after_entries : Bool → List Entry → Bool
 after_entries after [] = after
 after_entries after (e ∷ es) = after_entries (is_no_junk e) es

@@ -7,7 +7,7 @@ use Rattle.fluent_serve.specs.Exchange.{IsFrontOf}
 use Rattle.fluent_requests.specs.Frames.{ok, ended, frame_of}
 use Rattle.fluent_serve.specs.AnswerView.{error_texts, and_text}
 
--- with the lines of the errors that are left, the lines of all errors stand behind the old bytes
+-- with the lines of the errors that are left, the lines of all errors are after the old bytes
 pub record ErrorsSoFar {E : Type 0} (shown : E → Option Text) (errors : List E) (done : ℕ) (old new : Text) : Type 0 where
   pub told : (all : List Text) → error_texts shown errors ≡ Some all →
       (rest : List Text) × (error_texts shown (drop done errors) ≡ Some rest) × (new ++ flat_map ended rest ≡ old ++ flat_map ended all)
@@ -15,7 +15,7 @@ pub record ErrorsSoFar {E : Type 0} (shown : E → Option Text) (errors : List E
 pub errors_at_first : {E : Type 0} (shown : E → Option Text) (errors : List E) (old : Text) → ErrorsSoFar shown errors 0 old old
 errors_at_first shown errors old = record { told = λ all is. (all, is, refl) }
 
--- the texts of an error and those behind it
+-- the texts of an error and those after it
 first_text : (o : Option Text) (rest : Option (List Text)) (all : List Text) → and_text o rest ≡ Some all →
     (t : Text) × (ts : List Text) × (o ≡ Some t) × (rest ≡ Some ts) × (all ≡ t ∷ ts)
 first_text None rest all is = absurd cc
@@ -47,7 +47,7 @@ errors_at_last shown errors done old new over so_far = by_texts (error_texts sho
 pub front_trans : {a b c : Text} → IsFrontOf a b → IsFrontOf b c → IsFrontOf a c
 front_trans {a} p q = record { back = p.back ++ q.back; split = q.split ∙ (ap (λ s. s ++ q.back) p.split ∙ append_assoc a p.back q.back) }
 
--- the pieces of an answer with a text, put behind one another
+-- the pieces of an answer with a text, put after one another
 abbrev head_of : ℕ → ℕ → Text
 head_of text_len error_count = codes "ok " ++ (decimal text_len ++ (codes " " ++ ended (decimal error_count)))
 

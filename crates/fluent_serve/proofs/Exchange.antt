@@ -43,7 +43,7 @@ consumes_kept (Some u) (Some v) (Some w) x p q = p ∙ ap (λ s. x ++ s) (sym q)
 pub puts_nothing : (held : Option Text) (waiting : Text) → Puts held waiting held waiting []
 puts_nothing held waiting = record { sent = []; written = appends_nothing held; split = append-nil waiting }
 
--- what is put stays put while more is put behind it
+-- what is put stays put while more is put after it
 module _ {h i j : Option Text} {u v : Text} {x : Text} where
   pub puts_then : {w y : Text} → Puts h u i v x → Puts i v j w y → Puts h u j w (x ++ y)
   puts_then {w} {y} p q = record {

@@ -42,7 +42,7 @@ split_none : (p : ℕ → Bool) (s : Text) → position_or_len p s ≡ length s 
 split_none p [] h = refl
 split_none p (x ∷ xs) h = split_none-at p x xs (p x) refl (split_none p xs) h
 
--- the first part is what stands before the first separator, and the others are those of what stands behind it
+-- the first part is what stands before the first separator, and the others are those of what is after it
 pub split_cut : (separator : ℕ) (s : Text) → slice_split (λ b. b == separator) s ≡ (cut_at separator s).0 ∷ parts_behind separator (cut_at separator s).1
 split_cut separator s = by_test (position_or_len (λ b. b == separator) s == length s) refl
   where
@@ -50,7 +50,7 @@ split_cut separator s = by_test (position_or_len (λ b. b == separator) s == len
     by_test true is = rw is (split_none (λ b. b == separator) s (eqb-true _ _ is))
     by_test false is = rw is (slice_split_first (λ b. b == separator) s 0 (omega (arith, prefix_len-le-length (λ b. not (b == separator)) s, eqb-false _ _ is)))
 
--- what stands behind a separator is shorter than the text
+-- what is after a separator is shorter than the text
 pub behind_shorter : (separator : ℕ) (s rest : Text) → (cut_at separator s).1 ≡ Some rest → length rest < length s
 behind_shorter separator s rest h = by_test (position_or_len (λ b. b == separator) s == length s) refl
   where
@@ -94,7 +94,7 @@ value_named-next name arguments i d h =
     ∙ (ap (value_named name) (map-append argument_view (take i arguments) (get_or arguments i d ∷ []))
     ∙ value_named-push name (arguments_view (take i arguments)) ((get_or arguments i d).0.now, (get_or arguments i d).1.now))
 
--- what is left of a line is its first part and what stands behind that
+-- what is left of a line is its first part and what is after that
 pub read_on : (front : List (Text × Text)) (rest : Option (Bor Text)) (text : Bor Text) (part : Text) (behind : Option Text) →
     rest ≡ Some text → (part, behind) ≡ cut_at tab text.now →
     behind_arguments front (arguments_of (λ s. s) (parts_behind tab (option_copied rest))) ≡ behind_arguments front (arguments_of (λ s. s) (part ∷ parts_behind tab behind))
@@ -117,7 +117,7 @@ request_of-no_text line not_text = by_test (is_utf8 line) refl
     by_test true is = absurd (not_text (IsUtf8-from_is_utf8 line is))
     by_test false is = refl
 
--- the same, by what the code found: the line as text, the part before its first tab and what stands behind that
+-- the same, by what the code found: the line as text, the part before its first tab and what is after that
 pub request_at : (line text part : Text) (behind : Option Text) (arguments : Option (List (Text × Text))) → (text ≡ line) × IsUtf8 line →
     (part, behind) ≡ cut_at tab text → arguments ≡ arguments_of (λ s. s) (parts_behind tab behind) →
     request_of (λ s. s) line ≡ request_with (cut_at dot part) arguments

@@ -14,7 +14,7 @@ use Rattle.fluent_serve.specs.Waiting.{Puts, PutsFirst, PutsFront, ServesAll, Se
 use Rattle.fluent_requests.proofs.Lines.{whole_lines-append, unfinished-append, unfinished_open}
 use Rattle.fluent_serve.proofs.Exchange.{appends_trans, appends_nothing, consumes_trans, consumes_nothing, consumes_kept, puts_then_front}
 
--- These bytes were read, in at most so many calls, and their whole lines are answered. What stands behind them is kept.
+-- These bytes were read, in at most this many calls, and their whole lines are answered. What is after them is kept.
 pub record SoFar (left_before left_now held_before held_now : Option Text) (line output : Text) (answer : Text → Text) (calls : ℕ) : Type 0 where
   pub taken : Text
   pub read : Consumes left_before left_now taken
@@ -39,7 +39,7 @@ all_of : (answer : Text → Text) (bytes : Text) → answers answer bytes ≡ an
 unfolding lines_of
 all_of answer bytes = flat_map-append answer (whole_lines bytes) (unless_empty (unfinished bytes))
 
--- the output of a run up to now, with what is put behind it
+-- the output of a run up to now, with what is put after it
 puts_behind : (h i j : Option Text) (x y output waiting : Text) → Appends h i x → output ≡ [] → Puts i output j waiting y → Puts h [] j waiting (x ++ y)
 puts_behind h i j x y output waiting p none q = record {
   sent = x ++ q.sent;
@@ -100,7 +100,7 @@ module _ {left_before left_now held_before held_now : Option Text} {line output 
     };
   }
 
-  -- memory was refused before a block was read, or at the line behind the last one
+  -- memory was refused before a block was read, or at the line after the last one
   pub serves_first : {left_after : Option Text} {waiting : Text} → Consumes left_now left_after [] → waiting ≡ output →
       ServesFirst (devices_of left_before left_after held_before held_now) waiting answer
   serves_first {left_after} {waiting} none same = record {

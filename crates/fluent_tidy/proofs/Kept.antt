@@ -18,7 +18,7 @@ use Rattle.fluent_cut.specs.Cut.{without_slices, cut}
 use Rattle.fluent_cut.specs.CutLaws.{StandsBetweenCharacters}
 use Rattle.fluent_cut.proofs.Between.{slices_stand_between_characters}
 
--- what was written, with what these errors leave of the source from here on, is the cut text behind what was there before
+-- what was written, with what these errors leave of the source from here on, is the cut text after what was there before
 pub record Left (before source now : Text) (end : ℕ) (es : List ParserError) : Type 0 where
   pub holds : now ++ without_slices end es (drop end source) ≡ before ++ cut source
   pub ascend : Ascend end es (length source)

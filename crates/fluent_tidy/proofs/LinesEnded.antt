@@ -1,4 +1,4 @@
--- A text that is empty or ends in a line feed, and what is put behind it.
+-- A text that is empty or ends in a line feed, and what is put after it.
 use Rattle.std.proofs.Common.{◌≡◌, ℕ, Bool, true, false, cond, [], ◌∷◌, ◌++◌, length, refl, sym, ap, ◌∙◌, append_assoc, append-nil}
 use Rattle.fluent_grammar.specs.Words.{Text, line_feed}
 use Rattle.fluent_grammar.specs.Lines.{ends_line}
@@ -30,7 +30,7 @@ chosen : (b : Bool) (a x y : Text) → cond b (a ++ x) (a ++ y) ≡ a ++ cond b 
 chosen true a x y = refl
 chosen false a x y = refl
 
--- behind lines the line feed is put where it would be put alone
+-- after lines the line feed is put where it would be put alone
 pub line_ended-behind : (a b : Text) → are_lines a ≡ true → line_ended (a ++ b) ≡ a ++ line_ended b
 line_ended-behind [] b e = refl
 line_ended-behind (c ∷ cs) [] e = ap line_ended (append-nil (c ∷ cs)) ∙ lines-of (c ∷ cs) e ∙ sym (append-nil (c ∷ cs))
@@ -39,7 +39,7 @@ line_ended-behind (c ∷ cs) (d ∷ ds) e =
     ∙ ap (λ z. cond (ends_line (d ∷ ds)) ((c ∷ cs) ++ d ∷ ds) z) (append_assoc (c ∷ cs) (d ∷ ds) (line_feed ∷ []))
     ∙ chosen (ends_line (d ∷ ds)) (c ∷ cs) (d ∷ ds) ((d ∷ ds) ++ (line_feed ∷ []))
 
--- what code does: nothing behind lines, and else a line feed
+-- what code does: nothing after lines, and else a line feed
 pub lines-stay : (s : Text) → length s ≡ 0 → s ≡ line_ended s
 lines-stay [] e = refl
 lines-stay (c ∷ cs) e = absurd cc

@@ -82,14 +82,14 @@ took_prefix held now next whole left t e = record { taken = t.taken; left = left
 pub took_all : (held now next whole left : Text) → Took held now whole left → next ≡ now ++ left → next ≡ held ++ whole
 took_all held now next whole left t e = e ∙ ap (λ z. z ++ left) t.holds ∙ append_assoc held t.taken left ∙ ap (λ z. held ++ z) (sym t.split)
 
--- behind the text before a backslash
+-- after the text before a backslash
 pub took_plain : (held now next whole s plain : Text) (k : ℕ) → IsFirstByte (is_byte backslash) s (Some k) → Took held now whole (unescaped s) → plain ≡ take k s → next ≡ now ++ plain
     → Took held next whole ((escape_at (drop (k + 1) s)).stands_for ++ unescaped (drop (escape_at (drop (k + 1) s)).len (drop (k + 1) s)))
 took_plain held now next whole s plain k found t p e =
     let left : Text = (escape_at (drop (k + 1) s)).stands_for ++ unescaped (drop (escape_at (drop (k + 1) s)).len (drop (k + 1) s)) in
     took_piece held now next whole (take k s) left (subst (Took held now whole) (next_escape s k found.0.high found.0.before found.1) t) (e ∙ ap (λ z. now ++ z) p)
 
--- behind the character of an escape
+-- after the character of an escape
 pub took_character : (held now next whole escaped shown rest : Text) (len : ℕ) → Took held now whole ((escape_at escaped).stands_for ++ unescaped (drop (escape_at escaped).len escaped))
     → shown ≡ (escape_at escaped).stands_for → next ≡ now ++ shown → len ≡ (escape_at escaped).len → rest ≡ drop len escaped → Took held next whole (unescaped rest)
 took_character held now next whole escaped shown rest len t s e l r =

@@ -64,7 +64,7 @@ char_cuts (c ∷ cs) e =
       boundary = λ u. IsCharBoundary-at_seam (encode c ++ encodes cs) (encode c) (encodes cs) refl (utf8_tail c cs e);
     })
 
--- a text may be cut behind its first character
+-- a text may be cut after its first character
 pub cut_char : (s : Text) → IsUtf8 s → Cuts s (char_len s)
 cut_char s u = subst (λ (t : Text). Cuts t (char_len t)) u.1.1 (char_cuts u.0 u.1.0)
 

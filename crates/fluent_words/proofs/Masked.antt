@@ -149,7 +149,7 @@ nowhere_behind d i j before behind k low high p =
           behind (k - i) (omega arith) (omega arith) (rw (get_or-drop i d (k - i) 0, at) p)
     ]
 
--- what a search behind i says of the whole
+-- what a search after i says of the whole
 pub stops_behind_none : (d : List ℕ) (i : ℕ) (r : Option ℕ) → i ≤ length d → r ≡ None → Nowhere (Passes is_stop d) 0 i → IsFirstByte is_stop (drop i d) None → IsFirstByte is_stop d r
 stops_behind_none d i r within e before behind =
     let all : i + length (drop i d) ≡ length d = omega (arith, length-drop i d) in

@@ -18,7 +18,7 @@ use Rattle.fluent_grammar.specs.Reading.{digits_at, fraction_at, number_at, fron
 use Rattle.fluent_words.specs.Counted.{Cuts, is_blank_at, IsLine, line_feed_end}
 use Rattle.fluent_words.proofs.Counted.{cut_by_ascii, cut_before_ascii, cut_none}
 
--- behind one cut another
+-- after one cut another
 pub cut_more : (text : Text) (a b n : ℕ) → n ≡ a + b → Cuts text a → Cuts (drop a text) b → Cuts text n
 cut_more text a b n e p q = rw e (record {
   within = omega (arith, p.within, q.within, length-drop a text);
@@ -189,7 +189,7 @@ not_begun : (cs : Text) → (0 < length cs → get_or cs 0 0 ≢ 10) → w.begin
 not_begun [] f = refl
 not_begun (c ∷ cs) f = test_ne c 10 (f (omega arith))
 
--- the byte that a text begins with, behind so many bytes
+-- the byte that a text begins with, after this many bytes
 begins_one : (s : Text) (b : ℕ) → w.begins_with b s ≡ true → (0 < length s) × (get_or s 0 0 ≡ b)
 begins_one [] b h = absurd cc
 begins_one (c ∷ cs) b h = (omega arith, test_of c b h)

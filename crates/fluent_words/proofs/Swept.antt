@@ -16,7 +16,7 @@ use Rattle.fluent_words.proofs.Masked.{first_inside, first_passes, none_passes, 
 use Rattle.fluent_words.proofs.Measured.{line_ends, before_feed_le, plain_front, brace_front, other}
 use Rattle.fluent_words.proofs.Scanned.{Plain, test_of}
 
--- ---- a mask behind so many bytes
+-- ---- a mask after this many bytes
 half : (b : Bool) (m : ℕ) → (cond b 1 0 + 2 * m) / 2 ^ 1 ≡ m
 half true m = let e : 1 + 2 * m ≡ m * 2 ^ 1 + 1 = omega arith in ap (λ z. z / 2 ^ 1) e ∙ shr_high m 1 1 (omega arith)
 half false m = let e : 0 + 2 * m ≡ m * 2 ^ 1 + 0 = omega arith in ap (λ z. z / 2 ^ 1) e ∙ shr_high m 1 0 (omega arith)
