@@ -46,6 +46,13 @@ impl LanguagePlurals {
     ///
     /// Of the tags with rules, the longest one that the text begins with counts, part by part and in letters of either case.
     /// So `pt_PT.UTF-8` has the rules of `pt-PT`, and `pt-AO` those of `pt`.
+    ///
+    /// ```
+    /// let Some(polish) = LanguagePlurals::for_tag("pl") else {
+    ///     unreachable!()
+    /// };
+    /// polish.category(PluralRuleType::CARDINAL, &PluralOperands::from(count))
+    /// ```
     pub fn for_tag(tag: &str) -> Option<Self>
         ensures { result ≡ plurals_for tag.now }
     {

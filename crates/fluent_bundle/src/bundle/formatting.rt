@@ -30,6 +30,16 @@ where
 {
     /// Writes what a pattern gives for these arguments, piece by piece. Appends its errors to the list.
     ///
+    /// ```no_run
+    /// let mut text = String::new(alloc);
+    /// let mut errors = Vec::new(alloc);
+    /// match bundle.write_pattern(&mut text, pattern, Some(&args), &mut errors) {
+    ///     Ok(()) => println!(rt; "{text}")?,
+    ///     Err(WriteError::Writer) => bail!("the writer takes no more"),
+    ///     Err(WriteError::Memory) => bail!("out of memory"),
+    /// }
+    /// ```
+    ///
     /// # Errors
     /// [`Writer`](WriteError::Writer) if the writer refuses a piece, [`Memory`](WriteError::Memory) if memory runs out. The
     /// writer then took a beginning of the text, and the list holds the old errors, and after them the first of the pattern's.

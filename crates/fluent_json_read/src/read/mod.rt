@@ -23,6 +23,14 @@ use std::alloc::Global;
 ///
 /// Names and literals are not examined, and neither are the texts in them. Nothing changes what `value` holds.
 ///
+/// ```
+/// match from_value(alloc, &value) {
+///     Ok(back) => Ok(back),
+///     Err(FromValueError::Shape) => unreachable!(),
+///     Err(FromValueError::Memory) => Err(AllocError),
+/// }
+/// ```
+///
 /// # Errors
 /// `Shape` exactly if no tree has the value: a key is unknown or missing, or a value is of another kind than the
 /// table has there, so also if there is a number; the version is another one; or there is none, and a select is by
