@@ -1,0 +1,26 @@
+-- What a place is to contracts.
+use Rattle.std.specs.Prelude.{◌≡◌, ℕ, ◌-◌, ◌<◌, ◌≤◌, ◌++◌, length, drop, slice_index, codes, decimal}
+use Rattle.fluent_grammar.specs.Words.{Text, line_feed}
+use Rattle.fluent_findings.specs.Position.{Position, position_of, line_from}
+use Rattle.fluent_position.specs.declared.places.Place.{Place}
+
+abbrev pub place_position : Place → Position
+place_position p = record { line = p.line; column = p.column }
+
+-- `LINE:COLUMN`
+abbrev pub place_text : Place → Text
+place_text p = decimal p.line ++ (codes ":" ++ decimal p.column)
+
+-- a line begins at this offset
+abbrev pub BeginsLine : Text → ℕ → Type 0
+BeginsLine source at = 0 < at → slice_index source (at - 1) ≡ line_feed
+
+-- Whether this is a place of the source: its line and column are those of its offset, and its line begins where it
+-- says.
+pub record IsPlaceIn (source : Text) (p : Place) : Type 0 where
+  pub within : p.offset ≤ length source
+  pub before : p.line_start ≤ p.offset
+  pub begins : BeginsLine source p.line_start
+  pub position : position_of source p.offset ≡ place_position p
+  pub line_position : position_of source p.line_start ≡ record { line = p.line; column = 1 }
+  pub line : line_from source p.offset source ≡ drop p.line_start source

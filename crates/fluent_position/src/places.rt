@@ -1,0 +1,152 @@
+//! Places of a source, each reached from another one.
+
+ghost use Rattle.std.specs.Prelude.{◌≡◌, ◌+◌, ◌<◌, ℕ, List, length, min, Some};
+ghost use Rattle.fluent_grammar.specs.Escapes.{is_continuation as is_continuation_byte};
+ghost use Rattle.fluent_findings.specs.Position.{position_of};
+ghost use Rattle.fluent_position.specs.PlaceView.{IsPlaceIn, place_position, place_text};
+
+use std::fmt;
+
+/// An offset of a source, with its line and column. Its text is `LINE:COLUMN`.
+///
+/// ```
+/// let place = Place::start().moved_to(source, 7);
+/// println!(rt; "{name}:{place}")?; // hello.ftl:2:3
+/// ```
+#[derive(Clone, Copy, Debug, PartialEq, Eq)]
+pub struct Place {
+    offset: usize,
+    line_start: usize,
+    line: usize,
+    column: usize,
+}
+
+impl Place {
+    /// The start of any source.
+    pub fn start() -> Place
+        ensures { (source : List ℕ) → IsPlaceIn source result }
+    {
+        Place {
+            offset: 0,
+            line_start: 0,
+            line: 1,
+            column: 1,
+        }
+    }
+
+    /// How many bytes are before this place.
+    pub fn offset(self) -> usize
+        ensures { result ≡ self.offset }
+    {
+        self.offset
+    }
+
+    /// The offset of the start of its line.
+    pub fn line_start(self) -> usize
+        ensures { result ≡ self.line_start }
+    {
+        self.line_start
+    }
+
+    /// The number of its line, from 1.
+    pub fn line(self) -> usize
+        ensures { result ≡ self.line }
+    {
+        self.line
+    }
+
+    /// The number of its column, from 1. A column counts characters.
+    pub fn column(self) -> usize
+        ensures { result ≡ self.column }
+    {
+        self.column
+    }
+
+    /// The place of an offset in the same source, or the source's end if the offset is after it. Each byte between this
+    /// place and that one is read, so the places of a source take one walk in all if they are in order.
+    pub fn moved_to(self, source: &str, offset: usize) -> Place
+        requires { IsPlaceIn source.now self }
+        ensures place { IsPlaceIn source.now result }
+        ensures offset { result.offset ≡ min offset (length source.now) }
+        ensures position { position_of source.now offset ≡ place_position result }
+    {
+        let bytes = source.as_bytes();
+        let offset = offset.min(bytes.len());
+        let mut place = self;
+        while offset < place.line_start {
+            place = place.line_above(bytes);
+        }
+        if offset < place.offset {
+            place = Place {
+                offset: place.line_start,
+                column: 1,
+                ..place
+            };
+        }
+        while place.offset < offset {
+            place = place.after_byte(bytes);
+        }
+        place
+    }
+
+    /// The place after the byte at this one.
+    fn after_byte(self, source: &[u8]) -> Place
+        requires place { IsPlaceIn source.now self }
+        requires before_end { self.offset < length source.now }
+        ensures place { IsPlaceIn source.now result }
+        ensures offset { result.offset ≡ self.offset + 1 }
+    {
+        let byte = source[self.offset];
+        let offset = self.offset + 1;
+        if byte == b'\n' {
+            return Place {
+                offset,
+                line_start: offset,
+                line: self.line + 1,
+                column: 1,
+            };
+        }
+        if is_continuation(byte) {
+            return Place { offset, ..self };
+        }
+        Place {
+            offset,
+            column: self.column + 1,
+            ..self
+        }
+    }
+
+    /// The start of the line above this place's.
+    fn line_above(self, source: &[u8]) -> Place
+        requires place { IsPlaceIn source.now self }
+        requires not_first { 0 < self.line_start }
+        ensures place { IsPlaceIn source.now result }
+        ensures above { result.line_start < self.line_start }
+    {
+        let mut start = self.line_start - 1;
+        while start > 0 && source[start - 1] != b'\n' {
+            start -= 1;
+        }
+        Place {
+            offset: start,
+            line_start: start,
+            line: self.line - 1,
+            column: 1,
+        }
+    }
+}
+
+/// Whether a byte is in a character, after its first.
+fn is_continuation(byte: u8) -> bool
+    ensures { result ≡ is_continuation_byte byte }
+{
+    matches!(byte, 0x80..=0xBF)
+}
+
+impl fmt::Display for Place {
+    ghost output = { λ place. Some (place_text place) };
+
+    fn fmt<W: fmt::Write>(&self, f: &mut fmt::Formatter<W>) -> fmt::Result {
+        write!(f, "{}:{}", self.line, self.column)
+    }
+}
