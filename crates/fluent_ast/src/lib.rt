@@ -33,6 +33,10 @@ pub struct Resource<S> {
 ///     if let Entry::Message(message) = entry {
 ///         if message.id.name == id {
 ///             message.value = Some(plain_pattern(alloc, text)?);
+/// ..
+///         }
+///     }
+/// }
 /// ```
 #[derive(Debug, PartialEq, Eq, Drop)]
 pub enum Entry<S> {
@@ -54,6 +58,7 @@ pub enum Entry<S> {
 /// if let Entry::Message(message) = entry {
 ///     let count = message.attributes.len();
 ///     println!(rt; "{} has {count} attributes", message.id.name)?; // welcome has 2 attributes
+/// }
 /// ```
 #[derive(Debug, PartialEq, Eq, Drop)]
 pub struct Message<S> {
@@ -136,6 +141,8 @@ pub struct Attribute<S> {
 /// ```
 /// if message.id.name == id {
 ///     message.value = Some(plain_pattern(alloc, text)?);
+/// ..
+/// }
 /// ```
 #[derive(Debug, PartialEq, Eq, Drop)]
 pub struct Identifier<S> {
@@ -150,6 +157,7 @@ pub struct Identifier<S> {
 ///         let count = variant.value.elements.len();
 ///         println!(rt; "by default {count} elements")?; // by default 2 elements
 ///     }
+/// }
 /// ```
 #[cycle(tree)]
 #[derive(Debug, PartialEq, Eq, Drop)]
@@ -194,6 +202,7 @@ pub struct Comment<S> {
 /// if let InlineExpression::FunctionReference { id, arguments } = inline {
 ///     let count = arguments.positional.len();
 ///     println!(rt; "{} with {count} positional", id.name)?; // NUMBER with 1 positional
+/// }
 /// ```
 #[cycle(tree)]
 #[derive(Debug, PartialEq, Eq, Drop)]
@@ -279,6 +288,8 @@ pub enum InlineExpression<S> {
 ///     Expression::Select { selector, variants } => {
 ///         show_inline(rt, selector)?;
 ///         println!(rt; "{} variants", variants.len())?; // 2 variants
+///     }
+/// }
 /// ```
 #[cycle(tree)]
 #[derive(Debug, PartialEq, Eq, Drop)]

@@ -24,6 +24,8 @@ use std::alloc::{AllocError, Global};
 /// let value = to_value(alloc, tree)?;
 /// match from_value(alloc, &value) {
 ///     Ok(back) => Ok(back),
+/// ..
+/// }
 /// ```
 ///
 /// # Errors
