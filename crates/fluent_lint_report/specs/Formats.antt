@@ -1,0 +1,27 @@
+-- Formats, and what one finding is in them.
+use Rattle.std.specs.Prelude.{ℕ, Bool, false, [], if◌then◌else◌}
+use Rattle.std.specs.Option.{unwrap_or}
+use Rattle.unicode_width.specs.Width.{char_width}
+use Rattle.fluent_grammar.specs.Words.{Text}
+use Rattle.fluent_findings.specs.Findings.{FileFinding}
+use Rattle.fluent_findings.specs.Output as out
+use Rattle.fluent_findings.specs.Report.{finding_line, is_shown}
+use Rattle.fluent_findings.specs.GithubReport.{finding_command}
+use Rattle.fluent_lint_report.specs.declared.reports.Format.{Format}
+use Rattle.fluent_lint_report.specs.declared.reports.Format.TheVariants as format
+
+-- how many columns a character takes in a terminal
+abbrev pub shown_width : ℕ → ℕ
+shown_width c = unwrap_or (char_width false c) 0
+
+abbrev pub format_view : Format → out.Format
+format_view format.Line = out.lines
+format_view format.Github = out.github
+
+abbrev pub finding_output : Format → FileFinding → Text
+finding_output format.Line f = finding_line f
+finding_output format.Github f = finding_command f
+
+-- a finding, unless it is a note and notes are left out
+abbrev pub shown_piece : Format → Bool → FileFinding → Text
+shown_piece format notes f = if is_shown notes f.finding.severity then finding_output format f else []

@@ -1,0 +1,23 @@
+-- What the code's values stand for.
+use Rattle.std.specs.Prelude.{◌≡◌, [], ◌++◌, Option, codes}
+use Rattle.std.specs.Option.{option_map_or}
+use Rattle.fluent_grammar.specs.Words.{Text}
+use Rattle.fluent_findings.specs.Findings.{FileFinding}
+use Rattle.fluent_findings.specs.Position.{position_of}
+use Rattle.fluent_finding.specs.View.{file_view, finding_view}
+use Rattle.fluent_finding.specs.declared.records.Finding.{Finding}
+use Rattle.fluent_finding.specs.declared.records.File.{File}
+use Rattle.fluent_position.specs.PlaceView.{place_position}
+use Rattle.fluent_position.specs.declared.places.Place.{Place}
+
+-- a finding with its file
+abbrev pub in_file : File → Finding → FileFinding
+in_file file f = record { file = file_view file; finding = finding_view f }
+
+-- the finding is on the line and in the column of this place
+abbrev pub IsAt : File → Finding → Place → Type 0
+IsAt file f p = position_of file.source.now f.offset ≡ place_position p
+
+-- an entry before what is wrong with it
+abbrev pub entry_label : Option Text → Text
+entry_label entry = option_map_or (λ id. id ++ codes ": ") entry []

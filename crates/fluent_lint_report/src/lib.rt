@@ -1,0 +1,12 @@
+//! Findings as `ftl lint` writes them: a line or a command of a GitHub workflow for each.
+//!
+//! [`report`] writes all findings of a catalog in one [`Format`], and [`has_failed`] says whether the status is that of
+//! a failure. The texts are those of `crates/fluent_findings/specs/Output.antt`; `docs/lint.md` shows them.
+#![tactic(auto)]
+
+mod commands;
+mod lines;
+mod masked;
+mod reports;
+
+pub use reports::{Format, has_failed, report};
