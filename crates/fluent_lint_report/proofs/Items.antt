@@ -6,6 +6,7 @@ use Rattle.std.specs.List.{flat_map, list_any}
 use Rattle.fluent_grammar.specs.Words.{Text}
 use Rattle.fluent_findings.specs.Findings.{FileFinding}
 use Rattle.fluent_findings.specs.Output.{output}
+use Rattle.fluent_findings.specs.JsonReport.{json_line, finding_data}
 use Rattle.fluent_findings.specs.Report.{is_shown, is_failure, has_failed, shown}
 use Rattle.fluent_finding.specs.View.{file_view, file_findings_view, finding_view, findings_view, severity_view}
 use Rattle.fluent_finding.specs.declared.records.FileFindings.{FileFindings}
@@ -13,7 +14,7 @@ use Rattle.fluent_finding.specs.declared.records.Finding.{Finding}
 use Rattle.fluent_finding.specs.declared.records.File.{File}
 use Rattle.fluent_lint_report.specs.View.{in_file}
 use Rattle.fluent_lint_report.specs.declared.reports.Format.{Format}
-use Rattle.fluent_lint_report.specs.declared.reports.Format.TheVariants.{Line, Github}
+use Rattle.fluent_lint_report.specs.declared.reports.Format.TheVariants.{Line, Json, Github}
 use Rattle.fluent_lint_report.specs.Formats.{finding_output, format_view, shown_piece, shown_width}
 
 -- With the pieces of what is left, the pieces of all follow the old text.
@@ -58,6 +59,7 @@ of_shown format notes (f ∷ fs) =
 
 of_format : (format : Format) (fs : List FileFinding) → flat_map (finding_output format) fs ≡ output (format_view format) shown_width fs []
 of_format Line fs = refl
+of_format Json fs = sym (append-nil (flat_map (λ f. json_line (finding_data f)) fs))
 of_format Github fs = refl
 
 pub output_is : (format : Format) (notes : Bool) (fs : List FileFindings) →

@@ -6,6 +6,7 @@ use Rattle.fluent_grammar.specs.Words.{Text}
 use Rattle.fluent_findings.specs.Findings.{FileFinding}
 use Rattle.fluent_findings.specs.Output as out
 use Rattle.fluent_findings.specs.Report.{finding_line, is_shown}
+use Rattle.fluent_findings.specs.JsonReport.{json_line, finding_data}
 use Rattle.fluent_findings.specs.GithubReport.{finding_command}
 use Rattle.fluent_lint_report.specs.declared.reports.Format.{Format}
 use Rattle.fluent_lint_report.specs.declared.reports.Format.TheVariants as format
@@ -16,10 +17,12 @@ shown_width c = unwrap_or (char_width false c) 0
 
 abbrev pub format_view : Format → out.Format
 format_view format.Line = out.lines
+format_view format.Json = out.json
 format_view format.Github = out.github
 
 abbrev pub finding_output : Format → FileFinding → Text
 finding_output format.Line f = finding_line f
+finding_output format.Json f = json_line (finding_data f)
 finding_output format.Github f = finding_command f
 
 -- a finding, unless it is a note and notes are left out

@@ -9,6 +9,7 @@ ghost use Rattle.fluent_lint_report.specs.View.{IsAt, in_file};
 ghost use Rattle.fluent_lint_report.specs.Formats.{finding_output, format_view, shown_piece, shown_width};
 
 use crate::commands::push_command;
+use crate::json::push_json_line;
 use crate::lines::push_finding_line;
 use fluent_finding::{File, FileFindings, Finding, Severity};
 use fluent_position::Place;
@@ -19,6 +20,8 @@ use std::alloc::{AllocError, Global};
 pub enum Format {
     /// A line for each finding: `FILE:LINE:COLUMN: SEVERITY: ENTRY: TEXT [CODE]`.
     Line,
+    /// An object of JSON on a line of its own for each finding, with its texts as they are.
+    Json,
     /// A command for each finding, with which a workflow of GitHub shows it at its line.
     Github,
 }
@@ -42,7 +45,7 @@ pub fn report(
 {
     let mut text = String::new(alloc);
     for file in findings {
-        push_file_findings(&mut text, format, notes, file)?;
+        push_file_findings(&mut text, alloc, format, notes, file)?;
     }
     Ok(text)
 }
@@ -50,6 +53,7 @@ pub fn report(
 /// Appends the findings of a file.
 fn push_file_findings(
     text: &mut String,
+    alloc: Global,
     format: Format,
     notes: bool,
     findings: &FileFindings,
@@ -61,7 +65,7 @@ fn push_file_findings(
     let mut place = Place::start();
     for finding in &findings.findings {
         place = place.moved_to(file.source, finding.offset);
-        push_if_shown(text, format, notes, file, finding, place)?;
+        push_if_shown(text, alloc, format, notes, file, finding, place)?;
     }
     Ok(())
 }
@@ -69,6 +73,7 @@ fn push_file_findings(
 /// Appends a finding that is at this place, unless it is a note and notes are left out.
 fn push_if_shown(
     text: &mut String,
+    alloc: Global,
     format: Format,
     notes: bool,
     file: &File,
@@ -80,7 +85,7 @@ fn push_if_shown(
         ++ shown_piece format notes (in_file file.now finding.now)) }
 {
     if is_shown(finding.severity, notes) {
-        push_finding(text, format, file, finding, place)
+        push_finding(text, alloc, format, file, finding, place)
     } else {
         Ok(())
     }
@@ -89,6 +94,7 @@ fn push_if_shown(
 /// Appends a finding that is at this place.
 fn push_finding(
     text: &mut String,
+    alloc: Global,
     format: Format,
     file: &File,
     finding: &Finding,
@@ -100,6 +106,7 @@ fn push_finding(
 {
     match format {
         Format::Line => push_finding_line(text, file, finding, place),
+        Format::Json => push_json_line(text, alloc, file, finding, place),
         Format::Github => push_command(text, file, finding, place),
     }
 }
