@@ -6,8 +6,9 @@ use Rattle.std.specs.List.{flat_map, list_any}
 use Rattle.fluent_grammar.specs.Words.{Text}
 use Rattle.fluent_findings.specs.Findings.{FileFinding}
 use Rattle.fluent_findings.specs.Output.{output}
-use Rattle.fluent_findings.specs.JsonReport.{json_line, finding_data}
-use Rattle.fluent_findings.specs.Report.{is_shown, is_failure, has_failed, shown}
+use Rattle.fluent_findings.specs.Report.{is_shown, is_failure, has_failed, shown, report_lines}
+use Rattle.fluent_findings.specs.GithubReport.{report_github}
+use Rattle.fluent_findings.specs.Summary.{Summary}
 use Rattle.fluent_finding.specs.View.{file_view, file_findings_view, finding_view, findings_view, severity_view}
 use Rattle.fluent_finding.specs.declared.records.FileFindings.{FileFindings}
 use Rattle.fluent_finding.specs.declared.records.Finding.{Finding}
@@ -15,7 +16,7 @@ use Rattle.fluent_finding.specs.declared.records.File.{File}
 use Rattle.fluent_lint_report.specs.View.{in_file}
 use Rattle.fluent_lint_report.specs.declared.reports.Format.{Format}
 use Rattle.fluent_lint_report.specs.declared.reports.Format.TheVariants.{Line, Json, Github}
-use Rattle.fluent_lint_report.specs.Formats.{finding_output, format_view, shown_piece, shown_width}
+use Rattle.fluent_lint_report.specs.Formats.{finding_output, format_view, shown_piece, shown_width, summaries_output}
 
 -- With the pieces of what is left, the pieces of all follow the old text.
 module _ {X : Type 0} (piece : X → Text) (xs : List X) (old : Text) where
@@ -57,15 +58,18 @@ of_shown format notes (f ∷ fs) =
       | false ↦ rest
     ]
 
-of_format : (format : Format) (fs : List FileFinding) → flat_map (finding_output format) fs ≡ output (format_view format) shown_width fs []
-of_format Line fs = refl
-of_format Json fs = sym (append-nil (flat_map (λ f. json_line (finding_data f)) fs))
-of_format Github fs = refl
+of_format : (format : Format) (fs : List FileFinding) (ss : List Summary) →
+    flat_map (finding_output format) fs ++ summaries_output format ss ≡ output (format_view format) shown_width fs ss
+of_format Line fs ss = append-nil (report_lines fs)
+of_format Json fs ss = refl
+of_format Github fs ss = append-nil (report_github fs)
 
-pub output_is : (format : Format) (notes : Bool) (fs : List FileFindings) →
-    flat_map (λ f. flat_map (shown_piece format notes) (file_findings_view f)) fs ≡ output (format_view format) shown_width (shown notes (findings_view fs)) []
-output_is format notes fs =
-    of_files (shown_piece format notes) fs ∙ of_shown format notes (findings_view fs) ∙ of_format format (shown notes (findings_view fs))
+pub output_is : (format : Format) (notes : Bool) (fs : List FileFindings) (ss : List Summary) →
+    flat_map (λ f. flat_map (shown_piece format notes) (file_findings_view f)) fs ++ summaries_output format ss
+    ≡ output (format_view format) shown_width (shown notes (findings_view fs)) ss
+output_is format notes fs ss =
+    ap (λ t. t ++ summaries_output format ss) (of_files (shown_piece format notes) fs ∙ of_shown format notes (findings_view fs))
+    ∙ of_format format (shown notes (findings_view fs)) ss
 
 -- ---- findings that fail
 

@@ -1,11 +1,12 @@
 -- Formats, and what one finding is in them.
-use Rattle.std.specs.Prelude.{ℕ, Bool, false, [], if◌then◌else◌}
+use Rattle.std.specs.Prelude.{ℕ, Bool, false, List, [], if◌then◌else◌}
 use Rattle.std.specs.Option.{unwrap_or}
 use Rattle.unicode_width.specs.Width.{char_width}
 use Rattle.fluent_grammar.specs.Words.{Text}
 use Rattle.fluent_findings.specs.Findings.{FileFinding}
 use Rattle.fluent_findings.specs.Output as out
 use Rattle.fluent_findings.specs.Report.{finding_line, is_shown}
+use Rattle.fluent_findings.specs.Summary.{Summary, summary_json}
 use Rattle.fluent_findings.specs.JsonReport.{json_line, finding_data}
 use Rattle.fluent_findings.specs.GithubReport.{finding_command}
 use Rattle.fluent_lint_report.specs.declared.reports.Format.{Format}
@@ -28,3 +29,9 @@ finding_output format.Github f = finding_command f
 -- a finding, unless it is a note and notes are left out
 abbrev pub shown_piece : Format → Bool → FileFinding → Text
 shown_piece format notes f = if is_shown notes f.finding.severity then finding_output format f else []
+
+-- what is written after all findings
+abbrev pub summaries_output : Format → List Summary → Text
+summaries_output format.Line ss = []
+summaries_output format.Json ss = summary_json ss
+summaries_output format.Github ss = []

@@ -72,7 +72,7 @@ fn finding_value(
 }
 
 /// Puts a text at a key.
-fn put_text(
+pub(crate) fn put_text(
     members: &mut Map<String, Value>,
     alloc: Global,
     key: &str,
@@ -102,7 +102,7 @@ fn put_optional_text(
 }
 
 /// Puts a number at a key.
-fn put_number(
+pub(crate) fn put_number(
     members: &mut Map<String, Value>,
     alloc: Global,
     key: &str,

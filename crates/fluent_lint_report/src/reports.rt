@@ -1,16 +1,17 @@
 //! A report: all findings in one format.
 
-ghost use Rattle.std.specs.Prelude.{◌≡◌, ◌++◌, [], IfOk, OnOk, string_bytes};
+ghost use Rattle.std.specs.Prelude.{◌≡◌, ◌++◌, IfOk, OnOk, map, string_bytes};
 ghost use Rattle.std.specs.List.{flat_map, list_any};
 ghost use Rattle.fluent_finding.specs.View.{file_findings_view, findings_view, severity_view};
 ghost use Rattle.fluent_findings.specs.Output.{output};
 ghost use Rattle.fluent_findings.specs.Report.{has_failed as fails, is_failure as severity_fails, is_shown as severity_is_shown, shown};
-ghost use Rattle.fluent_lint_report.specs.View.{IsAt, in_file};
-ghost use Rattle.fluent_lint_report.specs.Formats.{finding_output, format_view, shown_piece, shown_width};
+ghost use Rattle.fluent_lint_report.specs.View.{IsAt, in_file, summary_view};
+ghost use Rattle.fluent_lint_report.specs.Formats.{finding_output, format_view, shown_piece, shown_width, summaries_output};
 
 use crate::commands::push_command;
 use crate::json::push_json_line;
 use crate::lines::push_finding_line;
+use crate::summaries::{Summary, push_json_summaries};
 use fluent_finding::{File, FileFindings, Finding, Severity};
 use fluent_position::Place;
 use std::alloc::{AllocError, Global};
@@ -26,10 +27,10 @@ pub enum Format {
     Github,
 }
 
-/// All findings in this format. Notes are left out unless `notes` is true.
+/// All findings in this format, and in JSON the summaries after them. Notes are left out unless `notes` is true.
 ///
 /// ```
-/// let text = report(alloc, Format::Line, false, &findings)?;
+/// let text = report(alloc, Format::Line, false, &findings, &[])?;
 /// ```
 ///
 /// # Errors
@@ -39,15 +40,33 @@ pub fn report(
     format: Format,
     notes: bool,
     findings: &[FileFindings],
+    summaries: &[Summary],
 ) -> Result<String, AllocError>
     ensures { IfOk result (λ text. string_bytes text ≡ output (format_view format) shown_width
-        (shown notes (findings_view findings.now)) []) }
+        (shown notes (findings_view findings.now)) (map summary_view summaries.now)) }
 {
     let mut text = String::new(alloc);
     for file in findings {
         push_file_findings(&mut text, alloc, format, notes, file)?;
     }
+    push_summaries(&mut text, alloc, format, summaries)?;
     Ok(text)
+}
+
+/// Appends the summaries, if this format has them.
+fn push_summaries(
+    text: &mut String,
+    alloc: Global,
+    format: Format,
+    summaries: &[Summary],
+) -> Result<(), AllocError>
+    ensures { OnOk result (string_bytes text.new ≡ string_bytes text.old
+        ++ summaries_output format (map summary_view summaries.now)) }
+{
+    match format {
+        Format::Json => push_json_summaries(text, alloc, summaries),
+        Format::Line | Format::Github => Ok(()),
+    }
 }
 
 /// Appends the findings of a file.
