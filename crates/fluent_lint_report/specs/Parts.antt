@@ -1,5 +1,6 @@
 -- What is written for a byte in a part of a command.
 use Rattle.std.specs.Prelude.{ℕ}
+use Rattle.std.specs.List.{flat_map}
 use Rattle.fluent_grammar.specs.Words.{Text}
 use Rattle.fluent_findings.specs.GithubReport.{message_byte, property_byte}
 use Rattle.fluent_lint_report.specs.declared.commands.Part.{Part}
@@ -8,3 +9,7 @@ use Rattle.fluent_lint_report.specs.declared.commands.Part.TheVariants.{Property
 abbrev pub part_byte : Part → ℕ → Text
 part_byte Property c = property_byte c
 part_byte Message c = message_byte c
+
+-- a text in a part of a command
+abbrev pub escaped : Part → Text → Text
+escaped part s = flat_map (part_byte part) s

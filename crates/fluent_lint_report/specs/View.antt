@@ -1,5 +1,6 @@
 -- What the code's values stand for.
-use Rattle.std.specs.Prelude.{◌≡◌, [], ◌++◌, Option, codes}
+use Rattle.std.specs.Prelude.{◌≡◌, [], ◌++◌, Option, option_map, codes, String, string_bytes}
+use Rattle.std.specs.declared.alloc.Global.{Global}
 use Rattle.std.specs.Option.{option_map_or}
 use Rattle.fluent_grammar.specs.Words.{Text}
 use Rattle.fluent_findings.specs.Findings.{FileFinding}
@@ -19,6 +20,10 @@ in_file file f = record { file = file_view file; finding = finding_view f }
 -- the finding is on the line and in the column of this place
 abbrev pub IsAt : File → Finding → Place → Type 0
 IsAt file f p = position_of file.source.now f.offset ≡ place_position p
+
+-- a text that may be missing
+abbrev pub optional_text : Option (String Global) → Option Text
+optional_text text = option_map string_bytes text
 
 -- an entry before what is wrong with it
 abbrev pub entry_label : Option Text → Text

@@ -1,13 +1,13 @@
 //! Findings as commands of a workflow of GitHub.
 
-ghost use Rattle.std.specs.Prelude.{◌≡◌, ◌++◌, OnOk, option_map, IfSome, IfNone, ◌<◌, ◌∷◌, [], string_bytes, encode_utf8};
-ghost use Rattle.std.specs.List.{flat_map};
+ghost use Rattle.fluent_lint_report.specs.Changes.{Appends};
+ghost use Rattle.std.specs.Prelude.{◌≡◌, OnOk, IfSome, IfNone, ◌<◌, ◌∷◌, [], encode_utf8};
 ghost use Rattle.fluent_finding.specs.View.{finding_view, severity_view};
 ghost use Rattle.fluent_findings.specs.GithubReport.{command_name as name_of_command, finding_command};
 ghost use Rattle.fluent_findings.specs.Report.{labelled_text};
-ghost use Rattle.fluent_lint_report.specs.Parts.{part_byte};
+ghost use Rattle.fluent_lint_report.specs.Parts.{escaped, part_byte};
 ghost use Rattle.fluent_lint_report.specs.declared.commands.Part.TheVariants.{Message};
-ghost use Rattle.fluent_lint_report.specs.View.{IsAt, entry_label, in_file};
+ghost use Rattle.fluent_lint_report.specs.View.{IsAt, entry_label, in_file, optional_text};
 
 use fluent_finding::{File, Finding, Severity};
 use fluent_position::Place;
@@ -21,8 +21,7 @@ pub(crate) fn push_command(
     place: Place,
 ) -> Result<(), AllocError>
     requires { IsAt file.now finding.now place }
-    ensures { OnOk result (string_bytes text.new
-        ≡ string_bytes text.old ++ finding_command (in_file file.now finding.now)) }
+    ensures { OnOk result (Appends text.old text.new (finding_command (in_file file.now finding.now))) }
 {
     let name = command_name(finding.severity);
     write!(text, "::{name} file=")?;
@@ -37,8 +36,7 @@ pub(crate) fn push_command(
 
 /// Appends what is wrong, after the entry that it is wrong with.
 fn push_escaped_label(text: &mut String, finding: &Finding) -> Result<(), AllocError>
-    ensures { OnOk result (string_bytes text.new ≡ string_bytes text.old
-        ++ flat_map (part_byte Message) (labelled_text (finding_view finding.now))) }
+    ensures { OnOk result (Appends text.old text.new (escaped Message (labelled_text (finding_view finding.now)))) }
 {
     push_escaped_entry(text, &finding.entry)?;
     push_escaped(text, Part::Message, &finding.text)
@@ -46,8 +44,7 @@ fn push_escaped_label(text: &mut String, finding: &Finding) -> Result<(), AllocE
 
 /// Appends an entry and a colon, if there is an entry.
 fn push_escaped_entry(text: &mut String, entry: &Option<String>) -> Result<(), AllocError>
-    ensures { OnOk result (string_bytes text.new
-        ≡ string_bytes text.old ++ flat_map (part_byte Message) (entry_label (option_map string_bytes entry.now))) }
+    ensures { OnOk result (Appends text.old text.new (escaped Message (entry_label (optional_text entry.now)))) }
 {
     match entry {
         Some(entry) => {
@@ -97,8 +94,7 @@ impl Part {
 
 /// Appends a text as it is written in this part of a command.
 fn push_escaped(text: &mut String, part: Part, shown: &str) -> Result<(), AllocError>
-    ensures { OnOk result (string_bytes text.new
-        ≡ string_bytes text.old ++ flat_map (part_byte part) shown.now) }
+    ensures { OnOk result (Appends text.old text.new (escaped part shown.now)) }
 {
     for c in shown.chars() {
         push_escaped_character(text, part, c)?;
@@ -108,8 +104,7 @@ fn push_escaped(text: &mut String, part: Part, shown: &str) -> Result<(), AllocE
 
 /// Appends a character as it is written in this part of a command.
 fn push_escaped_character(text: &mut String, part: Part, c: char) -> Result<(), AllocError>
-    ensures { OnOk result (string_bytes text.new
-        ≡ string_bytes text.old ++ flat_map (part_byte part) (encode_utf8 c)) }
+    ensures { OnOk result (Appends text.old text.new (escaped part (encode_utf8 c))) }
 {
     match part.escape(c) {
         Some(escape) => text.push_str(escape),

@@ -1,10 +1,11 @@
 //! Findings as lines of JSON.
 
-ghost use Rattle.std.specs.Prelude.{◌≡◌, ◌++◌, IfOk, OnOk, option_map, string_bytes};
+ghost use Rattle.fluent_lint_report.specs.Changes.{Appends, Puts};
+ghost use Rattle.std.specs.Prelude.{◌≡◌, IfOk, OnOk, string_bytes};
 ghost use Rattle.fluent_findings.specs.JsonReport.{finding_data, json_line, text_or_null};
-ghost use Rattle.fluent_lint_report.specs.View.{IsAt, in_file};
-ghost use Rattle.serde_json.specs.Data.{number, put, string, unsigned};
-ghost use Rattle.serde_json.specs.View.{members_view, view};
+ghost use Rattle.fluent_lint_report.specs.View.{IsAt, in_file, optional_text};
+ghost use Rattle.serde_json.specs.Data.{number, string, unsigned};
+ghost use Rattle.serde_json.specs.View.{view};
 ghost use Rattle.serde_json.specs.Written.{compact_text};
 
 use crate::lines::severity_name;
@@ -22,8 +23,7 @@ pub(crate) fn push_json_line(
     place: Place,
 ) -> Result<(), AllocError>
     requires { IsAt file.now finding.now place }
-    ensures { OnOk result (string_bytes text.new ≡ string_bytes text.old
-        ++ json_line (finding_data (in_file file.now finding.now))) }
+    ensures { OnOk result (Appends text.old text.new (json_line (finding_data (in_file file.now finding.now)))) }
 {
     let json = finding_json(alloc, file, finding, place)?;
     writeln!(text, "{json}")
@@ -78,8 +78,7 @@ pub(crate) fn put_text(
     key: &str,
     text: &str,
 ) -> Result<(), AllocError>
-    ensures { OnOk result (members_view members.new.entries
-        ≡ put key.now (string text.now) (members_view members.old.entries)) }
+    ensures { OnOk result (Puts members.old.entries members.new.entries key.now (string text.now)) }
 {
     let value = Value::try_from_str(alloc, text)?;
     serde_json::put(members, alloc, key, value)
@@ -92,8 +91,7 @@ fn put_optional_text(
     key: &str,
     text: &Option<String>,
 ) -> Result<(), AllocError>
-    ensures { OnOk result (members_view members.new.entries
-        ≡ put key.now (text_or_null (option_map string_bytes text.now)) (members_view members.old.entries)) }
+    ensures { OnOk result (Puts members.old.entries members.new.entries key.now (text_or_null (optional_text text.now))) }
 {
     match text {
         Some(text) => put_text(members, alloc, key, text),
@@ -108,8 +106,7 @@ pub(crate) fn put_number(
     key: &str,
     count: usize,
 ) -> Result<(), AllocError>
-    ensures { OnOk result (members_view members.new.entries
-        ≡ put key.now (number (unsigned count)) (members_view members.old.entries)) }
+    ensures { OnOk result (Puts members.old.entries members.new.entries key.now (number (unsigned count))) }
 {
     serde_json::put(members, alloc, key, Value::from(count))
 }

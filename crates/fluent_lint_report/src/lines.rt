@@ -1,10 +1,11 @@
 //! The first line of a finding: `FILE:LINE:COLUMN: SEVERITY: ENTRY: TEXT [CODE]`.
 
-ghost use Rattle.std.specs.Prelude.{◌≡◌, ◌++◌, OnOk, option_map, string_bytes};
+ghost use Rattle.fluent_lint_report.specs.Changes.{Appends};
+ghost use Rattle.std.specs.Prelude.{◌≡◌, OnOk};
 ghost use Rattle.fluent_finding.specs.View.{finding_view, severity_view};
 ghost use Rattle.fluent_findings.specs.Report.{finding_line, labelled_text, severity_text};
 ghost use Rattle.fluent_findings.specs.ShownLine.{masked_text};
-ghost use Rattle.fluent_lint_report.specs.View.{IsAt, entry_label, in_file};
+ghost use Rattle.fluent_lint_report.specs.View.{IsAt, entry_label, in_file, optional_text};
 
 use crate::masked::push_masked;
 use fluent_finding::{File, Finding, Severity};
@@ -19,8 +20,7 @@ pub(crate) fn push_finding_line(
     place: Place,
 ) -> Result<(), AllocError>
     requires { IsAt file.now finding.now place }
-    ensures { OnOk result (string_bytes text.new
-        ≡ string_bytes text.old ++ finding_line (in_file file.now finding.now)) }
+    ensures { OnOk result (Appends text.old text.new (finding_line (in_file file.now finding.now))) }
 {
     let name = file.name;
     let severity = severity_name(finding.severity);
@@ -32,8 +32,7 @@ pub(crate) fn push_finding_line(
 
 /// Appends what is wrong, after the entry that it is wrong with.
 fn push_masked_label(text: &mut String, finding: &Finding) -> Result<(), AllocError>
-    ensures { OnOk result (string_bytes text.new
-        ≡ string_bytes text.old ++ masked_text (labelled_text (finding_view finding.now))) }
+    ensures { OnOk result (Appends text.old text.new (masked_text (labelled_text (finding_view finding.now)))) }
 {
     push_masked_entry(text, &finding.entry)?;
     push_masked(text, &finding.text)
@@ -41,8 +40,7 @@ fn push_masked_label(text: &mut String, finding: &Finding) -> Result<(), AllocEr
 
 /// Appends an entry and a colon, if there is an entry.
 fn push_masked_entry(text: &mut String, entry: &Option<String>) -> Result<(), AllocError>
-    ensures { OnOk result (string_bytes text.new
-        ≡ string_bytes text.old ++ masked_text (entry_label (option_map string_bytes entry.now))) }
+    ensures { OnOk result (Appends text.old text.new (masked_text (entry_label (optional_text entry.now)))) }
 {
     match entry {
         Some(entry) => {

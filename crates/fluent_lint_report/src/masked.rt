@@ -1,13 +1,14 @@
 //! Text that can't move a terminal's cursor or turn the direction of what is around it.
 
-ghost use Rattle.std.specs.Prelude.{◌≡◌, ◌++◌, OnOk, string_bytes};
+ghost use Rattle.fluent_lint_report.specs.Changes.{Appends};
+ghost use Rattle.std.specs.Prelude.{◌≡◌, OnOk};
 ghost use Rattle.fluent_findings.specs.ShownLine.{is_masked as is_masked_character, masked_character, masked_text};
 
 use std::alloc::AllocError;
 
 /// Appends a text, masked.
 pub(crate) fn push_masked(text: &mut String, shown: &str) -> Result<(), AllocError>
-    ensures { OnOk result (string_bytes text.new ≡ string_bytes text.old ++ masked_text shown.now) }
+    ensures { OnOk result (Appends text.old text.new (masked_text shown.now)) }
 {
     for c in shown.chars() {
         text.push(masked(c))?;

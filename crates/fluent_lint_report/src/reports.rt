@@ -1,12 +1,12 @@
 //! A report: all findings in one format.
 
-ghost use Rattle.std.specs.Prelude.{◌≡◌, ◌++◌, IfOk, OnOk, map, string_bytes};
-ghost use Rattle.std.specs.List.{flat_map, list_any};
-ghost use Rattle.fluent_finding.specs.View.{file_findings_view, findings_view, severity_view};
-ghost use Rattle.fluent_findings.specs.Output.{output};
-ghost use Rattle.fluent_findings.specs.Report.{has_failed as fails, is_failure as severity_fails, is_shown as severity_is_shown, shown};
+ghost use Rattle.fluent_lint_report.specs.Changes.{Appends};
+ghost use Rattle.std.specs.Prelude.{◌≡◌, IfOk, OnOk, map, string_bytes};
+ghost use Rattle.std.specs.List.{list_any};
+ghost use Rattle.fluent_finding.specs.View.{findings_view, severity_view};
+ghost use Rattle.fluent_findings.specs.Report.{has_failed as fails, is_failure as severity_fails, is_shown as severity_is_shown};
 ghost use Rattle.fluent_lint_report.specs.View.{IsAt, in_file, summary_view};
-ghost use Rattle.fluent_lint_report.specs.Formats.{finding_output, format_view, shown_piece, shown_width, summaries_output};
+ghost use Rattle.fluent_lint_report.specs.Formats.{file_output, finding_output, report_output, shown_piece, summaries_output};
 
 use crate::commands::push_command;
 use crate::json::push_json_line;
@@ -29,10 +29,6 @@ pub enum Format {
 
 /// All findings in this format, and in JSON the summaries after them. Notes are left out unless `notes` is true.
 ///
-/// ```
-/// let text = report(alloc, Format::Line, false, &findings, &[])?;
-/// ```
-///
 /// # Errors
 /// [`AllocError`] if memory runs out; nothing is left behind.
 pub fn report(
@@ -42,8 +38,8 @@ pub fn report(
     findings: &[FileFindings],
     summaries: &[Summary],
 ) -> Result<String, AllocError>
-    ensures { IfOk result (λ text. string_bytes text ≡ output (format_view format) shown_width
-        (shown notes (findings_view findings.now)) (map summary_view summaries.now)) }
+    ensures { IfOk result (λ text. string_bytes text
+        ≡ report_output format notes findings.now summaries.now) }
 {
     let mut text = String::new(alloc);
     for file in findings {
@@ -60,8 +56,7 @@ fn push_summaries(
     format: Format,
     summaries: &[Summary],
 ) -> Result<(), AllocError>
-    ensures { OnOk result (string_bytes text.new ≡ string_bytes text.old
-        ++ summaries_output format (map summary_view summaries.now)) }
+    ensures { OnOk result (Appends text.old text.new (summaries_output format (map summary_view summaries.now))) }
 {
     match format {
         Format::Json => push_json_summaries(text, alloc, summaries),
@@ -77,8 +72,7 @@ fn push_file_findings(
     notes: bool,
     findings: &FileFindings,
 ) -> Result<(), AllocError>
-    ensures { OnOk result (string_bytes text.new ≡ string_bytes text.old
-        ++ flat_map (shown_piece format notes) (file_findings_view findings.now)) }
+    ensures { OnOk result (Appends text.old text.new (file_output format notes findings.now)) }
 {
     let file = &findings.file;
     let mut place = Place::start();
@@ -100,8 +94,7 @@ fn push_if_shown(
     place: Place,
 ) -> Result<(), AllocError>
     requires { IsAt file.now finding.now place }
-    ensures { OnOk result (string_bytes text.new ≡ string_bytes text.old
-        ++ shown_piece format notes (in_file file.now finding.now)) }
+    ensures { OnOk result (Appends text.old text.new (shown_piece format notes (in_file file.now finding.now))) }
 {
     if is_shown(finding.severity, notes) {
         push_finding(text, alloc, format, file, finding, place)
@@ -120,8 +113,7 @@ fn push_finding(
     place: Place,
 ) -> Result<(), AllocError>
     requires { IsAt file.now finding.now place }
-    ensures { OnOk result (string_bytes text.new ≡ string_bytes text.old
-        ++ finding_output format (in_file file.now finding.now)) }
+    ensures { OnOk result (Appends text.old text.new (finding_output format (in_file file.now finding.now))) }
 {
     match format {
         Format::Line => push_finding_line(text, file, finding, place),

@@ -1,11 +1,11 @@
 //! The counts at the end of a report with a reference, as lines of JSON.
 
-ghost use Rattle.std.specs.Prelude.{◌≡◌, ◌++◌, IfOk, OnOk, map, string_bytes};
+ghost use Rattle.fluent_lint_report.specs.Changes.{Appends, Puts};
+ghost use Rattle.std.specs.Prelude.{◌≡◌, IfOk, OnOk, map, string_bytes};
 ghost use Rattle.fluent_findings.specs.JsonReport.{json_line};
 ghost use Rattle.fluent_findings.specs.Summary.{number_or_null, summary_data, summary_json};
 ghost use Rattle.fluent_lint_report.specs.View.{summary_view};
-ghost use Rattle.serde_json.specs.Data.{put};
-ghost use Rattle.serde_json.specs.View.{members_view, view};
+ghost use Rattle.serde_json.specs.View.{view};
 ghost use Rattle.serde_json.specs.Written.{compact_text};
 
 use crate::json::{put_number, put_text};
@@ -30,8 +30,7 @@ pub(crate) fn push_json_summaries(
     alloc: Global,
     summaries: &[Summary],
 ) -> Result<(), AllocError>
-    ensures { OnOk result (string_bytes text.new
-        ≡ string_bytes text.old ++ summary_json (map summary_view summaries.now)) }
+    ensures { OnOk result (Appends text.old text.new (summary_json (map summary_view summaries.now))) }
 {
     for summary in summaries {
         push_json_summary(text, alloc, summary)?;
@@ -41,8 +40,7 @@ pub(crate) fn push_json_summaries(
 
 /// Appends the line of a summary: an object with all keys.
 fn push_json_summary(text: &mut String, alloc: Global, summary: &Summary) -> Result<(), AllocError>
-    ensures { OnOk result (string_bytes text.new
-        ≡ string_bytes text.old ++ json_line (summary_data (summary_view summary.now))) }
+    ensures { OnOk result (Appends text.old text.new (json_line (summary_data (summary_view summary.now)))) }
 {
     let json = summary_text(alloc, summary)?;
     writeln!(text, "{json}")
@@ -76,8 +74,7 @@ fn put_optional_number(
     key: &str,
     count: Option<usize>,
 ) -> Result<(), AllocError>
-    ensures { OnOk result (members_view members.new.entries
-        ≡ put key.now (number_or_null count) (members_view members.old.entries)) }
+    ensures { OnOk result (Puts members.old.entries members.new.entries key.now (number_or_null count)) }
 {
     match count {
         Some(count) => put_number(members, alloc, key, count),
