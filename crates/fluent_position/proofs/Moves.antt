@@ -1,8 +1,8 @@
 -- A place after one byte, at the start of its line, and above it.
-use Rattle.std.proofs.Common.{◌≡◌, ◌≢◌, ◌∙◌, ℕ, zero, suc, ◌+◌, ◌-◌, ◌<◌, ◌≤◌, ◌==◌, true, false, List, length, take, drop, get_or, refl, sym, ap, arith, min, if◌then◌else◌, add-one, eq-eqb}
+use Rattle.std.proofs.Common.{◌≡◌, ◌∙◌, ℕ, zero, suc, ◌+◌, ◌-◌, ◌<◌, ◌≤◌, true, false, length, drop, get_or, refl, sym, ap, arith, min, if◌then◌else◌, add-one}
 use Rattle.std.proofs.lemmas.Bool.{ne_eqb}
 use Rattle.std.proofs.lemmas.List.{take_min}
-use Rattle.fluent_grammar.specs.Words.{Text, line_feed}
+use Rattle.fluent_grammar.specs.Words.{Text}
 use Rattle.fluent_grammar.specs.Escapes.{is_continuation}
 use Rattle.fluent_findings.specs.Position.{Position, position_after, first_position, position_of, line_from}
 use Rattle.fluent_position.specs.declared.places.Place.{Place}

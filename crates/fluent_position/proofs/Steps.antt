@@ -1,5 +1,5 @@
 -- Positions and lines, one byte further.
-use Rattle.std.proofs.Common.{◌≡◌, ◌≢◌, ◌∙◌, ℕ, zero, suc, ◌+◌, ◌-◌, ◌<◌, ◌≤◌, ◌==◌, Bool, true, false, List, [], ◌∷◌, ◌++◌, length, take, drop, get_or, refl, sym, ap, arith, if◌then◌else◌, add-one, append-nil, append_assoc, length-append, length-drop}
+use Rattle.std.proofs.Common.{◌≡◌, ◌∙◌, ℕ, zero, suc, ◌+◌, ◌-◌, ◌<◌, ◌≤◌, ◌==◌, true, false, [], ◌∷◌, ◌++◌, length, take, drop, get_or, refl, sym, ap, arith, if◌then◌else◌, append-nil, append_assoc, length-append, length-drop}
 use Rattle.std.proofs.lemmas.List.{take_at, length-take-le}
 use Rattle.std.proofs.Math.Seq.{take-suc}
 use Rattle.fluent_grammar.specs.Words.{Text, line_feed}

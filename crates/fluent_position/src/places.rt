@@ -8,11 +8,6 @@ ghost use Rattle.fluent_position.specs.PlaceView.{IsPlaceIn, place_position, pla
 use std::fmt;
 
 /// An offset of a source, with its line and column. Its text is `LINE:COLUMN`.
-///
-/// ```
-/// let place = Place::start().moved_to(source, 7);
-/// println!(rt; "{name}:{place}")?; // hello.ftl:2:3
-/// ```
 #[derive(Clone, Copy, Debug, PartialEq, Eq)]
 pub struct Place {
     offset: usize,

@@ -1,4 +1,4 @@
-use Rattle.std.proofs.Common.{◌≤◌, arith, ap, sym, subst}
+use Rattle.std.proofs.Common.{arith, ap, sym, subst}
 use Rattle.fluent_position.specs.declared.places.Place.{Place}
 use Rattle.fluent_position.specs.PlaceView.{IsPlaceIn}
 use Rattle.fluent_position.proofs.Moves.{at_start}

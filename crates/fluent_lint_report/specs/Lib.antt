@@ -1,0 +1,4 @@
+pub mod View
+pub mod Parts
+pub mod Formats
+pub mod Changes
