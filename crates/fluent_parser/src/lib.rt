@@ -63,7 +63,7 @@ pub fn parse<'s, S: Slice<'s>>(alloc: Global, input: S) -> Result<S>
 
 /// As [`parse`], within this budget of the machine's stack for each message and term.
 ///
-/// ```
+/// ```no_run
 /// let tree = parse_within(alloc, source, StackBudget::THREAD)?;
 /// ```
 ///

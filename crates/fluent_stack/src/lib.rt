@@ -48,7 +48,7 @@ impl StackBudget {
 
 /// A count of what is open, within a budget.
 ///
-/// ```
+/// ```no_run
 /// stack.open(reading::PLACEABLE)?;
 /// let expression = get_expression(stack)?;
 /// stack.close(reading::PLACEABLE);
