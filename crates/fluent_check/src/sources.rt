@@ -5,13 +5,15 @@ ghost use Rattle.fluent_check.specs.ReportView.{texts};
 ghost use Rattle.fluent_grammar.specs.Tiling.{runtime_tree};
 ghost use Rattle.fluent_resource.specs.ResourceView.{entries_view};
 
+use fluent_parser::StackBudget;
 use fluent_resource::{FluentResource, ResourceError};
 use std::alloc::{AllocError, Global};
 
 /// What is read of each source, in their order. What is no entry is passed over: a resource has it as junk.
 ///
 /// # Errors
-/// [`AllocError`] if memory runs out; nothing is left behind.
+/// [`AllocError`] if memory runs out; nothing is left behind. It also means that placeables, calls and selects of a source
+/// are nested so deep that reading them would take more than the budget of a program, [`StackBudget::PROGRAM`].
 pub fn read_sources<'s>(
     alloc: Global,
     sources: &[&'s str],
@@ -19,18 +21,37 @@ pub fn read_sources<'s>(
     ensures { IfOk result (λ read. map entries_view read.items
         ≡ map runtime_tree (texts sources.now)) }
 {
+    read_sources_within(alloc, sources, StackBudget::PROGRAM)
+}
+
+/// As [`read_sources`], within this budget of the machine's stack for each message and term.
+///
+/// # Errors
+/// Those of [`read_sources`].
+pub fn read_sources_within<'s>(
+    alloc: Global,
+    sources: &[&'s str],
+    budget: StackBudget,
+) -> Result<Vec<FluentResource<'s>>, AllocError>
+    ensures { IfOk result (λ read. map entries_view read.items
+        ≡ map runtime_tree (texts sources.now)) }
+{
     let mut resources = Vec::new(alloc);
     for source in sources {
-        resources.push(read_source(alloc, source)?)?;
+        resources.push(read_source(alloc, source, budget)?)?;
     }
     Ok(resources)
 }
 
 /// What is read of a source, errors aside.
-fn read_source<'s>(alloc: Global, source: &'s str) -> Result<FluentResource<'s>, AllocError>
+fn read_source<'s>(
+    alloc: Global,
+    source: &'s str,
+    budget: StackBudget,
+) -> Result<FluentResource<'s>, AllocError>
     ensures { IfOk result (λ read. entries_view read ≡ runtime_tree source.now) }
 {
-    match FluentResource::try_new(alloc, source) {
+    match FluentResource::try_new_within(alloc, source, budget) {
         Ok(resource) => Ok(resource),
         Err(ResourceError::Broken(resource, _)) => Ok(resource),
         Err(ResourceError::Memory) => Err(AllocError),

@@ -26,7 +26,8 @@ pub enum ResourceError<'s> {
     /// Parts of the source are no entries. The resource has the others, and each of these parts as junk; the errors are
     /// those of the junk, in the same order.
     Broken(FluentResource<'s>, Vec<ParserError>),
-    /// Memory ran out.
+    /// Memory ran out, or placeables, calls and selects are nested so deep that reading them would take more than the
+    /// budget of the machine's stack.
     Memory,
 }
 

@@ -12,7 +12,7 @@ use crate::entries::Entries;
 use crate::error::ResourceError;
 use fluent_ast::{Entry, Resource};
 use fluent_grammar::laws::tiling;
-use fluent_parser::{self as parser, parse_runtime};
+use fluent_parser::{self as parser, StackBudget, parse_runtime_within};
 use std::alloc::Global;
 
 /// A source and its entries, as they are needed at run time: its messages and terms, without comments, and its junk.
@@ -29,7 +29,7 @@ pub struct FluentResource<'s> {
 }
 
 impl<'s> FluentResource<'s> {
-    /// Reads a source.
+    /// Reads a source, within the budget of a program: [`StackBudget::PROGRAM`].
     ///
     /// ```
     /// let resource = FluentResource::try_new(alloc, SOURCE)?;
@@ -38,8 +38,27 @@ impl<'s> FluentResource<'s> {
     /// # Errors
     /// - [`ResourceError::Broken`] if parts of the source are no entries. The resource that it holds has all messages and
     ///   terms of the source, and each of those parts as junk; there is an error for each junk, in the same order.
-    /// - [`ResourceError::Memory`] if memory runs out.
+    /// - [`ResourceError::Memory`] if memory runs out. It also means that placeables, calls and selects are nested so
+    ///   deep that reading them would take more than the budget of the machine's stack.
     pub fn try_new(alloc: Global, source: &'s str) -> Result<Self, ResourceError<'s>>
+        ensures source { ReadsSource result source.now }
+        ensures entries { HoldsEntries result (runtime_tree source.now) }
+        ensures list { HoldsList result (list source.now) }
+        ensures errors { HasErrors result (map error_told (runtime_errors source.now)) }
+        ensures junk { HasAnErrorForEachJunk result }
+    {
+        FluentResource::try_new_within(alloc, source, StackBudget::PROGRAM)
+    }
+
+    /// As [`FluentResource::try_new`], within this budget of the machine's stack for each message and term.
+    ///
+    /// # Errors
+    /// Those of [`FluentResource::try_new`].
+    pub fn try_new_within(
+        alloc: Global,
+        source: &'s str,
+        budget: StackBudget,
+    ) -> Result<Self, ResourceError<'s>>
         ensures source { ReadsSource result source.now }
         ensures entries { HoldsEntries result (runtime_tree source.now) }
         ensures list { HoldsList result (list source.now) }
@@ -48,7 +67,7 @@ impl<'s> FluentResource<'s> {
     {
         tiling::runtime_has_the_same_list();
         tiling::junk_is_sliced();
-        match parse_runtime(alloc, source) {
+        match parse_runtime_within(alloc, source, budget) {
             Ok(tree) => Ok(FluentResource { source, tree }),
             Err(error) => match error {
                 parser::Error::Broken(tree, errors) => Err(ResourceError::Broken(

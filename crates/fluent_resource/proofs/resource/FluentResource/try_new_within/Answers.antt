@@ -4,7 +4,7 @@ use Rattle.fluent_grammar.specs.Tiling.{runtime_errors}
 use Rattle.fluent_grammar.specs.TilingLaws.{junk_of, sliced}
 use Rattle.fluent_parsed.specs.ErrorView.{error_told, error_view}
 use Rattle.fluent_resource.proofs.Junk.{none_of, as_many}
-use Rattle.fluent_resource.proofs.resource.FluentResource.try_new.Goals as goal
+use Rattle.fluent_resource.proofs.resource.FluentResource.try_new_within.Goals as goal
 
 pub returns-in-Ok-clause-junk : goal.returns-in-Ok-clause-junk
 returns-in-Ok-clause-junk c =
