@@ -54,6 +54,7 @@ impl<'p, S: Drop, T: Texts<S>> Parser<'p, S, T> {
             message_by }
         ensures advances { Advances self.old self.new }
     {
+        self.close_all();
         let Head { id, value } = self.get_head()?;
         self.skip_blank_block();
         let attributes = self.get_attributes()?;
@@ -77,6 +78,7 @@ impl<'p, S: Drop, T: Texts<S>> Parser<'p, S, T> {
         ensures advances { Advances self.old self.new }
     {
         self.advance(1);
+        self.close_all();
         let Head { id, value } = self.get_head()?;
         self.skip_blank_block();
         let attributes = self.get_attributes()?;

@@ -11,6 +11,7 @@ use crate::parser::Parser;
 use fluent_ast::{Expression, Identifier, InlineExpression, Variant};
 use fluent_parsed::ErrorKind;
 use fluent_slice::Texts;
+use fluent_stack::reading;
 use fluent_words as words;
 
 impl<'p, S: Drop, T: Texts<S>> Parser<'p, S, T> {
@@ -36,10 +37,12 @@ impl<'p, S: Drop, T: Texts<S>> Parser<'p, S, T> {
         ensures advances { Advances self.old self.new }
     {
         self.advance(1);
+        self.open(reading::PLACEABLE)?;
         self.skip_blank();
         let expression = self.get_expression()?;
         self.skip_blank();
         self.expect_byte(b'}')?;
+        self.close(reading::PLACEABLE);
         Ok(expression)
     }
 
@@ -81,7 +84,9 @@ impl<'p, S: Drop, T: Texts<S>> Parser<'p, S, T> {
             return Err(self.expected_line_end());
         }
         self.skip_blank();
+        self.open(reading::SELECT)?;
         let variants = self.get_variants()?;
+        self.close(reading::SELECT);
         Ok(variants)
     }
 
@@ -149,7 +154,9 @@ impl<'p, S: Drop, T: Texts<S>> Parser<'p, S, T> {
                 arguments: None,
             });
         }
+        self.open(reading::CALL)?;
         let arguments = self.get_call_arguments()?;
+        self.close(reading::CALL);
         Ok(InlineExpression::TermReference {
             id,
             attribute,
@@ -170,7 +177,9 @@ impl<'p, S: Drop, T: Texts<S>> Parser<'p, S, T> {
             let attribute = self.get_attribute_accessor()?;
             return Ok(InlineExpression::MessageReference { id, attribute });
         }
+        self.open(reading::CALL)?;
         let arguments = self.get_call_arguments()?;
+        self.close(reading::CALL);
         if is_callee(self.texts.as_str(&id.name)) {
             Ok(InlineExpression::FunctionReference { id, arguments })
         } else {

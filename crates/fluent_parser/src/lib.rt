@@ -27,6 +27,7 @@ ghost use Rattle.fluent_parsed.specs.Collected.{HasTree, HasErrors};
 pub use fluent_parsed::{Error, ErrorKind, ParserError, Result, laws};
 pub use fluent_slice::Slice;
 use fluent_slice::Slices;
+pub use fluent_stack::StackBudget;
 use resource::{parts_of, runtime_parts_of};
 use std::alloc::Global;
 
@@ -46,14 +47,33 @@ use std::alloc::Global;
 /// }
 /// ```
 ///
+/// It is [`parse_within`] the budget of a program, [`StackBudget::PROGRAM`].
+///
 /// # Errors
-/// [`Error::Memory`] if memory runs out; nothing is left behind. [`Error::Broken`] if there is junk, with the whole tree and
-/// the errors in the order of their places, which are bytes of the source.
+/// - [`Error::Broken`] if there is junk, with the whole tree and the errors in the order of their places, which are
+///   bytes of the source.
+/// - [`Error::Memory`] if memory runs out; nothing is left behind. It also means that placeables, calls and selects are
+///   nested so deep that reading them would take more than the budget of the machine's stack.
 pub fn parse<'s, S: Slice<'s>>(alloc: Global, input: S) -> Result<S>
     ensures tree { HasTree S S.text result (tree (S.text input)) }
     ensures errors { HasErrors S result (map error_told (errors (S.text input))) }
 {
-    match parts_of(alloc, &Slices::new(), &input) {
+    parse_within(alloc, input, StackBudget::PROGRAM)
+}
+
+/// As [`parse`], within this budget of the machine's stack for each message and term.
+///
+/// ```
+/// let tree = parse_within(alloc, source, StackBudget::THREAD)?;
+/// ```
+///
+/// # Errors
+/// Those of [`parse`].
+pub fn parse_within<'s, S: Slice<'s>>(alloc: Global, input: S, budget: StackBudget) -> Result<S>
+    ensures tree { HasTree S S.text result (tree (S.text input)) }
+    ensures errors { HasErrors S result (map error_told (errors (S.text input))) }
+{
+    match parts_of(alloc, &Slices::new(), &input, budget) {
         Ok(parts) => parts.finish(),
         Err(_) => Err(Error::Memory),
     }
@@ -64,14 +84,32 @@ pub fn parse<'s, S: Slice<'s>>(alloc: Global, input: S) -> Result<S>
 /// It reads as [`parse`] does, but for comments: a line that begins with `#` where an entry may begin is passed over,
 /// whatever follows the sign. So no entry has a comment.
 ///
+/// It is [`parse_runtime_within`] the budget of a program, [`StackBudget::PROGRAM`].
+///
 /// # Errors
-/// [`Error::Memory`] if memory runs out; nothing is left behind.
-/// [`Error::Broken`] if there is junk, with the whole tree and the errors in the order of their places.
+/// - [`Error::Broken`] if there is junk, with the whole tree and the errors in the order of their places.
+/// - [`Error::Memory`] if memory runs out; nothing is left behind. It also means that placeables, calls and selects are
+///   nested so deep that reading them would take more than the budget of the machine's stack.
 pub fn parse_runtime<'s, S: Slice<'s>>(alloc: Global, input: S) -> Result<S>
     ensures tree { HasTree S S.text result (runtime_tree (S.text input)) }
     ensures errors { HasErrors S result (map error_told (runtime_errors (S.text input))) }
 {
-    match runtime_parts_of(alloc, &Slices::new(), &input) {
+    parse_runtime_within(alloc, input, StackBudget::PROGRAM)
+}
+
+/// As [`parse_runtime`], within this budget of the machine's stack for each message and term.
+///
+/// # Errors
+/// Those of [`parse_runtime`].
+pub fn parse_runtime_within<'s, S: Slice<'s>>(
+    alloc: Global,
+    input: S,
+    budget: StackBudget,
+) -> Result<S>
+    ensures tree { HasTree S S.text result (runtime_tree (S.text input)) }
+    ensures errors { HasErrors S result (map error_told (runtime_errors (S.text input))) }
+{
+    match runtime_parts_of(alloc, &Slices::new(), &input, budget) {
         Ok(parts) => parts.finish(),
         Err(_) => Err(Error::Memory),
     }

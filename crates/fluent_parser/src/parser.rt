@@ -13,6 +13,7 @@ ghost use Rattle.fluent_parser.specs.Reads.{past_byte};
 
 use fluent_lines::{Lines, Row};
 use fluent_slice::Texts;
+use fluent_stack::{Stack, StackBudget};
 use fluent_words as words;
 use std::alloc::{AllocError, Global};
 
@@ -29,6 +30,8 @@ pub struct Parser<'p, S, T: Texts<S>> {
     /// The lines of the text.
     lines: Lines<'p>,
     pub alloc: Global,
+    /// What is open of the message or the term that is read.
+    stack: Stack,
     ghost tied: { T.text source.now ≡ text.now },
     ghost is_tail: { rest.now ≡ drop (length text.now - length rest.now) text.now },
     ghost lined: { lines.text.now ≡ text.now },
@@ -45,8 +48,15 @@ pub fn behind<'a>(text: &'a str, count: usize) -> &'a str
 impl<'p, S: Drop, T: Texts<S>> Parser<'p, S, T> {
     ghost use Rattle.fluent_parser.specs.Frame.{Advances, StartsLine, Stays};
 
-    /// A parser before a whole source, whose text has these lines.
-    pub fn new(alloc: Global, texts: &'p T, source: &'p S, rows: &'p [Row]) -> Self
+    /// A parser before a whole source, whose text has these lines. Within a message or a term it opens no more than the
+    /// budget has.
+    pub fn new(
+        alloc: Global,
+        texts: &'p T,
+        source: &'p S,
+        rows: &'p [Row],
+        budget: StackBudget,
+    ) -> Self
         requires { map table.row_view rows.now ≡ table.lines (T.text source.now) }
         ensures rest { result.rest.now ≡ T.text source.entry.now }
         ensures text { result.text.now ≡ T.text source.entry.now }
@@ -59,7 +69,32 @@ impl<'p, S: Drop, T: Texts<S>> Parser<'p, S, T> {
             rest: text,
             lines: Lines::new(text.as_bytes(), rows),
             alloc,
+            stack: Stack::new(budget),
         }
+    }
+
+    /// Opens what takes so many bytes of the machine's stack to read.
+    ///
+    /// # Errors
+    /// [`AllocError`] if that is more than is left of the budget; nothing is opened.
+    pub fn open(&mut self, bytes: usize) -> Result<(), AllocError>
+        ensures stays { Stays self.old self.new }
+    {
+        self.stack.open(bytes)
+    }
+
+    /// Closes what took so many bytes.
+    pub fn close(&mut self, bytes: usize)
+        ensures stays { Stays self.old self.new }
+    {
+        self.stack.close(bytes);
+    }
+
+    /// Closes all that is open, also what a refused construct left open.
+    pub fn close_all(&mut self)
+        ensures stays { Stays self.old self.new }
+    {
+        self.stack.close_all();
     }
 
     /// What is left to read.

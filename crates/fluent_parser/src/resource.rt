@@ -12,6 +12,7 @@ use crate::parser::Parser;
 use fluent_lines::line_table;
 use fluent_parsed::Collected;
 use fluent_slice::Texts;
+use fluent_stack::StackBudget;
 use std::alloc::{AllocError, Global};
 
 /// How many bytes a short entry has, about. Room to spare, which there is for longer ones, is never touched.
@@ -20,11 +21,12 @@ const SHORT: usize = 64;
 /// The parts of a source, with their comments.
 ///
 /// # Errors
-/// [`AllocError`] if memory runs out; nothing is left behind.
+/// [`AllocError`] if memory runs out, or a message or a term nests past the budget; nothing is left behind.
 pub fn parts_of<S: Drop, T: Texts<S>>(
     alloc: Global,
     texts: &T,
     source: &S,
+    budget: StackBudget,
 ) -> Result<Collected<S>, AllocError>
     ensures entries { IfOk result (λ all. entries_with S T.text all []
         ≡ tree (T.text source.now)) }
@@ -32,18 +34,19 @@ pub fn parts_of<S: Drop, T: Texts<S>>(
         ≡ map error_told (errors (T.text source.now))) }
 {
     let rows = line_table(alloc, texts.as_str(source).as_bytes())?;
-    let mut parser = Parser::new(alloc, texts, source, &rows);
+    let mut parser = Parser::new(alloc, texts, source, &rows, budget);
     parser.get_parts()
 }
 
 /// The parts of a source, without comments.
 ///
 /// # Errors
-/// [`AllocError`] if memory runs out; nothing is left behind.
+/// [`AllocError`] if memory runs out, or a message or a term nests past the budget; nothing is left behind.
 pub fn runtime_parts_of<S: Drop, T: Texts<S>>(
     alloc: Global,
     texts: &T,
     source: &S,
+    budget: StackBudget,
 ) -> Result<Collected<S>, AllocError>
     ensures entries { IfOk result (λ all. entries_with S T.text all []
         ≡ runtime_tree (T.text source.now)) }
@@ -51,7 +54,7 @@ pub fn runtime_parts_of<S: Drop, T: Texts<S>>(
         ≡ map error_told (runtime_errors (T.text source.now))) }
 {
     let rows = line_table(alloc, texts.as_str(source).as_bytes())?;
-    let mut parser = Parser::new(alloc, texts, source, &rows);
+    let mut parser = Parser::new(alloc, texts, source, &rows, budget);
     parser.get_runtime_parts()
 }
 
@@ -64,7 +67,7 @@ impl<'p, S: Drop, T: Texts<S>> Parser<'p, S, T> {
     /// All parts that are left, with their comments.
     ///
     /// # Errors
-    /// [`AllocError`] if memory runs out; the parts that were read are dropped.
+    /// [`AllocError`] if memory runs out, or a part nests past the budget; the parts that were read are dropped.
     pub fn get_parts(&mut self) -> Result<Collected<S>, AllocError>
         ensures entries { IfOk result (λ all. entries_with S T.text all []
             ≡ entries_of None (pieces_ahead self.old)) }
@@ -85,7 +88,7 @@ impl<'p, S: Drop, T: Texts<S>> Parser<'p, S, T> {
     /// whatever follows.
     ///
     /// # Errors
-    /// [`AllocError`] if memory runs out; the parts that were read are dropped.
+    /// [`AllocError`] if memory runs out, or a part nests past the budget; the parts that were read are dropped.
     pub fn get_runtime_parts(&mut self) -> Result<Collected<S>, AllocError>
         ensures entries { IfOk result (λ all. entries_with S T.text all []
             ≡ entries_of None (runtime_ahead self.old)) }

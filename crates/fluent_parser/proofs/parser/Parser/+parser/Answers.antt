@@ -97,15 +97,15 @@ get_select_variants-advance-requires g t c =
 
 pub get_named_reference-returns-then-is_callee-clause-gives : goal.get_named_reference-returns-then-is_callee-clause-gives
 get_named_reference-returns-then-is_callee-clause-gives g t c =
-    function_read c.args.self.now.rest.now c.get_identifier.new.self.rest.now c.skip_blank.new.self.rest.now c.get_call_arguments.new.self.rest.now (name_of g.row.S.Denot g.T.Texts.text c.in_ok-id.id) (arguments_view g.row.S.Denot g.T.Texts.text c.in_ok-arguments.arguments)
-    c.in_ok-id.ensures.gives c.skip_blank.ensures.rest (sym c.is_current_byte.ensures ∙ c.if-not-is_current_byte.false) c.in_ok-arguments.ensures.gives (ap (list_all w.is_callee_byte) (sym c.as_str.ensures) ∙ sym c.is_callee.ensures ∙ c.if-is_callee.true)
-    ∙ ap (λ z. got z c.get_call_arguments.new.self.rest.now) (sym (inline_view-FunctionReference g.row.S.Denot g.T.Texts.text c.in_ok-id.id c.in_ok-arguments.arguments))
+    function_read c.args.self.now.rest.now c.get_identifier.new.self.rest.now c.skip_blank.new.self.rest.now c.close.new.self.rest.now (name_of g.row.S.Denot g.T.Texts.text c.in_ok-id.id) (arguments_view g.row.S.Denot g.T.Texts.text c.in_ok-arguments.arguments)
+    c.in_ok-id.ensures.gives c.skip_blank.ensures.rest (sym c.is_current_byte.ensures ∙ c.if-not-is_current_byte.false) (ap (λ z. whole.arguments [] (w.skip_blank (drop 1 z))) (sym c.open.ensures.stays.rest) ∙ c.in_ok-arguments.ensures.gives ∙ ap (got (arguments_view g.row.S.Denot g.T.Texts.text c.in_ok-arguments.arguments)) (sym c.close.ensures.stays.rest)) (ap (list_all w.is_callee_byte) (sym c.as_str.ensures) ∙ sym c.is_callee.ensures ∙ c.if-is_callee.true)
+    ∙ ap (λ z. got z c.close.new.self.rest.now) (sym (inline_view-FunctionReference g.row.S.Denot g.T.Texts.text c.in_ok-id.id c.in_ok-arguments.arguments))
 
 pub get_term_reference-returns-clause-gives : goal.get_term_reference-returns-clause-gives
 get_term_reference-returns-clause-gives g t c =
-    term_read (drop 1 c.args.self.now.rest.now) c.get_identifier.new.self.rest.now c.get_attribute_accessor.new.self.rest.now c.skip_blank.new.self.rest.now c.get_call_arguments.new.self.rest.now (name_of g.row.S.Denot g.T.Texts.text c.in_ok-id.id) (option_map (name_of g.row.S.Denot g.T.Texts.text) c.in_ok-attribute.attribute) (arguments_view g.row.S.Denot g.T.Texts.text c.in_ok-arguments.arguments)
-    (ap read.identifier_at (sym c.advance.ensures.rest) ∙ c.in_ok-id.ensures.gives) c.in_ok-attribute.ensures.gives c.skip_blank.ensures.rest (sym c.is_current_byte.ensures ∙ c.if-not-is_current_byte.false) c.in_ok-arguments.ensures.gives
-    ∙ ap (λ z. got z c.get_call_arguments.new.self.rest.now) (sym (inline_view-TermReference g.row.S.Denot g.T.Texts.text c.in_ok-id.id c.in_ok-attribute.attribute (Some c.in_ok-arguments.arguments)))
+    term_read (drop 1 c.args.self.now.rest.now) c.get_identifier.new.self.rest.now c.get_attribute_accessor.new.self.rest.now c.skip_blank.new.self.rest.now c.close.new.self.rest.now (name_of g.row.S.Denot g.T.Texts.text c.in_ok-id.id) (option_map (name_of g.row.S.Denot g.T.Texts.text) c.in_ok-attribute.attribute) (arguments_view g.row.S.Denot g.T.Texts.text c.in_ok-arguments.arguments)
+    (ap read.identifier_at (sym c.advance.ensures.rest) ∙ c.in_ok-id.ensures.gives) c.in_ok-attribute.ensures.gives c.skip_blank.ensures.rest (sym c.is_current_byte.ensures ∙ c.if-not-is_current_byte.false) (ap (λ z. whole.arguments [] (w.skip_blank (drop 1 z))) (sym c.open.ensures.stays.rest) ∙ c.in_ok-arguments.ensures.gives ∙ ap (got (arguments_view g.row.S.Denot g.T.Texts.text c.in_ok-arguments.arguments)) (sym c.close.ensures.stays.rest))
+    ∙ ap (λ z. got z c.close.new.self.rest.now) (sym (inline_view-TermReference g.row.S.Denot g.T.Texts.text c.in_ok-id.id c.in_ok-attribute.attribute (Some c.in_ok-arguments.arguments)))
 
 pub get_variant-returns-clause-less : goal.get_variant-returns-clause-less
 get_variant-returns-clause-less g t c =
