@@ -1,14 +1,13 @@
-//! Syntax errors in words.
+//! Syntax errors as findings: one for each stretch of a source that isn't an entry.
 //!
-//! [`Sentence`] says what is wrong, [`hint`] what may be the cause, and [`name_at_front`] whose error it is.
-//! `crates/fluent_findings` defines the words, and `docs/lint.md` shows some.
+//! [`syntax_findings`] says where each is, whose it is, what is wrong, and what may be the cause. `crates/fluent_findings`
+//! defines the words, and `docs/lint.md` shows some.
 #![tactic(auto, using(fluent_words::proofs::Counted::cuts))]
 
+mod findings;
 mod front;
 mod hints;
 mod names;
 mod words;
 
-pub use hints::hint;
-pub use names::{Name, name_at_front};
-pub use words::Sentence;
+pub use findings::syntax_findings;
