@@ -1,5 +1,5 @@
 -- Why nothing is read at places of a source.
-use Rattle.std.specs.Prelude.{All, ℕ, ◌+◌, ◌-◌, List, length, drop, Option, Some, None, option_map, if◌then◌else◌}
+use Rattle.std.specs.Prelude.{◌≡◌, All, ℕ, ◌+◌, ◌-◌, List, length, map, drop, Option, Some, None, option_map, if◌then◌else◌}
 use Rattle.std.specs.List.{filter_map}
 use Rattle.std.specs.Option.{option_or}
 use Rattle.std.specs.Str.{IsCharBoundary}
@@ -45,6 +45,10 @@ refusal_from source start = option_map (refusal_told start (drop start source)) 
 -- those at some offsets, where nothing is read
 abbrev pub refusals_from : Text → List ℕ → List RefusalView
 refusals_from source starts = filter_map (refusal_from source) starts
+
+-- these are all of them
+abbrev pub AreRefusalsFrom : Text → List ℕ → List Refusal → Type 0
+AreRefusalsFrom source starts found = map (refusal_view source) found ≡ refusals_from source starts
 
 -- where reading began and where it stopped, a character of the source begins, or the source ends
 pub record IsBetweenCharacters (source : Text) (r : Refusal) : Type 0 where

@@ -171,6 +171,9 @@ impl<'p, S: Drop, T: Texts<S>> Parser<'p, S, T> {
     }
 
     /// Production `Attribute`, from the start of its line on.
+    ///
+    /// # Errors
+    /// [`Fault`] if no attribute is there, or memory runs out; the parser then stands where reading stopped.
     #[tactic(auto, using(crate::proofs::Failing::handed, fluent_words::proofs::Counted::cuts), unfolding(crate::specs::Entries::attribute_by))]
     pub fn get_attribute(&mut self) -> Result<Attribute<S>, Fault>
         requires dot { w.begins_with w.dot (w.skip_spaces self.old.rest.now) ≡ true }

@@ -1,9 +1,9 @@
 //! Why nothing is read at places of a source.
 #![tactic(auto, using(crate::proofs::Failing::handed, fluent_words::proofs::Counted::cuts))]
 
-ghost use Rattle.std.specs.Prelude.{◌≡◌, All, IfOk, None, map, option_map};
+ghost use Rattle.std.specs.Prelude.{◌≡◌, All, IfOk, None, option_map};
 ghost use Rattle.std.specs.Str.{IsCharBoundary};
-ghost use Rattle.fluent_parser.specs.Refusals.{AreBetweenCharacters, IfAnyBetweenCharacters, refusal_from, refusal_view, refusals_from};
+ghost use Rattle.fluent_parser.specs.Refusals.{AreBetweenCharacters, AreRefusalsFrom, IfAnyBetweenCharacters, refusal_from, refusal_view};
 ghost use Rattle.fluent_parser.specs.Frame.{Advances};
 
 use crate::fault::Fault;
@@ -15,6 +15,12 @@ use fluent_stack::StackBudget;
 use std::alloc::{AllocError, Global};
 
 /// Why nothing is read at an offset of a source. Offsets are bytes of the source.
+///
+/// ```no_run
+/// for refusal in &refusals_at(alloc, source, &[0])? {
+///     println!(rt; "byte {}", refusal.place)?; // byte 1
+/// }
+/// ```
 #[derive(Debug, Drop)]
 pub struct Refusal {
     /// The offset.
@@ -40,8 +46,8 @@ pub fn refusals_at<'s, S: Slice<'s>>(
     starts: &[usize],
 ) -> Result<Vec<Refusal>, AllocError>
     requires { All (IsCharBoundary (S.text source)) starts.now }
-    ensures refusals { IfOk result (λ found. map (refusal_view (S.text source)) found.items
-        ≡ refusals_from (S.text source) starts.now) }
+    ensures refusals { IfOk result (λ found.
+        AreRefusalsFrom (S.text source) starts.now found.items) }
     ensures places { IfOk result (λ found. AreBetweenCharacters (S.text source) found.items) }
 {
     refusals_of(alloc, &Slices::new(), &source, starts)
@@ -55,8 +61,8 @@ fn refusals_of<S: Drop, T: Texts<S>>(
     starts: &[usize],
 ) -> Result<Vec<Refusal>, AllocError>
     requires { All (IsCharBoundary (T.text source.now)) starts.now }
-    ensures refusals { IfOk result (λ found. map (refusal_view (T.text source.now)) found.items
-        ≡ refusals_from (T.text source.now) starts.now) }
+    ensures refusals { IfOk result (λ found.
+        AreRefusalsFrom (T.text source.now) starts.now found.items) }
     ensures places { IfOk result (λ found. AreBetweenCharacters (T.text source.now) found.items) }
 {
     let text = texts.as_str(source);

@@ -1,11 +1,12 @@
 -- The findings of a source by its refusals.
-use Rattle.std.specs.Prelude.{ℕ, List, drop, if◌then◌else◌, codes, option_map}
+use Rattle.std.specs.Prelude.{ℕ, List, map, drop, if◌then◌else◌, codes, option_map}
 use Rattle.std.specs.List.{filter_map}
 use Rattle.fluent_grammar.specs.Words.{Text}
 use Rattle.fluent_grammar.specs.Refusal as r
 use Rattle.fluent_grammar.specs.Tiling.{is_field_kind}
 use Rattle.fluent_parsed.specs.ErrorView.{ErrorView, Span, Told}
-use Rattle.fluent_parser.specs.Refusals.{RefusalView}
+use Rattle.fluent_parser.specs.Refusals.{RefusalView, refusal_view}
+use Rattle.fluent_parser.specs.declared.refusals.Refusal.{Refusal}
 use Rattle.fluent_findings.specs.Finding.{Finding, error}
 use Rattle.fluent_findings.specs.SyntaxErrors.{name_at_front, sentence}
 use Rattle.fluent_findings.specs.Hints as hints
@@ -35,3 +36,10 @@ finding_of source v =
       text = sentence junk (reported v);
       hint = hints.hint junk (reported v);
     }
+
+-- the same of a refusal as code has it, and of several
+abbrev pub finding_by : Text → Refusal → Finding
+finding_by source refusal = finding_of source (refusal_view source refusal)
+
+abbrev pub findings_by : Text → List Refusal → List Finding
+findings_by source refusals = map (finding_of source) (map (refusal_view source) refusals)

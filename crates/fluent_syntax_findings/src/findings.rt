@@ -3,7 +3,7 @@
 ghost use Rattle.std.specs.Prelude.{◌≡◌, IfOk, map, option_map, string_bytes};
 ghost use Rattle.fluent_grammar.specs.Tiling as grammar;
 ghost use Rattle.fluent_parsed.specs.ErrorView.{error_told, error_view, kind_view};
-ghost use Rattle.fluent_parser.specs.Refusals.{AreBetweenCharacters, IsBetweenCharacters, refusal_view};
+ghost use Rattle.fluent_parser.specs.Refusals.{AreBetweenCharacters, IsBetweenCharacters};
 ghost use Rattle.fluent_finding.specs.View.{finding_view};
 ghost use Rattle.fluent_findings.specs.Hints as hints;
 ghost use Rattle.fluent_findings.specs.SyntaxErrors as errors;
@@ -25,7 +25,7 @@ use std::alloc::{AllocError, Global};
 /// A finding is where its error is. But if an attribute can't be read, its line is junk: then the finding is where
 /// reading the attribute stopped, and says why.
 ///
-/// ```
+/// ```no_run
 /// let findings = match parse(alloc, source) {
 ///     Err(Error::Broken(_, errors)) => syntax_findings(alloc, source, &errors)?,
 ///     _ => Vec::new(alloc),
@@ -70,7 +70,7 @@ fn findings_of(
 ) -> Result<Vec<Finding>, AllocError>
     requires { AreBetweenCharacters source.now refusals.now }
     ensures { IfOk result (λ found. map finding_view found.items
-        ≡ map (source_findings.finding_of source.now) (map (refusal_view source.now) refusals.now)) }
+        ≡ source_findings.findings_by source.now refusals.now) }
 {
     let mut findings = Vec::with_capacity(alloc, refusals.len())?;
     for refusal in refusals {
@@ -83,7 +83,7 @@ fn findings_of(
 fn finding_of(alloc: Global, source: &str, refusal: &Refusal) -> Result<Finding, AllocError>
     requires { IsBetweenCharacters source.now refusal.now }
     ensures { IfOk result (λ found. finding_view found
-        ≡ source_findings.finding_of source.now (refusal_view source.now refusal.now)) }
+        ≡ source_findings.finding_by source.now refusal.now) }
 {
     let junk = &source[refusal.start..];
     let at = &source[refusal.place..];

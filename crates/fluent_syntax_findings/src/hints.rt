@@ -4,6 +4,7 @@ ghost use Rattle.std.specs.Prelude.{◌≡◌, Some};
 ghost use Rattle.std.specs.Option.{option_copied};
 ghost use Rattle.fluent_grammar.specs.Refusal as r;
 ghost use Rattle.fluent_findings.specs.Hints as hints;
+ghost use Rattle.fluent_findings.specs.Hints.{first_hint, hints as hints_by};
 ghost use Rattle.fluent_parsed.specs.ErrorView as told;
 ghost use Rattle.fluent_syntax_findings.specs.Kinds.{kind_of, refusal_by};
 
@@ -80,8 +81,8 @@ fn hint_for_equals(junk: &str, at: &str) -> Option<&'static str>
 
 /// The hint if a character of a range is missing: there is one if nothing at the front of junk begins an entry.
 fn hint_for_range(range: &str, junk: &str, at: &str) -> Option<&'static str>
-    ensures { option_copied result ≡ hints.first_hint
-        (hints.hints junk.now at.now (kind_of (told.expected_char_range range.now))) }
+    ensures { option_copied result ≡ first_hint
+        (hints_by junk.now at.now (kind_of (told.expected_char_range range.now))) }
 {
     if range == "a-zA-Z" && at.len() == junk.len() {
         hint_for_entry(junk)
