@@ -20,3 +20,4 @@ pub mod Entries
 pub mod EntryStarts
 pub mod Parts
 pub mod Left
+pub mod Unread

@@ -15,3 +15,5 @@ pub mod Places
 pub mod Parts
 pub mod Selects
 pub mod Left
+pub mod Refusals
+pub mod Refused

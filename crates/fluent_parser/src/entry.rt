@@ -162,7 +162,7 @@ impl<'p, S: Drop, T: Texts<S>> Parser<'p, S, T> {
     }
 
     /// Whether this line may be an attribute: a dot stands behind its spaces.
-    fn is_attribute_line(&self) -> bool
+    pub fn is_attribute_line(&self) -> bool
         ensures { result ≡ w.begins_with w.dot (w.skip_spaces self.now.rest.now) }
     {
         let line = self.bytes();
@@ -171,8 +171,11 @@ impl<'p, S: Drop, T: Texts<S>> Parser<'p, S, T> {
     }
 
     /// Production `Attribute`, from the start of its line on.
+    ///
+    /// # Errors
+    /// [`Fault`] if no attribute is there, or memory runs out; the parser then stands where reading stopped.
     #[tactic(auto, using(crate::proofs::Failing::handed, fluent_words::proofs::Counted::cuts), unfolding(crate::specs::Entries::attribute_by))]
-    fn get_attribute(&mut self) -> Result<Attribute<S>, Fault>
+    pub fn get_attribute(&mut self) -> Result<Attribute<S>, Fault>
         requires dot { w.begins_with w.dot (w.skip_spaces self.old.rest.now) ≡ true }
         ensures gives { Reads (attribute_view S T.text) self.old self.new result attribute_by }
         ensures advances { Advances self.old self.new }

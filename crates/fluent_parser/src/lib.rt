@@ -15,6 +15,7 @@ mod named_arguments;
 mod parser;
 mod part;
 mod pattern;
+mod refusals;
 mod resource;
 mod select;
 mod token;
@@ -28,6 +29,7 @@ pub use fluent_parsed::{Error, ErrorKind, ParserError, Result, laws};
 pub use fluent_slice::Slice;
 use fluent_slice::Slices;
 pub use fluent_stack::StackBudget;
+pub use refusals::{Refusal, refusals_at};
 use resource::{parts_of, runtime_parts_of};
 use std::alloc::Global;
 

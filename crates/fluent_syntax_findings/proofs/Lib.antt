@@ -1,0 +1,2 @@
+pub mod JunkTiles
+pub mod Loops
