@@ -67,7 +67,7 @@ fn resolved<'b, 'r, 's, 'a, C: FluentType + Drop, F, E: Context<C, F>>(
     let alloc = place.context.alloc();
     let mut text = String::with_capacity(alloc, ROOM)?;
     let list = mem::replace(errors, Vec::new(alloc));
-    let mut progress = Progress::new(alloc, Some(list));
+    let mut progress = Progress::within(alloc, Some(list), place.context.stack_budget());
     let written = write_pattern(&mut text, place, &mut progress, pattern);
     put_back(errors, progress);
     written?;
@@ -96,7 +96,7 @@ where
 {
     let alloc = place.context.alloc();
     let list = mem::replace(errors, Vec::new(alloc));
-    let mut progress = Progress::new(alloc, Some(list));
+    let mut progress = Progress::within(alloc, Some(list), place.context.stack_budget());
     let written = write_pieces(w, place, &mut progress, pattern);
     put_back(errors, progress);
     written

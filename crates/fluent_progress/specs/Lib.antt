@@ -1,3 +1,4 @@
+pub mod Braces
 pub mod Functions
 pub mod Views
 pub mod LentView

@@ -8,6 +8,7 @@ ghost use Rattle.fluent_value.specs.Shown.{shown_text};
 ghost use Rattle.fluent_value.specs.Value.{Value};
 
 use fluent_ids::FunctionRef;
+use fluent_stack::StackBudget;
 use fluent_value::{FluentArgs, FluentType, FluentValue, ValueScope};
 use std::alloc::AllocError;
 use std::borrow::CowStr;
@@ -47,6 +48,9 @@ pub trait Context<C: FluentType, F>: ValueScope<C> {
     /// Whether placeables stand between isolation marks.
     fn is_isolating(&self) -> bool
         ensures { result ≡ (environment self.now).isolating };
+
+    /// How much of the machine's stack resolving may take.
+    fn stack_budget(&self) -> StackBudget;
 
     /// A value is shown as its text.
     ghost shows: { (x : Self) (v : Value C.Meaning)

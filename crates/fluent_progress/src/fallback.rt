@@ -1,8 +1,9 @@
 //! What stands in the place of an expression that has no text.
 
-ghost use Rattle.std.specs.Prelude.{◌≡◌, ◌∷◌, []};
+ghost use Rattle.std.specs.Prelude.{◌≡◌, ◌∷◌, ◌++◌, []};
 ghost use Rattle.fluent_ast.specs.Borrowed.{expression_of, inline_of};
 ghost use Rattle.fluent_errors.specs.View.{resolver_view};
+ghost use Rattle.fluent_grammar.specs.Words.{quote};
 ghost use Rattle.fluent_meaning.specs.Fallback.{braced, fallback, inline_fallback, with_attribute};
 ghost use Rattle.fluent_meaning.specs.Work.{times_too_many};
 ghost use Rattle.fluent_progress.specs.Resolves.{Appends, TellsOnErr, Writes, fallback_step};
@@ -13,8 +14,7 @@ use fluent_ast::{Expression, Identifier, InlineExpression};
 use fluent_errors::ResolverError;
 use std::alloc::AllocError;
 
-/// Writes the fallback of an expression.
-#[cycle(fallbacks)]
+/// Writes the fallback of an expression: of a select that of its selector.
 fn write_fallback(out: &mut String, expression: &Expression<&str>) -> Result<(), AllocError>
     ensures { Appends result out.old out.new (fallback (expression_of expression.now)) }
 {
@@ -27,43 +27,58 @@ fn write_fallback(out: &mut String, expression: &Expression<&str>) -> Result<(),
     }
 }
 
-/// Writes the fallback of an inline expression.
-#[cycle(fallbacks)]
+/// Writes the fallback of an inline expression. It is a loop, so any number of braces around it takes the same of the
+/// machine's stack.
 fn write_inline_fallback(
     out: &mut String,
     inline: &InlineExpression<&str>,
 ) -> Result<(), AllocError>
     ensures { Appends result out.old out.new (inline_fallback (inline_of inline.now)) }
 {
-    match inline {
-        InlineExpression::StringLiteral { value } => {
-            out.push_str("\"")?;
-            out.push_str(*value)?;
-            out.push_str("\"")?;
+    let mut inner = inline;
+    loop {
+        match inner {
+            InlineExpression::StringLiteral { value } => return write_quoted(out, *value),
+            InlineExpression::NumberLiteral { value } => return out.push_str(*value),
+            InlineExpression::FunctionReference { id, arguments: _ } => {
+                out.push_str(id.name)?;
+                return out.push_str("()");
+            }
+            InlineExpression::MessageReference { id, attribute } => {
+                return write_name(out, id.name, attribute.as_ref());
+            }
+            InlineExpression::TermReference {
+                id,
+                attribute,
+                arguments: _,
+            } => {
+                out.push_str("-")?;
+                return write_name(out, id.name, attribute.as_ref());
+            }
+            InlineExpression::VariableReference { id } => {
+                out.push_str("$")?;
+                return out.push_str(id.name);
+            }
+            InlineExpression::Placeable { expression } => {
+                inner = match &**expression {
+                    Expression::Select {
+                        selector,
+                        variants: _,
+                    } => selector,
+                    Expression::Inline(inline) => inline,
+                };
+            }
         }
-        InlineExpression::NumberLiteral { value } => out.push_str(*value)?,
-        InlineExpression::FunctionReference { id, arguments: _ } => {
-            out.push_str(id.name)?;
-            out.push_str("()")?;
-        }
-        InlineExpression::MessageReference { id, attribute } => {
-            write_name(out, id.name, attribute.as_ref())?;
-        }
-        InlineExpression::TermReference {
-            id,
-            attribute,
-            arguments: _,
-        } => {
-            out.push_str("-")?;
-            write_name(out, id.name, attribute.as_ref())?;
-        }
-        InlineExpression::VariableReference { id } => {
-            out.push_str("$")?;
-            out.push_str(id.name)?;
-        }
-        InlineExpression::Placeable { expression } => write_fallback(out, expression)?,
     }
-    Ok(())
+}
+
+/// Writes the raw text of a string literal between quotes.
+fn write_quoted(out: &mut String, raw: &str) -> Result<(), AllocError>
+    ensures { Appends result out.old out.new (quote ∷ raw.now ++ quote ∷ []) }
+{
+    out.push_str("\"")?;
+    out.push_str(raw)?;
+    out.push_str("\"")
 }
 
 /// Writes a name, and after a dot the attribute that a reference names.

@@ -8,6 +8,7 @@ ghost use Rattle.fluent_progress.specs.LentView.{lent_view};
 use crate::context::Context;
 use fluent_ids::FunctionRef;
 use fluent_number::{PluralCategory, PluralOperands, PluralRuleType};
+use fluent_stack::StackBudget;
 use fluent_value::{
     FluentArgs, FluentFunction, FluentType, FluentValue, MemoizerKind, TextTransform,
     ValueFormatter, ValueScope, builtins,
@@ -100,6 +101,10 @@ where
 
     fn is_isolating(&self) -> bool {
         self.isolating
+    }
+
+    fn stack_budget(&self) -> StackBudget {
+        StackBudget::PROGRAM
     }
 
     ghost shows = { λ _ _. refl };

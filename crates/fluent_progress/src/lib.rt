@@ -12,6 +12,7 @@
 //! may live shorter than they do, so it is written from where it stands, and copied where it becomes a selector or an argument.
 //! Contracts state each step by the definitions of `fluent_meaning`.
 
+pub mod braces;
 mod call;
 mod context;
 pub mod fallback;

@@ -1,6 +1,6 @@
 //! The state of the resolver.
 
-ghost use Rattle.std.specs.Prelude.{◌≡◌, [], false, true, IfOk, OnErr, OnOk, map, option_map};
+ghost use Rattle.std.specs.Prelude.{◌≡◌, ◌+◌, ◌-◌, ◌<◌, [], false, true, IfOk, OnErr, OnOk, map, option_map};
 ghost use Rattle.fluent_errors.specs.View.{bundle_view, resolver_view};
 ghost use Rattle.fluent_meaning.specs.Steps.{done, entering, opens};
 ghost use Rattle.fluent_meaning.specs.Told.{Finds, after};
@@ -9,6 +9,7 @@ ghost use Rattle.fluent_progress.specs.Views.{path_of, state};
 
 use fluent_ast::Pattern;
 use fluent_errors::{FluentError, ResolverError};
+use fluent_stack::{Stack, StackBudget};
 use std::alloc::{AllocError, Global};
 
 /// How many placeables one answer may open.
@@ -27,12 +28,22 @@ pub struct Progress<'r, 's> {
     pub entered: u128,
     /// The patterns that are being written, the last one entered last.
     pub path: Vec<&'r Pattern<&'s str>>,
+    /// What is open of the machine's stack, in all patterns that are being written.
+    pub stack: Stack,
 }
 
 impl Progress<'_, '_> {
-    /// What an answer starts with: these errors, reported earlier, if they are wanted, and nothing counted or entered. It
-    /// doesn't allocate.
+    /// What an answer starts with: these errors, reported earlier, if they are wanted, and nothing counted, entered or
+    /// open. It may take [`StackBudget::PROGRAM`] of the machine's stack. It doesn't allocate.
     pub fn new(alloc: Global, errors: Option<Vec<FluentError>>) -> Self
+        ensures state { state result ≡ fresh (option_map (λ es. map bundle_view es.items) errors) }
+        ensures path { path_of result ≡ [] }
+    {
+        Progress::within(alloc, errors, StackBudget::PROGRAM)
+    }
+
+    /// The same as [`new`](Progress::new), with a budget of the machine's stack.
+    pub fn within(alloc: Global, errors: Option<Vec<FluentError>>, budget: StackBudget) -> Self
         ensures state { state result ≡ fresh (option_map (λ es. map bundle_view es.items) errors) }
         ensures path { path_of result ≡ [] }
     {
@@ -42,7 +53,30 @@ impl Progress<'_, '_> {
             dirty: false,
             entered: 0,
             path: Vec::new(alloc),
+            stack: Stack::new(budget),
         }
+    }
+
+    /// Opens what takes so many bytes of the machine's stack.
+    ///
+    /// # Errors
+    /// [`AllocError`] if more bytes would be open than the budget has; the progress is unchanged.
+    pub fn open_frames(&mut self, bytes: usize) -> Result<(), AllocError>
+        ensures opened { OnOk result (self.new.stack.taken ≡ self.old.stack.taken + bytes) }
+        ensures past { OnErr result (self.old.stack.budget.bytes < self.old.stack.taken + bytes) }
+        ensures state { state self.new ≡ state self.old }
+        ensures path { self.new.path ≡ self.old.path }
+    {
+        self.stack.open(bytes)
+    }
+
+    /// Closes what took so many bytes of the machine's stack.
+    pub fn close_frames(&mut self, bytes: usize)
+        ensures closed { self.new.stack.taken ≡ self.old.stack.taken - bytes }
+        ensures state { state self.new ≡ state self.old }
+        ensures path { self.new.path ≡ self.old.path }
+    {
+        self.stack.close(bytes);
     }
 
     /// The errors reported so far, if they are wanted.

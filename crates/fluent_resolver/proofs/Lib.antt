@@ -7,3 +7,5 @@ pub mod Functions
 pub mod Terms
 pub mod Selects
 pub mod ArgumentLists
+pub mod Frames
+pub mod Braces

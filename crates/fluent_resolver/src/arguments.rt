@@ -8,6 +8,7 @@ ghost use Rattle.fluent_resolver.specs.Steps.{call_step, named_step, own_step, p
 use crate::value::value_of;
 use fluent_ast::{CallArguments, Identifier, InlineExpression, NamedArgument};
 use fluent_progress::{Context, Place, Progress};
+use fluent_stack::resolving;
 use fluent_value::{FluentArgs, FluentType, FluentValue};
 use std::alloc::AllocError;
 use std::borrow::CowStr;
@@ -27,6 +28,24 @@ pub(crate) fn call_result<'b, 'r, 's, 'a, C: FluentType + Drop, F, E: Context<C,
     let positional = positional_values(place, progress, &arguments.positional)?;
     let named = named_values(place, progress, &arguments.named)?;
     place.call(id.name, &positional, &named)
+}
+
+/// The same as [`call_result`], of a call that is a value: what calls in calls take of the machine's stack is counted.
+#[cycle(resolving)]
+pub(crate) fn nested_call<'b, 'r, 's, 'a, C: FluentType + Drop, F, E: Context<C, F>>(
+    place: &Place<'b, 'r, 's, 'a, C, F, E>,
+    progress: &mut Progress<'r, 's>,
+    id: &'r Identifier<&'s str>,
+    arguments: &'r CallArguments<&'s str>,
+) -> Result<Option<FluentValue<'s, C>>, AllocError>
+    ensures found { Calls result place.now progress.old progress.new id.now arguments.now }
+    ensures refused { TellsOnErr result progress.old progress.new (call_step place.now id.now arguments.now) }
+    ensures path { OnOk result (progress.new.path.items ≡ progress.old.path.items) }
+{
+    progress.open_frames(resolving::CALL)?;
+    let result = call_result(place, progress, id, arguments)?;
+    progress.close_frames(resolving::CALL);
+    Ok(result)
 }
 
 /// The named arguments of a term reference. Its positional ones are resolved and dropped.

@@ -11,6 +11,7 @@ use crate::pattern::{write_pattern, write_target};
 use crate::value::value_of;
 use fluent_ast::{CallArguments, Expression, Identifier, InlineExpression, Pattern, Variant};
 use fluent_errors::{ReferenceKind, ResolverError};
+use fluent_progress::braces::innermost;
 use fluent_progress::fallback::fall_back;
 use fluent_progress::text::write_literal;
 use fluent_progress::value::{write_number, write_result};
@@ -113,7 +114,7 @@ pub fn write_inline<'b, 'r, 's, 'a, C: FluentType + Drop, F, E: Context<C, F>>(
         } => write_term(out, place, progress, inline, id, attribute, arguments),
         InlineExpression::VariableReference { id } => { place.write_variable(out, progress, id) }
         InlineExpression::Placeable { expression } => {
-            write_expression(out, place, progress, expression)
+            write_expression(out, place, progress, innermost(expression))
         }
     }
 }

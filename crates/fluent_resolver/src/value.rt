@@ -5,11 +5,12 @@ ghost use Rattle.fluent_progress.specs.Resolves.{TellsOnErr};
 ghost use Rattle.fluent_resolver.specs.Finds.{FindsText, FindsValue};
 ghost use Rattle.fluent_resolver.specs.Steps.{inline_step, value_step};
 
-use crate::arguments::call_result;
+use crate::arguments::nested_call;
 use crate::expression::write_inline;
 use fluent_ast::InlineExpression;
 use fluent_progress::text::literal_value;
 use fluent_progress::{Context, Place, Progress};
+use fluent_stack::resolving;
 use fluent_value::{FluentType, FluentValue};
 use std::alloc::AllocError;
 use std::borrow::CowStr;
@@ -32,7 +33,7 @@ pub fn value_of<'b, 'r, 's, 'a, C: FluentType + Drop, F, E: Context<C, F>>(
         InlineExpression::StringLiteral { value } => literal_value(place.context.alloc(), *value),
         InlineExpression::NumberLiteral { value } => Ok(FluentValue::try_number(*value)),
         InlineExpression::FunctionReference { id, arguments } => {
-            match call_result(place, progress, id, arguments)? {
+            match nested_call(place, progress, id, arguments)? {
                 Some(result) => Ok(result),
                 None => Ok(FluentValue::Error),
             }
@@ -51,7 +52,8 @@ pub fn value_of<'b, 'r, 's, 'a, C: FluentType + Drop, F, E: Context<C, F>>(
     }
 }
 
-/// The text that an expression writes, as a value.
+/// The text that an expression writes, as a value. What such values in each other take of the machine's stack is
+/// counted.
 #[cycle(resolving)]
 fn text_value<'b, 'r, 's, 'a, C: FluentType + Drop, F, E: Context<C, F>>(
     place: &Place<'b, 'r, 's, 'a, C, F, E>,
@@ -62,7 +64,9 @@ fn text_value<'b, 'r, 's, 'a, C: FluentType + Drop, F, E: Context<C, F>>(
     ensures refused { TellsOnErr result progress.old progress.new (inline_step place.now inline.now) }
     ensures path { OnOk result (progress.new.path.items ≡ progress.old.path.items) }
 {
+    progress.open_frames(resolving::TEXT)?;
     let mut text = String::new(place.context.alloc());
     write_inline(&mut text, place, progress, inline)?;
+    progress.close_frames(resolving::TEXT);
     Ok(FluentValue::String(CowStr::Owned(text)))
 }

@@ -41,8 +41,10 @@ where
     /// ```
     ///
     /// # Errors
-    /// [`Writer`](WriteError::Writer) if the writer refuses a piece, [`Memory`](WriteError::Memory) if memory runs out. The
-    /// writer then took a beginning of the text, and the list holds the old errors, and after them the first of the pattern's.
+    /// [`Writer`](WriteError::Writer) if the writer refuses a piece, [`Memory`](WriteError::Memory) if memory runs out,
+    /// also if calls and placeables nest so deep, over all messages that the pattern enters, that they would take more
+    /// than 6 MB of the machine's stack. The writer then took a beginning of the text, and the list holds the old
+    /// errors, and after them the first of the pattern's.
     pub fn write_pattern<'x, W: TextWrite>(
         &'x self,
         w: &mut W,
@@ -85,7 +87,9 @@ where
     /// ```
     ///
     /// # Errors
-    /// [`AllocError`] if memory runs out. The list then holds the old errors, and after them the first of the pattern's.
+    /// [`AllocError`] if memory runs out, also if calls and placeables nest so deep, over all messages that the pattern
+    /// enters, that they would take more than 6 MB of the machine's stack. The list then holds the old errors, and
+    /// after them the first of the pattern's.
     pub fn format_pattern<'x>(
         &'x self,
         pattern: &'r Pattern<&'s str>,

@@ -53,6 +53,9 @@ use Rattle.fluent_resolver.proofs.Elements.{around, whole-around, whole-elements
 use Rattle.fluent_resolver.proofs.Functions.{call-fails, call-fails-tells, call-first, call-tells, call-writes, value-fails, value-finds, value-first}
 use Rattle.fluent_resolver.proofs.Terms.{term-first, term-refused, term-tells, term-writes}
 use Rattle.fluent_resolver.proofs.Selects.{none-tells, none-writes, select-first, variant-tells, variant-writes}
+use Rattle.fluent_progress.specs.Braces.{innermost}
+use Rattle.fluent_resolver.proofs.Braces.{innermost-light, innermost-written}
+use Rattle.fluent_resolver.proofs.Frames.{framed-finds, framed-tells, framed-writes, less-framed}
 use Rattle.fluent_resolver.proofs.ArgumentLists.{given-first, given-found, given-second, nameds_in, positional_in, weight-in}
 
 pub expression::write_expression-returns-in-Inline-clause-wrote : goal.expression::write_expression-returns-in-Inline-clause-wrote
@@ -118,20 +121,29 @@ expression::write_inline-returns-in-Placeable-clause-wrote g n c =
     let env = resolved_in c.args.place.now in
     let here = place_view c.args.place.now c.args.progress.now in
     let b = (state c.args.progress.now).budget in
-    on_ok_weaker c.write_expression.result (writes-as _ _ (sym (ap (λ x. s.inline_written env x here b) (is-nested c.in-Placeable.is) ∙ inline-nested env here b (expression_of c.in-Placeable.expression.value)))) (rw c.deref.ensures at c.write_expression.ensures.wrote)
+    let e = expression_of c.in-Placeable.expression.value in
+    let inner : expression_of c.innermost.result.now ≡ innermost e = rw c.deref.ensures at c.innermost.ensures in
+    on_ok_weaker c.write_expression.result (writes-as _ _ (sym (ap (λ x. s.inline_written env x here b) (is-nested c.in-Placeable.is) ∙ inline-nested env here b e ∙ sym (innermost-written env here b e) ∙ ap (λ x. s.expression_written env x here b) (sym inner)))) c.write_expression.ensures.wrote
 
 pub expression::write_inline-returns-in-Placeable-clause-refused : goal.expression::write_inline-returns-in-Placeable-clause-refused
 expression::write_inline-returns-in-Placeable-clause-refused g n c =
     let env = resolved_in c.args.place.now in
     let here = place_view c.args.place.now c.args.progress.now in
     let b = (state c.args.progress.now).budget in
-    on_err_weaker c.write_expression.result (tells-as (sym (ap (λ x. s.inline_written env x here b) (is-nested c.in-Placeable.is) ∙ inline-nested env here b (expression_of c.in-Placeable.expression.value)))) (rw c.deref.ensures at c.write_expression.ensures.refused)
+    let e = expression_of c.in-Placeable.expression.value in
+    let inner : expression_of c.innermost.result.now ≡ innermost e = rw c.deref.ensures at c.innermost.ensures in
+    on_err_weaker c.write_expression.result (tells-as (sym (ap (λ x. s.inline_written env x here b) (is-nested c.in-Placeable.is) ∙ inline-nested env here b e ∙ sym (innermost-written env here b e) ∙ ap (λ x. s.expression_written env x here b) (sym inner)))) c.write_expression.ensures.refused
 
 pub expression::write_inline-write_expression-requires : goal.expression::write_inline-write_expression-requires
 expression::write_inline-write_expression-requires g n c κs inside0 =
+    let b = (state c.args.progress.now).budget in
     let e = expression_of c.in-Placeable.expression.value in
-    let weight : inline_weight (inline_of c.args.inline.now) ≡ suc (expression_weight e) = ap inline_weight (is-nested c.in-Placeable.is) ∙ weight-nested e in
-    let measure = c.decreases in let inside = c.deref.ensures in search rules
+    let i = inline_of c.args.inline.now in
+    let weight : inline_weight i ≡ suc (expression_weight e) = ap inline_weight (is-nested c.in-Placeable.is) ∙ weight-nested e in
+    let inner : expression_of c.innermost.result.now ≡ innermost e = rw c.deref.ensures at c.innermost.ensures in
+    let light : expression_weight (expression_of c.innermost.result.now) ≤ expression_weight e = subst (λ x. expression_weight x ≤ expression_weight e) (sym inner) (innermost-light e) in
+    let less = less-part (suc (left b)) (suc (left b)) (suc (ids_weight (ids_view _ c.args.place.now.ids.now))) (expression_weight (expression_of c.innermost.result.now)) (inline_weight i) 2 1 (le_refl (suc (left b))) (omega (arith, weight, light)) (omega arith) in
+    let measure = c.decreases in search rules
 
 pub expression::write_inline-returns-in_ok-target-in-MessageReference-clause-wrote : goal.expression::write_inline-returns-in_ok-target-in-MessageReference-clause-wrote
 expression::write_inline-returns-in_ok-target-in-MessageReference-clause-wrote g n c =
@@ -945,18 +957,18 @@ value::value_of-returns-in_err-result-in-FunctionReference-clause-refused g n c 
 
 pub value::value_of-returns-in-Some-clause-found : goal.value::value_of-returns-in-Some-clause-found
 value::value_of-returns-in-Some-clause-found g n c =
-    value-finds (resolved_in c.args.place.now) (place_view c.args.place.now c.args.progress.now) (is-function c.in-FunctionReference.is) c.in_ok-result-in-FunctionReference.ensures.found (ap (option_map (value_view g.C.FluentType.meaning)) c.in-Some.is) (within c.call_result.new.progress)
+    value-finds (resolved_in c.args.place.now) (place_view c.args.place.now c.args.progress.now) (is-function c.in-FunctionReference.is) c.in_ok-result-in-FunctionReference.ensures.found (ap (option_map (value_view g.C.FluentType.meaning)) c.in-Some.is) (within c.nested_call.new.progress)
 
 pub value::value_of-returns-in-None-clause-found : goal.value::value_of-returns-in-None-clause-found
 value::value_of-returns-in-None-clause-found g n c =
-    value-fails (resolved_in c.args.place.now) (place_view c.args.place.now c.args.progress.now) (is-function c.in-FunctionReference.is) c.in_ok-result-in-FunctionReference.ensures.found (ap (option_map (value_view g.C.FluentType.meaning)) c.in-None.is) (within c.call_result.new.progress)
+    value-fails (resolved_in c.args.place.now) (place_view c.args.place.now c.args.progress.now) (is-function c.in-FunctionReference.is) c.in_ok-result-in-FunctionReference.ensures.found (ap (option_map (value_view g.C.FluentType.meaning)) c.in-None.is) (within c.nested_call.new.progress)
 
-pub value::value_of-call_result-requires : goal.value::value_of-call_result-requires
-value::value_of-call_result-requires g n c κs inside0 =
+pub value::value_of-nested_call-requires : goal.value::value_of-nested_call-requires
+value::value_of-nested_call-requires g n c κs inside0 =
     let b = (state c.args.progress.now).budget in
     let given = arguments_of c.in-FunctionReference.arguments in
     let weight : inline_weight (inline_of c.args.inline.now) ≡ suc (arguments_weight given) = ap inline_weight (is-function c.in-FunctionReference.is) ∙ weight-function (name_of c.in-FunctionReference.id) given in
-    let less = less-part (suc (left b)) (suc (left b)) (suc (ids_weight (ids_view _ c.args.place.now.ids.now))) (arguments_weight given) (inline_weight (inline_of c.args.inline.now)) 1 3 (le_refl (suc (left b))) (omega (arith, weight)) (omega arith) in
+    let less = less-part (suc (left b)) (suc (left b)) (suc (ids_weight (ids_view _ c.args.place.now.ids.now))) (arguments_weight given) (inline_weight (inline_of c.args.inline.now)) 2 3 (le_refl (suc (left b))) (omega (arith, weight)) (omega arith) in
     let measure = c.decreases in search rules
 
 pub value::value_of-returns-in-MessageReference-clause-found : goal.value::value_of-returns-in-MessageReference-clause-found
@@ -984,3 +996,44 @@ value::value_of-returns-in-MessageReference-clause-refused g n c =
     (λ p. let is = is-nested p.1 in ap (λ k. s.value_found env k here b) is ∙ value-nested env here b (expression_of p.0.value) ∙ ap (λ k. mapped v.text (s.inline_written env k here b)) (sym is))
     c.in-MessageReference.is in
     on_err_weaker c.text_value.result (λ h. tells-as (sym eq) (tells-like (mapped v.text (s.inline_written env i here b)) refl h)) c.text_value.ensures.refused
+
+pub value::text_value-write_inline-requires : goal.value::text_value-write_inline-requires
+value::text_value-write_inline-requires g n c κs inside0 =
+    let b = (state c.args.progress.now).budget in
+    let u = state c.open_frames.new.self in
+    let same : left u.budget ≡ left b = ap (λ (x : State). left x.budget) c.open_frames.ensures.state in
+    let less = less-framed (left u.budget) (left b) (suc (ids_weight (ids_view _ c.args.place.now.ids.now))) (inline_weight (inline_of c.args.inline.now)) same in
+    let measure = c.decreases in search rules
+
+pub value::text_value-returns-in_err-open_frames-clause-refused : goal.value::text_value-returns-in_err-open_frames-clause-refused
+value::text_value-returns-in_err-open_frames-clause-refused g n c =
+    on-err _ (tells-same _ c.open_frames.ensures.state)
+
+pub value::text_value-returns-in_err-write_inline-clause-refused : goal.value::text_value-returns-in_err-write_inline-clause-refused
+value::text_value-returns-in_err-write_inline-clause-refused g n c =
+    let env = resolved_in c.args.place.now in
+    on-err _ (framed-tells c.args.place.now c.args.progress.now c.open_frames.new.self c.open_frames.ensures.state c.open_frames.ensures.path (λ p b. s.inline_written env (inline_of c.args.inline.now) p b) c.in_err-write_inline.ensures.refused)
+
+pub arguments::nested_call-call_result-requires : goal.arguments::nested_call-call_result-requires
+arguments::nested_call-call_result-requires g n c κs inside0 =
+    let b = (state c.args.progress.now).budget in
+    let u = state c.open_frames.new.self in
+    let same : left u.budget ≡ left b = ap (λ (x : State). left x.budget) c.open_frames.ensures.state in
+    let less = less-framed (left u.budget) (left b) (suc (ids_weight (ids_view _ c.args.place.now.ids.now))) (arguments_weight (arguments_of c.args.arguments.now)) same in
+    let measure = c.decreases in search rules
+
+pub arguments::nested_call-returns-in_err-open_frames-clause-refused : goal.arguments::nested_call-returns-in_err-open_frames-clause-refused
+arguments::nested_call-returns-in_err-open_frames-clause-refused g n c =
+    on-err _ (tells-same _ c.open_frames.ensures.state)
+
+pub arguments::nested_call-returns-in_err-result-clause-refused : goal.arguments::nested_call-returns-in_err-result-clause-refused
+arguments::nested_call-returns-in_err-result-clause-refused g n c =
+    let env = resolved_in c.args.place.now in
+    let gives : s.Called g.row.C-Meaning.Denot → Option (v.Value g.row.C-Meaning.Denot) = λ called. function_result env (env.find (name_of c.args.id.now)) called.positional called.named in
+    on-err _ (framed-tells c.args.place.now c.args.progress.now c.open_frames.new.self c.open_frames.ensures.state c.open_frames.ensures.path (λ p b. mapped gives (s.arguments_found env (t.with_arguments (arguments_of c.args.arguments.now)) p b)) c.in_err-result.ensures.refused)
+
+pub arguments::nested_call-returns-clause-found : goal.arguments::nested_call-returns-clause-found
+arguments::nested_call-returns-clause-found g n c =
+    let env = resolved_in c.args.place.now in
+    let gives : s.Called g.row.C-Meaning.Denot → Option (v.Value g.row.C-Meaning.Denot) = λ called. function_result env (env.find (name_of c.args.id.now)) called.positional called.named in
+    framed-finds c.args.place.now c.args.progress.now c.open_frames.new.self c.open_frames.ensures.state c.open_frames.ensures.path (λ p b. mapped gives (s.arguments_found env (t.with_arguments (arguments_of c.args.arguments.now)) p b)) c.close_frames.ensures.state c.in_ok-result.ensures.found

@@ -106,6 +106,10 @@ abbrev pub decreases-arguments::call_result : goal.decreases-arguments::call_res
 decreases-arguments::call_result g l =
     4 * (suc (left (state l.progress.now).budget) * suc (ids_weight (ids_view _ l.place.now.ids.now)) + arguments_weight (arguments_view _ (λ s. s.now) l.arguments.now)) + 1
 
+abbrev pub decreases-arguments::nested_call : goal.decreases-arguments::nested_call
+decreases-arguments::nested_call g l =
+    4 * (suc (left (state l.progress.now).budget) * suc (ids_weight (ids_view _ l.place.now.ids.now)) + arguments_weight (arguments_view _ (λ s. s.now) l.arguments.now)) + 2
+
 abbrev pub decreases-arguments::own_arguments : goal.decreases-arguments::own_arguments
 decreases-arguments::own_arguments g l =
     4 * (suc (left (state l.progress.now).budget) * suc (ids_weight (ids_view _ l.place.now.ids.now)) + maybe_arguments_weight (maybe_arguments (option_map (arguments_view _ (λ s. s.now)) l.arguments.now))) + 1

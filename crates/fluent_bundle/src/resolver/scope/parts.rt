@@ -16,6 +16,7 @@ use fluent_ast::{CallArguments, Expression, InlineExpression, Pattern};
 use fluent_errors::{FluentError, ReferenceKind, ResolverError};
 use fluent_progress::fallback::write_inline_braced;
 use fluent_progress::{Place, Progress};
+use fluent_stack::{Stack, StackBudget};
 use fluent_value::{
     FluentArgs, FluentFunction, FluentType, FluentValue, MemoizerKind, TextTransform,
     ValueFormatter,
@@ -72,6 +73,7 @@ where
             dirty: self.dirty,
             entered: self.entered,
             path,
+            stack: Stack::new(StackBudget::PROGRAM),
         })
     }
 
