@@ -3,12 +3,12 @@
 use crate::args::FluentArgs;
 use crate::c;
 use crate::errors::{FluentError, ResolverError};
+use crate::known::{FixedText, Message, Messages};
 use crate::message::{FluentMessage, Pattern};
 use crate::resource::FluentResource;
 use crate::text::Text;
 use std::borrow::{Borrow, Cow};
 use std::cell::{RefCell, UnsafeCell};
-use std::collections::HashMap;
 use std::fmt;
 use std::ptr;
 
@@ -17,34 +17,18 @@ pub(crate) struct Kept {
     handle: UnsafeCell<c::FluentBundle>,
     /// The text and the errors of the last answer, whose memory the next one takes.
     texts: RefCell<(Text, Text)>,
-    /// The messages that were asked for, by their ids, and whether they have a value. A bundle doesn't change.
-    known: RefCell<HashMap<Box<str>, Found>>,
+    /// The messages that were asked for.
+    messages: Messages,
 }
 
 // SAFETY: the library proves that its bundles and its texts may go to another thread, and this type isn't `Sync`, so there is one call at a
 // time.
 unsafe impl Send for Kept {}
 
-/// Whether a bundle has what is asked for.
-#[derive(Clone, Copy, PartialEq, Eq)]
-pub(crate) enum Found {
-    /// It has.
-    Pattern,
-    /// There is the message, without it.
-    Message,
-    /// There is no such message.
-    Nothing,
-}
-
-impl Found {
-    pub(crate) fn is_there(self) -> bool {
-        self == Found::Pattern
-    }
-}
-
 impl Kept {
     /// A bundle of copies of sources, or `None` if the locale has no plural rules.
     pub(crate) fn of(sources: &[&str], locale: &str, isolating: bool, overriding: bool) -> Option<Kept> {
+        let bytes = sources.iter().map(|source| source.len()).sum();
         let sources: Vec<c::FluentSource> = sources
             .iter()
             .map(|source| c::FluentSource { text: source.as_ptr(), len: source.len() })
@@ -66,36 +50,47 @@ impl Kept {
         match made {
             c::FLUENT_READ => {
                 let texts = RefCell::new((Text::none(), Text::none()));
-                Some(Kept { handle: UnsafeCell::new(handle), texts, known: RefCell::default() })
+                Some(Kept { handle: UnsafeCell::new(handle), texts, messages: Messages::for_bytes(bytes) })
             }
             c::FLUENT_UNKNOWN_LOCALE => None,
             _ => out_of_memory(),
         }
     }
 
-    /// Whether there is a pattern. The empty name of an attribute asks for the value.
-    pub(crate) fn has(&self, id: &str, attribute: &str) -> Found {
-        // SAFETY: as in `format`.
-        let found = unsafe {
-            c::fluent_bundle_has(self.handle.get(), id.as_ptr(), id.len(), attribute.as_ptr(), attribute.len())
-        };
-        match found {
-            c::FLUENT_READ => Found::Pattern,
-            c::FLUENT_NO_MESSAGE => Found::Nothing,
-            _ => Found::Message,
-        }
+    /// The message of an id.
+    pub(crate) fn message(&self, id: &str) -> Option<&Message> {
+        self.messages.get(id, || match self.has(id, "") {
+            c::FLUENT_READ => Some(Message::new(true)),
+            c::FLUENT_NO_MESSAGE => None,
+            _ => Some(Message::new(false)),
+        })
     }
 
-    /// Whether there is a message, and whether it has a value. It asks the library once for each message.
-    pub(crate) fn has_value(&self, id: &str) -> Found {
-        if let Some(found) = self.known.borrow().get(id) {
-            return *found;
-        }
-        let found = self.has(id, "");
-        if found != Found::Nothing {
-            self.known.borrow_mut().insert(id.into(), found);
-        }
-        found
+    /// The first attribute of a name.
+    pub(crate) fn attribute(&self, id: &str, name: &str) -> Option<&FixedText> {
+        self.message(id)?.attribute(name, || self.has(id, name) == c::FLUENT_READ)
+    }
+
+    /// Asks for a pattern. The empty name of an attribute asks for the value.
+    fn has(&self, id: &str, attribute: &str) -> u32 {
+        // SAFETY: as in `format`.
+        unsafe { c::fluent_bundle_has(self.handle.get(), id.as_ptr(), id.len(), attribute.as_ptr(), attribute.len()) }
+    }
+
+    /// The text of a pattern, if it is the same for all arguments.
+    ///
+    /// It is if there are no errors without arguments, by the law `needs_no_arguments` of the library: a variable that is missing is
+    /// an error, so none was asked for.
+    fn fixed_text(&self, pattern: &Pattern<'_>) -> Option<&str> {
+        let fixed = match pattern.attribute {
+            "" => self.message(pattern.id)?.value.as_ref()?,
+            name => self.attribute(pattern.id, name)?,
+        };
+        let without = || {
+            let none = FluentArgs::new();
+            self.format(pattern, &none, |text, errors| errors.is_empty().then(|| text.into()))?
+        };
+        fixed.get_or_init(without).as_deref()
     }
 
     /// Hands the text of a pattern on, and the lines of its errors; or nothing if there is no such pattern.
@@ -197,27 +192,29 @@ impl<R: Borrow<FluentResource>> FluentBundle<R> {
 
     /// Whether an id is that of a message.
     pub fn has_message(&self, id: &str) -> bool {
-        self.kept.has_value(id) != Found::Nothing
+        self.kept.message(id).is_some()
     }
 
     /// The message of an id.
     pub fn get_message<'l>(&'l self, id: &'l str) -> Option<FluentMessage<'l>> {
-        let value = match self.kept.has_value(id) {
-            Found::Pattern => Some(Pattern { id, attribute: "" }),
-            Found::Message => None,
-            Found::Nothing => return None,
-        };
+        let message = self.kept.message(id)?;
+        let value = message.value.is_some().then_some(Pattern { id, attribute: "" });
         Some(FluentMessage { kept: &self.kept, id, value })
     }
 
     /// The text of a pattern. Errors are added to `errors`, and you get the text even if there are errors.
+    ///
+    /// A text that asks for no argument is lent: the bundle keeps it once it was asked for.
     pub fn format_pattern<'bundle>(
         &'bundle self,
         pattern: &Pattern<'_>,
         args: Option<&FluentArgs<'_>>,
         errors: &mut Vec<FluentError>,
     ) -> Cow<'bundle, str> {
-        Cow::Owned(self.formatted(pattern, args, errors, str::to_owned))
+        match self.kept.fixed_text(pattern) {
+            Some(text) => Cow::Borrowed(text),
+            None => Cow::Owned(self.formatted(pattern, args, errors, str::to_owned)),
+        }
     }
 
     /// Writes the text of a pattern. Errors are added to `errors`.
@@ -231,6 +228,9 @@ impl<R: Borrow<FluentResource>> FluentBundle<R> {
         args: Option<&FluentArgs<'_>>,
         errors: &mut Vec<FluentError>,
     ) -> fmt::Result {
+        if let Some(text) = self.kept.fixed_text(pattern) {
+            return w.write_str(text);
+        }
         let mut written = Ok(());
         self.formatted(pattern, args, errors, |text| written = w.write_str(text));
         written

@@ -31,6 +31,7 @@ mod args;
 mod bundle;
 mod c;
 mod errors;
+mod known;
 mod message;
 mod resource;
 mod text;

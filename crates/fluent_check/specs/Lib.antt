@@ -1,2 +1,3 @@
 pub mod ReportView
 pub mod Added
+pub mod WholeView

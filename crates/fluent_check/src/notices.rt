@@ -1,28 +1,15 @@
 //! The notices of entries whose id was there.
 
 ghost use Rattle.std.specs.Prelude.{◌≡◌, ◌++◌, [], ◌∷◌, false, IfOk, OnOk};
-ghost use Rattle.fluent_answers.specs.Sources.{notices_of};
-ghost use Rattle.fluent_check.specs.ReportView.{notices_view, texts};
-ghost use Rattle.fluent_check.specs.Added.{by_id, all_by_id, ids_in, told_in};
+ghost use Rattle.fluent_check.specs.ReportView.{notices_view};
+ghost use Rattle.fluent_check.specs.Added.{tree_by_id, trees_by_id, ids_in, told_in};
 ghost use Rattle.fluent_meaning.specs.Ids.{notices, number_pair, with_ids};
 
-use crate::sources::read_sources;
+use fluent_ast::Resource;
 use fluent_errors::FluentError;
 use fluent_ids::{AddFunctionError, AddResourceError, FluentIds};
-use fluent_resource::FluentResource;
 use fluent_value::NoFunction;
 use std::alloc::{AllocError, Global};
-
-/// The notices of the entries of all sources, the first entry of an id staying.
-pub(crate) fn notices_of_sources(
-    alloc: Global,
-    sources: &[&str],
-) -> Result<Vec<FluentError>, AllocError>
-    ensures { IfOk result (λ told. notices_view told ≡ notices_of NoFunction (texts sources.now)) }
-{
-    let resources = read_sources(alloc, sources)?;
-    notices_of_resources(alloc, &resources)
-}
 
 /// The ids that were added, and the notices that came.
 #[derive(Drop)]
@@ -49,14 +36,14 @@ impl<'r, 's> Added<'r, 's> {
         })
     }
 
-    /// Adds a resource, with its notices behind those that came before.
-    fn add(&mut self, resource: &'r FluentResource<'s>) -> Result<(), AllocError>
+    /// Adds a tree, with its notices after those that came before.
+    fn add(&mut self, tree: &'r Resource<&'s str>) -> Result<(), AllocError>
         ensures ids { OnOk result (ids_in self.new
-            ≡ with_ids false (ids_in self.old) (by_id resource.now)) }
+            ≡ with_ids false (ids_in self.old) (tree_by_id tree.now)) }
         ensures told { OnOk result (told_in self.new
-            ≡ told_in self.old ++ notices (ids_in self.old) (by_id resource.now)) }
+            ≡ told_in self.old ++ notices (ids_in self.old) (tree_by_id tree.now)) }
     {
-        match self.ids.add_resource(resource.tree()) {
+        match self.ids.add_resource(tree) {
             Ok(()) => Ok(()),
             Err(AddResourceError::Overriding(mut notices)) => self.told.append(&mut notices),
             Err(AddResourceError::Memory) => Err(AllocError),
@@ -64,17 +51,17 @@ impl<'r, 's> Added<'r, 's> {
     }
 }
 
-/// The notices of the entries of all resources, the first entry of an id staying.
-fn notices_of_resources(
+/// The notices of the entries of all trees, the first entry of an id staying.
+pub(crate) fn notices_of_trees(
     alloc: Global,
-    resources: &[FluentResource<'_>],
+    trees: &[Resource<&str>],
 ) -> Result<Vec<FluentError>, AllocError>
     ensures { IfOk result (λ told. notices_view told
-        ≡ notices (number_pair ∷ []) (all_by_id resources.now)) }
+        ≡ notices (number_pair ∷ []) (trees_by_id trees.now)) }
 {
     let mut added = Added::new(alloc)?;
-    for resource in resources {
-        added.add(resource)?;
+    for tree in trees {
+        added.add(tree)?;
     }
     Ok(added.told)
 }

@@ -4,9 +4,10 @@ ghost use Rattle.std.specs.Prelude.{◌≡◌, IfOk, map};
 ghost use Rattle.fluent_answers.specs.Sources.{notices_of};
 ghost use Rattle.fluent_check.specs.ReportView.{errors_view, errors_told, notices_view, texts};
 
-use crate::notices::notices_of_sources;
+use crate::notices::notices_of_trees;
+use crate::whole::read_whole;
 use fluent_errors::FluentError;
-use fluent_parser::{Error, ParserError, parse};
+use fluent_parser::ParserError;
 use fluent_value::NoFunction;
 use std::alloc::{AllocError, Global};
 
@@ -44,29 +45,10 @@ pub fn check(alloc: Global, sources: &[&str]) -> Result<Report, AllocError>
     ensures notices { IfOk result (λ report. notices_view report.notices
         ≡ notices_of NoFunction (texts sources.now)) }
 {
-    let errors = errors_of_sources(alloc, sources)?;
-    let notices = notices_of_sources(alloc, sources)?;
-    Ok(Report { errors, notices })
-}
-
-/// The errors of each source.
-fn errors_of_sources(alloc: Global, sources: &[&str]) -> Result<Vec<Vec<ParserError>>, AllocError>
-    ensures { IfOk result (λ all. map errors_view all.items ≡ map errors_told (texts sources.now)) }
-{
-    let mut all = Vec::new(alloc);
-    for source in sources {
-        all.push(errors_in(alloc, source)?)?;
-    }
-    Ok(all)
-}
-
-/// The errors of a source.
-fn errors_in(alloc: Global, source: &str) -> Result<Vec<ParserError>, AllocError>
-    ensures { IfOk result (λ found. errors_view found ≡ errors_told source.now) }
-{
-    match parse(alloc, source) {
-        Ok(_) => Ok(Vec::new(alloc)),
-        Err(Error::Broken(_, errors)) => Ok(errors),
-        Err(Error::Memory) => Err(AllocError),
-    }
+    let read = read_whole(alloc, sources)?;
+    let notices = notices_of_trees(alloc, &read.trees)?;
+    Ok(Report {
+        errors: read.errors,
+        notices,
+    })
 }

@@ -36,10 +36,10 @@ module _ {F : Type 0} where
   same_map ids more s t h = btree_map_from_get nat_list_cmp_total (btree_map ids (inl tt)) (btree_map more (inl tt)) s t h exact_bytes
 
 module _ (F : Type 0) where
-  abbrev Key : Type 0
+  abbrev pub Key : Type 0
   Key = CowStr Global
 
-  abbrev same_key : Key → Key → Bool
+  abbrev pub same_key : Key → Key → Bool
   same_key x y = pointwise nat_eq (cow_str_bytes x) (cow_str_bytes y)
 
   -- a key of these bytes

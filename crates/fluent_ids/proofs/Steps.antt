@@ -1,5 +1,5 @@
 -- The entries of a resource, put in or looked at one after the other.
-use Rattle.std.proofs.Common.{◌≡◌, Bool, true, false, not, ◌&&◌, ◌||◌, ℕ, ◌+◌, ◌<◌, List, [], ◌∷◌, ◌++◌, length, map, take, get_or, Option, Some, None, is_some, cond, refl, ap, sym, ◌∙◌, append-nil}
+use Rattle.std.proofs.Common.{◌≡◌, Bool, true, false, not, ◌&&◌, ◌||◌, ℕ, ◌+◌, ◌<◌, List, [], ◌∷◌, ◌++◌, length, map, take, get_or, Option, Some, None, option_map, is_some, cond, refl, ap, sym, ◌∙◌, append-nil}
 use Rattle.std.specs.Str.{bytes_eq}
 use Rattle.std.specs.BTreeMap.{insert_entry}
 use Rattle.std.specs.Bool.{nat_eq}
@@ -15,7 +15,17 @@ use Rattle.fluent_value.specs.Args.{order}
 use Rattle.fluent_meaning.specs.Ids as ids
 use Rattle.fluent_meaning.specs.Ids.{Ids, Meaning, find, kind_of, with_id, with_ids, notice, notices, entries_by_id}
 use Rattle.fluent_meaning.proofs.InTurn.{with_ids-++, notices-++}
-use Rattle.fluent_ids.proofs.Sorted.{found}
+use Rattle.fluent_value.proofs.Map.{still_ascending}
+use Rattle.std.specs.HashMap.{HashMap, get}
+use Rattle.std.specs.HashMap as hash
+use Rattle.std.specs.List.Sorted.{IsStrictlySortedBy}
+use Rattle.std.specs.Map.{keys_of}
+use Rattle.std.specs.Option.{unwrap_or}
+use Rattle.std.specs.Cow.{cow_str_bytes}
+use Rattle.fluent_ids.specs.EntryView.{meaning_of}
+use Rattle.fluent_ids.specs.IdsView.{sorted}
+use Rattle.fluent_ids.specs.declared.entry.Entry.{Entry}
+use Rattle.fluent_ids.proofs.Sorted.{Key, same_key, found, found_sorted, put_in, same_map, sorted_ascends}
 
 over_by : {A : Type 0} (b o : Bool) (x y : A) → o ≡ true → cond (b && not o) x y ≡ y
 over_by true o x y h = rw h refl
@@ -23,6 +33,9 @@ over_by false o x y h = refl
 
 new_by : {A : Type 0} (b o : Bool) (x y : A) → b ≡ false → cond (b && not o) x y ≡ y
 new_by b o x y h = rw h refl
+
+old_by : {A : Type 0} (b o : Bool) (x y : A) → b ≡ true → o ≡ false → cond (b && not o) x y ≡ x
+old_by b o x y h g = rw (h, g) refl
 
 abbrev plain : Plain (Bor (List ℕ)) → t.Entry
 plain = entry_view _ (λ s. s.now)
@@ -58,7 +71,7 @@ module _ {F : Type 0} where
   known_by false id k v ids h = ap is_some (found id k v ids) ∙ (put_is_some (bytes_eq id k) v (find ids id) ∙ ap (λ b. b || is_some (find ids id)) (nat_list_eq_equiv.symm id k))
 
   -- the ids that are there once a pair was put in
-  known_after : (ids : Ids F) (pair : List ℕ × Meaning F) (id : List ℕ) → is_some (find (with_id false ids pair) id) ≡ (bytes_eq pair.0 id || is_some (find ids id))
+  pub known_after : (ids : Ids F) (pair : List ℕ × Meaning F) (id : List ℕ) → is_some (find (with_id false ids pair) id) ≡ (bytes_eq pair.0 id || is_some (find ids id))
   known_after ids pair id = known_by (is_some (find ids pair.0)) id pair.0 pair.1 ids refl
 
   pub none_from : (o : Option (Meaning F)) → is_some o ≡ false → o ≡ None
@@ -120,3 +133,25 @@ pub seen_more : {S : Type 0} (known : Bool) (old new : HashSet (Bor (List ℕ)) 
     (known || contains_by (λ k. bytes_eq other k.now) new) ≡ (bytes_eq id.now other || (known || contains_by (λ k. bytes_eq other k.now) old))
 seen_more known old new id h other =
     ap (λ b. known || b) (h.0 (record { ref_ptr = (0, 0); now = other })) ∙ or_by known (bytes_eq id.now other) (contains_by (λ k. bytes_eq other k.now) old)
+
+module _ {F : Type 0} where
+  kept_by : (b : Bool) (id k : List ℕ) (v : Meaning F) (ids : Ids F) → bytes_eq id k ≡ b → find ids k ≡ Some v → cond b (Some v) (find ids id) ≡ find ids id
+  kept_by true id k v ids same is = sym is ∙ ap (λ x. find ids x) (sym (same_text id k (sym same)))
+  kept_by false id k v ids apart is = refl
+
+  -- what is put in over itself
+  kept_same : (k : List ℕ) (v : Meaning F) (ids : Ids F) → IsStrictlySortedBy order (keys_of ids) → find ids k ≡ Some v → insert_entry order ids k v ≡ ids
+  kept_same k v ids ascends is = same_map (insert_entry order ids k v) ids (still_ascending k v ids ascends) ascends (λ id. found id k v ids ∙ kept_by (bytes_eq id k) id k v ids refl is)
+
+module _ (F : Type 0) {S : Type 0} (m n : HashMap (Key F) (Entry F) S) (o : Bool) (first : o ≡ false) where
+  first_by : (k : List ℕ) (v : Entry F) (there : Option (Entry F)) → find (sorted F m.entries) k ≡ option_map (meaning_of F) there →
+      sorted F n.entries ≡ insert_entry order (sorted F m.entries) k (meaning_of F (unwrap_or there v)) → sorted F n.entries ≡ with_id o (sorted F m.entries) (k, meaning_of F v)
+  first_by k v None is put = put_new (sorted F m.entries) (sorted F n.entries) (k, meaning_of F v) o (ap is_some is) put
+  first_by k v (Some old) is put =
+      put
+      ∙ kept_same k (meaning_of F old) (sorted F m.entries) (sorted_ascends F m.entries) is
+      ∙ sym (old_by (is_some (find (sorted F m.entries) k)) o (sorted F m.entries) (insert_entry order (sorted F m.entries) k (meaning_of F v)) (ap is_some is) first)
+
+  -- an entry that is put in, unless its id is there
+  pub put_first : (k : Key F) (v : Entry F) → hash.Updates (same_key F) m n k (Some (unwrap_or (get (same_key F) m k) v)) → sorted F n.entries ≡ with_id o (sorted F m.entries) (cow_str_bytes k, meaning_of F v)
+  put_first k v h = first_by (cow_str_bytes k) v (get (same_key F) m k) (found_sorted F (cow_str_bytes k) m.entries) (put_in F m n k (unwrap_or (get (same_key F) m k) v) h)

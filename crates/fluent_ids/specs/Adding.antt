@@ -26,6 +26,10 @@ module _ (F : Type 0) where
   AddsFirst (Err (resource.Overriding notices)) old new r = ids_view F new ≡ with_ids false (ids_view F old) (entries_by_id (entries_in r))
   AddsFirst (Ok u) old new r = ids_view F new ≡ with_ids false (ids_view F old) (entries_by_id (entries_in r))
 
+  -- the entries of a resource were put in, the first of an id staying
+  abbrev pub PutsFirst : FluentIds F → FluentIds F → Resource (Bor (List ℕ)) → Type 0
+  PutsFirst old new r = ids_view F new ≡ with_ids false (ids_view F old) (entries_by_id (entries_in r))
+
   -- the entries of a resource were put in, the last of an id staying
   abbrev pub PutsLast : FluentIds F → FluentIds F → Resource (Bor (List ℕ)) → Type 0
   PutsLast old new r = ids_view F new ≡ with_ids true (ids_view F old) (entries_by_id (entries_in r))

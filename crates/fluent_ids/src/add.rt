@@ -2,7 +2,7 @@
 
 ghost use Rattle.std.specs.Prelude.{◌≡◌, ◌+◌, ◌<◌, ◌≤◌, OnOk, OnErr, length};
 ghost use Rattle.std.specs.HashMap.{spare};
-ghost use Rattle.fluent_ids.specs.Adding.{AddsFirst, PutsLast, KeepsAtMemory, TellsNotices};
+ghost use Rattle.fluent_ids.specs.Adding.{AddsFirst, PutsFirst, PutsLast, KeepsAtMemory, TellsNotices};
 ghost use Rattle.fluent_ids.specs.EntryView.{meaning_of};
 ghost use Rattle.fluent_ids.specs.IdsView.{ids_view};
 ghost use Rattle.fluent_ids.specs.ResourceEntries.{entries_in};
@@ -30,13 +30,29 @@ impl<'r, 's, F: Drop> FluentIds<'r, 's, F> {
             (entries_by_id (entries_in resource.now))) }
     {
         let notices = self.notices(resource)?;
-        self.make_room(resource)?;
-        self.put_all(resource, false);
+        self.add_resource_silently(resource)?;
         if notices.is_empty() {
             Ok(())
         } else {
             Err(AddResourceError::Overriding(notices))
         }
+    }
+
+    /// Adds the messages and terms of a resource, by its tree, as [`FluentIds::add_resource`] does, and makes no notices. It
+    /// looks each id up once.
+    ///
+    /// # Errors
+    /// [`AllocError`] if memory runs out; the ids are unchanged.
+    pub fn add_resource_silently(
+        &mut self,
+        resource: &'r Resource<&'s str>,
+    ) -> Result<(), AllocError>
+        ensures added { OnOk result (PutsFirst F self.old self.new resource.now) }
+        ensures refused { OnErr result (ids_view F self.new ≡ ids_view F self.old) }
+    {
+        self.make_room(resource)?;
+        self.put_all(resource, false);
+        Ok(())
     }
 
     /// Adds the messages and terms of a resource, by its tree. Where two entries have one id, the last stays.
@@ -83,9 +99,13 @@ impl<'r, 's, F: Drop> FluentIds<'r, 's, F> {
             (id.now, meaning_of F entry.entry) }
         ensures room { spare self.old.entries ≤ spare self.new.entries + 1 }
     {
-        if overriding || !self.contains(id) {
-            let put: Result<_, _> = self.entries.insert(CowStr::Borrowed(id), entry);
+        let key = CowStr::Borrowed(id);
+        if overriding {
+            let put: Result<_, _> = self.entries.insert(key, entry);
             let _replaced = put.unwrap();
+        } else {
+            let place: Result<_, _> = self.entries.entry(key);
+            place.unwrap().or_insert(entry);
         }
     }
 }

@@ -22,3 +22,4 @@ pub mod UnlimitedOpen
 pub mod OnPath
 pub mod Looking
 mod BoundRows
+mod Unasked

@@ -18,3 +18,4 @@ pub mod UnlimitedLaws
 pub mod WorkLaws
 pub mod SameLaws
 pub mod EnvironmentLaws
+pub mod ArgumentsLaws

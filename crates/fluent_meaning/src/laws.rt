@@ -1,5 +1,6 @@
 //! Laws of what the ids of a bundle stand for and of what a pattern gives: each function only carries a law, as its contract.
 
+ghost use Rattle.fluent_meaning.specs.ArgumentsLaws.{NeedsNoArguments};
 ghost use Rattle.fluent_meaning.specs.EnvironmentLaws.{EqualEnvironments};
 ghost use Rattle.fluent_meaning.specs.IdsLaws.{FirstStays, IdsAscend, IdsInTurn, LastStays, NoticesInTurn};
 ghost use Rattle.fluent_meaning.specs.ReachLaws.{PatternReachSame, ReachSame};
@@ -33,6 +34,12 @@ pub fn same_decides()
 /// Equal maps of ids, functions, plural sources and settings give equal texts and errors for one pattern and equal arguments.
 pub fn equal_environments<C: FluentType, F>()
     ensures { EqualEnvironments C.Meaning F }
+{}
+
+/// A pattern that has no errors without arguments gives the same for all arguments: it asks for none of them, since a missing one
+/// is an error.
+pub fn needs_no_arguments<C: FluentType, F>()
+    ensures { NeedsNoArguments C.Meaning F }
 {}
 
 /// Two maps of ids that agree on the reach of a message, by kind and content, give it the same answer under equal settings.
