@@ -1,0 +1,48 @@
+//! The keys of variants.
+#![tactic(auto)]
+
+ghost use Rattle.std.specs.Prelude.{◌≡◌, List, [], ◌∷◌, not, IfOk, OnOk};
+ghost use Rattle.std.specs.List.{list_any};
+ghost use Rattle.fluent_ast.specs.Borrowed.{key_of};
+ghost use Rattle.fluent_grammar.specs.Tree as t;
+ghost use Rattle.fluent_meaning.specs.Same.{same_key};
+ghost use Rattle.fluent_nodes.specs.HasKeys.{HasKeys};
+
+use fluent_ast::VariantKey;
+use std::alloc::{AllocError, Global};
+use std::collections::BTreeSet;
+
+/// A set of keys of variants. A number and an identifier are never the same key.
+#[derive(Drop)]
+pub struct Keys<'s> {
+    identifiers: BTreeSet<&'s str>,
+    numbers: BTreeSet<&'s str>,
+}
+
+impl<'s> Keys<'s> {
+    /// No keys.
+    pub fn new(alloc: Global) -> Self
+        ensures { HasKeys result [] }
+    {
+        Keys {
+            identifiers: BTreeSet::new(alloc),
+            numbers: BTreeSet::new(alloc),
+        }
+    }
+
+    /// Adds a key. Returns whether it is new.
+    ///
+    /// # Errors
+    /// [`AllocError`] if memory runs out; the keys are unchanged.
+    pub fn insert(&mut self, key: &VariantKey<&'s str>) -> Result<bool, AllocError>
+        ensures is_new { IfOk result (λ is_new. (before : List t.VariantKey) →
+            HasKeys self.old before → is_new ≡ not (list_any (same_key (key_of key.now)) before)) }
+        ensures added { OnOk result ((before : List t.VariantKey) →
+            HasKeys self.old before → HasKeys self.new (key_of key.now ∷ before)) }
+    {
+        match key {
+            VariantKey::Identifier { name } => Ok(self.identifiers.insert(*name)?),
+            VariantKey::NumberLiteral { value } => Ok(self.numbers.insert(*value)?),
+        }
+    }
+}
