@@ -1,0 +1,9 @@
+//! The plural categories that a select lacks.
+//!
+//! [`node_categories`] tells which variants a translator may have forgotten. `docs/lint.md` has the rule in plain words.
+#![tactic(auto)]
+
+mod missing;
+mod rules;
+
+pub use missing::node_categories;
