@@ -3,8 +3,8 @@
 
 ghost use Rattle.std.specs.Prelude.{◌≡◌, filter, IfOk};
 ghost use Rattle.std.specs.List.{list_any};
-ghost use Rattle.fluent_ast.specs.Borrowed.{inline_of, key_of, variants_of};
-ghost use Rattle.fluent_categories.specs.MissingAmong.{lacks, missing_among};
+ghost use Rattle.fluent_ast.specs.Borrowed.{key_of, variants_of};
+ghost use Rattle.fluent_categories.specs.MissingAmong.{is_lacking, missing_of, missing_of_these};
 ghost use Rattle.fluent_findings.specs.EntryFindings as e;
 ghost use Rattle.fluent_findings.specs.MissingCategories as m;
 ghost use Rattle.fluent_nodes.specs.NodeView.{node_view};
@@ -54,7 +54,7 @@ fn missing_categories(
     variants: &[Variant<&str>],
 ) -> Result<Vec<PluralCategory>, AllocError>
     ensures { IfOk result (λ missing. missing.items
-        ≡ m.missing_categories plurals.now (inline_of selector.now) (variants_of variants.now)) }
+        ≡ missing_of plurals.now selector.now variants.now) }
 {
     missing_among(alloc, &CATEGORIES, plurals, selector, variants)
 }
@@ -68,8 +68,7 @@ fn missing_among(
     variants: &[Variant<&str>],
 ) -> Result<Vec<PluralCategory>, AllocError>
     ensures { IfOk result (λ missing. missing.items
-        ≡ missing_among categories.now plurals.now (inline_of selector.now)
-        (variants_of variants.now)) }
+        ≡ missing_of_these categories.now plurals.now selector.now variants.now) }
 {
     let rule = selector_rule(alloc, selector)?;
     if !has_any(variants, categories) {
@@ -87,8 +86,7 @@ fn lacking(
     variants: &[Variant<&str>],
 ) -> Result<Vec<PluralCategory>, AllocError>
     ensures { IfOk result (λ missing. missing.items
-        ≡ filter (lacks plurals.now rule (m.variant_keys (variants_of variants.now)))
-        categories.now) }
+        ≡ filter (is_lacking plurals.now rule variants.now) categories.now) }
 {
     categories
         .iter()

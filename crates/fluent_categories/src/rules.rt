@@ -6,6 +6,7 @@ ghost use Rattle.std.specs.List.{list_any, range_with_len};
 ghost use Rattle.std.specs.Str.{bytes_eq};
 ghost use Rattle.fluent_ast.specs.Borrowed.{inline_of, named_of};
 ghost use Rattle.fluent_findings.specs.MissingCategories as m;
+ghost use Rattle.fluent_findings.specs.MissingCategories.{same_category, whole_category};
 ghost use Rattle.fluent_value.specs.Matching as v;
 
 use fluent_ast::{InlineExpression, NamedArgument};
@@ -48,7 +49,7 @@ fn has_category_below(
     limit: u16,
 ) -> bool
     ensures { result ≡ list_any
-        (λ n. m.same_category (m.whole_category plurals.now rule n) category)
+        (λ n. same_category (whole_category plurals.now rule n) category)
         (range_with_len 0 limit) }
 {
     (0..limit).any(|n| has_category(plurals, rule, category, n))
@@ -61,7 +62,7 @@ fn has_category(
     category: PluralCategory,
     n: u16,
 ) -> bool
-    ensures { result ≡ m.same_category (m.whole_category plurals.now rule n) category }
+    ensures { result ≡ same_category (whole_category plurals.now rule n) category }
 {
     let number = FluentNumber::from(n);
     let found = plurals.category(rule, &PluralOperands::from(&number));

@@ -1,13 +1,12 @@
 //! The flaw of a node.
 #![tactic(auto)]
 
-ghost use Rattle.std.specs.Prelude.{◌≡◌, map, not, option_map, is_some};
+ghost use Rattle.std.specs.Prelude.{◌≡◌, map, not, option_copied, option_map, is_some};
 ghost use Rattle.std.specs.Option.{option_to_list};
 ghost use Rattle.fluent_ast.specs.Borrowed.{attributes_of, inline_of, name_of, variants_of};
 ghost use Rattle.fluent_findings.specs.EntryFindings.{node_flaws};
-ghost use Rattle.fluent_findings.specs.Flaws.{unresolved};
-ghost use Rattle.fluent_findings.specs.References.{function_error, reference_error, target_error};
-ghost use Rattle.fluent_flaws.specs.FlawView.{flaw_view};
+ghost use Rattle.fluent_findings.specs.References.{function_error, reference_error};
+ghost use Rattle.fluent_flaws.specs.FlawView.{IsFlawOf, IsFlawOfTarget, flaw_view};
 ghost use Rattle.fluent_ids.specs.IdsView.{ids_view};
 ghost use Rattle.fluent_meaning.specs.Choice.{first_default};
 ghost use Rattle.fluent_meaning.specs.Ids.{attribute_named, find};
@@ -54,9 +53,8 @@ fn reference_flaw<'a, 's, F>(
     ids: &FluentIds<'_, 's, F>,
     expression: &'a InlineExpression<&'s str>,
 ) -> Option<Flaw<'a, 's>>
-    ensures { option_map flaw_view result
-        ≡ option_map unresolved (reference_error (find (ids_view F ids.now))
-        (inline_of expression.now)) }
+    ensures { IsFlawOf result
+        (reference_error (find (ids_view F ids.now)) (inline_of expression.now)) }
 {
     match expression {
         InlineExpression::FunctionReference { id, .. } => function_flaw(ids, id.name),
@@ -75,8 +73,7 @@ fn reference_flaw<'a, 's, F>(
 
 /// What a call of a function of this name lacks.
 fn function_flaw<'a, 's, F>(ids: &FluentIds<'_, 's, F>, id: &'s str) -> Option<Flaw<'a, 's>>
-    ensures { option_map flaw_view result
-        ≡ option_map unresolved (function_error id.now (find (ids_view F ids.now) id.now)) }
+    ensures { IsFlawOf result (function_error id.now (find (ids_view F ids.now) id.now)) }
 {
     match ids.get(id) {
         Some(Entry::Function(_) | Entry::Number) => None,
@@ -90,9 +87,8 @@ fn message_flaw<'a, 's, F>(
     id: &'s str,
     attribute: Option<&'s str>,
 ) -> Option<Flaw<'a, 's>>
-    ensures { option_map flaw_view result ≡ option_map unresolved (target_error
-        (message_target id.now (option_map (λ s. s.now) attribute.entry)
-        (find (ids_view F ids.now) id.now))) }
+    ensures { IsFlawOfTarget result
+        (message_target id.now (option_copied attribute.entry) (find (ids_view F ids.now) id.now)) }
 {
     let unknown = Flaw::UnknownMessage { id, attribute };
     let Some(Entry::Message((_, message))) = ids.get(id) else {
@@ -112,9 +108,8 @@ fn term_flaw<'a, 's, F>(
     id: &'s str,
     attribute: Option<&'s str>,
 ) -> Option<Flaw<'a, 's>>
-    ensures { option_map flaw_view result ≡ option_map unresolved (target_error
-        (term_target id.now (option_map (λ s. s.now) attribute.entry)
-        (find (ids_view F ids.now) id.now))) }
+    ensures { IsFlawOfTarget result
+        (term_target id.now (option_copied attribute.entry) (find (ids_view F ids.now) id.now)) }
 {
     let unknown = Flaw::UnknownTerm { id, attribute };
     let Some(Entry::Term((_, term))) = ids.get(id) else {

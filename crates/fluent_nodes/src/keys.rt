@@ -1,12 +1,9 @@
 //! The keys of variants.
 #![tactic(auto)]
 
-ghost use Rattle.std.specs.Prelude.{◌≡◌, List, [], ◌∷◌, not, IfOk, OnOk};
-ghost use Rattle.std.specs.List.{list_any};
+ghost use Rattle.std.specs.Prelude.{[], IfOk, OnOk};
 ghost use Rattle.fluent_ast.specs.Borrowed.{key_of};
-ghost use Rattle.fluent_grammar.specs.Tree as t;
-ghost use Rattle.fluent_meaning.specs.Same.{same_key};
-ghost use Rattle.fluent_nodes.specs.HasKeys.{HasKeys};
+ghost use Rattle.fluent_nodes.specs.HasKeys.{GetsKey, HasKeys, IsNewKey};
 
 use fluent_ast::VariantKey;
 use std::alloc::{AllocError, Global};
@@ -35,10 +32,8 @@ impl<'s> Keys<'s> {
     /// # Errors
     /// [`AllocError`] if memory runs out; the keys are unchanged.
     pub fn insert(&mut self, key: &VariantKey<&'s str>) -> Result<bool, AllocError>
-        ensures is_new { IfOk result (λ is_new. (before : List t.VariantKey) →
-            HasKeys self.old before → is_new ≡ not (list_any (same_key (key_of key.now)) before)) }
-        ensures added { OnOk result ((before : List t.VariantKey) →
-            HasKeys self.old before → HasKeys self.new (key_of key.now ∷ before)) }
+        ensures is_new { IfOk result (IsNewKey self.old (key_of key.now)) }
+        ensures added { OnOk result (GetsKey self.old (key_of key.now) self.new) }
     {
         match key {
             VariantKey::Identifier { name } => Ok(self.identifiers.insert(*name)?),
