@@ -38,7 +38,7 @@ first_place s (place ∷ places) = place
 -- ---- what a node has
 
 -- a resolver error of a reference, a select without default variant, or a duplicate key
-abbrev pub node_flaws : Ids Text → Node → List Flaw
+abbrev pub node_flaws : {F : Type 0} → Ids F → Node → List Flaw
 node_flaws ids (expression i) = map unresolved (option_to_list (reference_error (find ids) i))
 node_flaws ids (select i vs) = default_flaws (first_default vs)
 node_flaws ids (repeated_key k) = duplicate_key k ∷ []
@@ -59,7 +59,7 @@ node_escapes _ = []
 
 -- ---- findings of an entry of this source
 
-module _ (ids : Ids Text) (plurals : Option LanguagePlurals) (source : Text) where
+module _ {F : Type 0} (ids : Ids F) (plurals : Option LanguagePlurals) (source : Text) where
   -- the offset at which an end of the source begins
   abbrev pub offset_of : Text → ℕ
   offset_of s = length source - length s

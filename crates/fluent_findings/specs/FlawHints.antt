@@ -14,7 +14,7 @@ use Rattle.fluent_findings.specs.Flaws.{Flaw, unresolved, duplicate_key}
 use Rattle.fluent_findings.specs.Comparison.{as_message}
 
 -- if a message of this id is missing
-abbrev pub message_hint : Text → Option (Meaning Text) → Option Text
+abbrev pub message_hint : {F : Type 0} → Text → Option (Meaning F) → Option Text
 message_hint id None = Some (codes "a variable is written " ++ in_backticks (dollar ∷ id))
 message_hint id (Some number_function) = None
 message_hint id (Some (function f)) = None
@@ -22,7 +22,7 @@ message_hint id (Some (message m)) = None
 message_hint id (Some (term m)) = Some (in_backticks (hyphen ∷ id) ++ codes " is a term")
 
 -- if a term of this id is missing
-abbrev pub term_hint : Text → Option (Meaning Text) → Option Text
+abbrev pub term_hint : {F : Type 0} → Text → Option (Meaning F) → Option Text
 term_hint id None = None
 term_hint id (Some number_function) = None
 term_hint id (Some (function f)) = None
@@ -38,7 +38,7 @@ abbrev pub value_hint : Option t.Message → Option Text
 value_hint None = None
 value_hint (Some m) = first_attribute_hint m.attributes
 
-module _ (ids : Ids Text) where
+module _ {F : Type 0} (ids : Ids F) where
   abbrev pub is_endless : Elements → Bool
   is_endless es = is_pattern_among es (endless_patterns ids)
 

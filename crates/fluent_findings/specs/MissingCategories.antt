@@ -30,7 +30,7 @@ whole_category plurals rule n = plurals_by plurals rule (operands_of (number_fro
 
 -- Some whole number below 1,000 has the category. Categories that only fractions and larger numbers have are hardly
 -- ever translated: `many` in French is for a million.
-abbrev pub is_common : LanguagePlurals → PluralRuleType → PluralCategory → Bool
+unfoldable pub is_common : LanguagePlurals → PluralRuleType → PluralCategory → Bool
 is_common plurals rule c = list_any (λ n. same_category (whole_category plurals rule n) c) (range_with_len 0 1000)
 
 -- ---- what a select has

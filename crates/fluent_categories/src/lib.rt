@@ -1,0 +1,10 @@
+//! The plural categories that a select lacks.
+//!
+//! [`node_categories`] lists the categories that a translator may have forgotten. `docs/lint.md` has the rule in plain
+//! words.
+#![tactic(auto)]
+
+mod missing;
+mod rules;
+
+pub use missing::node_categories;

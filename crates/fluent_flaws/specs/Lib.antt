@@ -1,0 +1,2 @@
+pub mod FlawView
+pub mod HintText

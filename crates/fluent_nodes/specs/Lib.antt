@@ -1,0 +1,2 @@
+pub mod NodeView
+pub mod HasKeys
