@@ -33,5 +33,5 @@ is_lacking plurals rule vs c = lacks plurals rule (variant_keys (variants_of vs)
 abbrev pub missing_of : LanguagePlurals → InlineExpression (Bor Text) → List (Variant (Bor Text)) → List PluralCategory
 missing_of plurals selector vs = missing_categories plurals (inline_of selector) (variants_of vs)
 
-abbrev pub missing_of_these : List PluralCategory → LanguagePlurals → InlineExpression (Bor Text) → List (Variant (Bor Text)) → List PluralCategory
-missing_of_these categories plurals selector vs = missing_among categories plurals (inline_of selector) (variants_of vs)
+abbrev pub missing_in : List PluralCategory → LanguagePlurals → InlineExpression (Bor Text) → List (Variant (Bor Text)) → List PluralCategory
+missing_in categories plurals selector vs = missing_among categories plurals (inline_of selector) (variants_of vs)

@@ -4,7 +4,7 @@
 ghost use Rattle.std.specs.Prelude.{◌≡◌, filter, IfOk};
 ghost use Rattle.std.specs.List.{list_any};
 ghost use Rattle.fluent_ast.specs.Borrowed.{key_of, variants_of};
-ghost use Rattle.fluent_categories.specs.MissingAmong.{is_lacking, missing_of, missing_of_these};
+ghost use Rattle.fluent_categories.specs.MissingAmong.{is_lacking, missing_of, missing_in};
 ghost use Rattle.fluent_findings.specs.EntryFindings as e;
 ghost use Rattle.fluent_findings.specs.MissingCategories as m;
 ghost use Rattle.fluent_nodes.specs.NodeView.{node_view};
@@ -68,7 +68,7 @@ fn missing_among(
     variants: &[Variant<&str>],
 ) -> Result<Vec<PluralCategory>, AllocError>
     ensures { IfOk result (λ missing. missing.items
-        ≡ missing_of_these categories.now plurals.now selector.now variants.now) }
+        ≡ missing_in categories.now plurals.now selector.now variants.now) }
 {
     let rule = selector_rule(alloc, selector)?;
     if !has_any(variants, categories) {

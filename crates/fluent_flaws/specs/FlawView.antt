@@ -21,5 +21,5 @@ abbrev pub IsFlawOf : Option Flaw → Option e.Unresolved → Type 0
 IsFlawOf flaw lack = option_map flaw_view flaw ≡ option_map f.unresolved lack
 
 -- the flaw of a reference to this target
-abbrev pub IsFlawOfTarget : Option Flaw → Target → Type 0
-IsFlawOfTarget flaw target = IsFlawOf flaw (target_error target)
+abbrev pub IsFlawAt : Option Flaw → Target → Type 0
+IsFlawAt flaw target = IsFlawOf flaw (target_error target)

@@ -6,7 +6,7 @@ ghost use Rattle.std.specs.Option.{option_to_list};
 ghost use Rattle.fluent_ast.specs.Borrowed.{attributes_of, inline_of, name_of, variants_of};
 ghost use Rattle.fluent_findings.specs.EntryFindings.{node_flaws};
 ghost use Rattle.fluent_findings.specs.References.{function_error, reference_error};
-ghost use Rattle.fluent_flaws.specs.FlawView.{IsFlawOf, IsFlawOfTarget, flaw_view};
+ghost use Rattle.fluent_flaws.specs.FlawView.{IsFlawOf, IsFlawAt, flaw_view};
 ghost use Rattle.fluent_ids.specs.IdsView.{ids_view};
 ghost use Rattle.fluent_meaning.specs.Choice.{first_default};
 ghost use Rattle.fluent_meaning.specs.Ids.{attribute_named, find};
@@ -87,7 +87,7 @@ fn message_flaw<'a, 's, F>(
     id: &'s str,
     attribute: Option<&'s str>,
 ) -> Option<Flaw<'a, 's>>
-    ensures { IsFlawOfTarget result
+    ensures { IsFlawAt result
         (message_target id.now (option_copied attribute.entry) (find (ids_view F ids.now) id.now)) }
 {
     let unknown = Flaw::UnknownMessage { id, attribute };
@@ -108,7 +108,7 @@ fn term_flaw<'a, 's, F>(
     id: &'s str,
     attribute: Option<&'s str>,
 ) -> Option<Flaw<'a, 's>>
-    ensures { IsFlawOfTarget result
+    ensures { IsFlawAt result
         (term_target id.now (option_copied attribute.entry) (find (ids_view F ids.now) id.now)) }
 {
     let unknown = Flaw::UnknownTerm { id, attribute };
