@@ -22,7 +22,7 @@ cp "$here/../syntax/src/clock.rs" "$built/src"
 
 # both MODE FILE..: what ours and the Rust crate's took, and the bytes of their texts, a line a file.
 both() {
-    (cd "$here/../../crates/fluent_bundle_bench" && rt run -- "$@" >"$built/ours" 2>"$built/log") ||
+    (cd "$here/../../crates/bench_bundle" && rt run -- "$@" >"$built/ours" 2>"$built/log") ||
         { cat "$built/log" >&2; exit 1; }
     "$built/target/release/bundles" "$@" >"$built/rust"
     paste -d ' ' "$built/ours" "$built/rust"

@@ -24,7 +24,7 @@ ROOT = Path(sys.argv[1] if len(sys.argv) > 1 else Path(__file__).parents[2]).res
 PAGES = [page for files in ('*.md', 'docs/**/*.md', 'crates/*/CALLING.md') for page in sorted(ROOT.glob(files))]
 SOURCES = sorted(ROOT.glob('crates/*/src/**/*.rt'))
 # Crates of rows, benchmarks and examples are programs of their own: nobody calls them.
-PRIVATE = re.compile(r'(_rows|_vectors|_trials|_bench)$|^(example_|all_rows)|^fluent_rows$')
+PRIVATE = re.compile(r'^(example_|rows_|all_rows|bench_)')
 LONGEST_CLAUSE, LONG_CLAUSE, LONG_CLAUSES = 200, 120, 20
 WIDEST = 120
 PROGRAM = ROOT / 'crates/ftl/out/ftl'
@@ -34,7 +34,7 @@ GLOSSARY = ROOT / 'docs/glossary.md'
 CALLED = '''
     fluent_ast fluent_parsed fluent_parser fluent_serializer fluent_unicode fluent_slice fluent_write fluent_syntax fluent_json
     fluent_json_read fluent_json_write fluent_number fluent_value fluent_plurals fluent_errors fluent_resource fluent_ids
-    fluent_bundle fluent_check fluent_tidy fluent_serve fluent_run fluent_desk fluent_kept fluent_calls fluent_c_calls fluent_c
+    fluent_bundle fluent_check fluent_tidy fluent_serve fluent_run fluent_desk fluent_kept fluent_c_calls fluent_c_calls fluent_c
 '''.split()
 INNER = {
     'fluent_parsed': ['Collected'],

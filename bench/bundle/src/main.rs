@@ -1,4 +1,4 @@
-//! Does with bundles of the Rust crate fluent-bundle what the program `fluent_bundle_bench` does with ours, on the same words, and
+//! Does with bundles of the Rust crate fluent-bundle what the program `bench_bundle` does with ours, on the same words, and
 //! prints the same: the least nanoseconds of processor time of some rounds, and the bytes of the texts.
 
 // It lies beside this file when run.sh builds it, and in bench/syntax/src else.

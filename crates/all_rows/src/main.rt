@@ -41,15 +41,15 @@ fn try_groups(rt: &HostRuntime) -> Result<()> {
 fn try_group(rt: &HostRuntime, name: &str) -> Result<()> {
     println!(rt; "-- {name}")?;
     match name {
-        "syntax" => fluent_vectors::try_all(rt),
-        "refused" => fluent_vectors::try_refused(rt),
-        "values" => fluent_value_rows::try_all(rt),
-        "bundles" => fluent_bundle_vectors::try_all(rt),
-        "patterns" => fluent_format_vectors::try_all(rt),
-        "memory" => fluent_run_vectors::try_memory(rt),
-        "requests" => fluent_run_vectors::try_all(rt),
-        "tidying" => fluent_desk_vectors::try_all(rt),
-        "ftl" => ftl_vectors::try_all(rt),
+        "syntax" => rows_syntax::try_all(rt),
+        "refused" => rows_syntax::try_refused(rt),
+        "values" => rows_values::try_all(rt),
+        "bundles" => rows_bundles::try_all(rt),
+        "patterns" => rows_patterns::try_all(rt),
+        "memory" => rows_requests::try_memory(rt),
+        "requests" => rows_requests::try_all(rt),
+        "tidying" => rows_tidying::try_all(rt),
+        "ftl" => rows_ftl::try_all(rt),
         _ => bail!("there are no rows of this name"),
     }
 }

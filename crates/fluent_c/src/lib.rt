@@ -1,6 +1,6 @@
 //! Fluent for programs in Rust and C: the texts of messages, from a bundle that is kept ([`fluent_bundle_new`]) or from sources, line
 //! by line ([`fluent_answer`]); what a source is made of, in numbers; and its tree as text, written back or as JSON. Each call makes
-//! the one of `fluent_calls` that does it.
+//! the one of `fluent_c_calls` that does it.
 //!
 //! A text that is returned is in memory of the library, which the caller frees by [`fluent_free_text`]; a bundle is freed by
 //! [`fluent_bundle_free`]. A program that calls the library links C's `malloc`, `realloc` and `free`, as `bindings/c/run.sh` does.
@@ -13,14 +13,14 @@ ghost use Rattle.fluent_syntax.specs.Tiling.{tree, errors, runtime_tree, runtime
 ghost use Rattle.fluent_syntax.specs.Written.{written_with};
 ghost use Rattle.fluent_json.specs.Json.{json};
 ghost use Rattle.ftl_report.specs.Report.{report_text};
-ghost use Rattle.fluent_calls.specs.Answering.{texts_of, AreUtf8, HoldsOther, IsAnswer, plurals_in};
-ghost use Rattle.fluent_calls.specs.Arguments.{AreTaken, HoldsBad};
-ghost use Rattle.fluent_calls.specs.Bundles.{AreNames, HasNoMessage, HasNoPattern, HasOther, HoldReply, Keeps, KeepsNone, KeepsSame, catalog_in, pattern_in, reply_in};
-ghost use Rattle.fluent_calls.specs.Counts.{Counted};
-ghost use Rattle.fluent_calls.specs.Made.{Holds, HoldsNone, HoldsSame};
-ghost use Rattle.fluent_calls.specs.Results.{IsOneOf};
+ghost use Rattle.fluent_c_calls.specs.Answering.{texts_of, AreUtf8, HoldsOther, IsAnswer, plurals_in};
+ghost use Rattle.fluent_c_calls.specs.Arguments.{AreTaken, HoldsBad};
+ghost use Rattle.fluent_c_calls.specs.Bundles.{AreNames, HasNoMessage, HasNoPattern, HasOther, HoldReply, Keeps, KeepsNone, KeepsSame, catalog_in, pattern_in, reply_in};
+ghost use Rattle.fluent_c_calls.specs.Counts.{Counted};
+ghost use Rattle.fluent_c_calls.specs.Made.{Holds, HoldsNone, HoldsSame};
+ghost use Rattle.fluent_c_calls.specs.Results.{IsOneOf};
 
-use fluent_calls::{
+use fluent_c_calls::{
     FluentArgument, FluentBundle, FluentCounts, FluentSource, FluentText, Form, Reading, answer,
     bundle_errors, bundle_format, bundle_free, bundle_has, bundle_new, count, hand_out,
 };
@@ -28,8 +28,8 @@ use std::alloc::Global;
 
 /// Counts the entries and the errors of a source, comments included.
 ///
-/// `text` is the source's bytes. The answer is [`FLUENT_READ`](fluent_calls::FLUENT_READ), also if the source has errors;
-/// [`FLUENT_NOT_UTF8`](fluent_calls::FLUENT_NOT_UTF8) or [`FLUENT_NO_MEMORY`](fluent_calls::FLUENT_NO_MEMORY) otherwise, and
+/// `text` is the source's bytes. The answer is [`FLUENT_READ`](fluent_c_calls::FLUENT_READ), also if the source has errors;
+/// [`FLUENT_NOT_UTF8`](fluent_c_calls::FLUENT_NOT_UTF8) or [`FLUENT_NO_MEMORY`](fluent_c_calls::FLUENT_NO_MEMORY) otherwise, and
 /// `counts` is unchanged then. All memory is freed when it returns.
 #[unsafe(no_mangle)]
 pub extern "C" fn fluent_parse(alloc: Global, text: &[u8], counts: &mut FluentCounts) -> u32
@@ -99,7 +99,7 @@ pub extern "C" fn fluent_write_json(alloc: Global, text: &[u8], made: &mut Fluen
 /// answer are, and `docs/plurals.md` which locales have plural rules.
 ///
 /// The answers are those of [`fluent_write`], also if a request is bad; and
-/// [`FLUENT_UNKNOWN_LOCALE`](fluent_calls::FLUENT_UNKNOWN_LOCALE) if the locale has no plural rules.
+/// [`FLUENT_UNKNOWN_LOCALE`](fluent_c_calls::FLUENT_UNKNOWN_LOCALE) if the locale has no plural rules.
 #[unsafe(no_mangle)]
 pub extern "C" fn fluent_answer(
     alloc: Global,
@@ -158,16 +158,16 @@ pub extern "C" fn fluent_bundle_new(
 /// Formats a message of a bundle with these arguments: its value if `attribute` is empty, and otherwise its first
 /// attribute of that name.
 ///
-/// The answer is [`FLUENT_READ`](fluent_calls::FLUENT_READ) also if there are errors: then `text` holds the text and `errors` a line
+/// The answer is [`FLUENT_READ`](fluent_c_calls::FLUENT_READ) also if there are errors: then `text` holds the text and `errors` a line
 /// for each error, or no text if there are none, and what `errors` held before is freed. The memory of what `text` held is kept with
 /// the new text, and the next answer is written into it: an answer allocates nothing for its text if that suffices.
 ///
-/// The answer is [`FLUENT_NOT_UTF8`](fluent_calls::FLUENT_NOT_UTF8) if the id, a name or a text isn't UTF-8,
-/// [`FLUENT_BAD_ARGUMENT`](fluent_calls::FLUENT_BAD_ARGUMENT) if an argument's kind isn't known or its decimal is no number,
-/// [`FLUENT_NO_MESSAGE`](fluent_calls::FLUENT_NO_MESSAGE) if there is no message of the id,
-/// [`FLUENT_NO_PATTERN`](fluent_calls::FLUENT_NO_PATTERN) if the message lacks the value or the attribute,
-/// [`FLUENT_NO_BUNDLE`](fluent_calls::FLUENT_NO_BUNDLE) if there is no bundle, and
-/// [`FLUENT_NO_MEMORY`](fluent_calls::FLUENT_NO_MEMORY) otherwise: then both texts hold what they held. The bundle is as it was in
+/// The answer is [`FLUENT_NOT_UTF8`](fluent_c_calls::FLUENT_NOT_UTF8) if the id, a name or a text isn't UTF-8,
+/// [`FLUENT_BAD_ARGUMENT`](fluent_c_calls::FLUENT_BAD_ARGUMENT) if an argument's kind isn't known or its decimal is no number,
+/// [`FLUENT_NO_MESSAGE`](fluent_c_calls::FLUENT_NO_MESSAGE) if there is no message of the id,
+/// [`FLUENT_NO_PATTERN`](fluent_c_calls::FLUENT_NO_PATTERN) if the message lacks the value or the attribute,
+/// [`FLUENT_NO_BUNDLE`](fluent_c_calls::FLUENT_NO_BUNDLE) if there is no bundle, and
+/// [`FLUENT_NO_MEMORY`](fluent_c_calls::FLUENT_NO_MEMORY) otherwise: then both texts hold what they held. The bundle is as it was in
 /// each case.
 #[unsafe(no_mangle)]
 pub extern "C" fn fluent_bundle_format<'a>(
@@ -199,11 +199,11 @@ pub extern "C" fn fluent_bundle_format<'a>(
 
 /// Whether a bundle has what is asked for: a message's value, or its first attribute of a name, and the value for the empty name.
 ///
-/// The answer is [`FLUENT_READ`](fluent_calls::FLUENT_READ) if it has,
-/// [`FLUENT_NO_MESSAGE`](fluent_calls::FLUENT_NO_MESSAGE) if there is no message of the id,
-/// [`FLUENT_NO_PATTERN`](fluent_calls::FLUENT_NO_PATTERN) if the message lacks the value or the attribute,
-/// [`FLUENT_NOT_UTF8`](fluent_calls::FLUENT_NOT_UTF8) if the id or the name isn't UTF-8, and
-/// [`FLUENT_NO_BUNDLE`](fluent_calls::FLUENT_NO_BUNDLE) if there is no bundle. It doesn't allocate.
+/// The answer is [`FLUENT_READ`](fluent_c_calls::FLUENT_READ) if it has,
+/// [`FLUENT_NO_MESSAGE`](fluent_c_calls::FLUENT_NO_MESSAGE) if there is no message of the id,
+/// [`FLUENT_NO_PATTERN`](fluent_c_calls::FLUENT_NO_PATTERN) if the message lacks the value or the attribute,
+/// [`FLUENT_NOT_UTF8`](fluent_c_calls::FLUENT_NOT_UTF8) if the id or the name isn't UTF-8, and
+/// [`FLUENT_NO_BUNDLE`](fluent_c_calls::FLUENT_NO_BUNDLE) if there is no bundle. It doesn't allocate.
 #[unsafe(no_mangle)]
 pub extern "C" fn fluent_bundle_has<'a>(
     alloc: Global,
@@ -227,8 +227,8 @@ pub extern "C" fn fluent_bundle_has<'a>(
 /// Reports what a check of a bundle's sources finds, as the command `ftl check` does: a line for each error and for each
 /// message or term whose id was there before it, or the empty text.
 ///
-/// The answer is [`FLUENT_READ`](fluent_calls::FLUENT_READ), [`FLUENT_NO_BUNDLE`](fluent_calls::FLUENT_NO_BUNDLE) if there is no
-/// bundle, or [`FLUENT_NO_MEMORY`](fluent_calls::FLUENT_NO_MEMORY): then `report` holds what it held.
+/// The answer is [`FLUENT_READ`](fluent_c_calls::FLUENT_READ), [`FLUENT_NO_BUNDLE`](fluent_c_calls::FLUENT_NO_BUNDLE) if there is no
+/// bundle, or [`FLUENT_NO_MEMORY`](fluent_c_calls::FLUENT_NO_MEMORY): then `report` holds what it held.
 #[unsafe(no_mangle)]
 pub extern "C" fn fluent_bundle_errors(
     alloc: Global,

@@ -1,0 +1,170 @@
+//! Bundles that a caller which isn't Rattle keeps from call to call.
+
+ghost use Rattle.std.specs.Prelude.{◌≡◌, ◌≢◌, ◌∷◌, [], true, IfErr, IfOk, IsSome, IsSomeAnd, None, map, string_bytes};
+ghost use Rattle.fluent_serve.specs.Texts.{texts};
+ghost use Rattle.ftl_report.specs.Report.{report_text};
+ghost use Rattle.fluent_c_calls.specs.Answering.{AreUtf8, HoldsOther, plurals_in, texts_of};
+ghost use Rattle.fluent_c_calls.specs.Bundles.{AreNames, HasNoMessage, HasNoPattern, Keeps, KeepsNone, KeepsSame, catalog_in, pattern_in};
+ghost use Rattle.fluent_c_calls.specs.Made.{Holds, HoldsSame};
+ghost use Rattle.fluent_c_calls.specs.Results.{IsOneOf};
+ghost use Rattle.fluent_c_calls.specs.declared.answering.Refusal.TheVariants.{NotUtf8, UnknownLocale};
+
+use crate::answering::{FluentSource, Refusal, are_utf8, plurals_of, read_sources};
+use crate::filling::fill;
+use crate::names::names_of;
+use crate::text::FluentText;
+use crate::{
+    FLUENT_NO_BUNDLE, FLUENT_NO_MEMORY, FLUENT_NO_MESSAGE, FLUENT_NO_PATTERN, FLUENT_NOT_UTF8,
+    FLUENT_READ, FLUENT_UNKNOWN_LOCALE,
+};
+use fluent_kept::{Answer, FluentBundle, Question, Sources};
+use fluent_run::Settings;
+use std::alloc::{AllocError, Global};
+
+/// Copies of texts, in their order.
+///
+/// # Errors
+/// [`AllocError`] if memory runs out; nothing is left behind.
+fn copied(alloc: Global, borrowed: &[&str]) -> Result<Vec<String>, AllocError>
+    ensures { IfOk result (λ owned. map string_bytes owned.items ≡ texts borrowed.now) }
+{
+    let mut owned = Vec::with_capacity(alloc, borrowed.len())?;
+    for text in borrowed {
+        owned.push(String::from_str(alloc, text)?)?;
+    }
+    Ok(owned)
+}
+
+/// A bundle of copies of sources.
+///
+/// # Errors
+/// [`Refusal::UnknownLocale`] if the locale has no plural rules, [`Refusal::NotUtf8`] if a source isn't UTF-8, and
+/// [`Refusal::Memory`] if memory runs out; nothing is left behind.
+fn kept(
+    alloc: Global,
+    sources: &[FluentSource<'_>],
+    locale: &[u8],
+    settings: Settings,
+) -> Result<FluentBundle, Refusal>
+    ensures kept { IfOk result (λ made. IsSomeAnd (catalog_in locale.now settings.isolating
+        settings.overriding (texts_of sources.now)) (Keeps made)) }
+    ensures not_utf8 { IfErr result (λ refusal. refusal ≡ NotUtf8 → HoldsOther sources.now) }
+    ensures unknown { IfErr result (λ refusal. refusal ≡ UnknownLocale
+        → plurals_in locale.now ≡ None) }
+{
+    let Some(plurals) = plurals_of(locale) else {
+        return Err(Refusal::UnknownLocale);
+    };
+    let borrowed = read_sources(alloc, sources)?;
+    let texts = copied(alloc, &borrowed)?;
+    let sources = Sources {
+        texts,
+        settings,
+        plurals,
+    };
+    Ok(FluentBundle::new(alloc, sources)?)
+}
+
+/// Reads sources, and keeps a bundle of them, which answers as [`answer`](crate::answer) does.
+///
+/// The sources are copied. The settings and the locale are those of [`answer`](crate::answer). The answer is [`FLUENT_READ`], also
+/// if a source has errors: then `made` keeps the bundle, and what it kept before is freed. The answer is [`FLUENT_NOT_UTF8`] if a
+/// source isn't UTF-8, which is seen before anything is allocated, [`FLUENT_UNKNOWN_LOCALE`] if the locale has no
+/// plural rules, or [`FLUENT_NO_MEMORY`] otherwise, and `made` is unchanged then.
+pub fn bundle_new(
+    alloc: Global,
+    sources: &[FluentSource<'_>],
+    locale: &[u8],
+    isolating: bool,
+    overriding: bool,
+    made: &mut FluentBundle,
+) -> u32
+    ensures decided { IsOneOf result (0 ∷ 1 ∷ 2 ∷ 3 ∷ []) }
+    ensures made { result ≡ 0 → IsSomeAnd (catalog_in locale.now isolating overriding
+        (texts_of sources.now)) (Keeps made.new) }
+    ensures utf8 { result ≢ 1 → AreUtf8 sources.now }
+    ensures not_utf8 { result ≡ 1 → HoldsOther sources.now }
+    ensures unknown { result ≡ 3 → plurals_in locale.now ≡ None }
+    ensures unchanged { result ≢ 0 → made.new ≡ made.old }
+{
+    if !are_utf8(sources) {
+        return FLUENT_NOT_UTF8;
+    }
+    let settings = Settings {
+        isolating,
+        overriding,
+    };
+    match kept(alloc, sources, locale, settings) {
+        Ok(bundle) => {
+            made.put(alloc, bundle);
+            FLUENT_READ
+        }
+        Err(Refusal::NotUtf8) => FLUENT_NOT_UTF8,
+        Err(Refusal::UnknownLocale) => FLUENT_UNKNOWN_LOCALE,
+        Err(Refusal::Memory) => FLUENT_NO_MEMORY,
+    }
+}
+
+/// Whether a bundle has what is asked for: a message's value, or its first attribute of a name, and the value for the empty name.
+///
+/// The answer is [`FLUENT_READ`] if it has, [`FLUENT_NO_MESSAGE`] if there is no message of the id, [`FLUENT_NO_PATTERN`] if the
+/// message lacks the value or the attribute, [`FLUENT_NOT_UTF8`] if the id or the name isn't UTF-8, and [`FLUENT_NO_BUNDLE`] if there
+/// is no bundle. It doesn't allocate.
+pub fn bundle_has<'a>(
+    alloc: Global,
+    bundle: &mut FluentBundle,
+    id: &'a [u8],
+    attribute: &'a [u8],
+) -> u32
+    ensures decided { IsOneOf result (0 ∷ 1 ∷ 4 ∷ 5 ∷ 7 ∷ []) }
+    ensures found { result ≡ 0 → IsSome (pattern_in bundle.old id.now attribute.now) }
+    ensures bundle { IsOneOf result (0 ∷ 4 ∷ 5 ∷ []) → bundle.old.held ≡ true }
+    ensures names { result ≢ 1 → AreNames id.now attribute.now }
+    ensures not_utf8 { result ≡ 1 → ¬ (AreNames id.now attribute.now) }
+    ensures no_message { result ≡ 4 → HasNoMessage bundle.old id.now }
+    ensures no_pattern { result ≡ 5 → HasNoPattern bundle.old id.now attribute.now }
+    ensures no_bundle { result ≡ 7 → KeepsNone bundle.old }
+    ensures kept { KeepsSame bundle.new bundle.old }
+{
+    let Some((id, attribute)) = names_of(id, attribute) else {
+        return FLUENT_NOT_UTF8;
+    };
+    match bundle.ask(alloc, &Question::Has { id, attribute }) {
+        Some(Answer::Found) => FLUENT_READ,
+        Some(Answer::NoMessage) => FLUENT_NO_MESSAGE,
+        Some(Answer::NoPattern) => FLUENT_NO_PATTERN,
+        Some(Answer::Memory | Answer::Reply(_) | Answer::Report(_)) => unreachable!(),
+        None => FLUENT_NO_BUNDLE,
+    }
+}
+
+/// Reports what a check of a bundle's sources finds, as the command `ftl check` does: a line for each error and for each
+/// message or term whose id was there before it, or the empty text.
+///
+/// The answer is [`FLUENT_READ`], [`FLUENT_NO_BUNDLE`] if there is no bundle, or [`FLUENT_NO_MEMORY`]. If it isn't
+/// [`FLUENT_READ`], `report` holds what it held.
+pub fn bundle_errors(alloc: Global, bundle: &mut FluentBundle, report: &mut FluentText) -> u32
+    ensures decided { IsOneOf result (0 ∷ 2 ∷ 7 ∷ []) }
+    ensures told { result ≡ 0 → Holds report.new (report_text bundle.old.catalog.sources) }
+    ensures bundle { result ≢ 7 → bundle.old.held ≡ true }
+    ensures no_bundle { result ≡ 7 → KeepsNone bundle.old }
+    ensures kept { KeepsSame bundle.new bundle.old }
+    ensures unchanged { result ≢ 0 → HoldsSame report.new report.old }
+{
+    let text = match bundle.ask(alloc, &Question::Report) {
+        Some(Answer::Report(text)) => text,
+        Some(_) => return FLUENT_NO_MEMORY,
+        None => return FLUENT_NO_BUNDLE,
+    };
+    match fill(report, alloc, text.into_bytes()) {
+        Ok(()) => FLUENT_READ,
+        Err(_) => FLUENT_NO_MEMORY,
+    }
+}
+
+/// Frees a bundle, if there is one. There is none then.
+pub fn bundle_free(alloc: Global, bundle: &mut FluentBundle)
+    ensures { KeepsNone bundle.new }
+{
+    bundle.clear(alloc);
+}

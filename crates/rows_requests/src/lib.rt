@@ -1,0 +1,55 @@
+//! Answers the request lines of `rows.jsonl` by `fluent_run::run`, over devices in memory that give and take little at a
+//! time or fail, and prints of each kind how many runs there were and how many of them ended in another way than they must.
+//! Readers that don't end are tried with few calls of `read`, and the calls for C on a few sources.
+//!
+//! The rows of `memory.jsonl` are tried also where an allocation is refused. The files stand in `crates/all_rows/data/requests`.
+#![tactic(auto)]
+
+mod bundles;
+mod calls;
+mod case;
+mod cuts;
+mod devices;
+mod endless;
+mod json;
+mod memory;
+mod pieces;
+mod rows;
+mod script;
+mod writes;
+
+use anyhow::Result;
+use bundles::try_bundles;
+use calls::try_calls;
+use endless::try_endless;
+use rows::Tallies;
+use rows_common::tell;
+
+/// Tries the rows of `memory.jsonl`, also where an allocation is refused.
+pub fn try_memory(rt: &HostRuntime) -> Result<()> {
+    tell(rt, "memory", "runs", rows::try_memory(rt)?)?;
+    Ok(())
+}
+
+/// Tries all else.
+pub fn try_all(rt: &HostRuntime) -> Result<()> {
+    tell_all(rt, rows::try_rows(rt)?)?;
+    tell(
+        rt,
+        "readers without an end",
+        "runs",
+        try_endless(rt.alloc()),
+    )?;
+    tell(rt, "calls for C", "runs", try_calls(rt.alloc()))?;
+    tell(rt, "bundles for C", "runs", try_bundles(rt.alloc()))?;
+    Ok(())
+}
+
+fn tell_all(rt: &HostRuntime, tallies: Tallies) -> Result<()> {
+    tell(rt, "rows", "runs", tallies.rows)?;
+    tell(rt, "pieces", "runs", tallies.pieces)?;
+    tell(rt, "failed reads", "runs", tallies.cuts)?;
+    tell(rt, "failed writes", "runs", tallies.writes)?;
+    tell(rt, "buffers", "runs", tallies.buffers)?;
+    Ok(())
+}
