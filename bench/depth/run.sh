@@ -1,7 +1,7 @@
 #!/bin/sh
 # Gives the program `ftl` sources that nest deep, on a stack of 8 MB, and prints a table: for each shape and command the
 # greatest depth that is answered, to one per cent. Each power of ten from 10 to 1,000,000 is tried. A deeper source has
-# to end in `ftl: out of memory`: see docs/grammar.md. It ends with 1 if a run ends by a signal.
+# to end in `ftl: out of memory`: see docs/reference/grammar.md. It ends with 1 if a run ends by a signal.
 #
 #   run.sh
 #

@@ -1,8 +1,9 @@
 #!/bin/sh
 # Tidies real files by the program `ftl`: `clean`, `normalize`, `export` and `import` of each, and `join` of all. Prints how many
 # times as long as reading these take on the sources of many files, by processor time; how many files have a normal text, and which
-# of the five shapes of docs/normal-text.md those hold that have none; and whether every message and attribute is answered the same
-# from a file as from its cut text, its normal text, and all files joined. It ends with 1 where something was not as it has to be.
+# of the five shapes of docs/reference/normal-text.md those hold that have none; and whether every message and attribute
+# is answered the same from a file as from its cut text, its normal text, and all files joined. It ends with 1 where
+# something was not as it has to be.
 #
 #   run.sh CORPUS
 #

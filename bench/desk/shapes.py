@@ -1,4 +1,4 @@
-"""Which of the five shapes of docs/normal-text.md a source holds, by their names here.
+"""Which of the five shapes of docs/reference/normal-text.md a source holds, by their names here.
 
 The source has neither carriage returns nor anything that can't be read. Two shapes are seen in its text, three in its tree.
 """

@@ -85,12 +85,12 @@ struct FluentSource {
  *
  * A request line is an id, a dot and the name of an attribute if you ask for one, and arguments `name=value`, each
  * after a tab. The answer to it is a line `ok B E`, the text of B bytes, and E lines of errors; or a line `none` or
- * `bad`. docs/protocol.md has the rules.
+ * `bad`. docs/reference/protocol.md has the rules.
  *
  * Sources may call the function NUMBER. The plural rules of `locale` choose variants: it is a tag such as "pl" or
- * "pt-PT", and the empty tag has the rules of English. docs/plurals.md says which locales have rules. If `isolating` is
- * true, placeables are between the marks U+2068 and U+2069. Of duplicate ids the last entry counts if `overriding` is
- * true, and else the first. If a source has errors, only its junk is left out.
+ * "pt-PT", and the empty tag has the rules of English. docs/reference/plurals.md says which locales have rules. If
+ * `isolating` is true, placeables are between the marks U+2068 and U+2069. Of duplicate ids the last entry counts if
+ * `overriding` is true, and else the first. If a source has errors, only its junk is left out.
  *
  * It returns FLUENT_READ, also if a source has errors or a request is bad; FLUENT_NOT_UTF8 if a source isn't UTF-8;
  * FLUENT_UNKNOWN_LOCALE if the locale has no plural rules; or FLUENT_NO_MEMORY.

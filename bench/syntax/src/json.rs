@@ -1,5 +1,5 @@
-//! The JSON text of a tree of the Rust crate, as `docs/json.md` has it: compact, the keys of each object in the order
-//! of their bytes.
+//! The JSON text of a tree of the Rust crate, as `docs/reference/json.md` has it: compact, the keys of each object in
+//! the order of their bytes.
 
 use fluent_syntax::ast::{
     Attribute, CallArguments, Comment, Entry, Expression, Identifier, InlineExpression,

@@ -70,7 +70,8 @@ fn mail_args(alloc: Global, count: u32) -> Result<FluentArgs<'static, Day>> {
     Ok(args)
 }
 
-/// Prints the text of a message. Whatever is missing is written in braces, and the errors say why: see `docs/errors.md`.
+/// Prints the text of a message. Whatever is missing is written in braces, and the errors say why: see
+/// `docs/reference/errors.md`.
 fn say<'r, 's: 'r>(
     rt: &HostRuntime,
     bundle: &Bundle<'r, 's>,

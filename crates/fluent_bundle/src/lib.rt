@@ -22,7 +22,7 @@
 //!
 //! `crates/example_hello` is this program, whole, and `crates/example_bundle` one with a function and a type of its own. Contracts
 //! speak of a bundle through what it holds, the record of `specs/Contents.antt`, and of patterns by the definitions of
-//! `fluent_meaning`. `docs/bundles.md` has the rules in plain words.
+//! `fluent_meaning`. `docs/reference/bundles.md` has the rules in plain words.
 
 pub mod builtins;
 pub mod bundle;

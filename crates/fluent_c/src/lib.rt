@@ -95,8 +95,8 @@ pub extern "C" fn fluent_write_json(alloc: Global, text: &[u8], made: &mut Fluen
 ///
 /// The function `NUMBER` is there, and variants are chosen by the plural rules of the locale, a tag such as `pl` or `pt-PT`, and by
 /// those of English if it is empty. Placeables are between marks if `isolating` is true. Of duplicate ids the last
-/// entry counts if `overriding` is true, and otherwise the first. `docs/protocol.md` says what a request line and its
-/// answer are, and `docs/plurals.md` which locales have plural rules.
+/// entry counts if `overriding` is true, and otherwise the first. `docs/reference/protocol.md` says what a request line
+/// and its answer are, and `docs/reference/plurals.md` which locales have plural rules.
 ///
 /// The answers are those of [`fluent_write`], also if a request is bad; and
 /// [`FLUENT_UNKNOWN_LOCALE`](fluent_c_calls::FLUENT_UNKNOWN_LOCALE) if the locale has no plural rules.

@@ -142,8 +142,8 @@ fn answered(
 ///
 /// The function `NUMBER` is there, and variants are chosen by the plural rules of the locale, a tag such as `pl` or `pt-PT`, and by
 /// those of English if it is empty. Placeables are between marks if `isolating` is true. Of duplicate ids the last
-/// entry counts if `overriding` is true, and otherwise the first. `docs/protocol.md` says what a request line and its
-/// answer are, and `docs/plurals.md` which locales have plural rules.
+/// entry counts if `overriding` is true, and otherwise the first. `docs/reference/protocol.md` says what a request line
+/// and its answer are, and `docs/reference/plurals.md` which locales have plural rules.
 ///
 /// The answer is [`FLUENT_READ`], also if a source has errors or a request is bad: then `made` holds the answers, and
 /// what it held before is freed. The answer is [`FLUENT_NOT_UTF8`] if a source isn't UTF-8, which is seen before

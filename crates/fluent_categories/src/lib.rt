@@ -1,7 +1,7 @@
 //! The plural categories that a select lacks.
 //!
-//! [`node_categories`] lists the categories that a translator may have forgotten. `docs/lint.md` has the rule in plain
-//! words.
+//! [`node_categories`] lists the categories that a translator may have forgotten. `docs/reference/lint.md` has the rule
+//! in plain words.
 #![tactic(auto)]
 
 mod missing;

@@ -1,7 +1,8 @@
 //! The elements of a pattern while it is read.
 //!
 //! [`Gathered`] takes them one by one, each text at the start of a line with its indent, and gives the pattern once the
-//! common indent is known. What a pattern gives is defined in `fluent_grammar` (`Lines`); `docs/grammar.md` has it in words.
+//! common indent is known. What a pattern gives is defined in `fluent_grammar` (`Lines`); `docs/reference/grammar.md`
+//! has it in words.
 #![tactic(auto)]
 
 mod dedent;

@@ -65,7 +65,7 @@ impl From<ResolverError> for FluentError {
     }
 }
 
-/// The text of `docs/errors.md`.
+/// The text of `docs/reference/errors.md`.
 impl fmt::Display for FluentError {
     ghost output = { λ error. Some (bundle_text (bundle_view error)) };
 

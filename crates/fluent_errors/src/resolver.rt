@@ -53,7 +53,7 @@ impl ResolverError {
     }
 }
 
-/// The text of `docs/errors.md`.
+/// The text of `docs/reference/errors.md`.
 impl fmt::Display for ResolverError {
     ghost output = { λ error. Some (resolver_text (resolver_view error)) };
 

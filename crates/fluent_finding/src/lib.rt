@@ -2,7 +2,7 @@
 //!
 //! A [`Finding`] stands in a [`File`]; [`FileFindings`] are those of one file. `crates/fluent_findings` defines which
 //! findings a catalog has, and `specs/View.antt` says which of its records each type here stands for.
-//! `docs/lint.md` lists the codes.
+//! `docs/reference/lint.md` lists the codes.
 #![tactic(auto)]
 
 mod records;

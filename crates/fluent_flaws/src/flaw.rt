@@ -11,7 +11,8 @@ use fluent_ast::VariantKey;
 use fluent_finding::Severity;
 use std::fmt;
 
-/// What is wrong with a node of a pattern, whatever the arguments of a request are. Its text is that of `docs/lint.md`.
+/// What is wrong with a node of a pattern, whatever the arguments of a request are. Its text is that of
+/// `docs/reference/lint.md`.
 #[derive(Clone, Copy)]
 pub enum Flaw<'a, 's> {
     /// There is no function of this name.

@@ -14,7 +14,7 @@ use crate::flaw::Flaw;
 use fluent_ids::{Entry, FluentIds};
 use std::fmt;
 
-/// What may be the cause of a flaw. Its text is that of `docs/lint.md`.
+/// What may be the cause of a flaw. Its text is that of `docs/reference/lint.md`.
 #[derive(Clone, Copy)]
 pub enum Hint<'s> {
     /// A variable of this name may be meant.

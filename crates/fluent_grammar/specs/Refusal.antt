@@ -2,9 +2,10 @@
 use Rattle.std.specs.Prelude.{ℕ}
 use Rattle.fluent_grammar.specs.Words.{Text}
 
--- The kinds of refusals; docs/grammar.md says where each is found. The number of `expected_token` is the byte of the token.
--- `expected_letter`, `expected_digit` and `expected_line_end` are the three ranges that can be expected: letters, digits,
--- and the characters of a line end. The texts are an entry's name, an escape's text or an argument's name.
+-- The kinds of refusals; docs/reference/grammar.md says where each is found. The number of `expected_token` is the byte
+-- of the token. `expected_letter`, `expected_digit` and `expected_line_end` are the three ranges that can be expected:
+-- letters, digits, and the characters of a line end. The texts are an entry's name, an escape's text or an argument's
+-- name.
 pub data Kind : Type 0 where
   expected_token : ℕ → Kind
   expected_letter : Kind

@@ -1,4 +1,5 @@
--- The written text of a tree: signs at their levels, one after the other, and how they are laid out (docs/written-text.md).
+-- The written text of a tree: signs at their levels, one after the other, and how they are laid out
+-- (docs/reference/written-text.md).
 use Rattle.std.specs.Prelude.{ℕ, zero, suc, ◌+◌, ◌-◌, ◌*◌, Bool, true, false, not, ◌&&◌, ◌||◌, ◌==◌, if◌then◌else◌, List, [], ◌∷◌, ◌++◌, length, replicate, Option, Some, None}
 use Rattle.std.specs.List.{list_any}
 use Rattle.std.specs.Str.{trim_end}

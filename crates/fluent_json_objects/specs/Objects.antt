@@ -1,4 +1,4 @@
--- The objects of a tree's JSON value, as `docs/json.md` has them in a table.
+-- The objects of a tree's JSON value, as `docs/reference/json.md` has them in a table.
 use Rattle.std.specs.Prelude.{ℕ, Bool, List, [], ◌∷◌, codes}
 use Rattle.serde_json.specs.Data.{Data, boolean, string, array, object, Items, Members, no_members, put}
 

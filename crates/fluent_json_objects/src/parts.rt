@@ -1,4 +1,4 @@
-//! The parts of the objects of a tree's JSON value, one function for each row of `docs/json.md`.
+//! The parts of the objects of a tree's JSON value, one function for each row of `docs/reference/json.md`.
 //!
 //! Each gives the values of an object's keys, or None if the value isn't that object: if a key is unknown or
 //! missing, the `type` is another one, or a text, an array or a truth value is something else.

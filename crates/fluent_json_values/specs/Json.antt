@@ -1,4 +1,4 @@
--- The JSON value of a tree, as `docs/json.md` has it: which object of the table each part is.
+-- The JSON value of a tree, as `docs/reference/json.md` has it: which object of the table each part is.
 use Rattle.std.specs.Prelude.{◌≡◌, ◌≢◌, ℕ, false, List, [], ◌∷◌, Option, Some, None}
 use Rattle.serde_json.specs.Data.{Data, null, string, Items, no_items, item}
 use Rattle.fluent_grammar.specs.Tree as t

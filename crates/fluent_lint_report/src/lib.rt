@@ -2,7 +2,7 @@
 //!
 //! [`report`] writes all findings of a catalog in one [`Format`], and a [`Summary`] for each file if there is a
 //! reference. [`has_failed`] says whether the status is that of a failure. The texts are those of
-//! `crates/fluent_findings/specs/Output.antt`; `docs/lint.md` shows them.
+//! `crates/fluent_findings/specs/Output.antt`; `docs/reference/lint.md` shows them.
 #![tactic(auto)]
 
 mod commands;

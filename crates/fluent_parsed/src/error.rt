@@ -27,7 +27,7 @@ pub enum Error<S> {
     Memory,
 }
 
-/// The text of `docs/errors.md`.
+/// The text of `docs/reference/errors.md`.
 impl<S> fmt::Display for Error<S> {
     ghost output = { λ error. Some (error_text S error) };
 

@@ -1,7 +1,7 @@
 //! Reading a source into its tree.
 //!
 //! [`parse`] reads everything, [`parse_runtime`] passes comments over. What a source says is defined in
-//! `fluent_grammar`; `docs/grammar.md` has it in words. Offsets and lengths are in bytes.
+//! `fluent_grammar`; `docs/reference/grammar.md` has it in words. Offsets and lengths are in bytes.
 #![tactic(auto)]
 
 mod arguments;

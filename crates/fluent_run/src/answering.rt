@@ -19,8 +19,8 @@ use std::alloc::Global;
 const READS: u64 = 4_294_967_296;
 
 /// Answers each line of the input from the messages and terms of `sources`, in their order, and writes nothing else: see
-/// `docs/protocol.md`. The function `NUMBER` comes before them, and junk is passed over. Variants are chosen by
-/// `plurals`.
+/// `docs/reference/protocol.md`. The function `NUMBER` comes before them, and junk is passed over. Variants are chosen
+/// by `plurals`.
 ///
 /// The input is read in blocks of at most 8,192 bytes, and each line is answered as soon as it is complete. An answer is
 /// complete before its first byte is written.

@@ -1,7 +1,8 @@
 //! Writing a tree as the text of a source.
 //!
 //! Writing goes by pieces: signs, names, texts and raw literals. Four spaces a level stand before a piece that follows
-//! a line feed. `docs/written-text.md` has the rules, and `specs/Written.antt` of `fluent_grammar` the definition.
+//! a line feed. `docs/reference/written-text.md` has the rules, and `specs/Written.antt` of `fluent_grammar` the
+//! definition.
 #![tactic(auto)]
 
 mod entries;

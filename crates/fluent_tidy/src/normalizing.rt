@@ -28,8 +28,8 @@ use std::alloc::{AllocError, Global};
 ///
 /// # Errors
 /// `CarriageReturn` exactly if the source holds one, before anything is allocated. `NotNormal` if the written text
-/// isn't read back as the tree; this takes one of the five shapes of `docs/normal-text.md`. `Memory` if memory ran
-/// out.
+/// isn't read back as the tree; this takes one of the five shapes of `docs/reference/normal-text.md`. `Memory` if
+/// memory ran out.
 pub fn normalize(alloc: Global, source: &str) -> Result<String, NormalizeError>
     ensures text { IfOk result (λ text. IsNormalText source.now (string_bytes text)) }
     ensures same_list { IfOk result (λ text. list (string_bytes text) ≡ list source.now) }

@@ -22,7 +22,7 @@ use fluent_serializer::serialize;
 use serde_json::Value;
 use std::alloc::{AllocError, Global};
 
-/// The JSON tree of the cleaned source, as `docs/json.md` has it, with its version.
+/// The JSON tree of the cleaned source, as `docs/reference/json.md` has it, with its version.
 ///
 /// ```
 /// let tree = export(alloc, SOURCE)?;

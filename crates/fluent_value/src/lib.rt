@@ -4,8 +4,8 @@
 //!
 //! A [`FluentValue`] is a text, a number or a value of the program's own type, which implements [`FluentType`]. It may also
 //! be [`None`](FluentValue::None) or [`Error`](FluentValue::Error), which are shown as nothing and equal nothing.
-//! [`FluentArgs`] are values by name, and [`builtins`] has the function `NUMBER`. `docs/values.md` has the rules in plain
-//! words, and `specs/` the same rules as definitions, by which each contract is stated.
+//! [`FluentArgs`] are values by name, and [`builtins`] has the function `NUMBER`. `docs/reference/values.md` has the
+//! rules in plain words, and `specs/` the same rules as definitions, by which each contract is stated.
 
 mod args;
 pub mod builtins;

@@ -85,8 +85,8 @@ pub fn program_on<F: Folder, I: Source, O: Sink, T: Sink>(
 }
 
 /// Does what the command-line arguments ask for. They are read first, then a run's locale is looked up, then the
-/// files are read in their order, and for a run then the request lines that `reader` gives: see `docs/protocol.md`. If
-/// the words ask for help or for the version, that is written.
+/// files are read in their order, and for a run then the request lines that `reader` gives: see
+/// `docs/reference/protocol.md`. If the words ask for help or for the version, that is written.
 ///
 /// # Errors
 /// The first fault. What was written before it stays written.

@@ -9,7 +9,7 @@ use std::alloc::{AllocError, AllocFailed};
 use std::fmt;
 use thiserror::Error;
 
-/// Why the program stops, as it is reported on standard error: see `docs/protocol.md`.
+/// Why the program stops, as it is reported on standard error: see `docs/reference/protocol.md`.
 #[derive(Clone, Copy, Debug, PartialEq, Eq, Error)]
 pub enum Fault<'words> {
     /// The source holds a carriage return.
@@ -79,7 +79,7 @@ impl<'words> Fault<'words> {
     }
 }
 
-/// The text of `docs/protocol.md`, without `ftl: `.
+/// The text of `docs/reference/protocol.md`, without `ftl: `.
 impl fmt::Display for Fault<'_> {
     ghost output = { λ fault. Some (fault_text fault) };
 

@@ -1,4 +1,4 @@
-//! Sources, requests and answers, by the rules of `docs/protocol.md`.
+//! Sources, requests and answers, by the rules of `docs/reference/protocol.md`.
 use crate::devices::ISOLATING;
 use fluent_run::{FromRead, FromWrite, RunError, Settings, run};
 use fluent_value::EnglishPlurals;

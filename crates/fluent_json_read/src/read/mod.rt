@@ -18,8 +18,8 @@ use patterns::{read_identifier, read_pattern};
 use serde_json::Value;
 use std::alloc::Global;
 
-/// The tree that has a JSON value, as `docs/json.md` says: the one whose value `to_value` of `fluent_json_write` gives, or
-/// that value without its version.
+/// The tree that has a JSON value, as `docs/reference/json.md` says: the one whose value `to_value` of
+/// `fluent_json_write` gives, or that value without its version.
 ///
 /// Names and literals are not examined, and neither are the texts in them. Nothing changes what `value` holds.
 ///
