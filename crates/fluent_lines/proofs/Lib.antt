@@ -2,6 +2,8 @@ pub mod OneByOne
 pub mod Rows
 pub mod Places
 pub mod LineEnds
+pub mod Stops
 pub mod EntryStarts
+pub mod CommentEnds
 pub mod PlainTexts
 pub mod OneLines

@@ -183,6 +183,28 @@ ahead : (place : ℕ) (later : List Row) → IsAhead place later → LineAhead p
 ahead place [] a = tt
 ahead place (r ∷ rs) a = a
 
+-- What a row of the table and those after it say: a line begins here.
+pub record Begins (text : Text) (row : Row) (later : List Row) : Type 0 where
+  pub within : row.start ≤ length text
+  pub line : row_view row ≡ line_at row.start (drop row.start text)
+  pub behind : map row_view later ≡ later_lines row.start (drop row.start text)
+
+begins_by : (text : Text) (row : Row) (later : List Row) → From 0 text (row_view row ∷ map row_view later) → Begins text row later
+begins_by text row later f =
+    let are = plain_from text (row_view row ∷ map row_view later) f in
+    let line = ap (head_of (row_view row)) are in
+    let start : row.start ≡ f.skipped = ap (λ (l : Line). l.start) line in
+    record {
+      within = omega (arith, start, f.within);
+      line = line ∙ ap (λ (n : ℕ). line_at n (drop n text)) (sym start);
+      behind = ap tail_of are ∙ ap (λ (n : ℕ). later_lines n (drop n text)) (sym start);
+    }
+
+pub begins : (text : Text) (rows : List Row) (i : ℕ) (row : Row) → map row_view rows ≡ lines text → i < length rows → drop i rows ≡ row ∷ drop (i + 1) rows → Begins text row (drop (i + 1) rows)
+begins text rows i row e inside at =
+    let all : drop i (lines text) ≡ row_view row ∷ map row_view (drop (i + 1) rows) = ap (drop i) (sym e) ∙ drop-map row_view i rows ∙ ap (map row_view) at in
+    begins_by text row (drop (i + 1) rows) (subst (From 0 text) all (from_line text i (omega (arith, inside, ap length e, length-map rows row_view))))
+
 holds_by : (text : Text) (row : Row) (later : List Row) (place : ℕ) → From 0 text (row_view row ∷ map row_view later) → place ≤ length text → row.start ≤ place → IsAhead place later → Holds text row later place
 holds_by text row later place f n h a =
     let st = f.skipped in

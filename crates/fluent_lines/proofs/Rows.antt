@@ -3,7 +3,7 @@ use Rattle.std.specs.Prelude.{◌≡◌, ℕ, Bool, true, false, [], ◌∷◌, 
 use Rattle.std.proofs.Common.{refl}
 use Rattle.fluent_lines.specs.declared.row.Row.{Row}
 use Rattle.fluent_lines.specs.Table.{Line, lines}
-use Rattle.fluent_lines.specs.Lookup.{is_last_line}
+use Rattle.fluent_lines.specs.Lookup.{is_last_line, past_comments}
 
 -- a line with no brace
 abbrev line : ℕ → ℕ → ℕ → Bool → Bool → Line
@@ -85,3 +85,20 @@ crlf_behind = refl
 -- a, LF, CR, LF, b
 blank_crlf_behind : is_last_line (plain_row 0 1 true) (plain_row 2 2 false ∷ plain_row 4 5 true ∷ []) ≡ false
 blank_crlf_behind = refl
+
+-- ---- comment lines, passed over
+
+comments : past_comments false (codes "# a\n#b\nc = d") ≡ codes "c = d"
+comments = refl
+
+blank_line_after : past_comments false (codes "# a\n\n# b") ≡ codes "\n# b"
+blank_line_after = refl
+
+comments_alone : past_comments false (codes "# a\n# b\n") ≡ []
+comments_alone = refl
+
+comment_crlf : past_comments false (codes "# a" ++ 13 ∷ 10 ∷ codes "# b\nc") ≡ codes "c"
+comment_crlf = refl
+
+return_in_comment : past_comments false (codes "# a" ++ 13 ∷ codes "b\nc") ≡ codes "c"
+return_in_comment = refl

@@ -1,7 +1,7 @@
 -- Places in the lines of a text.
-use Rattle.std.specs.Prelude.{◌≡◌, ℕ, ◌+◌, ◌-◌, Bool, true, false, ◌&&◌, ◌||◌, ◌==◌, List, [], ◌∷◌, map, length, take, drop, Option, Some, None, Ok}
+use Rattle.std.specs.Prelude.{◌≡◌, ℕ, ◌+◌, ◌-◌, Bool, true, false, not, if◌then◌else◌, ◌&&◌, ◌||◌, ◌==◌, List, [], ◌∷◌, map, length, take, drop, Option, Some, None, Ok}
 use Rattle.std.specs.Int.{from_bool}
-use Rattle.fluent_grammar.specs.Words.{Text, line_feed, begins, begins_with, rest_of_line}
+use Rattle.fluent_grammar.specs.Words.{Text, line_feed, number_sign, begins, begins_with, rest_of_line}
 use Rattle.fluent_grammar.specs.Lines.{ends_line, pattern_ends}
 use Rattle.fluent_grammar.specs.Tiling.{at_column_zero}
 use Rattle.fluent_words.specs.Counted.{IsText, starts_text, is_plain}
@@ -45,3 +45,9 @@ is_last_line row (next ∷ third ∷ rows) =
 abbrev pub feeds_last : Row → List Row → ℕ → Bool
 feeds_last row [] place = false
 feeds_last row (next ∷ rows) place = row.end - place == 0 && (next.start - place == 1 && next.ends_pattern)
+
+-- What follows the rest of a line and the lines after it that begin with `#`: the first place, from here on, that is at column 0
+-- and holds another byte; otherwise the end of the text.
+abbrev pub past_comments : Bool → Text → Text
+past_comments column_zero [] = []
+past_comments column_zero (c ∷ cs) = if column_zero && not (c == number_sign) then c ∷ cs else past_comments (c == line_feed) cs

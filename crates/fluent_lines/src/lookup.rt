@@ -6,7 +6,7 @@ ghost use Rattle.fluent_grammar.specs.Words.{rest_of_line};
 ghost use Rattle.fluent_grammar.specs.Tiling.{resume, at_column_zero};
 ghost use Rattle.fluent_words.specs.Counted.{Cuts, IsLine, IsText, is_plain};
 ghost use Rattle.fluent_lines.specs.Table.{row_view, lines, line_at};
-ghost use Rattle.fluent_lines.specs.Lookup.{feeds_last, is_last_feed, Holds, with_line_feed, is_last_line, IsOneLine};
+ghost use Rattle.fluent_lines.specs.Lookup.{past_comments, feeds_last, is_last_feed, Holds, with_line_feed, is_last_line, IsOneLine};
 
 use crate::Row;
 use fluent_words as words;
@@ -60,6 +60,25 @@ impl<'a> Lines<'a> {
             let row = self.rows[self.near];
             if row.begins_entry {
                 return row.start - place;
+            }
+        }
+        self.text.len() - place
+    }
+
+    /// How many bytes stand at this place up to the end of its line and of the lines after it that begin with `#`.
+    pub fn comments_len(&mut self, place: usize) -> usize
+        requires { place ≤ length self.old.text.now }
+        ensures value { drop result (drop place self.old.text.now)
+            ≡ past_comments false (drop place self.old.text.now) }
+        ensures cuts { Cuts (drop place self.old.text.now) result }
+        ensures text { self.new.text.now ≡ self.old.text.now }
+    {
+        self.find(place);
+        while self.near + 1 < self.rows.len() {
+            self.near += 1;
+            let start = self.rows[self.near].start;
+            if !words::begins_with(words::from(self.text, start), b'#') {
+                return start - place;
             }
         }
         self.text.len() - place

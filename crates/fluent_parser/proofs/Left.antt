@@ -1,8 +1,8 @@
 -- The pieces of what is left of a source, one by one.
-use Rattle.std.proofs.Common.{◌≡◌, ℕ, suc, ◌+◌, ◌-◌, ◌<◌, ◌≤◌, Bool, true, false, cond, not, List, [], ◌∷◌, length, refl, sym, ap, ◌∙◌, arith}
+use Rattle.std.proofs.Common.{◌≡◌, ℕ, zero, suc, ◌+◌, ◌-◌, ◌<◌, ◌≤◌, Bool, true, false, cond, not, ◌&&◌, List, [], ◌∷◌, length, refl, sym, ap, ◌∙◌, arith}
 use Rattle.std.specs.Prelude.{◌==◌}
 use Rattle.std.proofs.lemmas.Bool.Decides.{nat_tests}
-use Rattle.fluent_grammar.specs.Words.{Text, number_sign, begins_with, skip_blank_block, rest_of_line}
+use Rattle.fluent_grammar.specs.Words.{Text, line_feed, carriage_return, number_sign, begins_with, skip_blank_block, rest_of_line}
 use Rattle.fluent_grammar.specs.Refusal.{Reading, got, refused}
 use Rattle.fluent_grammar.specs.Tree as t
 use Rattle.fluent_grammar.specs.Reading.{entry_at}
@@ -11,8 +11,14 @@ use Rattle.fluent_grammar.specs.Tiling.{Piece, pieces_from, runtime_pieces_from,
 use Rattle.fluent_grammar.proofs.Within.{end-same, end-le, end-blank_block}
 use Rattle.fluent_grammar.proofs.Repeated.{rest_of_line-tail}
 use Rattle.fluent_grammar.proofs.TilesPieces.{pieces_need_no_more_steps}
+use Rattle.fluent_words.proofs.Scanned.{test_of}
+use Rattle.fluent_lines.specs.Lookup.{past_comments}
 use Rattle.fluent_parser.specs.Parts.{piece_of, behind_piece}
 use Rattle.fluent_parser.specs.Left.{pieces_left, runtime_left}
+
+second : (a b : Bool) → (a && b) ≡ true → b ≡ true
+second true b h = h
+second false b h = absurd cc
 
 empty : (n : ℕ) → n ≡ 0 → (n == 0) ≡ true
 empty n h = grind (arith, nat_tests)
@@ -114,6 +120,65 @@ line_less_by c cs rest e h = omega (arith, ap length e, end-le h)
 pub line_less : (u rest : Text) → 0 < length u → rest ≡ (rest_of_line u).1 → length rest < length u
 line_less [] rest h e = absurd (omega arith)
 line_less (c ∷ cs) rest h e = line_less_by c cs rest e (rest_of_line-tail (c ∷ cs) (end-same cs))
+
+-- ---- comment lines, passed over at once
+
+-- behind the first line
+feed_passed : (b d : Bool) (c : ℕ) (cs : Text) → (c == line_feed) ≡ b → (c == carriage_return && begins_with line_feed cs) ≡ d → past_comments false cs ≡ past_comments true (rest_of_line cs).1
+    → past_comments false (c ∷ cs) ≡ past_comments true (rest_of_line (c ∷ cs)).1
+feed_passed true d c cs e f more = rw e refl
+feed_passed false true c [] e f more = rw (e, f) refl
+feed_passed false true c (b ∷ bs) e f more =
+    let k : (b == line_feed) ≡ true = second (c == carriage_return) (b == line_feed) f in
+    rw (e, f, k) refl
+feed_passed false false c cs e f more = rw (e, f) more
+
+first_passed : (s : Text) → past_comments false s ≡ past_comments true (rest_of_line s).1
+first_passed [] = refl
+first_passed (c ∷ cs) = feed_passed (c == line_feed) (c == carriage_return && begins_with line_feed cs) c cs refl refl (first_passed cs)
+
+passed_le_by : (b : Bool) (c : ℕ) (cs : Text) → length (past_comments (c == line_feed) cs) ≤ length cs → length (cond b (c ∷ cs) (past_comments (c == line_feed) cs)) ≤ length (c ∷ cs)
+passed_le_by true c cs h = omega arith
+passed_le_by false c cs h = omega (arith, h)
+
+passed_le : (b : Bool) (s : Text) → length (past_comments b s) ≤ length s
+passed_le b [] = omega arith
+passed_le b (c ∷ cs) = passed_le_by (b && not (c == number_sign)) c cs (passed_le (c == line_feed) cs)
+
+-- a comment line isn't blank
+sign_first : (s : Text) → begins_with number_sign s ≡ true → (s ≡ skip_blank_block s) × (0 < length s) × (past_comments true s ≡ past_comments false s)
+sign_first [] h = absurd cc
+sign_first (c ∷ cs) h =
+    let e : c ≡ number_sign = test_of c number_sign h in
+    (rw e refl, omega arith, rw h refl)
+
+stops_here : (s : Text) → begins_with number_sign s ≡ false → past_comments true s ≡ s
+stops_here [] h = refl
+stops_here (c ∷ cs) h = rw h refl
+
+each_passed : (n total : ℕ) (s : Text) (b : Bool) → length s < n → length s ≤ total → begins_with number_sign s ≡ b → runtime_left total s ≡ runtime_left total (past_comments true s)
+each_passed zero total s b h w e = absurd (omega (arith, h))
+each_passed (suc n) total s false h w e = ap (runtime_left total) (sym (stops_here s e))
+each_passed (suc n) total s true h w e =
+    let f = sign_first s e in
+    let rest = (rest_of_line s).1 in
+    let less : length rest < length s = line_less s rest f.1 refl in
+    line_passed total s s rest w f.0 f.1 e refl less
+    ∙ each_passed n total rest (begins_with number_sign rest) (omega (arith, less, h)) (omega (arith, less, w)) refl
+    ∙ ap (runtime_left total) (sym (first_passed s) ∙ sym f.2)
+
+pub comments_less : (u rest : Text) → 0 < length u → rest ≡ past_comments false u → length rest < length u
+comments_less [] rest h e = absurd (omega arith)
+comments_less (c ∷ cs) rest h e = omega (arith, ap length e, passed_le (c == line_feed) cs)
+
+pub comments_passed : (total : ℕ) (s u rest : Text) → length s ≤ total → u ≡ skip_blank_block s → 0 < length u → begins_with number_sign u ≡ true → rest ≡ past_comments false u → runtime_left total s ≡ runtime_left total rest
+comments_passed total s u rest h e z b f =
+    let line = (rest_of_line u).1 in
+    let less : length line < length u = line_less u line z refl in
+    let le = blank_le s u e in
+    line_passed total s u line h e z b refl less
+    ∙ each_passed (suc (length line)) total line (begins_with number_sign line) (omega arith) (omega (arith, less, le, h)) refl
+    ∙ ap (runtime_left total) (sym (first_passed u) ∙ sym f)
 
 -- the pieces of a whole source, by the text that a parser holds
 pub whole_left : (source text rest : Text) → text ≡ source → rest ≡ source → pieces_left (length text) rest ≡ pieces source

@@ -4,7 +4,7 @@
 ghost use Rattle.std.specs.Prelude.{◌≡◌, ◌-◌, ◌<◌, ◌≤◌, length, drop, map, take, true, false, IfOk};
 ghost use Rattle.std.specs.Str.{IsUtf8};
 ghost use Rattle.fluent_words.specs.Counted.{Cuts, IsLine, IsText};
-ghost use Rattle.fluent_lines.specs.Lookup.{IsOneLine, is_last_feed};
+ghost use Rattle.fluent_lines.specs.Lookup.{IsOneLine, is_last_feed, past_comments};
 ghost use Rattle.fluent_grammar.specs.Lines.{pattern_ends};
 ghost use Rattle.fluent_lines.specs.Table as table;
 ghost use Rattle.fluent_grammar.specs.Words as w;
@@ -147,6 +147,16 @@ impl<'p, S: Drop, T: Texts<S>> Parser<'p, S, T> {
     {
         let place = self.place();
         self.lines.entry_start(place)
+    }
+
+    /// How many bytes stand here up to the end of this line and of the comment lines after it.
+    pub fn comments_len(&mut self) -> usize
+        ensures value { drop result self.old.rest.now ≡ past_comments false self.old.rest.now }
+        ensures cuts { Cuts self.old.rest.now result }
+        ensures stays { Stays self.old self.new }
+    {
+        let place = self.place();
+        self.lines.comments_len(place)
     }
 
     /// The text of a pattern that stands behind so many bytes: see `text_len` of `fluent_lines`.

@@ -1,11 +1,11 @@
 //! The parts of a whole source.
 #![tactic(auto)]
 
-ghost use Rattle.std.specs.Prelude.{◌≡◌, ◌-◌, ◌≤◌, [], None, IfOk, length, map};
-ghost use Rattle.fluent_grammar.specs.Words as w;
+ghost use Rattle.std.specs.Prelude.{◌≡◌, ◌-◌, ◌≤◌, [], None, false, IfOk, length, map};
 ghost use Rattle.fluent_grammar.specs.Tiling.{tree, errors, runtime_tree, runtime_errors};
 ghost use Rattle.fluent_parsed.specs.Collected.{entries_with, errors_with};
 ghost use Rattle.fluent_parsed.specs.ErrorView.{error_told};
+ghost use Rattle.fluent_lines.specs.Lookup.{past_comments};
 ghost use Rattle.fluent_parser.specs.Frame.{Advances};
 
 use crate::parser::Parser;
@@ -102,20 +102,19 @@ impl<'p, S: Drop, T: Texts<S>> Parser<'p, S, T> {
                 return Ok(collected);
             }
             if self.is_current_byte(b'#') {
-                self.skip_line();
+                self.skip_comments();
                 continue;
             }
             self.get_part(&mut collected, false)?;
         }
     }
 
-    /// Passes over the rest of the line with its line end.
-    fn skip_line(&mut self)
-        ensures rest { self.new.rest.now ≡ (w.rest_of_line self.old.rest.now).1 }
+    /// Passes over this line and the comment lines after it, whatever follows their signs.
+    fn skip_comments(&mut self)
+        ensures rest { self.new.rest.now ≡ past_comments false self.old.rest.now }
         ensures advances { Advances self.old self.new }
     {
-        let count = self.line_len();
+        let count = self.comments_len();
         self.advance(count);
-        self.skip_eol();
     }
 }

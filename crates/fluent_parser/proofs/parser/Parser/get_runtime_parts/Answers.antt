@@ -6,7 +6,7 @@ use Rattle.fluent_parsed.specs.Collected.{entries_with, errors_with}
 use Rattle.fluent_parser.specs.Left.{runtime_left}
 use Rattle.fluent_parser.specs.Parts.{piece_of}
 use Rattle.fluent_parsed.proofs.CollectedEntries.{test_some}
-use Rattle.fluent_parser.proofs.Left.{nothing_left_at_runtime, piece_left_at_runtime, line_passed, line_less}
+use Rattle.fluent_parser.proofs.Left.{nothing_left_at_runtime, piece_left_at_runtime, comments_passed, comments_less}
 use Rattle.fluent_words.proofs.Scanned.{test_of}
 use Rattle.fluent_parser.proofs.parser.Parser.get_runtime_parts.Goals as goal
 
@@ -28,20 +28,20 @@ pub parts-smaller-then-is_current_byte : goal.parts-smaller-then-is_current_byte
 parts-smaller-then-is_current_byte g c =
     let u = c.skip_blank_block.new.self.rest.now in
     let z : (length u == 0) ≡ false = search rules in
-    omega (arith, line_less u c.skip_line.new.self.rest.now (test_some (length u) z) c.skip_line.ensures.rest, c.skip_blank_block.ensures.advances.onward)
+    omega (arith, comments_less u c.skip_comments.new.self.rest.now (test_some (length u) z) c.skip_comments.ensures.rest, c.skip_blank_block.ensures.advances.onward)
 
 pub parts-preserved-then-is_current_byte : goal.parts-preserved-then-is_current_byte
 parts-preserved-then-is_current_byte g c =
     let total = length c.args.self.now.text.now in
     let s = c.parts.self.rest.now in
     let u = c.skip_blank_block.new.self.rest.now in
-    let rest = c.skip_line.new.self.rest.now in
+    let rest = c.skip_comments.new.self.rest.now in
     let z : (length u == 0) ≡ false = search rules in
-    let less : length rest < length u = line_less u rest (test_some (length u) z) c.skip_line.ensures.rest in
+    let less : length rest < length u = comments_less u rest (test_some (length u) z) c.skip_comments.ensures.rest in
     let step : runtime_left total s ≡ runtime_left total rest =
-    line_passed total s u rest c.parts.invariant.within c.skip_blank_block.ensures.rest (test_some (length u) z) (sym c.is_current_byte.ensures ∙ c.if-is_current_byte.true) c.skip_line.ensures.rest less in
+    comments_passed total s u rest c.parts.invariant.within c.skip_blank_block.ensures.rest (test_some (length u) z) (sym c.is_current_byte.ensures ∙ c.if-is_current_byte.true) c.skip_comments.ensures.rest in
     record {
-      text = c.skip_line.ensures.advances.text ∙ c.skip_blank_block.ensures.advances.text ∙ c.parts.invariant.text;
+      text = c.skip_comments.ensures.advances.text ∙ c.skip_blank_block.ensures.advances.text ∙ c.parts.invariant.text;
       within = omega (arith, less, c.skip_blank_block.ensures.advances.onward, c.parts.invariant.within);
       entries = ap (λ (ps : List Piece). entries_with g.row.S.Denot g.T.Texts.text c.parts.collected ps) (sym step) ∙ c.parts.invariant.entries;
       errors = ap (λ (ps : List Piece). errors_with g.row.S.Denot c.parts.collected ps) (sym step) ∙ c.parts.invariant.errors;
