@@ -22,9 +22,9 @@ pub(crate) fn push_finding_line(
     requires { IsAt file.now finding.now place }
     ensures { OnOk result (Appends text.old text.new (finding_line (in_file file.now finding.now))) }
 {
-    let name = file.name;
+    push_masked(text, file.name)?;
     let severity = severity_name(finding.severity);
-    write!(text, "{name}:{place}: {severity}: ")?;
+    write!(text, ":{place}: {severity}: ")?;
     push_masked_label(text, finding)?;
     let code = finding.code;
     writeln!(text, " [{code}]")
