@@ -13,7 +13,7 @@ step p c =
     else if is_continuation c then p
     else record { line = p.line; column = suc p.column }
 
-after_cons : (p : Position) (c : ℕ) (cs : Text) → position_after p (c ∷ cs) ≡ position_after (step p c) cs
+pub after_cons : (p : Position) (c : ℕ) (cs : Text) → position_after p (c ∷ cs) ≡ position_after (step p c) cs
 after_cons p c cs =
     let A : Position = record { line = suc p.line; column = 1 } in
     let B : Position = record { line = p.line; column = suc p.column } in
@@ -24,7 +24,7 @@ after_cons p c cs =
           ≡ position_after (if d then p else B) cs) [ true ↦ refl | false ↦ refl ]
     ]
 
-after_append : (p : Position) (xs ys : Text) → position_after p (xs ++ ys) ≡ position_after (position_after p xs) ys
+pub after_append : (p : Position) (xs ys : Text) → position_after p (xs ++ ys) ≡ position_after (position_after p xs) ys
 after_append p [] ys = refl
 after_append p (c ∷ cs) ys =
     after_cons p c (cs ++ ys) ∙ after_append (step p c) cs ys ∙ sym (ap (λ q. position_after q ys) (after_cons p c cs))
