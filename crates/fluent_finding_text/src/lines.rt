@@ -1,11 +1,11 @@
 //! The first line of a finding: `FILE:LINE:COLUMN: SEVERITY: ENTRY: TEXT [CODE]`.
 
-ghost use Rattle.fluent_lint_report.specs.Changes.{Appends};
+ghost use Rattle.fluent_finding_text.specs.Changes.{Appends};
 ghost use Rattle.std.specs.Prelude.{◌≡◌, OnOk};
 ghost use Rattle.fluent_finding.specs.View.{finding_view, severity_view};
 ghost use Rattle.fluent_findings.specs.Report.{finding_line, labelled_text, severity_text};
 ghost use Rattle.fluent_findings.specs.ShownLine.{masked_text};
-ghost use Rattle.fluent_lint_report.specs.View.{IsAt, entry_label, in_file, optional_text};
+ghost use Rattle.fluent_finding_text.specs.View.{IsAt, entry_label, in_file, optional_text};
 
 use crate::masked::push_masked;
 use fluent_finding::{File, Finding, Severity};
@@ -13,7 +13,7 @@ use fluent_position::Place;
 use std::alloc::AllocError;
 
 /// Appends the first line of a finding that is at this place.
-pub(crate) fn push_finding_line(
+pub fn push_finding_line(
     text: &mut String,
     file: &File,
     finding: &Finding,
@@ -52,7 +52,7 @@ fn push_masked_entry(text: &mut String, entry: &Option<String>) -> Result<(), Al
 }
 
 /// The word for a severity.
-pub(crate) fn severity_name(severity: Severity) -> &'static str
+pub fn severity_name(severity: Severity) -> &'static str
     ensures { result.now ≡ severity_text (severity_view severity) }
 {
     match severity {
