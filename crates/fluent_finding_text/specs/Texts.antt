@@ -3,7 +3,10 @@ use Rattle.std.specs.Prelude.{ℕ, List, [], ◌++◌, map, replicate, Option, c
 use Rattle.std.specs.Str.{chars, encode_utf8_all}
 use Rattle.std.specs.Option.{option_map_or}
 use Rattle.fluent_grammar.specs.Words.{Text, space}
-use Rattle.fluent_findings.specs.ShownLine.{masked_character, masked_text, dots_if, padding}
+use Rattle.fluent_findings.specs.ShownLine.{masked_character, masked_text, dots_if, padding, shown_line}
+use Rattle.fluent_finding.specs.View.{file_view, finding_view}
+use Rattle.fluent_finding.specs.declared.records.Finding.{Finding}
+use Rattle.fluent_finding.specs.declared.records.File.{File}
 use Rattle.fluent_finding_text.specs.declared.excerpts.Excerpt.{Excerpt}
 use Rattle.fluent_finding_text.specs.declared.excerpts.Window.{Window}
 use Rattle.fluent_finding_text.specs.View.{shown_width}
@@ -30,3 +33,11 @@ caret_line digits before = replicate digits space ++ (codes " | " ++ (padding sh
 -- the hint below that
 abbrev pub hint_line : ℕ → Option Text → Text
 hint_line digits hint = option_map_or (λ s. replicate digits space ++ (codes " = " ++ (masked_text s ++ codes "\n"))) hint []
+
+-- all these lines
+abbrev pub finding_lines : File → Finding → Text
+finding_lines file f = shown_line shown_width (file_view file) (finding_view f)
+
+-- what is below a masked text
+abbrev pub masked_padding : Text → Text
+masked_padding s = padding shown_width (map masked_character (chars s))

@@ -1,8 +1,6 @@
 //! What is shown of a line: at most 120 characters of it, around a finding.
 
-ghost use Rattle.std.specs.Prelude.{◌≡◌, ℕ, ◌≤◌, ◌<◌, length};
-ghost use Rattle.std.specs.Str.{chars};
-ghost use Rattle.fluent_findings.specs.ShownLine.{first_shown, shown_characters, characters_before};
+ghost use Rattle.std.specs.Prelude.{◌≡◌};
 ghost use Rattle.fluent_finding_text.specs.Excerpts.{IsEnd, IsFront, IsWindow, is_at_line_end};
 
 /// Some characters of a line, one after the other.

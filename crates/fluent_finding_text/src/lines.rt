@@ -13,6 +13,9 @@ use fluent_position::Place;
 use std::alloc::AllocError;
 
 /// Appends the first line of a finding that is at this place.
+///
+/// # Errors
+/// [`AllocError`] if memory runs out; a part of it may have been appended.
 pub fn push_finding_line(
     text: &mut String,
     file: &File,

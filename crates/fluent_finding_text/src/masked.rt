@@ -6,7 +6,11 @@ ghost use Rattle.fluent_findings.specs.ShownLine.{is_masked as is_masked_charact
 
 use std::alloc::AllocError;
 
-/// Appends a text, masked.
+/// Appends a text, masked: U+FFFD for each control character but the tab, and for each mark that changes the direction of
+/// text.
+///
+/// # Errors
+/// [`AllocError`] if memory runs out; a part of it may have been appended.
 pub fn push_masked(text: &mut String, shown: &str) -> Result<(), AllocError>
     ensures { OnOk result (Appends text.old text.new (masked_text shown.now)) }
 {

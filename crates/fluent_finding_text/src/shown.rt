@@ -1,13 +1,12 @@
 //! A finding with the line that it is on: the line, a caret below the finding, and the hint.
 
-ghost use Rattle.std.specs.Prelude.{◌≡◌, ◌++◌, IfOk, OnOk, decimal, length, map, replicate};
-ghost use Rattle.std.specs.Str.{chars, encode_utf8_all};
+ghost use Rattle.std.specs.Prelude.{◌≡◌, IfOk, OnOk, decimal, length, replicate};
+ghost use Rattle.std.specs.Str.{encode_utf8_all};
 ghost use Rattle.fluent_grammar.specs.Words.{space};
-ghost use Rattle.fluent_finding.specs.View.{file_view, finding_view};
 ghost use Rattle.fluent_findings.specs.Report.{finding_text};
-ghost use Rattle.fluent_findings.specs.ShownLine.{character_padding, dots_if, masked_character, padding, shown_line};
+ghost use Rattle.fluent_findings.specs.ShownLine.{character_padding, dots_if};
 ghost use Rattle.fluent_finding_text.specs.Changes.{Appends};
-ghost use Rattle.fluent_finding_text.specs.Texts.{before_finding, caret_line, from_finding, hint_line, masked_excerpt, source_line};
+ghost use Rattle.fluent_finding_text.specs.Texts.{before_finding, caret_line, finding_lines, from_finding, hint_line, masked_padding, source_line};
 ghost use Rattle.fluent_finding_text.specs.View.{IsAt, IsOnLine, in_file, optional_text, shown_width};
 
 use crate::excerpts::{Excerpt, Window};
@@ -20,6 +19,9 @@ use unicode_width::UnicodeWidthChar;
 
 /// Appends a finding that is at this place as text: its first line, the line that it is on with a caret below it, and
 /// its hint. It reads no more of that line than it shows.
+///
+/// # Errors
+/// [`AllocError`] if memory runs out; a part of it may have been appended.
 pub fn push_finding_text(
     text: &mut String,
     file: &File,
@@ -43,8 +45,7 @@ fn push_shown_line(
 ) -> Result<(), AllocError>
     requires at { IsAt file.now finding.now place }
     requires line { IsOnLine file.now finding.now place }
-    ensures { OnOk result
-        (Appends text.old text.new (shown_line shown_width (file_view file.now) (finding_view finding.now))) }
+    ensures { OnOk result (Appends text.old text.new (finding_lines file.now finding.now)) }
 {
     let (front, rest) = place.split(file.source);
     let shown = Window::around(front, rest);
@@ -125,8 +126,7 @@ fn push_hint_line(text: &mut String, digits: usize, hint: &Option<String>) -> Re
 
 /// Appends what is below a masked text: as many columns as it has.
 fn push_padding(text: &mut String, shown: &str) -> Result<(), AllocError>
-    ensures { OnOk result
-        (Appends text.old text.new (padding shown_width (map masked_character (chars shown.now)))) }
+    ensures { OnOk result (Appends text.old text.new (masked_padding shown.now)) }
 {
     for c in shown.chars() {
         push_character_padding(text, masked(c))?;
