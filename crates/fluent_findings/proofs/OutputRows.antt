@@ -56,6 +56,11 @@ missing_messages : Summarizes (file (codes "en.ftl") (codes "a = b\nb = c\n") �
 unfolding computing_findings file with_a_reference Summarizes
 missing_messages = refl
 
+a_masked_name : Summarizes [] (file (27 ∷ codes "c") (codes "a = b\n") ∷ []) summary_text
+    (0xEF ∷ 0xBF ∷ 0xBD ∷ codes "c: 1 message, 1 obsolete, 0 untranslated\n")
+unfolding computing_findings file with_a_reference Summarizes
+a_masked_name = refl
+
 obsolete_and_untranslated_messages : Summarizes (file (codes "en.ftl") (codes "a = b\n# c\n") ∷ []) (file (codes "de.ftl") (codes "a = b\nd = x\n-t = y\nj\n") ∷ []) summary_json
     (codes "{\"file\":\"de.ftl\",\"messages\":2,\"missing\":null,\"obsolete\":1,\"untranslated\":1}\n{\"file\":\"en.ftl\",\"messages\":1,\"missing\":0,\"obsolete\":null,\"untranslated\":null}\n")
 unfolding computing_findings serde_json_on_literals file with_a_reference Summarizes

@@ -1,8 +1,8 @@
 -- Worked rows: positions and lines.
-use Rattle.std.specs.Prelude.{◌≡◌, ℕ, [], ◌∷◌, codes}
+use Rattle.std.specs.Prelude.{◌≡◌, ℕ, ◌∷◌, codes}
 use Rattle.std.proofs.Common.{refl}
 use Rattle.fluent_grammar.specs.Words.{Text}
-use Rattle.fluent_findings.specs.Position.{Position, position_of, line_at, front_of_line}
+use Rattle.fluent_findings.specs.Position.{Position, position_of, line_at}
 
 at : ℕ → ℕ → Position
 at line column = record { line = line; column = column }
@@ -32,10 +32,3 @@ the_line = refl
 
 the_line_without_its_crlf : line_at (codes "a = b\r\nc = d\r\n") 8 ≡ codes "c = d"
 the_line_without_its_crlf = refl
-
-the_front_of_the_line : front_of_line broken 14 ≡ codes "g"
-unfolding broken
-the_front_of_the_line = refl
-
-the_start_of_a_line : front_of_line (codes "a\nb\n") 2 ≡ []
-the_start_of_a_line = refl

@@ -1,8 +1,10 @@
 -- Worked rows: wide and masked characters, and long lines.
-use Rattle.std.specs.Prelude.{◌≡◌, ℕ, ◌==◌, nat_lt, if◌then◌else◌, [], ◌∷◌, ◌++◌, replicate, codes}
+use Rattle.std.specs.Prelude.{◌≡◌, ℕ, ◌==◌, nat_lt, if◌then◌else◌, [], ◌∷◌, ◌++◌, replicate, Some, None, codes}
 use Rattle.std.proofs.Common.{refl}
 use Rattle.fluent_grammar.specs.Words.{Text}
 use Rattle.fluent_findings.specs.Findings.{findings}
+use Rattle.fluent_findings.specs.Finding.{error}
+use Rattle.fluent_findings.specs.ShownLine.{shown_line}
 use Rattle.fluent_findings.specs.Report.{report_text}
 use Rattle.fluent_findings.proofs.Computing.{computing_findings, file, options_with}
 
@@ -38,6 +40,38 @@ a_direction_mark : Shows (0xE2 ∷ 0x80 ∷ 0xAE ∷ codes "\n")
     (codes "a.ftl:1:1: error: expected a message, a term or a comment, found `" ++ (0xEF ∷ 0xBF ∷ 0xBD ∷ (codes "` [syntax]\n1 | " ++ (0xEF ∷ 0xBF ∷ 0xBD ∷ codes "\n  | ^\n"))))
 unfolding computing_findings file width Shows
 a_direction_mark = refl
+
+-- a name that would clear the line and move the cursor
+a_file_name : report_text width (findings (options_with []) (file (27 ∷ codes "[2Ka.ftl\r") (codes "a = { -b }\n") ∷ []))
+    ≡ 0xEF ∷ 0xBF ∷ 0xBD ∷ (codes "[2Ka.ftl" ++ (0xEF ∷ 0xBF ∷ 0xBD ∷ codes ":1:7: error: a: there is no term `-b` [unknown-term]\n1 | a = { -b }\n  |       ^\n"))
+unfolding computing_findings file width
+a_file_name = refl
+
+-- U+202E in a hint
+a_hint : shown_line width (record { name = codes "a.ftl"; source = codes "a" })
+    (record { offset = 0; code = codes "syntax"; severity = error; entry = None; text = codes "b"; hint = Some (codes "c" ++ (0xE2 ∷ 0x80 ∷ 0xAE ∷ [])) })
+    ≡ codes "1 | a\n  | ^\n  = c" ++ (0xEF ∷ 0xBF ∷ 0xBD ∷ codes "\n")
+unfolding computing_findings width
+a_hint = refl
+
+-- ---- offsets within a character and within a line end
+
+shows_at : Text → ℕ → Text
+shows_at source offset = shown_line width (record { name = codes "a.ftl"; source = source })
+    (record { offset = offset; code = codes "syntax"; severity = error; entry = None; text = codes "b"; hint = None })
+
+-- after the first byte of U+00E9, as after the character
+within_a_character : shows_at (195 ∷ 169 ∷ codes "z") 1 ≡ shows_at (195 ∷ 169 ∷ codes "z") 2
+unfolding computing_findings width shows_at
+within_a_character = refl
+
+within_a_line_end : shows_at (codes "ab\r\nc") 3 ≡ codes "1 | ab\n  |   ^\n"
+unfolding computing_findings width shows_at
+within_a_line_end = refl
+
+after_the_last_line_end : shows_at (codes "ab\r\n") 4 ≡ codes "2 | \n  | ^\n"
+unfolding computing_findings width shows_at
+after_the_last_line_end = refl
 
 -- ---- long lines
 

@@ -43,7 +43,3 @@ to_line_end (c ∷ cs) = stop_at_end (c ∷ to_line_end cs) (after_line_end (c �
 -- the line that an offset is on, without its line end
 abbrev pub line_at : Text → ℕ → Text
 line_at source offset = to_line_end (line_from source offset source)
-
--- that line up to the offset
-abbrev pub front_of_line : Text → ℕ → Text
-front_of_line source offset = let s = take offset source in line_from s offset s

@@ -3,7 +3,7 @@ use Rattle.std.specs.Prelude.{ℕ, Bool, true, false, List, [], ◌++◌, filter
 use Rattle.std.specs.List.{flat_map, list_any}
 use Rattle.std.specs.Option.{option_map_or}
 use Rattle.fluent_grammar.specs.Words.{Text}
-use Rattle.fluent_findings.specs.Files.{location}
+use Rattle.fluent_findings.specs.Files.{File, location}
 use Rattle.fluent_findings.specs.Finding.{Severity, error, warning, note, Finding}
 use Rattle.fluent_findings.specs.Findings.{FileFinding}
 use Rattle.fluent_findings.specs.ShownLine.{masked_text, shown_line}
@@ -39,10 +39,14 @@ severity_text note = codes "note"
 abbrev pub labelled_text : Finding → Text
 labelled_text f = option_map_or (λ entry. entry ++ codes ": ") f.entry [] ++ f.text
 
+-- a file with a masked name
+abbrev pub masked_file : File → File
+masked_file file = record { name = masked_text file.name; source = file.source }
+
 -- `FILE:LINE:COLUMN: SEVERITY: ENTRY: TEXT [CODE]`
 abbrev pub finding_line : FileFinding → Text
 finding_line f =
-    location f.file f.finding.offset ++ (codes ": " ++ (severity_text f.finding.severity ++ (codes ": "
+    location (masked_file f.file) f.finding.offset ++ (codes ": " ++ (severity_text f.finding.severity ++ (codes ": "
     ++ (masked_text (labelled_text f.finding) ++ (codes " [" ++ (f.finding.code ++ codes "]\n"))))))
 
 -- that line, the line of the source with a caret, and the hint; characters are this wide

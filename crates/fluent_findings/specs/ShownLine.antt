@@ -4,7 +4,7 @@ use Rattle.std.specs.List.{flat_map}
 use Rattle.std.specs.Option.{option_map_or}
 use Rattle.std.specs.Str.{chars, encode_utf8_all}
 use Rattle.fluent_grammar.specs.Words.{Text, space, is_between}
-use Rattle.fluent_findings.specs.Position.{position_of, line_at, front_of_line}
+use Rattle.fluent_findings.specs.Position.{position_of, line_at}
 use Rattle.fluent_findings.specs.Files.{File}
 use Rattle.fluent_findings.specs.Finding.{Finding}
 
@@ -59,13 +59,15 @@ module _ (width : ℕ → ℕ) where
   abbrev pub padding : List ℕ → Text
   padding cs = flat_map character_padding cs
 
-  -- The number of the line, the line, a caret below the finding, and the hint if there is one.
+  -- The number of the line, the line, a caret below the finding, and the hint if there is one. Before a finding are as
+  -- many characters as its column says, less one.
   abbrev pub shown_line : File → Finding → Text
   shown_line file f =
-      let number = decimal (position_of file.source f.offset).line in
+      let p = position_of file.source f.offset in
+      let number = decimal p.line in
       let margin = replicate (length number) space in
       let line = chars (line_at file.source f.offset) in
-      let at = length (chars (front_of_line file.source f.offset)) in
+      let at = p.column - 1 in
       number ++ (codes " | " ++ (encode_utf8_all (shown_characters line at) ++ (codes "\n"
       ++ (margin ++ (codes " | " ++ (padding (characters_before line at) ++ (codes "^\n"
-      ++ option_map_or (λ hint. margin ++ (codes " = " ++ (hint ++ codes "\n"))) f.hint [])))))))
+      ++ option_map_or (λ hint. margin ++ (codes " = " ++ (masked_text hint ++ codes "\n"))) f.hint [])))))))

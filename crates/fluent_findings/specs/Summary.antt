@@ -9,6 +9,7 @@ use Rattle.fluent_grammar.specs.Tree as t
 use Rattle.fluent_findings.specs.Tiles.{Tile, entry_tile, tiles}
 use Rattle.fluent_findings.specs.Files.{File}
 use Rattle.fluent_findings.specs.Findings.{FileFinding}
+use Rattle.fluent_findings.specs.ShownLine.{masked_text}
 use Rattle.fluent_findings.specs.JsonReport.{json_line}
 
 -- The counts of a file. A file of the catalog has obsolete and untranslated messages, and one of the reference
@@ -66,7 +67,7 @@ messages_text n = decimal n ++ (if n == 1 then codes " message" else codes " mes
 -- such as `de.ftl: 120 messages, 2 obsolete, 5 untranslated` and `en.ftl: 121 messages, 3 missing`
 abbrev pub summary_line : Summary → Text
 summary_line s =
-    s.file ++ (codes ": " ++ (messages_text s.messages
+    masked_text s.file ++ (codes ": " ++ (messages_text s.messages
     ++ (option_map_or (count_text (codes "missing")) s.missing []
     ++ (option_map_or (count_text (codes "obsolete")) s.obsolete []
     ++ (option_map_or (count_text (codes "untranslated")) s.untranslated [] ++ codes "\n")))))

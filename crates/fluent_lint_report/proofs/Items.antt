@@ -13,10 +13,11 @@ use Rattle.fluent_finding.specs.View.{file_view, file_findings_view, finding_vie
 use Rattle.fluent_finding.specs.declared.records.FileFindings.{FileFindings}
 use Rattle.fluent_finding.specs.declared.records.Finding.{Finding}
 use Rattle.fluent_finding.specs.declared.records.File.{File}
-use Rattle.fluent_lint_report.specs.View.{in_file}
+use Rattle.fluent_finding_text.specs.View.{in_file}
 use Rattle.fluent_lint_report.specs.declared.reports.Format.{Format}
-use Rattle.fluent_lint_report.specs.declared.reports.Format.TheVariants.{Line, Json, Github}
-use Rattle.fluent_lint_report.specs.Formats.{finding_output, format_view, shown_piece, shown_width, summaries_output}
+use Rattle.fluent_lint_report.specs.declared.reports.Format.TheVariants.{Text as AsText, Line, Json, Github}
+use Rattle.fluent_lint_report.specs.Formats.{finding_output, format_view, shown_piece, summaries_output}
+use Rattle.fluent_finding_text.specs.View.{shown_width}
 
 -- With the pieces of what is left, the pieces of all follow the old text.
 module _ {X : Type 0} (piece : X → Text) (xs : List X) (old : Text) where
@@ -60,6 +61,7 @@ of_shown format notes (f ∷ fs) =
 
 of_format : (format : Format) (fs : List FileFinding) (ss : List Summary) →
     flat_map (finding_output format) fs ++ summaries_output format ss ≡ output (format_view format) shown_width fs ss
+of_format AsText fs ss = refl
 of_format Line fs ss = append-nil (report_lines fs)
 of_format Json fs ss = refl
 of_format Github fs ss = append-nil (report_github fs)

@@ -1,14 +1,10 @@
--- What calls add to a text and to an object.
-use Rattle.std.specs.Prelude.{◌≡◌, List, ◌++◌, String, string_bytes}
+-- What calls put into an object.
+use Rattle.std.specs.Prelude.{◌≡◌, List, String}
 use Rattle.std.specs.declared.alloc.Global.{Global}
 use Rattle.serde_json.specs.Data.{Data, put}
 use Rattle.serde_json.specs.View.{members_view}
 use Rattle.serde_json.specs.declared.value.Value.{Value}
 use Rattle.fluent_grammar.specs.Words.{Text}
-
--- the new text is the old one and then `more`
-abbrev pub Appends : String Global → String Global → Text → Type 0
-Appends old new more = string_bytes new ≡ string_bytes old ++ more
 
 -- the new members are the old ones, with this value at a key
 abbrev pub Puts : List (String Global × Value) → List (String Global × Value) → Text → Data → Type 0

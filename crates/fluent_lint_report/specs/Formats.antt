@@ -1,32 +1,29 @@
 -- Formats, and what one finding is in them.
-use Rattle.std.specs.Prelude.{ℕ, Bool, false, List, [], map, if◌then◌else◌}
+use Rattle.std.specs.Prelude.{Bool, List, [], map, if◌then◌else◌}
 use Rattle.std.specs.List.{flat_map}
-use Rattle.std.specs.Option.{unwrap_or}
-use Rattle.unicode_width.specs.Width.{char_width}
 use Rattle.fluent_grammar.specs.Words.{Text}
 use Rattle.fluent_findings.specs.Findings.{FileFinding}
 use Rattle.fluent_findings.specs.Output as out
-use Rattle.fluent_findings.specs.Report.{finding_line, is_shown, shown}
-use Rattle.fluent_findings.specs.Summary.{Summary, summary_json}
+use Rattle.fluent_findings.specs.Report.{finding_line, finding_text, is_shown, shown}
+use Rattle.fluent_findings.specs.Summary.{Summary, summary_json, summary_text}
 use Rattle.fluent_findings.specs.JsonReport.{json_line, finding_data}
 use Rattle.fluent_findings.specs.GithubReport.{finding_command}
 use Rattle.fluent_finding.specs.View.{file_findings_view, findings_view}
 use Rattle.fluent_finding.specs.declared.records.FileFindings.{FileFindings}
+use Rattle.fluent_finding_text.specs.View.{shown_width}
 use Rattle.fluent_lint_report.specs.View.{summary_view}
 use Rattle.fluent_lint_report.specs.declared.summaries.Summary.{Summary as FileSummary}
 use Rattle.fluent_lint_report.specs.declared.reports.Format.{Format}
 use Rattle.fluent_lint_report.specs.declared.reports.Format.TheVariants as format
 
--- how many columns a character takes in a terminal
-abbrev pub shown_width : ℕ → ℕ
-shown_width c = unwrap_or (char_width false c) 0
-
 abbrev pub format_view : Format → out.Format
+format_view format.Text = out.text
 format_view format.Line = out.lines
 format_view format.Json = out.json
 format_view format.Github = out.github
 
 abbrev pub finding_output : Format → FileFinding → Text
+finding_output format.Text f = finding_text shown_width f
 finding_output format.Line f = finding_line f
 finding_output format.Json f = json_line (finding_data f)
 finding_output format.Github f = finding_command f
@@ -37,6 +34,7 @@ shown_piece format notes f = if is_shown notes f.finding.severity then finding_o
 
 -- what is written after all findings
 abbrev pub summaries_output : Format → List Summary → Text
+summaries_output format.Text ss = summary_text ss
 summaries_output format.Line ss = []
 summaries_output format.Json ss = summary_json ss
 summaries_output format.Github ss = []

@@ -1,13 +1,13 @@
 //! Findings as commands of a workflow of GitHub.
 
-ghost use Rattle.fluent_lint_report.specs.Changes.{Appends};
+ghost use Rattle.fluent_finding_text.specs.Changes.{Appends};
 ghost use Rattle.std.specs.Prelude.{◌≡◌, OnOk, IfSome, IfNone, ◌<◌, ◌∷◌, [], encode_utf8};
 ghost use Rattle.fluent_finding.specs.View.{finding_view, severity_view};
 ghost use Rattle.fluent_findings.specs.GithubReport.{command_name as name_of_command, finding_command};
 ghost use Rattle.fluent_findings.specs.Report.{labelled_text};
 ghost use Rattle.fluent_lint_report.specs.Parts.{escaped, part_byte};
 ghost use Rattle.fluent_lint_report.specs.declared.commands.Part.TheVariants.{Message};
-ghost use Rattle.fluent_lint_report.specs.View.{IsAt, entry_label, in_file, optional_text};
+ghost use Rattle.fluent_finding_text.specs.View.{IsAt, entry_label, in_file, optional_text};
 
 use fluent_finding::{File, Finding, Severity};
 use fluent_position::Place;

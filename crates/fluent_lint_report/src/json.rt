@@ -1,15 +1,16 @@
 //! Findings as lines of JSON.
 
-ghost use Rattle.fluent_lint_report.specs.Changes.{Appends, Puts};
+ghost use Rattle.fluent_finding_text.specs.Changes.{Appends};
+ghost use Rattle.fluent_lint_report.specs.Changes.{Puts};
 ghost use Rattle.std.specs.Prelude.{◌≡◌, IfOk, OnOk, string_bytes};
 ghost use Rattle.fluent_findings.specs.JsonReport.{finding_data, json_line, text_or_null};
-ghost use Rattle.fluent_lint_report.specs.View.{IsAt, in_file, optional_text};
+ghost use Rattle.fluent_finding_text.specs.View.{IsAt, in_file, optional_text};
 ghost use Rattle.serde_json.specs.Data.{number, string, unsigned};
 ghost use Rattle.serde_json.specs.View.{view};
 ghost use Rattle.serde_json.specs.Written.{compact_text};
 
-use crate::lines::severity_name;
 use fluent_finding::{File, Finding};
+use fluent_finding_text::severity_name;
 use fluent_position::Place;
 use serde_json::{Map, Value};
 use std::alloc::{AllocError, Global};

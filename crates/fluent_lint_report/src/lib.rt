@@ -1,4 +1,5 @@
-//! Findings as `ftl lint` writes them: for each a line, an object of JSON, or a command of a GitHub workflow.
+//! Findings as `ftl lint` writes them: for each a text for people, a line, an object of JSON, or a command of a GitHub
+//! workflow.
 //!
 //! [`report`] writes all findings of a catalog in one [`Format`], and a [`Summary`] for each file if there is a
 //! reference. [`has_failed`] says whether the status is that of a failure. The texts are those of
@@ -7,8 +8,6 @@
 
 mod commands;
 mod json;
-mod lines;
-mod masked;
 mod reports;
 mod summaries;
 

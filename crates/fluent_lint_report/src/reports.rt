@@ -1,24 +1,28 @@
 //! A report: all findings in one format.
 
-ghost use Rattle.fluent_lint_report.specs.Changes.{Appends};
+ghost use Rattle.fluent_finding_text.specs.Changes.{Appends};
 ghost use Rattle.std.specs.Prelude.{◌≡◌, IfOk, OnOk, map, string_bytes};
 ghost use Rattle.std.specs.List.{list_any};
 ghost use Rattle.fluent_finding.specs.View.{findings_view, severity_view};
 ghost use Rattle.fluent_findings.specs.Report.{has_failed as fails, is_failure as severity_fails, is_shown as severity_is_shown};
-ghost use Rattle.fluent_lint_report.specs.View.{IsAt, in_file, summary_view};
+ghost use Rattle.fluent_finding_text.specs.View.{IsAt, IsOnLine, in_file};
+ghost use Rattle.fluent_lint_report.specs.View.{summary_view};
 ghost use Rattle.fluent_lint_report.specs.Formats.{file_output, finding_output, report_output, shown_piece, summaries_output};
 
 use crate::commands::push_command;
 use crate::json::push_json_line;
-use crate::lines::push_finding_line;
-use crate::summaries::{Summary, push_json_summaries};
+use crate::summaries::{Summary, push_json_summaries, push_summary_lines};
 use fluent_finding::{File, FileFindings, Finding, Severity};
+use fluent_finding_text::{push_finding_line, push_finding_text};
 use fluent_position::Place;
 use std::alloc::{AllocError, Global};
 
 /// How findings are written.
 #[derive(Clone, Copy, Debug, PartialEq, Eq)]
 pub enum Format {
+    /// For people: for each finding its line as in [`Format::Line`], the line of the source with a caret below the
+    /// finding, and the hint, and then a line for each summary.
+    Text,
     /// A line for each finding: `FILE:LINE:COLUMN: SEVERITY: ENTRY: TEXT [CODE]`.
     Line,
     /// An object of JSON on a line of its own for each finding, with its texts as they are.
@@ -27,7 +31,8 @@ pub enum Format {
     Github,
 }
 
-/// All findings in this format, and in JSON the summaries after them. Notes are left out unless `notes` is true.
+/// All findings in this format, and as text and in JSON the summaries after them. Notes are left out unless `notes` is
+/// true.
 ///
 /// # Errors
 /// [`AllocError`] if memory runs out; nothing is left behind.
@@ -59,6 +64,7 @@ fn push_summaries(
     ensures { OnOk result (Appends text.old text.new (summaries_output format (map summary_view summaries.now))) }
 {
     match format {
+        Format::Text => push_summary_lines(text, summaries),
         Format::Json => push_json_summaries(text, alloc, summaries),
         Format::Line | Format::Github => Ok(()),
     }
@@ -93,7 +99,8 @@ fn push_if_shown(
     finding: &Finding,
     place: Place,
 ) -> Result<(), AllocError>
-    requires { IsAt file.now finding.now place }
+    requires at { IsAt file.now finding.now place }
+    requires line { IsOnLine file.now finding.now place }
     ensures { OnOk result (Appends text.old text.new (shown_piece format notes (in_file file.now finding.now))) }
 {
     if is_shown(finding.severity, notes) {
@@ -112,10 +119,12 @@ fn push_finding(
     finding: &Finding,
     place: Place,
 ) -> Result<(), AllocError>
-    requires { IsAt file.now finding.now place }
+    requires at { IsAt file.now finding.now place }
+    requires line { IsOnLine file.now finding.now place }
     ensures { OnOk result (Appends text.old text.new (finding_output format (in_file file.now finding.now))) }
 {
     match format {
+        Format::Text => push_finding_text(text, file, finding, place),
         Format::Line => push_finding_line(text, file, finding, place),
         Format::Json => push_json_line(text, alloc, file, finding, place),
         Format::Github => push_command(text, file, finding, place),

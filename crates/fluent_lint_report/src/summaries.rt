@@ -1,14 +1,17 @@
-//! The counts at the end of a report with a reference, as lines of JSON.
+//! The counts at the end of a report with a reference, as text and as lines of JSON.
 
-ghost use Rattle.fluent_lint_report.specs.Changes.{Appends, Puts};
-ghost use Rattle.std.specs.Prelude.{◌≡◌, IfOk, OnOk, map, string_bytes};
+ghost use Rattle.fluent_finding_text.specs.Changes.{Appends};
+ghost use Rattle.fluent_lint_report.specs.Changes.{Puts};
+ghost use Rattle.std.specs.Prelude.{◌≡◌, ◌++◌, [], IfOk, OnOk, decimal, map, string_bytes};
+ghost use Rattle.std.specs.Option.{option_map_or};
 ghost use Rattle.fluent_findings.specs.JsonReport.{json_line};
-ghost use Rattle.fluent_findings.specs.Summary.{number_or_null, summary_data, summary_json};
+ghost use Rattle.fluent_findings.specs.Summary.{count_text, messages_text, number_or_null, summary_data, summary_json, summary_line, summary_text};
 ghost use Rattle.fluent_lint_report.specs.View.{summary_view};
 ghost use Rattle.serde_json.specs.View.{view};
 ghost use Rattle.serde_json.specs.Written.{compact_text};
 
 use crate::json::{put_number, put_text};
+use fluent_finding_text::push_masked;
 use serde_json::{Map, Value};
 use std::alloc::{AllocError, Global};
 
@@ -22,6 +25,47 @@ pub struct Summary<'a> {
     pub missing: Option<usize>,
     pub obsolete: Option<usize>,
     pub untranslated: Option<usize>,
+}
+
+/// Appends a line for each summary: `FILE: 120 messages, 2 obsolete, 5 untranslated`.
+pub(crate) fn push_summary_lines(text: &mut String, summaries: &[Summary]) -> Result<(), AllocError>
+    ensures { OnOk result (Appends text.old text.new (summary_text (map summary_view summaries.now))) }
+{
+    for summary in summaries {
+        push_summary_line(text, summary)?;
+    }
+    Ok(())
+}
+
+/// Appends the line of a summary.
+fn push_summary_line(text: &mut String, summary: &Summary) -> Result<(), AllocError>
+    ensures { OnOk result (Appends text.old text.new (summary_line (summary_view summary.now))) }
+{
+    push_masked(text, summary.file)?;
+    let messages = summary.messages;
+    let word = message_word(messages);
+    write!(text, ": {messages}{word}")?;
+    push_count(text, "missing", summary.missing)?;
+    push_count(text, "obsolete", summary.obsolete)?;
+    push_count(text, "untranslated", summary.untranslated)?;
+    text.push_str("\n")
+}
+
+/// What a number of messages is followed by.
+fn message_word(count: usize) -> &'static str
+    ensures { messages_text count ≡ decimal count ++ result.now }
+{
+    if count == 1 { " message" } else { " messages" }
+}
+
+/// Appends how many messages are something, if they are counted.
+fn push_count(text: &mut String, what: &str, count: Option<usize>) -> Result<(), AllocError>
+    ensures { OnOk result (Appends text.old text.new (option_map_or (count_text what.now) count [])) }
+{
+    match count {
+        Some(count) => write!(text, ", {count} {what}"),
+        None => Ok(()),
+    }
 }
 
 /// Appends a line for each summary.

@@ -1,2 +1,6 @@
 pub mod Steps
 pub mod Moves
+pub mod Within
+pub mod Seams
+pub mod Columns
+pub mod Splits

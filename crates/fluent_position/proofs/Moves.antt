@@ -12,7 +12,7 @@ use Rattle.fluent_position.proofs.Steps.{step, position_step, position_bound, li
 step_feed : (p : Position) (c : ℕ) → c ≡ 10 → step p c ≡ record { line = suc p.line; column = 1 }
 step_feed p c feed = rw feed
 
-step_other : (p : Position) (c : ℕ) → (c ≡ 10 → ⊥) → step p c ≡ (if is_continuation c then p else record { line = p.line; column = suc p.column })
+pub step_other : (p : Position) (c : ℕ) → (c ≡ 10 → ⊥) → step p c ≡ (if is_continuation c then p else record { line = p.line; column = suc p.column })
 step_other p c other = rw (ne_eqb c 10 other) refl
 
 step_line : (p : Position) (c : ℕ) → (c ≡ 10 → ⊥) → (step p c).line ≡ p.line
@@ -121,7 +121,7 @@ line_ended source p is some =
     let at : position_of source p.line_start ≡ record { line = suc (position_of source (p.line_start - 1)).line; column = 1 } = rw less at stepped in
     ap (λ (q : Position). q.line) (sym is.line_position ∙ at)
 
-made : (q : Position) (l c : ℕ) → q.line ≡ l → q.column ≡ c → q ≡ record { line = l; column = c }
+pub made : (q : Position) (l c : ℕ) → q.line ≡ l → q.column ≡ c → q ≡ record { line = l; column = c }
 made q l c line column =
     let first : q ≡ record { line = l; column = q.column } = ap (λ n. record { line = n; column = q.column }) line in
     let second : record { line = l; column = q.column } ≡ record { line = l; column = c } = ap (λ n. record { line = l; column = n }) column in

@@ -1,10 +1,10 @@
 -- Positions and lines, one byte further.
-use Rattle.std.proofs.Common.{◌≡◌, ◌∙◌, ℕ, zero, suc, ◌+◌, ◌-◌, ◌<◌, ◌≤◌, ◌==◌, true, false, [], ◌∷◌, ◌++◌, length, take, drop, get_or, refl, sym, ap, arith, if◌then◌else◌, append-nil, append_assoc, length-append, length-drop}
-use Rattle.std.proofs.lemmas.List.{take_at, length-take-le}
+use Rattle.std.proofs.Common.{◌≡◌, ◌∙◌, ℕ, zero, suc, ◌+◌, ◌<◌, ◌≤◌, ◌==◌, true, false, [], ◌∷◌, ◌++◌, length, take, drop, get_or, refl, sym, ap, arith, if◌then◌else◌}
+use Rattle.std.proofs.lemmas.List.{length-take-le}
 use Rattle.std.proofs.Math.Seq.{take-suc}
 use Rattle.fluent_grammar.specs.Words.{Text, line_feed}
 use Rattle.fluent_grammar.specs.Escapes.{is_continuation}
-use Rattle.fluent_findings.specs.Position.{Position, position_after, first_position, position_of, line_from, front_of_line}
+use Rattle.fluent_findings.specs.Position.{Position, position_after, first_position, position_of, line_from}
 
 -- one byte after a position
 abbrev pub step : Position → ℕ → Position
@@ -13,7 +13,7 @@ step p c =
     else if is_continuation c then p
     else record { line = p.line; column = suc p.column }
 
-after_cons : (p : Position) (c : ℕ) (cs : Text) → position_after p (c ∷ cs) ≡ position_after (step p c) cs
+pub after_cons : (p : Position) (c : ℕ) (cs : Text) → position_after p (c ∷ cs) ≡ position_after (step p c) cs
 after_cons p c cs =
     let A : Position = record { line = suc p.line; column = 1 } in
     let B : Position = record { line = p.line; column = suc p.column } in
@@ -24,7 +24,7 @@ after_cons p c cs =
           ≡ position_after (if d then p else B) cs) [ true ↦ refl | false ↦ refl ]
     ]
 
-after_append : (p : Position) (xs ys : Text) → position_after p (xs ++ ys) ≡ position_after (position_after p xs) ys
+pub after_append : (p : Position) (xs ys : Text) → position_after p (xs ++ ys) ≡ position_after (position_after p xs) ys
 after_append p [] ys = refl
 after_append p (c ∷ cs) ys =
     after_cons p c (cs ++ ys) ∙ after_append (step p c) cs ys ∙ sym (ap (λ q. position_after q ys) (after_cons p c cs))
@@ -90,35 +90,3 @@ line_step line (c ∷ cs) (suc n) within =
       | true ↦ line_step cs cs n within'
       | false ↦ line_step line cs n within'
     ]
-
--- the line up to the offset: `before` is what was passed of it
-front_from : (before cs : Text) (n : ℕ) → n ≤ length cs →
-    line_from (before ++ take n cs) n (take n cs)
-    ≡ take (length (line_from (before ++ cs) n cs) - (length cs - n)) (line_from (before ++ cs) n cs)
-front_from before cs zero within =
-    let e : length (before ++ cs) - (length cs - 0) ≡ length before = omega (arith, length-append before cs) in
-    rw (line_zero (before ++ cs) cs, e) (append-nil before ∙ sym (take_at before cs (length before) refl))
-front_from before [] (suc n) within = absurd (omega arith)
-front_from before (c ∷ cs) (suc n) within =
-    let within' : n ≤ length cs = omega arith in
-    let go_on : line_from (before ++ (c ∷ take n cs)) n (take n cs)
-    ≡ take (length (line_from (before ++ (c ∷ cs)) n cs) - (length cs - n)) (line_from (before ++ (c ∷ cs)) n cs) =
-    let h = front_from (before ++ (c ∷ [])) cs n within' in
-    rw (append_assoc before (c ∷ []) (take n cs), append_assoc before (c ∷ []) cs) at h in
-    let less : suc (length cs) - suc n ≡ length cs - n = omega arith in
-    rw less (elim (c == line_feed) as (λ b.
-    (if b then line_from (take n cs) n (take n cs) else line_from (before ++ (c ∷ take n cs)) n (take n cs))
-    ≡ take (length (if b then line_from cs n cs else line_from (before ++ (c ∷ cs)) n cs) - (length cs - n))
-    (if b then line_from cs n cs else line_from (before ++ (c ∷ cs)) n cs)) [
-      | true ↦ front_from [] cs n within'
-      | false ↦ go_on
-    ])
-
--- the line that begins at `start`, up to the offset
-pub front_is : (source : Text) (n start : ℕ) → n ≤ length source → start ≤ n → line_from source n source ≡ drop start source →
-    front_of_line source n ≡ take (n - start) (drop start source)
-front_is source n start within before line =
-    let e : length (drop start source) - (length source - n) ≡ n - start = omega (arith, length-drop start source) in
-    front_from [] source n within
-    ∙ ap (λ l. take (length l - (length source - n)) l) line
-    ∙ ap (λ k. take k (drop start source)) e

@@ -1,9 +1,10 @@
 //! Places of a source, each reached from another one.
 
-ghost use Rattle.std.specs.Prelude.{◌≡◌, ◌+◌, ◌<◌, ℕ, List, length, min, Some};
+ghost use Rattle.std.specs.Prelude.{◌≡◌, ◌+◌, ◌-◌, ◌<◌, ◌≤◌, ◌++◌, ℕ, List, drop, length, min, Some};
+ghost use Rattle.std.specs.Str.{IsCharBoundary};
 ghost use Rattle.fluent_grammar.specs.Escapes.{is_continuation as is_continuation_byte};
-ghost use Rattle.fluent_findings.specs.Position.{position_of};
-ghost use Rattle.fluent_position.specs.PlaceView.{IsPlaceIn, place_position, place_text};
+ghost use Rattle.fluent_findings.specs.Position.{line_from, position_of, to_line_end};
+ghost use Rattle.fluent_position.specs.PlaceView.{IsAfter, IsPlaceIn, end_of_front, place_position, place_text};
 
 use std::fmt;
 
@@ -58,12 +59,14 @@ impl Place {
     }
 
     /// The place of an offset in the same source, or the source's end if the offset is after it. Each byte between this
-    /// place and that one is read, so the places of a source take one walk in all if they are in order.
+    /// place and that one is read, so the places of a source take one walk in all if they are in order. If that one is
+    /// on a line above, its line is read from the start.
     pub fn moved_to(self, source: &str, offset: usize) -> Place
         requires { IsPlaceIn source.now self }
         ensures place { IsPlaceIn source.now result }
         ensures offset { result.offset ≡ min offset (length source.now) }
         ensures position { position_of source.now offset ≡ place_position result }
+        ensures line { line_from source.now offset source.now ≡ drop result.line_start source.now }
     {
         let bytes = source.as_bytes();
         let offset = offset.min(bytes.len());
@@ -71,17 +74,60 @@ impl Place {
         while offset < place.line_start {
             place = place.line_above(bytes);
         }
-        if offset < place.offset {
-            place = Place {
-                offset: place.line_start,
-                column: 1,
-                ..place
-            };
+        while offset < place.offset {
+            place = place.before_byte(bytes);
         }
         while place.offset < offset {
             place = place.after_byte(bytes);
         }
         place
+    }
+
+    /// What is before this place on its line, and the text from this place on. If this place is within a character, the
+    /// front ends after the character; if it is within a line end, the front ends before that.
+    pub fn split<'a>(self, source: &'a str) -> (&'a str, &'a str)
+        requires { IsPlaceIn source.now self }
+        ensures line { to_line_end (drop self.line_start source.now) ≡ result.0.now ++ to_line_end result.1.now }
+        ensures column { IsAfter result.0.now result.1.now (self.column - 1) }
+    {
+        let place = self.after_character(source);
+        let end = end_of_front(source.as_bytes(), place.offset);
+        (&source[place.line_start..end], &source[end..])
+    }
+
+    /// The place after the character that this one is within, or else this one.
+    fn after_character(self, source: &str) -> Place
+        requires { IsPlaceIn source.now self }
+        ensures place { IsPlaceIn source.now result }
+        ensures boundary { IsCharBoundary source.now result.offset }
+        ensures line_start { result.line_start ≡ self.line_start }
+        ensures column { result.column ≡ self.column }
+    {
+        let mut place = self;
+        while !source.is_char_boundary(place.offset) {
+            place.offset += 1;
+        }
+        place
+    }
+
+    /// The place before the byte in front of this one, on the same line.
+    fn before_byte(self, source: &[u8]) -> Place
+        requires place { IsPlaceIn source.now self }
+        requires not_first { self.line_start < self.offset }
+        ensures place { IsPlaceIn source.now result }
+        ensures offset { result.offset + 1 ≡ self.offset }
+        ensures line_start { result.line_start ≡ self.line_start }
+    {
+        let offset = self.offset - 1;
+        if is_continuation(source[offset]) {
+            Place { offset, ..self }
+        } else {
+            Place {
+                offset,
+                column: self.column - 1,
+                ..self
+            }
+        }
     }
 
     /// The place after the byte at this one.
@@ -129,6 +175,18 @@ impl Place {
             column: 1,
         }
     }
+}
+
+/// The end of a line's front that is up to here: one byte less, if that is within a line end.
+fn end_of_front(source: &[u8], offset: usize) -> usize
+    requires { offset ≤ length source.now }
+    ensures { result ≡ end_of_front source.now offset }
+{
+    let is_within = offset > 0
+        && offset < source.len()
+        && source[offset] == b'\n'
+        && source[offset - 1] == b'\r';
+    if is_within { offset - 1 } else { offset }
 }
 
 /// Whether a byte is in a character, after its first.

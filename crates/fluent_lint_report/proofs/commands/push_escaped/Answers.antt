@@ -5,7 +5,7 @@ use Rattle.std.proofs.lemmas.Iterator.{YieldsList-from_chars}
 use Rattle.std.proofs.lemmas.Iterator.Consumers.{YieldsList-end}
 use Rattle.std.specs.Str.{chars}
 use Rattle.fluent_lint_report.specs.Parts.{part_byte}
-use Rattle.fluent_lint_report.proofs.Characters.{of_text, all_written}
+use Rattle.fluent_finding_text.proofs.Characters.{of_text, all_written}
 use Rattle.fluent_lint_report.proofs.commands.push_escaped.Goals as goal
 
 pub returns : goal.returns

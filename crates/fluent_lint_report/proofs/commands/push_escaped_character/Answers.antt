@@ -2,7 +2,7 @@ use Rattle.std.proofs.Common.{sym, string_bytes}
 use Rattle.std.specs.Prelude.{encode_utf8}
 use Rattle.std.specs.List.{flat_map}
 use Rattle.fluent_lint_report.specs.Parts.{part_byte}
-use Rattle.fluent_lint_report.proofs.Characters.{pushed}
+use Rattle.fluent_finding_text.proofs.Characters.{pushed}
 use Rattle.fluent_lint_report.proofs.Escaped.{plain_character}
 use Rattle.fluent_lint_report.proofs.commands.push_escaped_character.Goals as goal
 

@@ -1,5 +1,5 @@
 use Rattle.std.proofs.Common.{◌∙◌, ◌≤◌, ap, arith, length, string_bytes, ◌++◌}
-use Rattle.fluent_lint_report.specs.View.{in_file}
+use Rattle.fluent_finding_text.specs.View.{in_file}
 use Rattle.fluent_lint_report.specs.Formats.{shown_piece}
 use Rattle.fluent_lint_report.proofs.Items.{pieces_at_last, of_file}
 use Rattle.fluent_lint_report.proofs.reports.push_file_findings.Goals as goal

@@ -1,7 +1,7 @@
 use Rattle.std.proofs.Common.{string_bytes}
 use Rattle.fluent_position.specs.PlaceView.{IsPlaceIn}
 use Rattle.fluent_lint_report.specs.Formats.{shown_piece}
-use Rattle.fluent_lint_report.specs.View.{in_file}
+use Rattle.fluent_finding_text.specs.View.{in_file}
 use Rattle.fluent_lint_report.proofs.Items.{PiecesSoFar}
 use Rattle.fluent_lint_report.proofs.reports.push_file_findings.Given as goal
 

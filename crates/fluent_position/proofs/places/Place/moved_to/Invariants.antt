@@ -11,8 +11,17 @@ decreases-loop-place l = l.place.line_start
 abbrev pub invariant-loop-place-2 : goal.invariant-loop-place-2
 invariant-loop-place-2 l = record {
   is_place : IsPlaceIn l.source l.place;
-  not_after : l.place.offset ≤ l.offset;
+  line_start : l.place.line_start ≤ l.offset;
 }
 
 abbrev pub decreases-loop-place-2 : goal.decreases-loop-place-2
-decreases-loop-place-2 l = l.offset - l.place.offset
+decreases-loop-place-2 l = l.place.offset
+
+abbrev pub invariant-loop-place-3 : goal.invariant-loop-place-3
+invariant-loop-place-3 l = record {
+  is_place : IsPlaceIn l.source l.place;
+  not_after : l.place.offset ≤ l.offset;
+}
+
+abbrev pub decreases-loop-place-3 : goal.decreases-loop-place-3
+decreases-loop-place-3 l = l.offset - l.place.offset

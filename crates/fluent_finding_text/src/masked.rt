@@ -1,13 +1,17 @@
 //! Text that can't move a terminal's cursor or turn the direction of what is around it.
 
-ghost use Rattle.fluent_lint_report.specs.Changes.{Appends};
+ghost use Rattle.fluent_finding_text.specs.Changes.{Appends};
 ghost use Rattle.std.specs.Prelude.{◌≡◌, OnOk};
 ghost use Rattle.fluent_findings.specs.ShownLine.{is_masked as is_masked_character, masked_character, masked_text};
 
 use std::alloc::AllocError;
 
-/// Appends a text, masked.
-pub(crate) fn push_masked(text: &mut String, shown: &str) -> Result<(), AllocError>
+/// Appends a text, masked: U+FFFD for each control character but the tab, and for each mark that changes the direction of
+/// text.
+///
+/// # Errors
+/// [`AllocError`] if memory runs out; a part of it may have been appended.
+pub fn push_masked(text: &mut String, shown: &str) -> Result<(), AllocError>
     ensures { OnOk result (Appends text.old text.new (masked_text shown.now)) }
 {
     for c in shown.chars() {

@@ -2,8 +2,8 @@ use Rattle.std.proofs.Common.{◌∙◌, ap, sym, ◌++◌, string_bytes}
 use Rattle.std.proofs.lemmas.Iterator.{YieldsList-from_chars}
 use Rattle.std.proofs.lemmas.Iterator.Consumers.{YieldsList-end}
 use Rattle.std.specs.Str.{chars}
-use Rattle.fluent_lint_report.proofs.Characters.{masked_piece, masked_is, all_written}
-use Rattle.fluent_lint_report.proofs.masked.push_masked.Goals as goal
+use Rattle.fluent_finding_text.proofs.Characters.{masked_piece, masked_is, all_written}
+use Rattle.fluent_finding_text.proofs.masked.push_masked.Goals as goal
 
 pub returns : goal.returns
 returns c =

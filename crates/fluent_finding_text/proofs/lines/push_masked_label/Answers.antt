@@ -2,9 +2,9 @@ use Rattle.std.proofs.Common.{◌∙◌, ap, sym, ◌++◌, string_bytes, option
 use Rattle.fluent_findings.specs.Report.{labelled_text}
 use Rattle.fluent_findings.specs.ShownLine.{masked_text}
 use Rattle.fluent_finding.specs.View.{finding_view}
-use Rattle.fluent_lint_report.specs.View.{entry_label}
-use Rattle.fluent_lint_report.proofs.Characters.{wrote_second, masked_append, entry_is_text}
-use Rattle.fluent_lint_report.proofs.lines.push_masked_label.Goals as goal
+use Rattle.fluent_finding_text.specs.View.{entry_label}
+use Rattle.fluent_finding_text.proofs.Characters.{wrote_second, masked_append, entry_is_text}
+use Rattle.fluent_finding_text.proofs.lines.push_masked_label.Goals as goal
 
 pub returns : goal.returns
 returns c =

@@ -8,7 +8,7 @@ use Rattle.std.proofs.lemmas.Str.{encodes-append, encodes-chars, chars-append, I
 use Rattle.std.proofs.lemmas.List.{flat_map_more, map-append, map-id}
 use Rattle.std.proofs.lemmas.List.Concat.{flat_map-append}
 use Rattle.fluent_grammar.specs.Words.{Text}
-use Rattle.fluent_lint_report.specs.View.{entry_label}
+use Rattle.fluent_finding_text.specs.View.{entry_label}
 use Rattle.fluent_findings.specs.ShownLine.{masked_character, masked_text}
 
 -- `piece` is what is written for a character, or for another item

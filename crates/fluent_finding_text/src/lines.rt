@@ -1,11 +1,11 @@
 //! The first line of a finding: `FILE:LINE:COLUMN: SEVERITY: ENTRY: TEXT [CODE]`.
 
-ghost use Rattle.fluent_lint_report.specs.Changes.{Appends};
+ghost use Rattle.fluent_finding_text.specs.Changes.{Appends};
 ghost use Rattle.std.specs.Prelude.{◌≡◌, OnOk};
 ghost use Rattle.fluent_finding.specs.View.{finding_view, severity_view};
 ghost use Rattle.fluent_findings.specs.Report.{finding_line, labelled_text, severity_text};
 ghost use Rattle.fluent_findings.specs.ShownLine.{masked_text};
-ghost use Rattle.fluent_lint_report.specs.View.{IsAt, entry_label, in_file, optional_text};
+ghost use Rattle.fluent_finding_text.specs.View.{IsAt, entry_label, in_file, optional_text};
 
 use crate::masked::push_masked;
 use fluent_finding::{File, Finding, Severity};
@@ -13,7 +13,10 @@ use fluent_position::Place;
 use std::alloc::AllocError;
 
 /// Appends the first line of a finding that is at this place.
-pub(crate) fn push_finding_line(
+///
+/// # Errors
+/// [`AllocError`] if memory runs out; a part of it may have been appended.
+pub fn push_finding_line(
     text: &mut String,
     file: &File,
     finding: &Finding,
@@ -22,9 +25,9 @@ pub(crate) fn push_finding_line(
     requires { IsAt file.now finding.now place }
     ensures { OnOk result (Appends text.old text.new (finding_line (in_file file.now finding.now))) }
 {
-    let name = file.name;
+    push_masked(text, file.name)?;
     let severity = severity_name(finding.severity);
-    write!(text, "{name}:{place}: {severity}: ")?;
+    write!(text, ":{place}: {severity}: ")?;
     push_masked_label(text, finding)?;
     let code = finding.code;
     writeln!(text, " [{code}]")
@@ -52,7 +55,7 @@ fn push_masked_entry(text: &mut String, entry: &Option<String>) -> Result<(), Al
 }
 
 /// The word for a severity.
-pub(crate) fn severity_name(severity: Severity) -> &'static str
+pub fn severity_name(severity: Severity) -> &'static str
     ensures { result.now ≡ severity_text (severity_view severity) }
 {
     match severity {

@@ -3,9 +3,9 @@ use Rattle.std.proofs.lemmas.Str.{chars-nil, IsUtf8-string_bytes}
 use Rattle.std.specs.Str.{encode_utf8_all}
 use Rattle.std.specs.Prelude.{map}
 use Rattle.fluent_findings.specs.ShownLine.{masked_character, masked_text}
-use Rattle.fluent_lint_report.specs.View.{entry_label}
-use Rattle.fluent_lint_report.proofs.Characters.{pushed_second, masked_entry}
-use Rattle.fluent_lint_report.proofs.lines.push_masked_entry.Goals as goal
+use Rattle.fluent_finding_text.specs.View.{entry_label}
+use Rattle.fluent_finding_text.proofs.Characters.{pushed_second, masked_entry}
+use Rattle.fluent_finding_text.proofs.lines.push_masked_entry.Goals as goal
 
 pub returns-in_ok-push_masked-in-Some : goal.returns-in_ok-push_masked-in-Some
 returns-in_ok-push_masked-in-Some c =

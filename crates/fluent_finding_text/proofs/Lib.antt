@@ -1,0 +1,4 @@
+pub mod Characters
+pub mod Passing
+pub mod Windows
+pub mod Written

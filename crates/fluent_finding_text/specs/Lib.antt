@@ -1,0 +1,4 @@
+pub mod Changes
+pub mod View
+pub mod Excerpts
+pub mod Texts
