@@ -113,7 +113,7 @@ errors_step : (o : Option Unresolved) (rest : List Unresolved) → o ≡ None �
 errors_step None rest e h = h
 errors_step (Some x) rest e h = absurd cc
 
-errors_are_harmless : (meaning : Text → Option (Meaning Text)) (is : List Inline) → All (IsFound meaning) is →
+errors_are_harmless : (meaning : Text → Option (Meaning (Unit {0}))) (is : List Inline) → All (IsFound meaning) is →
     All IsHarmless (map unresolved (flat_map (λ i. option_to_list (reference_error meaning i)) is))
 errors_are_harmless meaning [] h = All-nil IsHarmless
 errors_are_harmless meaning (i ∷ is) h =
@@ -257,8 +257,8 @@ module _ (rules : Rules) where
 
   -- ---- the ids of the sources
 
-  abbrev PatternsOf : Ids Text → List Elements
-  PatternsOf ids = flat_map (λ (pair : Text × Meaning Text). meaning_patterns pair.1) ids
+  abbrev PatternsOf : Ids (Unit {0}) → List Elements
+  PatternsOf ids = flat_map (λ (pair : Text × Meaning (Unit {0})). meaning_patterns pair.1) ids
 
   attributes_are_harmless : (label : Text) (as' : List t.Attribute) → All (λ p. Harmless p.1) (attribute_patterns label as') → All Harmless (map (λ (a : t.Attribute). a.value) as')
   attributes_are_harmless label [] h = All-nil Harmless
@@ -276,24 +276,24 @@ module _ (rules : Rules) where
   ids_are_harmless : (es : List t.Entry) → All HasHarmless es → All Harmless (PatternsOf (entries_by_id es))
   ids_are_harmless [] h = All-nil Harmless
   ids_are_harmless (t.message m ∷ es) h =
-      All-append Harmless (meaning_patterns {F = Text} (message m)) (PatternsOf (entries_by_id es)) (value_is_harmless (record { label = m.id; attribute = None }) m.value m.id m.attributes (All-head HasHarmless (t.message m) es h))
+      All-append Harmless (meaning_patterns {F = Unit {0}} (message m)) (PatternsOf (entries_by_id es)) (value_is_harmless (record { label = m.id; attribute = None }) m.value m.id m.attributes (All-head HasHarmless (t.message m) es h))
       (ids_are_harmless es (All-tail HasHarmless (t.message m) es h))
   ids_are_harmless (t.term m ∷ es) h =
-      All-append Harmless (meaning_patterns {F = Text} (term m)) (PatternsOf (entries_by_id es)) (value_is_harmless (record { label = hyphen ∷ m.id; attribute = None }) (Some m.value) (hyphen ∷ m.id) m.attributes (All-head HasHarmless (t.term m) es h))
+      All-append Harmless (meaning_patterns {F = Unit {0}} (term m)) (PatternsOf (entries_by_id es)) (value_is_harmless (record { label = hyphen ∷ m.id; attribute = None }) (Some m.value) (hyphen ∷ m.id) m.attributes (All-head HasHarmless (t.term m) es h))
       (ids_are_harmless es (All-tail HasHarmless (t.term m) es h))
   ids_are_harmless (t.comment c ∷ es) h = ids_are_harmless es (All-tail HasHarmless (t.comment c) es h)
   ids_are_harmless (t.group_comment c ∷ es) h = ids_are_harmless es (All-tail HasHarmless (t.group_comment c) es h)
   ids_are_harmless (t.resource_comment c ∷ es) h = ids_are_harmless es (All-tail HasHarmless (t.resource_comment c) es h)
   ids_are_harmless (t.junk x ∷ es) h = ids_are_harmless es (All-tail HasHarmless (t.junk x) es h)
 
-  functions_are_harmless : (names : List Text) (ids : Ids Text) → All Harmless (PatternsOf ids) → All Harmless (PatternsOf (map (λ name. (name, function name)) names ++ ids))
+  functions_are_harmless : (names : List Text) (ids : Ids (Unit {0})) → All Harmless (PatternsOf ids) → All Harmless (PatternsOf (map (λ name. (name, function tt)) names ++ ids))
   functions_are_harmless [] ids h = h
   functions_are_harmless (name ∷ names) ids h = functions_are_harmless names ids h
 
-  catalog_is_harmless : (functions : List Text) (files : List File) → IsClean (findings_of_tiles rules [] (flat_map tiles_in files)) → (id : Text) (m : Meaning Text) →
+  catalog_is_harmless : (functions : List Text) (files : List File) → IsClean (findings_of_tiles rules [] (flat_map tiles_in files)) → (id : Text) (m : Meaning (Unit {0})) →
       find (catalog_ids functions (sources files)) id ≡ Some m → All Harmless (meaning_patterns m)
   catalog_is_harmless functions files h id m found =
-      let pairs = map (λ name. (name, function name)) functions ++ entries_by_id (lists (sources files)) in
+      let pairs = map (λ name. (name, function tt)) functions ++ entries_by_id (lists (sources files)) in
       at_value Harmless meaning_patterns id m (number_pair ∷ pairs) (sym (first_stays (number_pair ∷ []) pairs id) ∙ found)
       (functions_are_harmless functions (entries_by_id (lists (sources files))) (ids_are_harmless (lists (sources files)) (sources_are_harmless files (tiles_are_harmless [] (flat_map tiles_in files) h))))
 
