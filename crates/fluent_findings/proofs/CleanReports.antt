@@ -24,7 +24,7 @@ use Rattle.fluent_findings.specs.Occurrences.{Occurrence, occurrences, PatternPl
 use Rattle.fluent_findings.specs.Finding.{Finding}
 use Rattle.fluent_findings.specs.FlawHints.{never_ends}
 use Rattle.fluent_findings.specs.FlawWords.{flaw_code}
-use Rattle.fluent_findings.specs.EntryFindings.{flaw_finding, node_flaws, node_findings, nodes_findings, pattern_findings, attribute_findings, patterns_findings, first_place, pattern_places, read_places, entry_findings}
+use Rattle.fluent_findings.specs.EntryFindings.{flaw_finding, node_flaws, node_findings, nodes_findings, pattern_findings, attribute_findings, patterns_findings, first_place, pattern_places, entry_findings}
 use Rattle.fluent_findings.specs.Files.{File}
 use Rattle.fluent_findings.specs.DuplicateIds.{Declaration, duplicate_findings}
 use Rattle.fluent_findings.specs.Findings.{Rules, FileFinding, FileTile, findings_in, tiles_in, sources, findings_of_tile, findings_of_tiles, declarations_of_tile, catalog_rules, translation_rules, known_functions, missing_messages}
@@ -171,7 +171,7 @@ module _ (rules : Rules) where
     ends es owner at false true goes h = let bad : false ≡ true = goes refl in absurd cc
     ends es owner at false false goes h = All-nil IsHarmless
 
-    pattern_is_harmless : (owner : Text) (place : PatternPlace) (es : Elements) → Clean (pattern_findings rules.ids rules.plurals source read_places owner place es) → Harmless es
+    pattern_is_harmless : (owner : Text) (place : PatternPlace) (es : Elements) → Clean (pattern_findings rules.ids rules.plurals source owner place es) → Harmless es
     pattern_is_harmless owner place es h =
         let b = never_ends rules.ids es in
         let endless = is_pattern_among es (endless_patterns rules.ids) in
@@ -181,15 +181,15 @@ module _ (rules : Rules) where
         All-append IsHarmless (map unresolved (pattern_errors (find rules.ids) es)) _ (errors_are_harmless (find rules.ids) (elements_references es) resolved.0)
         (All-append IsHarmless (flat_map select_flaws (elements_selects es)) _ (selects_are_harmless (elements_selects es) resolved.1) (ends es owner place.name_at b endless (endless_goes_on rules.ids es) first))
 
-    patterns_are_harmless : (s : Text) (before : List Text) (places : List PatternPlace) (ps : List (Owner × Elements)) → Clean (patterns_findings rules.ids rules.plurals source read_places s before places ps) →
+    patterns_are_harmless : (s : Text) (before : List Text) (places : List PatternPlace) (ps : List (Owner × Elements)) → Clean (patterns_findings rules.ids rules.plurals source s before places ps) →
         All (λ p. Harmless p.1) ps
     patterns_are_harmless s before places [] h = All-nil (λ p. Harmless p.1)
     patterns_are_harmless s before places (p ∷ ps) h =
         let owner = with_attribute p.0.label p.0.attribute in
         let place = first_place s places in
         let rest = all_right HasHarmlessCode (attribute_findings rules.ids rules.plurals source owner before place p.0.attribute) _ h in
-        All-cons (λ q. Harmless q.1) p ps (pattern_is_harmless owner place p.1 (all_left HasHarmlessCode (pattern_findings rules.ids rules.plurals source read_places owner place p.1) _ rest))
-        (patterns_are_harmless s (option_to_list p.0.attribute ++ before) (drop 1 places) ps (all_right HasHarmlessCode (pattern_findings rules.ids rules.plurals source read_places owner place p.1) _ rest))
+        All-cons (λ q. Harmless q.1) p ps (pattern_is_harmless owner place p.1 (all_left HasHarmlessCode (pattern_findings rules.ids rules.plurals source owner place p.1) _ rest))
+        (patterns_are_harmless s (option_to_list p.0.attribute ++ before) (drop 1 places) ps (all_right HasHarmlessCode (pattern_findings rules.ids rules.plurals source owner place p.1) _ rest))
 
     entry_is_harmless : (e : t.Entry) (s : Text) → Clean (entry_findings rules.ids rules.plurals source e s) → HasHarmless e
     entry_is_harmless e s h = patterns_are_harmless s [] (pattern_places e s) (entry_patterns e) h

@@ -35,16 +35,6 @@ abbrev pub first_place : Text → List PatternPlace → PatternPlace
 first_place s [] = record { attribute = None; name_at = s; pattern_at = s }
 first_place s (place ∷ places) = place
 
--- How places are found: those of the patterns of an entry, given the source from the entry on, and the occurrences in a
--- pattern, given the source from the pattern on.
-pub record Places : Type 0 where
-  pub patterns : t.Entry → Text → List PatternPlace
-  pub occurrences : Elements → Text → List Occurrence
-
--- by reading the source
-abbrev pub read_places : Places
-read_places = record { patterns = pattern_places; occurrences = λ es s. occurrences s }
-
 -- ---- what a node has
 
 -- a resolver error of a reference, a select without default variant, or a duplicate key
@@ -113,10 +103,10 @@ module _ {F : Type 0} (ids : Ids F) (plurals : Option LanguagePlurals) (source :
       node_findings es owner o.at node ++ nodes_findings es owner at nodes os
 
   -- of a pattern at its place: whether its references end, and then its nodes
-  abbrev pub pattern_findings : Places → Text → PatternPlace → Elements → List Finding
-  pattern_findings places owner place es =
+  abbrev pub pattern_findings : Text → PatternPlace → Elements → List Finding
+  pattern_findings owner place es =
       (if never_ends ids es then flaw_finding es owner place.name_at (unresolved cyclic) ∷ [] else [])
-      ++ nodes_findings es owner place.pattern_at (elements_nodes es) (places.occurrences es place.pattern_at)
+      ++ nodes_findings es owner place.pattern_at (elements_nodes es) (occurrences place.pattern_at)
 
   -- whether the name of an attribute, if it is one, is that of an earlier one
   abbrev pub attribute_findings : Text → List Text → PatternPlace → Option Text → List Finding
@@ -128,19 +118,14 @@ module _ {F : Type 0} (ids : Ids F) (plurals : Option LanguagePlurals) (source :
 
   -- Of the patterns of an entry at their places, after attributes of these names. If there were no place, it would be
   -- that of the entry; `PatternsHavePlaces` says that there always is one.
-  abbrev pub patterns_findings : Places → Text → List Text → List PatternPlace → List (Owner × Elements) → List Finding
-  patterns_findings places s before there [] = []
-  patterns_findings places s before there (p ∷ ps) =
+  abbrev pub patterns_findings : Text → List Text → List PatternPlace → List (Owner × Elements) → List Finding
+  patterns_findings s before places [] = []
+  patterns_findings s before places (p ∷ ps) =
       let owner = with_attribute p.0.label p.0.attribute in
-      let place = first_place s there in
+      let place = first_place s places in
       attribute_findings owner before place p.0.attribute
-      ++ (pattern_findings places owner place p.1
-      ++ patterns_findings places s (option_to_list p.0.attribute ++ before) (drop 1 there) ps)
+      ++ (pattern_findings owner place p.1 ++ patterns_findings s (option_to_list p.0.attribute ++ before) (drop 1 places) ps)
 
   -- of the entry at the front of a text, but for its id
-  abbrev pub entry_findings_at : Places → t.Entry → Text → List Finding
-  entry_findings_at places e s = patterns_findings places s [] (places.patterns e s) (entry_patterns e)
-
-  -- the same, at the places that reading the source finds
   abbrev pub entry_findings : t.Entry → Text → List Finding
-  entry_findings e s = entry_findings_at read_places e s
+  entry_findings e s = patterns_findings s [] (pattern_places e s) (entry_patterns e)
