@@ -22,6 +22,7 @@ use Rattle.fluent_findings.specs.Flaws.{unresolved, duplicate_key, duplicate_key
 use Rattle.fluent_findings.specs.Nodes.{Node, expression, select, repeated_key, elements_nodes}
 use Rattle.fluent_findings.specs.Occurrences.{Occurrence, occurrences, PatternPlace}
 use Rattle.fluent_findings.specs.Finding.{Finding}
+use Rattle.fluent_findings.specs.FlawHints.{never_ends}
 use Rattle.fluent_findings.specs.FlawWords.{flaw_code}
 use Rattle.fluent_findings.specs.EntryFindings.{flaw_finding, node_flaws, node_findings, nodes_findings, pattern_findings, attribute_findings, patterns_findings, first_place, pattern_places, entry_findings}
 use Rattle.fluent_findings.specs.Files.{File}
@@ -29,6 +30,7 @@ use Rattle.fluent_findings.specs.DuplicateIds.{Declaration, duplicate_findings}
 use Rattle.fluent_findings.specs.Findings.{Rules, FileFinding, FileTile, findings_in, tiles_in, sources, findings_of_tile, findings_of_tiles, declarations_of_tile, catalog_rules, translation_rules, known_functions, missing_messages}
 use Rattle.fluent_findings.specs.PlaceLaws.{tile_entries}
 use Rattle.fluent_findings.specs.ReportLaws.{IsHarmless, harmful_codes, HasHarmlessCode, IsClean, CleanCatalogsAreFlawless, CleanTranslationsAreFlawless}
+use Rattle.fluent_findings.proofs.EndlessPatterns.{endless_goes_on}
 use Rattle.fluent_findings.proofs.Lists.{all_left, all_right}
 use Rattle.fluent_findings.proofs.RequestErrors.{HasDefault}
 use Rattle.fluent_findings.proofs.NodesHold.{IsResolved, IsFound, elements_resolved}
@@ -113,7 +115,7 @@ errors_step : (o : Option Unresolved) (rest : List Unresolved) → o ≡ None �
 errors_step None rest e h = h
 errors_step (Some x) rest e h = absurd cc
 
-errors_are_harmless : (meaning : Text → Option (Meaning Text)) (is : List Inline) → All (IsFound meaning) is →
+errors_are_harmless : (meaning : Text → Option (Meaning (Unit {0}))) (is : List Inline) → All (IsFound meaning) is →
     All IsHarmless (map unresolved (flat_map (λ i. option_to_list (reference_error meaning i)) is))
 errors_are_harmless meaning [] h = All-nil IsHarmless
 errors_are_harmless meaning (i ∷ is) h =
@@ -162,20 +164,22 @@ module _ (rules : Rules) where
         All-cons (IsResolved (find rules.ids)) node nodes (node_by_findings es owner o.at node (all_left HasHarmlessCode (node_findings rules.ids rules.plurals source es owner o.at node) _ h))
         (nodes_are_resolved es owner at nodes os (all_right HasHarmlessCode (node_findings rules.ids rules.plurals source es owner o.at node) _ h))
 
-    ends : (es : Elements) (owner at : Text) (b : Bool) → Clean (if b then flaw_finding rules.ids rules.plurals source es owner at (unresolved cyclic) ∷ [] else []) →
-        All IsHarmless (if b then unresolved cyclic ∷ [] else [])
-    ends es owner at true h =
+    ends : (es : Elements) (owner at : Text) (goes_on is_endless : Bool) → (is_endless ≡ true → goes_on ≡ true) →
+        Clean (if goes_on then flaw_finding rules.ids rules.plurals source es owner at (unresolved cyclic) ∷ [] else []) → All IsHarmless (if is_endless then unresolved cyclic ∷ [] else [])
+    ends es owner at true is_endless goes h =
         let clean : is_among (codes "cyclic-reference") harmful_codes ≡ false = All-head HasHarmlessCode (flaw_finding rules.ids rules.plurals source es owner at (unresolved cyclic)) [] h in absurd cc
-    ends es owner at false h = All-nil IsHarmless
+    ends es owner at false true goes h = let bad : false ≡ true = goes refl in absurd cc
+    ends es owner at false false goes h = All-nil IsHarmless
 
     pattern_is_harmless : (owner : Text) (place : PatternPlace) (es : Elements) → Clean (pattern_findings rules.ids rules.plurals source owner place es) → Harmless es
     pattern_is_harmless owner place es h =
-        let b = is_pattern_among es (endless_patterns rules.ids) in
+        let b = never_ends rules.ids es in
+        let endless = is_pattern_among es (endless_patterns rules.ids) in
         let first = all_left HasHarmlessCode (if b then flaw_finding rules.ids rules.plurals source es owner place.name_at (unresolved cyclic) ∷ [] else []) _ h in
         let others = all_right HasHarmlessCode (if b then flaw_finding rules.ids rules.plurals source es owner place.name_at (unresolved cyclic) ∷ [] else []) _ h in
         let resolved = elements_resolved (find rules.ids) es (nodes_are_resolved es owner place.pattern_at (elements_nodes es) (occurrences place.pattern_at) others) in
         All-append IsHarmless (map unresolved (pattern_errors (find rules.ids) es)) _ (errors_are_harmless (find rules.ids) (elements_references es) resolved.0)
-        (All-append IsHarmless (flat_map select_flaws (elements_selects es)) _ (selects_are_harmless (elements_selects es) resolved.1) (ends es owner place.name_at b first))
+        (All-append IsHarmless (flat_map select_flaws (elements_selects es)) _ (selects_are_harmless (elements_selects es) resolved.1) (ends es owner place.name_at b endless (endless_goes_on rules.ids es) first))
 
     patterns_are_harmless : (s : Text) (before : List Text) (places : List PatternPlace) (ps : List (Owner × Elements)) → Clean (patterns_findings rules.ids rules.plurals source s before places ps) →
         All (λ p. Harmless p.1) ps
@@ -257,8 +261,8 @@ module _ (rules : Rules) where
 
   -- ---- the ids of the sources
 
-  abbrev PatternsOf : Ids Text → List Elements
-  PatternsOf ids = flat_map (λ (pair : Text × Meaning Text). meaning_patterns pair.1) ids
+  abbrev PatternsOf : Ids (Unit {0}) → List Elements
+  PatternsOf ids = flat_map (λ (pair : Text × Meaning (Unit {0})). meaning_patterns pair.1) ids
 
   attributes_are_harmless : (label : Text) (as' : List t.Attribute) → All (λ p. Harmless p.1) (attribute_patterns label as') → All Harmless (map (λ (a : t.Attribute). a.value) as')
   attributes_are_harmless label [] h = All-nil Harmless
@@ -276,24 +280,24 @@ module _ (rules : Rules) where
   ids_are_harmless : (es : List t.Entry) → All HasHarmless es → All Harmless (PatternsOf (entries_by_id es))
   ids_are_harmless [] h = All-nil Harmless
   ids_are_harmless (t.message m ∷ es) h =
-      All-append Harmless (meaning_patterns {F = Text} (message m)) (PatternsOf (entries_by_id es)) (value_is_harmless (record { label = m.id; attribute = None }) m.value m.id m.attributes (All-head HasHarmless (t.message m) es h))
+      All-append Harmless (meaning_patterns {F = Unit {0}} (message m)) (PatternsOf (entries_by_id es)) (value_is_harmless (record { label = m.id; attribute = None }) m.value m.id m.attributes (All-head HasHarmless (t.message m) es h))
       (ids_are_harmless es (All-tail HasHarmless (t.message m) es h))
   ids_are_harmless (t.term m ∷ es) h =
-      All-append Harmless (meaning_patterns {F = Text} (term m)) (PatternsOf (entries_by_id es)) (value_is_harmless (record { label = hyphen ∷ m.id; attribute = None }) (Some m.value) (hyphen ∷ m.id) m.attributes (All-head HasHarmless (t.term m) es h))
+      All-append Harmless (meaning_patterns {F = Unit {0}} (term m)) (PatternsOf (entries_by_id es)) (value_is_harmless (record { label = hyphen ∷ m.id; attribute = None }) (Some m.value) (hyphen ∷ m.id) m.attributes (All-head HasHarmless (t.term m) es h))
       (ids_are_harmless es (All-tail HasHarmless (t.term m) es h))
   ids_are_harmless (t.comment c ∷ es) h = ids_are_harmless es (All-tail HasHarmless (t.comment c) es h)
   ids_are_harmless (t.group_comment c ∷ es) h = ids_are_harmless es (All-tail HasHarmless (t.group_comment c) es h)
   ids_are_harmless (t.resource_comment c ∷ es) h = ids_are_harmless es (All-tail HasHarmless (t.resource_comment c) es h)
   ids_are_harmless (t.junk x ∷ es) h = ids_are_harmless es (All-tail HasHarmless (t.junk x) es h)
 
-  functions_are_harmless : (names : List Text) (ids : Ids Text) → All Harmless (PatternsOf ids) → All Harmless (PatternsOf (map (λ name. (name, function name)) names ++ ids))
+  functions_are_harmless : (names : List Text) (ids : Ids (Unit {0})) → All Harmless (PatternsOf ids) → All Harmless (PatternsOf (map (λ name. (name, function tt)) names ++ ids))
   functions_are_harmless [] ids h = h
   functions_are_harmless (name ∷ names) ids h = functions_are_harmless names ids h
 
-  catalog_is_harmless : (functions : List Text) (files : List File) → IsClean (findings_of_tiles rules [] (flat_map tiles_in files)) → (id : Text) (m : Meaning Text) →
+  catalog_is_harmless : (functions : List Text) (files : List File) → IsClean (findings_of_tiles rules [] (flat_map tiles_in files)) → (id : Text) (m : Meaning (Unit {0})) →
       find (catalog_ids functions (sources files)) id ≡ Some m → All Harmless (meaning_patterns m)
   catalog_is_harmless functions files h id m found =
-      let pairs = map (λ name. (name, function name)) functions ++ entries_by_id (lists (sources files)) in
+      let pairs = map (λ name. (name, function tt)) functions ++ entries_by_id (lists (sources files)) in
       at_value Harmless meaning_patterns id m (number_pair ∷ pairs) (sym (first_stays (number_pair ∷ []) pairs id) ∙ found)
       (functions_are_harmless functions (entries_by_id (lists (sources files))) (ids_are_harmless (lists (sources files)) (sources_are_harmless files (tiles_are_harmless [] (flat_map tiles_in files) h))))
 

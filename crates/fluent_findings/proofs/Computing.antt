@@ -9,13 +9,12 @@ use Rattle.fluent_findings.specs.Tiles.{tiles_from}
 use Rattle.fluent_findings.specs.Endless.{patterns_left}
 use Rattle.fluent_findings.specs.Comparison.{messages_within}
 use Rattle.fluent_findings.specs.Occurrences.{walkers, attribute_places}
-use Rattle.fluent_findings.specs.Escapes.{invalid_escapes_after}
 use Rattle.fluent_findings.specs.Files.{File}
 use Rattle.fluent_findings.specs.Findings.{Options, findings, findings_with_reference}
 use Rattle.fluent_findings.specs.Report.{shown, report_text}
 
 unfoldable pub computing_findings : ⊤
-unfolding computing same_elements tiles_from patterns_left messages_within walkers attribute_places digits chars invalid_escapes_after
+unfolding computing same_elements tiles_from patterns_left messages_within walkers attribute_places digits chars
 computing_findings = tt
 
 unfoldable pub file : Text → Text → File

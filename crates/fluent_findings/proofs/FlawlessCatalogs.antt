@@ -1,6 +1,6 @@
 -- A flawless catalog answers without errors other than those that depend on the request.
-use Rattle.std.proofs.Common.{◌≡◌, ℕ, zero, suc, ◌<◌, Bool, true, false, cond, List, [], ◌∷◌, ◌++◌, map, filter, length, Option, Some, None, refl, ap, ◌∙◌, arith}
-use Rattle.std.specs.Prelude.{◌||◌, if◌then◌else◌, is_some}
+use Rattle.std.proofs.Common.{◌≡◌, ℕ, zero, suc, ◌<◌, Bool, true, false, cond, List, [], ◌∷◌, ◌++◌, map, length, Option, Some, None, refl, arith}
+use Rattle.std.specs.Prelude.{if◌then◌else◌, is_some}
 use Rattle.std.specs.List.{All, Contains, flat_map, list_any}
 use Rattle.std.specs.Option.{option_to_list}
 use Rattle.std.specs.BTreeMap.{is_at}
@@ -17,14 +17,13 @@ use Rattle.fluent_meaning.specs.Choice.{first_default}
 use Rattle.fluent_meaning.specs.Environment.{Environment}
 use Rattle.fluent_meaning.specs.Ids.{Ids, Meaning, number_function, function, message, term, find, attribute_named}
 use Rattle.fluent_meaning.specs.ReachLaws.{over}
-use Rattle.fluent_meaning.specs.Same.{same_elements}
 use Rattle.fluent_meaning.specs.Substitution.{message_target, term_target, there, there_or, most_placeables, formatted}
 use Rattle.fluent_meaning.proofs.OnPath.{same-equivalence}
-use Rattle.fluent_meaning.proofs.SameDecides.{elements-decides}
 use Rattle.fluent_findings.specs.References.{elements_references, reference_error, reference_patterns, next_patterns, pattern_errors}
 use Rattle.fluent_findings.specs.Endless.{meaning_patterns, all_patterns, is_pattern_among, referring_patterns, patterns_left, endless_patterns}
 use Rattle.fluent_findings.specs.Flaws.{Flaw, unresolved, select_flaws, default_flaws, duplicate_keys, elements_selects, pattern_flaws}
 use Rattle.fluent_findings.specs.ReportLaws.{IsHarmless, IsFlawless, FlawlessCatalogsAnswer}
+use Rattle.fluent_findings.proofs.EndlessPatterns.{refers_into, any_here, any_later, keeps}
 use Rattle.fluent_findings.proofs.Lists.{all_left, all_right}
 use Rattle.fluent_findings.proofs.RequestErrors.{HasDefault, Fine, PatternFits, answer-fine}
 
@@ -36,17 +35,6 @@ module _ {F : Type 0} (meaning : Text → Option (Meaning F)) where
   rounds zero ps es = 0
   rounds (suc n) ps es = if is_pattern_among es ps then suc (rounds n (referring_patterns meaning ps) es) else 0
 
-  abbrev refers_into : List Elements → Elements → Bool
-  refers_into ps es = list_any (λ next. is_pattern_among next ps) (next_patterns meaning es)
-
-  any_here : (b c : Bool) → b ≡ true → (b || c) ≡ true
-  any_here true c e = refl
-  any_here false c e = absurd cc
-
-  any_later : (b c : Bool) → c ≡ true → (b || c) ≡ true
-  any_later true c e = refl
-  any_later false c e = e
-
   -- if this one of a list passes, one of the list does
   abbrev PassesIn : List Elements → Elements → Type 0
   PassesIn xs x = (q : Elements → Bool) → q x ≡ true → list_any q xs ≡ true
@@ -56,17 +44,6 @@ module _ {F : Type 0} (meaning : Text → Option (Meaning F)) where
   each_any (x ∷ xs) =
       All-cons (PassesIn (x ∷ xs)) x xs (λ q e. any_here (q x) (list_any q xs) e)
       (All-weaker (PassesIn xs) (PassesIn (x ∷ xs)) (λ y h q e. any_later (q x) (list_any q xs) (h q e)) xs (each_any xs))
-
-  keep_step : (test : Elements → Bool) (es p : Elements) (ps : List Elements) (b : Bool) → same_elements es p ≡ b → (b || is_pattern_among es ps) ≡ true → test es ≡ true → (is_pattern_among es ps ≡ true → is_pattern_among es (filter test ps) ≡ true) →
-      (c : Bool) → test p ≡ c → is_pattern_among es (if c then p ∷ filter test ps else filter test ps) ≡ true
-  keep_step test es p ps true same e passes later true kept = ap (λ x. x || is_pattern_among es (filter test ps)) same
-  keep_step test es p ps true same e passes later false kept = let is : es ≡ p = (elements-decides es p).0 same in let bad : test es ≡ false = ap test is ∙ kept in absurd cc
-  keep_step test es p ps false same e passes later true kept = ap (λ x. x || is_pattern_among es (filter test ps)) same ∙ later e
-  keep_step test es p ps false same e passes later false kept = later e
-
-  keeps : (test : Elements → Bool) (es : Elements) → test es ≡ true → (ps : List Elements) → is_pattern_among es ps ≡ true → is_pattern_among es (filter test ps) ≡ true
-  keeps test es passes [] e = absurd cc
-  keeps test es passes (p ∷ ps) e = keep_step test es p ps (same_elements es p) refl e passes (λ more. keeps test es passes ps more) (test p) refl
 
   less_step : (b : Bool) (m k : ℕ) → (b ≡ true → m < k) → (if b then suc m else 0) < suc k
   less_step true m k h = let below : m < k = h refl in omega (arith, below)
@@ -79,7 +56,7 @@ module _ {F : Type 0} (meaning : Text → Option (Meaning F)) where
   falls zero ps es next among gone any = absurd cc
   falls (suc n) ps es next among gone any =
       rw among (less_step (is_pattern_among next ps) (rounds n (referring_patterns meaning ps) next) (rounds n (referring_patterns meaning ps) es)
-      (λ e. falls n (referring_patterns meaning ps) es next (keeps (refers_into ps) es (any (λ x. is_pattern_among x ps) e) ps among) gone any))
+      (λ e. falls n (referring_patterns meaning ps) es next (keeps (refers_into meaning ps) es (any (λ x. is_pattern_among x ps) e) ps among) gone any))
 
 -- ---- values of a map
 

@@ -12,6 +12,7 @@ pub mod Lists
 pub mod TilesAreTheList
 pub mod NothingMissing
 pub mod RequestErrors
+pub mod EndlessPatterns
 pub mod FlawlessCatalogs
 pub mod NodesHold
 pub mod CleanReports

@@ -64,21 +64,21 @@ fine source id s (d ∷ ds) h =
 
 -- ---- what holds of the pairs of a map holds of what is found
 
-module _ (P : Text → Meaning Text → Type 0) (id : Text) (v : Meaning Text) where
-  found_step : (k : Text) (m : Meaning Text) (o : Option (Meaning Text)) → P k m → (o ≡ Some v → P id v) → (b : Bool) → is_at (order id) k ≡ b → cond b (Some m) o ≡ Some v → P id v
+module _ (P : Text → Meaning (Unit {0}) → Type 0) (id : Text) (v : Meaning (Unit {0})) where
+  found_step : (k : Text) (m : Meaning (Unit {0})) (o : Option (Meaning (Unit {0}))) → P k m → (o ≡ Some v → P id v) → (b : Bool) → is_at (order id) k ≡ b → cond b (Some m) o ≡ Some v → P id v
   found_step k m o here later true same found = let is : m ≡ v = cc in rw (← is, key_is id k same) here
   found_step k m o here later false apart found = later found
 
-  found_holds : (ps : Ids Text) → All (λ pair. P pair.0 pair.1) ps → find ps id ≡ Some v → P id v
+  found_holds : (ps : Ids (Unit {0})) → All (λ pair. P pair.0 pair.1) ps → find ps id ≡ Some v → P id v
   found_holds [] h found = absurd cc
   found_holds (e ∷ es) h found =
       found_step e.0 e.1 (find es id) (All-head (λ pair. P pair.0 pair.1) e es h) (found_holds es (All-tail (λ pair. P pair.0 pair.1) e es h)) (is_at (order id) e.0) refl found
 
 -- the pairs of functions
-abbrev function_pairs : List Text → Ids Text
-function_pairs names = map (λ name. (name, function name)) names
+abbrev function_pairs : List Text → Ids (Unit {0})
+function_pairs names = map (λ name. (name, function tt)) names
 
-abbrev IsFunction : Text → Meaning Text → Type 0
+abbrev IsFunction : Text → Meaning (Unit {0}) → Type 0
 IsFunction k number_function = Unit {0}
 IsFunction k (function f) = Unit {0}
 IsFunction k (message m) = ⊥
@@ -86,9 +86,9 @@ IsFunction k (term m) = ⊥
 
 are_functions : (names : List Text) → All (λ pair. IsFunction pair.0 pair.1) (function_pairs names)
 are_functions [] = All-nil (λ pair. IsFunction pair.0 pair.1)
-are_functions (name ∷ names) = All-cons (λ pair. IsFunction pair.0 pair.1) (name, function name) (function_pairs names) tt (are_functions names)
+are_functions (name ∷ names) = All-cons (λ pair. IsFunction pair.0 pair.1) (name, function tt) (function_pairs names) tt (are_functions names)
 
-abbrev functions_first : List Text → Ids Text
+abbrev functions_first : List Text → Ids (Unit {0})
 functions_first names = number_pair ∷ function_pairs names
 
 all_functions : (names : List Text) → All (λ pair. IsFunction pair.0 pair.1) (functions_first names)
@@ -98,7 +98,7 @@ found_in : (names : List Text) (ss : List Text) (id : Text) → find (catalog_id
 found_in names ss id = first_stays (number_pair ∷ []) (function_pairs names ++ entries_by_id (lists ss)) id ∙ find-++ (functions_first names) (entries_by_id (lists ss)) id
 
 -- a message that is found is among the entries, and no function has its id
-split_found : (names : List Text) (id : Text) (m : t.Message) (o : Option (Meaning Text)) → find (functions_first names) id ≡ o → (entries : Option (Meaning Text)) → or_else o entries ≡ Some (message m) →
+split_found : (names : List Text) (id : Text) (m : t.Message) (o : Option (Meaning (Unit {0}))) → find (functions_first names) id ≡ o → (entries : Option (Meaning (Unit {0}))) → or_else o entries ≡ Some (message m) →
     (o ≡ None) × (entries ≡ Some (message m))
 split_found names id m None is entries found = (refl, found)
 split_found names id m (Some v) is entries found =
@@ -131,15 +131,15 @@ all_listed (file ∷ files) =
     ∙ ap (λ es. list file.source ++ es) (all_listed files)
 
 -- the entry of an id, in tiles
-abbrev entry_found : List FileTile → Text → Option (Meaning Text)
+abbrev entry_found : List FileTile → Text → Option (Meaning (Unit {0}))
 entry_found ts id = find (entries_by_id (listed (file_entries ts))) id
 
 -- the same, with a tile more in front
-abbrev found_with : Tile → List FileTile → Text → Option (Meaning Text)
+abbrev found_with : Tile → List FileTile → Text → Option (Meaning (Unit {0}))
 found_with tile ts id = find (entries_by_id (listed (and_entry tile (file_entries ts)))) id
 
 -- what is found first, or after it
-first_or : {Goal : Type 0} (id k : Text) (m : Meaning Text) (o : Option (Meaning Text)) (v : Meaning Text) → (id ≡ k → m ≡ v → Goal) → (is_at (order id) k ≡ false → o ≡ Some v → Goal) →
+first_or : {Goal : Type 0} (id k : Text) (m : Meaning (Unit {0})) (o : Option (Meaning (Unit {0}))) (v : Meaning (Unit {0})) → (id ≡ k → m ≡ v → Goal) → (is_at (order id) k ≡ false → o ≡ Some v → Goal) →
     (b : Bool) → is_at (order id) k ≡ b → cond b (Some m) o ≡ Some v → Goal
 first_or id k m o v here later true same found = here (key_is id k same) cc
 first_or id k m o v here later false apart found = later apart found
@@ -150,7 +150,7 @@ present_step : (b : Bool) (f : Finding) → is_among f.code missing_codes ≡ tr
 present_step true f code h = refl
 present_step false f code h = let clean : is_among f.code missing_codes ≡ false = All-head Present f [] h in absurd cc
 
-module _ (ids : Ids Text) (id : Text) (o : t.Message) where
+module _ (ids : Ids (Unit {0})) (id : Text) (o : t.Message) where
   abbrev missing_in : List FileTile → List FileFinding
   missing_in ts = flat_map (λ (x : FileTile). findings_in x.file (missing_findings ids x.file.source x.tile)) ts
 
@@ -208,10 +208,10 @@ module _ (options : Options) (references files : List File) (id : Text) (v : t.M
   abbrev rules : Rules
   rules = translation_rules options references files
 
-  abbrev ids : Ids Text
+  abbrev ids : Ids (Unit {0})
   ids = known_ids options references files
 
-  abbrev reference : Ids Text
+  abbrev reference : Ids (Unit {0})
   reference = known_ids options references references
 
   abbrev Reported : Type 0
@@ -257,10 +257,10 @@ module _ (options : Options) (references files : List File) (clean : LacksNothin
   abbrev names : List Text
   names = known_functions options references
 
-  abbrev in_catalog : Ids Text
+  abbrev in_catalog : Ids (Unit {0})
   in_catalog = known_ids options references files
 
-  abbrev in_reference : Ids Text
+  abbrev in_reference : Ids (Unit {0})
   in_reference = known_ids options references references
 
   abbrev own : List FileFinding
@@ -272,14 +272,14 @@ module _ (options : Options) (references files : List File) (clean : LacksNothin
       let split = split_found names id m (find (functions_first names) id) refl (find (entries_by_id (lists (sources fs))) id) (sym (found_in names (sources fs) id) ∙ found) in
       (split.0, ap (λ xs. find (entries_by_id xs) id) (all_listed fs) ∙ split.1)
 
-  absent : (o : t.Message) (m : Option (Meaning Text)) → find in_catalog id ≡ m → find in_reference id ≡ Some (message o) → is_some (as_message m) ≡ false → Fine id (missing_message ∷ [])
+  absent : (o : t.Message) (m : Option (Meaning (Unit {0}))) → find in_catalog id ≡ m → find in_reference id ≡ Some (message o) → is_some (as_message m) ≡ false → Fine id (missing_message ∷ [])
   unfolding IsThere
   absent o m mine theirs without =
       let entry = entry_of references o theirs in
       let yes : is_some (as_message (find in_catalog id)) ≡ true = is_translated in_catalog id o (flat_map tiles_in references) (all_right PresentIn own (missing_messages options references files) clean) entry.1 in
       let yes_too : is_some (as_message m) ≡ true = ap (λ x. is_some (as_message x)) (sym mine) ∙ yes in absurd cc
 
-  by_both : (m o : Option (Meaning Text)) → find in_catalog id ≡ m → find in_reference id ≡ o → message_target id attr o ≡ there es → Fine id (differences_between in_catalog in_reference id (as_message m) (as_message o))
+  by_both : (m o : Option (Meaning (Unit {0}))) → find in_catalog id ≡ m → find in_reference id ≡ o → message_target id attr o ≡ there es → Fine id (differences_between in_catalog in_reference id (as_message m) (as_message o))
   by_both m None mine theirs target = absurd cc
   by_both m (Some number_function) mine theirs target = absurd cc
   by_both m (Some (function f)) mine theirs target = absurd cc

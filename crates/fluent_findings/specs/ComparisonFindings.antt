@@ -83,13 +83,13 @@ difference_finding source id s d = record {
 -- ---- of an entry
 
 -- the differences of a message of the catalog, in this source
-abbrev pub message_findings : Ids Text → Ids Text → Text → t.Entry → Text → List Finding
+abbrev pub message_findings : {F : Type 0} → Ids F → Ids F → Text → t.Entry → Text → List Finding
 message_findings ids reference source (t.message m) s =
     map (difference_finding source m.id s) (differences ids reference m.id)
 message_findings ids reference source _ s = []
 
 -- of a message of the reference, in this source: whether the catalog has none
-abbrev pub missing_findings : Ids Text → Text → Tile → List Finding
+abbrev pub missing_findings : {F : Type 0} → Ids F → Text → Tile → List Finding
 missing_findings ids source (entry_tile at s (t.message m)) =
     if is_some (as_message (find ids m.id)) then [] else difference_finding source m.id s missing_message ∷ []
 missing_findings ids source _ = []

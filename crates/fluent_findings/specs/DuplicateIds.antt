@@ -44,7 +44,7 @@ duplicate_text id (Some d) =
     codes "the entry at " ++ (location d.file d.offset ++ codes " has the same id, so this one is never shown")
 
 -- The finding of an entry whose id an earlier one has, or one of these functions.
-abbrev pub duplicate_findings : Ids Text → List Declaration → t.Entry → ℕ → Text → List Finding
+abbrev pub duplicate_findings : {F : Type 0} → Ids F → List Declaration → t.Entry → ℕ → Text → List Finding
 duplicate_findings functions before e at id =
     if is_some (first_declaration id before) || is_some (find functions id)
     then record {

@@ -20,7 +20,7 @@ use Rattle.fluent_findings.specs.Occurrences.{Occurrence, occurrences, PatternPl
 use Rattle.fluent_findings.specs.MissingCategories.{missing_categories}
 use Rattle.fluent_findings.specs.Escapes.{invalid_escapes, named_escapes}
 use Rattle.fluent_findings.specs.Finding.{warning, Finding}
-use Rattle.fluent_findings.specs.FlawHints.{is_endless, flaw_hint}
+use Rattle.fluent_findings.specs.FlawHints.{never_ends, flaw_hint}
 use Rattle.fluent_findings.specs.FlawWords.{flaw_code, flaw_severity, flaw_text}
 
 -- ---- places
@@ -105,7 +105,7 @@ module _ {F : Type 0} (ids : Ids F) (plurals : Option LanguagePlurals) (source :
   -- of a pattern at its place: whether its references end, and then its nodes
   abbrev pub pattern_findings : Text → PatternPlace → Elements → List Finding
   pattern_findings owner place es =
-      (if is_endless ids es then flaw_finding es owner place.name_at (unresolved cyclic) ∷ [] else [])
+      (if never_ends ids es then flaw_finding es owner place.name_at (unresolved cyclic) ∷ [] else [])
       ++ nodes_findings es owner place.pattern_at (elements_nodes es) (occurrences place.pattern_at)
 
   -- whether the name of an attribute, if it is one, is that of an earlier one

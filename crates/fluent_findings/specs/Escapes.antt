@@ -1,27 +1,27 @@
 -- The escapes of a string literal that stand for no character.
-use Rattle.std.specs.Prelude.{ℕ, zero, suc, ◌==◌, Bool, ◌&&◌, ◌||◌, not, if◌then◌else◌, List, [], ◌∷◌, ◌++◌, take, drop}
-use Rattle.fluent_grammar.specs.Words.{Text, backslash, small_u, capital_u, begins_with}
+use Rattle.std.specs.Prelude.{ℕ, ◌==◌, Bool, ◌&&◌, not, if◌then◌else◌, List, [], ◌∷◌, ◌++◌, take}
+use Rattle.fluent_grammar.specs.Words.{Text, backslash, small_u, capital_u, hex_digits}
 use Rattle.fluent_grammar.specs.Tree as t
 use Rattle.fluent_grammar.specs.Tree.{Inline, Nameds}
-use Rattle.fluent_grammar.specs.Escapes.{is_scalar, hex_number, escape_at}
+use Rattle.fluent_grammar.specs.Escapes.{is_scalar, hex_number}
 
--- The escape, given from after its backslash on, has the digits of a surrogate, or of a number above U+10FFFF.
-abbrev pub is_no_character : Text → Bool
-is_no_character s =
-    (begins_with small_u s && not (is_scalar (hex_number 0 (take 4 (drop 1 s)))))
-    || (begins_with capital_u s && not (is_scalar (hex_number 0 (take 6 (drop 1 s)))))
+-- Whether this many hex digits stand at the front and write the number of a surrogate, or one above U+10FFFF.
+abbrev pub is_no_character : ℕ → Text → Bool
+is_no_character count s = hex_digits count s && not (is_scalar (hex_number 0 (take count s)))
 
--- those of a raw text, after the first n bytes, which belong to an escape
-unfoldable pub invalid_escapes_after : ℕ → Text → List Text
-invalid_escapes_after n [] = []
-invalid_escapes_after (suc n) (c ∷ cs) = invalid_escapes_after n cs
-invalid_escapes_after zero (c ∷ cs) =
-    if c == backslash
-    then (let len = (escape_at cs).len in (if is_no_character cs then (c ∷ take len cs) ∷ [] else []) ++ invalid_escapes_after len cs)
-    else invalid_escapes_after zero cs
+-- an escape of this many hex digits, after its letter, if it stands for no character
+abbrev pub invalid_digits : ℕ → ℕ → Text → List Text
+invalid_digits count letter s = if is_no_character count s then (backslash ∷ letter ∷ take count s) ∷ [] else []
 
+-- the escape with this byte after its backslash, if it stands for no character
+abbrev pub invalid_escape : ℕ → Text → List Text
+invalid_escape c s = if c == small_u then invalid_digits 4 c s else if c == capital_u then invalid_digits 6 c s else []
+
+-- Those of a raw text. A backslash and the byte after it are one escape, or its beginning.
 abbrev pub invalid_escapes : Text → List Text
-invalid_escapes raw = invalid_escapes_after 0 raw
+invalid_escapes [] = []
+invalid_escapes (c ∷ []) = []
+invalid_escapes (c ∷ d ∷ ds) = if c == backslash then invalid_escape d ds ++ invalid_escapes ds else invalid_escapes (d ∷ ds)
 
 -- those of the string literals of named arguments
 abbrev pub literal_escapes : Inline → List Text

@@ -45,8 +45,8 @@ sources files = map (λ (file : File). file.source) files
 -- How findings of a catalog are made: the ids of functions and those of the catalog, the plural rules, and what else
 -- is found of an entry that counts, in a source from the entry on.
 pub record Rules : Type 0 where
-  pub functions : Ids Text
-  pub ids : Ids Text
+  pub functions : Ids (Unit {0})
+  pub ids : Ids (Unit {0})
   pub plurals : Option LanguagePlurals
   pub compare : Text → t.Entry → Text → List Finding
 
@@ -104,7 +104,7 @@ abbrev pub known_functions : Options → List File → List Text
 known_functions options references = options.functions ++ called_functions (sources references)
 
 -- the ids of files in a comparison
-abbrev pub known_ids : Options → List File → List File → Ids Text
+abbrev pub known_ids : Options → List File → List File → Ids (Unit {0})
 known_ids options references files = catalog_ids (known_functions options references) (sources files)
 
 abbrev pub translation_rules : Options → List File → List File → Rules

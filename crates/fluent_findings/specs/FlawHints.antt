@@ -8,7 +8,7 @@ use Rattle.fluent_errors.specs.Errors.{unknown, no_value, missing_default, cycli
 use Rattle.fluent_meaning.specs.Ids.{Ids, Meaning, number_function, function, message, term, find}
 use Rattle.fluent_meaning.specs.Fallback.{inline_fallback}
 use Rattle.fluent_findings.specs.SyntaxErrors.{in_backticks}
-use Rattle.fluent_findings.specs.References.{elements_references, reference_patterns}
+use Rattle.fluent_findings.specs.References.{elements_references, reference_patterns, next_patterns}
 use Rattle.fluent_findings.specs.Endless.{endless_patterns, is_pattern_among}
 use Rattle.fluent_findings.specs.Flaws.{Flaw, unresolved, duplicate_key}
 use Rattle.fluent_findings.specs.Comparison.{as_message}
@@ -41,6 +41,11 @@ value_hint (Some m) = first_attribute_hint m.attributes
 module _ {F : Type 0} (ids : Ids F) where
   abbrev pub is_endless : Elements → Bool
   is_endless es = is_pattern_among es (endless_patterns ids)
+
+  -- Whether the references of a pattern never end: one of them enters an endless pattern. So it can be asked of patterns
+  -- that aren't in the catalog too, as those of an entry whose id is taken.
+  abbrev pub never_ends : Elements → Bool
+  never_ends es = list_any is_endless (next_patterns (find ids) es)
 
   -- by the first reference to a pattern whose references never end
   abbrev pub endless_hint : List Inline → Option Text

@@ -14,10 +14,10 @@ use Rattle.fluent_findings.specs.References.{pattern_errors}
 use Rattle.fluent_findings.specs.Endless.{endless_patterns, is_pattern_among}
 
 -- The ids of a catalog: `NUMBER`, these functions of the program, and the entries of the sources. The first of an id
--- stays.
-abbrev pub catalog_ids : List Text → List Text → Ids Text
+-- stays. What a function does makes no difference here.
+abbrev pub catalog_ids : List Text → List Text → Ids (Unit {0})
 catalog_ids functions sources =
-    with_ids false (number_pair ∷ []) (map (λ name. (name, function name)) functions ++ entries_by_id (lists sources))
+    with_ids false (number_pair ∷ []) (map (λ name. (name, function tt)) functions ++ entries_by_id (lists sources))
 
 -- Whose a pattern is: the value's of an entry, or that of an attribute. A term's label is its id with a minus.
 pub record Owner : Type 0 where

@@ -7,4 +7,5 @@
 mod keys;
 mod nodes;
 
+pub use keys::Keys;
 pub use nodes::{Node, pattern_nodes};

@@ -1,0 +1,3 @@
+pub mod AfterTexts
+pub mod RestsAreRead
+pub mod OccurrencesAreFound
