@@ -1,0 +1,3 @@
+pub mod LocationText
+pub mod DuplicateText
+pub mod First
