@@ -9,29 +9,32 @@ from nested import REQUEST, SHAPES, source
 
 COMMANDS = ("check", "run", "clean", "normalize", "export", "import")
 LEAST, MOST = 10, 1_000_000
-OUT_OF_MEMORY = 4
+ANSWERED, NO_JSON, OUT_OF_MEMORY = 0, 1, 4
 
 
 class Trial:
-    """The program, a folder for what it is given, and the runs that ended by a signal."""
+    """The program, a folder for what it is given, and the runs that ended as none should."""
 
     def __init__(self, program, folder):
         self.program = program
         self.folder = folder
-        self.killed = []
+        self.wrong = []
 
     def answers(self, command, shape, depth):
-        """Whether a command answers a source of this shape, so deep, and does not run out of memory."""
+        """Whether a command answers a source of this shape, so deep."""
         text = source(shape, depth)
         if command == "import":
             done = self.call("export", text)
-            if done.returncode:
+            if done.returncode != ANSWERED:
                 return False
             text = done.stdout
         status = self.call(command, text).returncode
-        if status < 0:
-            self.killed.append(f"{command} of {depth} {shape}: signal {-status}")
-        return 0 <= status < OUT_OF_MEMORY
+        # JSON that nests more than 127 deep is none to `import`.
+        may_be_no_json = command == "import" and status == NO_JSON
+        if status not in (ANSWERED, OUT_OF_MEMORY) and not may_be_no_json:
+            how = f"signal {-status}" if status < 0 else f"status {status}"
+            self.wrong.append(f"{command} of {depth} {shape}: {how}")
+        return status == ANSWERED
 
     def call(self, command, text):
         """One run of a command on a file with this text. What it writes is kept if it is to be imported."""
@@ -68,9 +71,9 @@ def main(program):
         for shape in SHAPES:
             depths = (trial.greatest(command, shape) for command in COMMANDS)
             print(f"{shape:24}" + "".join(f"{depth:>11,}" for depth in depths), flush=True)
-    for run in trial.killed:
+    for run in trial.wrong:
         print(run)
-    return 1 if trial.killed else 0
+    return 1 if trial.wrong else 0
 
 
 if __name__ == "__main__":

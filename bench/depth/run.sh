@@ -1,13 +1,14 @@
 #!/bin/sh
 # Gives the program `ftl` sources that nest deep, on a stack of 8 MB, and prints a table: for each shape and command the
 # greatest depth that is answered, to one per cent. Each power of ten from 10 to 1,000,000 is tried. A deeper source has
-# to end in `ftl: out of memory`: see docs/reference/grammar.md. It ends with 1 if a run ends by a signal.
+# to end in `ftl: out of memory`, and its tree, for `import`, in that or in `ftl: not JSON`: see docs/reference/grammar.md.
+# It ends with 1 if a run ends otherwise, say by a signal.
 #
 #   run.sh
 #
 # It needs rt and python3, and no network.
 set -eu
-[ $# -eq 0 ] || { sed -n '2,8s/^# \{0,1\}//p' "$0" >&2; exit 2; }
+[ $# -eq 0 ] || { sed -n '2,9s/^# \{0,1\}//p' "$0" >&2; exit 2; }
 here=$(cd "$(dirname "$0")" && pwd)
 root=$here/../..
 "$root/ftl" run "$root/examples/hello.ftl" </dev/null # builds it

@@ -9,11 +9,13 @@ ghost use Rattle.fluent_serve.specs.Exchange.{GivesUp};
 use crate::desk::Desk;
 use crate::settings::Settings;
 use fluent_answers::laws::tidied_sources_keep_answers;
-use fluent_check::sources::read_sources;
+use fluent_check::sources::{read_sources, read_sources_within};
 use fluent_serve::serve::{RunError, serve};
 use fluent_serve::stream::{Sink, Source};
+use fluent_stack::StackBudget;
 use fluent_value::{MemoizerKind, NoCustom, NoFunction};
 use std::alloc::Global;
+use std::mem;
 
 /// The calls of `read` within which the input has to end.
 const READS: u64 = 4_294_967_296;
@@ -24,6 +26,8 @@ const READS: u64 = 4_294_967_296;
 ///
 /// The input is read in blocks of at most 8,192 bytes, and each line is answered as soon as it is complete. An answer is
 /// complete before its first byte is written.
+///
+/// It is [`run_within`] the budget of a program, [`StackBudget::PROGRAM`].
 ///
 /// # Errors
 /// After each of them but [`RunError::Write`] complete answers were written.
@@ -58,8 +62,74 @@ pub fn run<M: MemoizerKind, R: Source, W: Sink>(
     ensures failed { IsErrOf result RunError.Write
         → HasFailed (W.failures writer.old) (W.failures writer.new) }
 {
+    run_within(
+        alloc,
+        sources,
+        settings,
+        plurals,
+        reader,
+        writer,
+        StackBudget::PROGRAM,
+    )
+}
+
+/// As [`run`], within this budget of the machine's stack: for each message and term that is read, and for each answer.
+///
+/// # Errors
+/// Those of [`run`]. [`RunError::Memory`] also means that placeables, calls and selects of a source, or those that a request
+/// enters, nest too deep for the budget.
+pub fn run_within<M: MemoizerKind, R: Source, W: Sink>(
+    alloc: Global,
+    sources: &[&str],
+    settings: Settings,
+    plurals: &M,
+    reader: &mut R,
+    writer: &mut W,
+    budget: StackBudget,
+) -> Result<(), RunError>
+    ensures answered { RunsFrom M.MemoizerKind plurals.now settings sources.now
+        R.Source reader.old reader.new W.Sink writer.old writer.new result }
+    ensures end { OnOk result (IsAtEnd (R.remaining reader.new)) }
+    ensures reads { OnOk result (R.failures reader.new ≡ R.failures reader.old) }
+    ensures writes { OnOk result (W.failures writer.new ≡ W.failures writer.old) }
+    ensures given_up { IsErrOf result RunError.Read
+        → GivesUp R.Source reader.old reader.new 4294967296 }
+    ensures failed { IsErrOf result RunError.Write
+        → HasFailed (W.failures writer.old) (W.failures writer.new) }
+{
+    tidied_sources_keep_answers::<NoCustom, NoFunction>();
+    let resources = read_sources_within(alloc, sources, budget)?;
+    let desk = Desk::within(alloc, &resources, settings, plurals, budget)?;
+    serve(alloc, &desk, reader, writer, READS)
+}
+
+/// As [`run`], for a program that exits next: what was read of the sources is never freed, and the exit doesn't wait for that.
+///
+/// # Errors
+/// Those of [`run`].
+pub fn run_before_exit<M: MemoizerKind, R: Source, W: Sink>(
+    alloc: Global,
+    sources: &[&str],
+    settings: Settings,
+    plurals: &M,
+    reader: &mut R,
+    writer: &mut W,
+) -> Result<(), RunError>
+    ensures answered { RunsFrom M.MemoizerKind plurals.now settings sources.now
+        R.Source reader.old reader.new W.Sink writer.old writer.new result }
+    ensures end { OnOk result (IsAtEnd (R.remaining reader.new)) }
+    ensures reads { OnOk result (R.failures reader.new ≡ R.failures reader.old) }
+    ensures writes { OnOk result (W.failures writer.new ≡ W.failures writer.old) }
+    ensures given_up { IsErrOf result RunError.Read
+        → GivesUp R.Source reader.old reader.new 4294967296 }
+    ensures failed { IsErrOf result RunError.Write
+        → HasFailed (W.failures writer.old) (W.failures writer.new) }
+{
     tidied_sources_keep_answers::<NoCustom, NoFunction>();
     let resources = read_sources(alloc, sources)?;
     let desk = Desk::new(alloc, &resources, settings, plurals)?;
-    serve(alloc, &desk, reader, writer, READS)
+    let outcome = serve(alloc, &desk, reader, writer, READS);
+    mem::forget(desk);
+    mem::forget(resources);
+    outcome
 }

@@ -5,7 +5,7 @@ ghost use Rattle.fluent_check.specs.Added.{by_id};
 ghost use Rattle.fluent_meaning.specs.Ids.{number_pair, with_id, with_ids};
 ghost use Rattle.fluent_run.specs.DeskView.{ids_added, plain_ids};
 
-use fluent_ids::{AddFunctionError, AddResourceError, FluentIds};
+use fluent_ids::{AddFunctionError, FluentIds};
 use fluent_resource::FluentResource;
 use fluent_value::NoFunction;
 use std::alloc::{AllocError, Global};
@@ -53,9 +53,5 @@ fn add<'r, 's>(
     if overriding {
         return ids.add_resource_overriding(resource.tree());
     }
-    match ids.add_resource(resource.tree()) {
-        Ok(()) => Ok(()),
-        Err(AddResourceError::Overriding(_)) => Ok(()),
-        Err(AddResourceError::Memory) => Err(AllocError),
-    }
+    ids.add_resource_silently(resource.tree())
 }

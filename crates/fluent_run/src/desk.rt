@@ -24,19 +24,22 @@ use fluent_resource::FluentResource;
 use fluent_serve::answer::Answer;
 use fluent_serve::request::{Request, read_request};
 use fluent_serve::serve::Engine;
+use fluent_stack::StackBudget;
 use fluent_value::{FluentArgs, MemoizerKind, NoCustom, NoFormatter, NoFunction, NoTransform};
 use std::alloc::{AllocError, Global};
 
-/// What lines are answered from: the ids of the sources, the plural source, and whether placeables stand between isolation marks.
+/// What lines are answered from: the ids of the sources, the plural source, whether placeables stand between isolation marks, and
+/// how much of the machine's stack an answer may take.
 #[derive(Drop)]
 pub struct Desk<'b, 'r, 's, M> {
     ids: FluentIds<'r, 's, NoFunction>,
     plurals: &'b M,
     isolating: bool,
+    stack: StackBudget,
 }
 
 impl<'b, 'r, 's, M: MemoizerKind> Desk<'b, 'r, 's, M> {
-    /// Answers from resources, in their order.
+    /// Answers from resources, in their order. An answer may take [`StackBudget::PROGRAM`] of the machine's stack.
     ///
     /// # Errors
     /// [`AllocError`] if memory runs out; nothing is left behind.
@@ -51,11 +54,31 @@ impl<'b, 'r, 's, M: MemoizerKind> Desk<'b, 'r, 's, M> {
         ensures plurals { IfOk result (λ desk. desk.plurals.now ≡ plurals.now) }
         ensures isolating { IfOk result (λ desk. desk.isolating ≡ settings.isolating) }
     {
+        Desk::within(alloc, resources, settings, plurals, StackBudget::PROGRAM)
+    }
+
+    /// The same as [`Desk::new`], with a budget of the machine's stack for each answer.
+    ///
+    /// # Errors
+    /// [`AllocError`] if memory runs out; nothing is left behind.
+    pub fn within(
+        alloc: Global,
+        resources: &'r [FluentResource<'s>],
+        settings: Settings,
+        plurals: &'b M,
+        stack: StackBudget,
+    ) -> Result<Self, AllocError>
+        ensures ids { IfOk result (λ desk. desk_ids desk
+            ≡ ids_added settings.overriding resources.now) }
+        ensures plurals { IfOk result (λ desk. desk.plurals.now ≡ plurals.now) }
+        ensures isolating { IfOk result (λ desk. desk.isolating ≡ settings.isolating) }
+    {
         let ids = ids_of(alloc, resources, settings.overriding)?;
         Ok(Desk {
             ids,
             plurals,
             isolating: settings.isolating,
+            stack,
         })
     }
 
@@ -104,7 +127,8 @@ impl<'b, 'r, 's, M: MemoizerKind> Desk<'b, 'r, 's, M> {
     /// ```
     ///
     /// # Errors
-    /// [`AllocError`] if memory runs out; nothing is left behind.
+    /// [`AllocError`] if memory runs out, or if calls and placeables nest so deep, over all messages that are entered, that they
+    /// would take more of the machine's stack than the desk's budget; nothing is left behind.
     pub fn format(
         &self,
         alloc: Global,
@@ -120,7 +144,7 @@ impl<'b, 'r, 's, M: MemoizerKind> Desk<'b, 'r, 's, M> {
     /// The same as [`Desk::format`], with a text that is written into the memory of `text`, whose old bytes are lost.
     ///
     /// # Errors
-    /// [`AllocError`] if memory runs out; nothing is left behind.
+    /// Those of [`Desk::format`].
     pub fn format_into(
         &self,
         alloc: Global,
@@ -162,7 +186,7 @@ impl<'b, 'r, 's, M: MemoizerKind> Desk<'b, 'r, 's, M> {
             arguments: Some(arguments),
             locals,
         };
-        resolve(&place, pattern, text)
+        resolve(&place, pattern, text, self.stack)
     }
 
     /// Appends the answer to a request that asks for a pattern. After an error `out` may end in a beginning of it.

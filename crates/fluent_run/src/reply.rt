@@ -15,6 +15,7 @@ use fluent_errors::FluentError;
 use fluent_progress::{Context, Place, Progress};
 use fluent_resolver::pattern::write_pattern;
 use fluent_serve::answer::{Answer, push_framed};
+use fluent_stack::StackBudget;
 use fluent_value::{FluentType, ValueScope};
 use std::alloc::{AllocError, Global};
 use std::fmt;
@@ -53,14 +54,15 @@ impl fmt::Display for ErrorLine<'_> {
     }
 }
 
-/// What a pattern gives. It is written into the memory of `text`, whose old bytes are lost.
+/// What a pattern gives, within a budget of the machine's stack. It is written into the memory of `text`, whose old bytes are lost.
 ///
 /// # Errors
-/// [`AllocError`] if memory runs out; nothing is left behind.
+/// [`AllocError`] if memory runs out, or the budget does; nothing is left behind.
 pub(crate) fn resolve<'b, 'r, 's, 'a, C: FluentType + Drop, F, E: Context<C, F>>(
     place: &Place<'b, 'r, 's, 'a, C, F, E>,
     pattern: &'r Pattern<&'s str>,
     mut text: String,
+    stack: StackBudget,
 ) -> Result<Reply, AllocError>
     ensures { IfOk result (λ reply. reply_view reply
         ≡ resolved_reply place.now pattern.now) }
@@ -68,7 +70,7 @@ pub(crate) fn resolve<'b, 'r, 's, 'a, C: FluentType + Drop, F, E: Context<C, F>>
     let alloc = place.context.alloc();
     text.clear();
     text.reserve(ROOM)?;
-    let mut progress = Progress::new(alloc, Some(Vec::new(alloc)));
+    let mut progress = Progress::within(alloc, Some(Vec::new(alloc)), stack);
     write_pattern(&mut text, place, &mut progress, pattern)?;
     let errors = told_by(alloc, progress);
     Ok(Reply { text, errors })
