@@ -10,4 +10,4 @@ mod texts;
 mod walk;
 mod words;
 
-pub use occurrence::{Found, Occurrence, pattern_occurrences};
+pub use occurrence::{Found, Occurrence, empty_pattern_rest, pattern_occurrences};

@@ -5,8 +5,10 @@ ghost use Rattle.std.specs.Prelude.{◌≡◌, map, IfOk};
 ghost use Rattle.fluent_ast.specs.Borrowed.{elements_of};
 ghost use Rattle.fluent_findings.specs.Occurrences.{occurrences, pattern_read};
 ghost use Rattle.fluent_grammar.specs.Refusal.{got};
+ghost use Rattle.fluent_grammar.specs.Tree.{no_elements};
 ghost use Rattle.fluent_occurrences.specs.OccurrenceView.{IsPatternAt, occurrence_view};
 
+use crate::texts::first_placeable;
 use crate::walk::push_pattern;
 use fluent_ast::Pattern;
 use fluent_nodes::Node;
@@ -46,4 +48,12 @@ pub fn pattern_occurrences<'a, 's, 't>(
     let mut occurrences = Vec::new(alloc);
     let rest = push_pattern(pattern, text, &mut occurrences)?;
     Ok(Found { occurrences, rest })
+}
+
+/// What follows a pattern without elements, of which there is nothing in a tree: blank.
+pub fn empty_pattern_rest(text: &[u8]) -> &[u8]
+    requires { IsPatternAt text.now no_elements }
+    ensures { pattern_read text.now ≡ got no_elements result.now }
+{
+    first_placeable(text)
 }
