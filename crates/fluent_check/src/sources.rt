@@ -1,4 +1,4 @@
-//! Sources, read for use at run time.
+//! Sources, parsed for run time.
 
 ghost use Rattle.std.specs.Prelude.{◌≡◌, IfOk, map};
 ghost use Rattle.fluent_check.specs.ReportView.{texts};
@@ -9,26 +9,26 @@ use fluent_parser::StackBudget;
 use fluent_resource::{FluentResource, ResourceError};
 use std::alloc::{AllocError, Global};
 
-/// What is read of each source, in their order. What is no entry is passed over: a resource has it as junk.
+/// The resource of each source, in their order. What is no entry is passed over: a resource has it as junk.
 ///
 /// # Errors
 /// [`AllocError`] if memory runs out; nothing is left behind. It also means that placeables, calls and selects of a source
 /// are nested so deep that reading them would take more than the budget of a program, [`StackBudget::PROGRAM`].
-pub fn read_sources<'s>(
+pub fn parse_sources<'s>(
     alloc: Global,
     sources: &[&'s str],
 ) -> Result<Vec<FluentResource<'s>>, AllocError>
     ensures { IfOk result (λ read. map entries_view read.items
         ≡ map runtime_tree (texts sources.now)) }
 {
-    read_sources_within(alloc, sources, StackBudget::PROGRAM)
+    parse_sources_within(alloc, sources, StackBudget::PROGRAM)
 }
 
-/// As [`read_sources`], within this budget of the machine's stack for each message and term.
+/// As [`parse_sources`], within this budget of the machine's stack for each message and term.
 ///
 /// # Errors
-/// Those of [`read_sources`].
-pub fn read_sources_within<'s>(
+/// Those of [`parse_sources`].
+pub fn parse_sources_within<'s>(
     alloc: Global,
     sources: &[&'s str],
     budget: StackBudget,
@@ -38,13 +38,13 @@ pub fn read_sources_within<'s>(
 {
     let mut resources = Vec::new(alloc);
     for source in sources {
-        resources.push(read_source(alloc, source, budget)?)?;
+        resources.push(parse_source(alloc, source, budget)?)?;
     }
     Ok(resources)
 }
 
-/// What is read of a source, errors aside.
-fn read_source<'s>(
+/// The resource of a source, errors aside.
+fn parse_source<'s>(
     alloc: Global,
     source: &'s str,
     budget: StackBudget,

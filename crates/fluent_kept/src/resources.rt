@@ -7,7 +7,7 @@ ghost use Rattle.fluent_kept.specs.Catalogs.{IsReadOf, catalog_of};
 
 use crate::loose::Loose;
 use crate::sources::{Sources, borrow_texts};
-use fluent_check::sources::read_sources;
+use fluent_check::sources::parse_sources;
 use fluent_resource::FluentResource;
 use std::alloc::{AllocError, Global};
 
@@ -30,7 +30,7 @@ fn read_texts<'s>(
         ≡ map runtime_tree (catalog_of sources.now).sources) }
 {
     let texts = borrow_texts(alloc, &sources.texts)?;
-    read_sources(alloc, &texts)
+    parse_sources(alloc, &texts)
 }
 
 /// What is read of sources, in a box.

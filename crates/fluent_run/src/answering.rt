@@ -9,7 +9,7 @@ ghost use Rattle.fluent_serve.specs.Exchange.{GivesUp};
 use crate::desk::Desk;
 use crate::settings::Settings;
 use fluent_answers::laws::tidied_sources_keep_answers;
-use fluent_check::sources::{read_sources, read_sources_within};
+use fluent_check::sources::{parse_sources, parse_sources_within};
 use fluent_serve::serve::{RunError, serve};
 use fluent_serve::stream::{Sink, Source};
 use fluent_stack::StackBudget;
@@ -98,7 +98,7 @@ pub fn run_within<M: MemoizerKind, R: Source, W: Sink>(
         → HasFailed (W.failures writer.old) (W.failures writer.new) }
 {
     tidied_sources_keep_answers::<NoCustom, NoFunction>();
-    let resources = read_sources_within(alloc, sources, budget)?;
+    let resources = parse_sources_within(alloc, sources, budget)?;
     let desk = Desk::within(alloc, &resources, settings, plurals, budget)?;
     serve(alloc, &desk, reader, writer, READS)
 }
@@ -126,7 +126,7 @@ pub fn run_before_exit<M: MemoizerKind, R: Source, W: Sink>(
         → HasFailed (W.failures writer.old) (W.failures writer.new) }
 {
     tidied_sources_keep_answers::<NoCustom, NoFunction>();
-    let resources = read_sources(alloc, sources)?;
+    let resources = parse_sources(alloc, sources)?;
     let desk = Desk::new(alloc, &resources, settings, plurals)?;
     let outcome = serve(alloc, &desk, reader, writer, READS);
     mem::forget(desk);

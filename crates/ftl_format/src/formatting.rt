@@ -5,7 +5,7 @@ ghost use Rattle.fluent_run.specs.ReplyView.{reply_view};
 ghost use Rattle.ftl_format.specs.FormatView.{IsReply, IsWritten, IsWrittenAs, request_of};
 
 use crate::errors::error_lines;
-use fluent_check::sources::read_sources;
+use fluent_check::sources::parse_sources;
 use fluent_run::{Desk, Reply, Settings, valued_arguments};
 use fluent_value::{FluentArgs, MemoizerKind, NoCustom};
 use std::alloc::{AllocError, Global};
@@ -54,7 +54,7 @@ fn reply<M: MemoizerKind>(
     ensures { IfOk result (IsReply M.MemoizerKind plurals.now settings sources.now
         id.now attribute.entry arguments.now) }
 {
-    let resources = read_sources(alloc, sources)?;
+    let resources = parse_sources(alloc, sources)?;
     let desk = Desk::new(alloc, &resources, settings, plurals)?;
     desk.format(alloc, id, attribute, arguments)
 }

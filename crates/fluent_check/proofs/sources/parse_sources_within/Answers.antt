@@ -4,12 +4,12 @@ use Rattle.std.proofs.lemmas.Simd.{map-map}
 use Rattle.fluent_grammar.specs.Tiling.{runtime_tree}
 use Rattle.fluent_resource.specs.ResourceView.{entries_view}
 use Rattle.fluent_check.proofs.Loops.{map-next}
-use Rattle.fluent_check.proofs.sources.read_sources_within.Goals as goal
+use Rattle.fluent_check.proofs.sources.parse_sources_within.Goals as goal
 
 pub loop-source-preserved : goal.loop-source-preserved
 loop-source-preserved c =
     ap (map entries_view) c.in_ok-push.ensures.items
-    ∙ map-next entries_view (λ s. runtime_tree s.now) c.loop-source.resources.items c.args.sources.now c.loop-source.source-index _ c.in_ok-read_source.field-0 c.loop-source-test.true c.in_ok-read_source.ensures c.loop-source.invariant
+    ∙ map-next entries_view (λ s. runtime_tree s.now) c.loop-source.resources.items c.args.sources.now c.loop-source.source-index _ c.in_ok-parse_source.field-0 c.loop-source-test.true c.in_ok-parse_source.ensures c.loop-source.invariant
 
 pub returns : goal.returns
 returns c =
