@@ -42,5 +42,5 @@ HasAnErrorForEachJunk (Err error.Memory) = Unit {0}
 
 -- what the error shows
 abbrev pub error_text : ResourceError → Text
-error_text (error.Broken r errors) = codes "parts of the source are no entries"
+error_text (error.Broken r errors) = codes "some of the source is junk"
 error_text error.Memory = codes "out of memory"

@@ -23,8 +23,8 @@ use std::fmt;
 /// ```
 #[derive(Debug, Drop)]
 pub enum ResourceError<'s> {
-    /// Parts of the source are no entries. The resource has the others, and each of these parts as junk; the errors are
-    /// those of the junk, in the same order.
+    /// Some of the source is junk. The resource has its messages and terms, and the junk; the errors are those of the
+    /// junk, in the same order.
     Broken(FluentResource<'s>, Vec<ParserError>),
     /// Memory ran out, or placeables, calls and selects are nested so deep that reading them would take more than the
     /// budget of the machine's stack.
@@ -36,7 +36,7 @@ impl<'s> fmt::Display for ResourceError<'s> {
 
     fn fmt<W: fmt::Write>(&self, f: &mut fmt::Formatter<W>) -> fmt::Result {
         f.write_str(match self {
-            ResourceError::Broken(_, _) => "parts of the source are no entries",
+            ResourceError::Broken(_, _) => "some of the source is junk",
             ResourceError::Memory => "out of memory",
         })
     }

@@ -36,8 +36,8 @@ impl<'s> FluentResource<'s> {
     /// ```
     ///
     /// # Errors
-    /// - [`ResourceError::Broken`] if parts of the source are no entries. The resource that it holds has all messages and
-    ///   terms of the source, and each of those parts as junk; there is an error for each junk, in the same order.
+    /// - [`ResourceError::Broken`] if some of the source is junk. The resource that it holds has all messages and terms
+    ///   of the source, and the junk; there is an error for each junk, in the same order.
     /// - [`ResourceError::Memory`] if memory runs out. It also means that placeables, calls and selects are nested so
     ///   deep that reading them would take more than the budget of the machine's stack.
     pub fn try_new(alloc: Global, source: &'s str) -> Result<Self, ResourceError<'s>>

@@ -2,7 +2,7 @@
 use Rattle.std.proofs.Common.{◌≡◌, ◌∙◌, ℕ, List, [], ◌∷◌, Option, None, Some, ap, option_map, refl, sym, inl, inr}
 use Rattle.fluent_requests.specs.Text.{Text}
 use Rattle.ftl_words.specs.Commands.{program_app}
-use Rattle.clap.specs.Words.{IsAmong, Kinds, subcommand_of}
+use Rattle.clap.specs.Words.{IsAmong, subcommand_of}
 use Rattle.clap.specs.declared.error.kind.ErrorKind.{ErrorKind}
 use Rattle.clap.specs.declared.error.kind.ErrorKind.TheVariants.{DisplayHelp, DisplayVersion}
 use Rattle.ftl_words.specs.Meaning.{AskForHelp, AskForVersionAlone, Asked, asked_of, command_of, faults_of, without_faults, run, format, check, tidy}

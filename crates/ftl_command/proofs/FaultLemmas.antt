@@ -1,43 +1,29 @@
 -- Faults of files, and statuses.
-use Rattle.std.proofs.Common.{◌≡◌, ◌∙◌, ◌<◌, ℕ, zero, suc, List, [], ◌∷◌, ◌++◌, Option, Bor, String, length, take, drop, map, get_or, ap, refl, sym, arith, subst, lit<, drop-cons, take-append-drop, string_bytes}
+use Rattle.std.proofs.Common.{◌≡◌, ◌∙◌, ◌<◌, ℕ, suc, List, [], ◌∷◌, ◌++◌, Option, Bor, String, length, take, drop, map, get_or, ap, refl, sym, arith, subst, lit<, drop-cons, take-append-drop, string_bytes}
 use Rattle.std.specs.List.{Contains}
-use Rattle.std.proofs.lemmas.List.Elements.{Contains-get_or}
-use Rattle.std.proofs.lemmas.List.{length-map, map-append}
+use Rattle.std.proofs.lemmas.List.Elements.{Contains-append_right, Contains-get_or}
+use Rattle.std.proofs.lemmas.List.{map-append}
 use Rattle.std.proofs.lemmas.Str.{IsUtf8-string_bytes}
-use Rattle.std.proofs.Math.ListN.{get_or-map}
 use Rattle.fluent_requests.specs.Text.{Text}
 use Rattle.fluent_serve.specs.Texts.{texts}
 use Rattle.fluent_cut.specs.Joined.{AreUtf8}
 use Rattle.ftl_command.specs.Files.{Reaches}
-use Rattle.ftl_command.specs.Faults.{NamesOneOf, ReachesFile, end_status, status_of}
+use Rattle.ftl_command.specs.Faults.{FailsAsTold, IsFaultOfFiles, ReachesFile, SaysNoUtf8, end_status, status_of}
+use Rattle.ftl_command.specs.declared.folder.Folder.{Ghosts as FolderGhosts}
 use Rattle.ftl_command.specs.declared.ended.Ended.{Ended}
 use Rattle.ftl_command.specs.declared.ended.Ended.TheVariants.{Done, Found, Incomplete}
 use Rattle.ftl_command.specs.declared.fault.Fault.{Fault}
 use Rattle.ftl_command.specs.declared.fault.Fault.TheVariants.{CarriageReturn, NotNormal, NotTree, NotJson, NoMessage, CommandLine, UnknownLocale, FileUnreadable, FileNotUtf8, Input, Output, Memory}
 
-only_element : {X : Type 0} (x y : X) → Contains (x ∷ []) y → x ≡ y
-only_element x y (zero, below, is) = is
-only_element x y (suc k, below, is) = absurd (omega arith)
+-- a list of one name has no other
+only_name : (front behind : List Text) (name file : Text) → name ∷ [] ≡ front ++ file ∷ behind → name ≡ file
+only_name [] behind name file split = cc
+only_name (x ∷ []) behind name file split = absurd cc
+only_name (x ∷ y ∷ rest) behind name file split = absurd cc
 
--- a fault that names one file of a list names one of the list
-pub NamesOneOf-one : (names : List Text) (name : Text) → Contains names name → (fault : Fault) → NamesOneOf (name ∷ []) fault → NamesOneOf names fault
-NamesOneOf-one names name listed CarriageReturn of_one = tt
-NamesOneOf-one names name listed NotNormal of_one = tt
-NamesOneOf-one names name listed NotTree of_one = tt
-NamesOneOf-one names name listed NotJson of_one = tt
-NamesOneOf-one names name listed NoMessage of_one = tt
-NamesOneOf-one names name listed CommandLine of_one = tt
-NamesOneOf-one names name listed (UnknownLocale tag) of_one = tt
-NamesOneOf-one names name listed (FileUnreadable file) of_one = subst (Contains names) (only_element name file.now of_one) listed
-NamesOneOf-one names name listed (FileNotUtf8 file) of_one = subst (Contains names) (only_element name file.now of_one) listed
-NamesOneOf-one names name listed Input of_one = tt
-NamesOneOf-one names name listed Output of_one = tt
-NamesOneOf-one names name listed Memory of_one = tt
-
-pub Contains-texts : (words : List (Bor Text)) (i : ℕ) (d : Bor Text) → i < length words → Contains (texts words) (get_or words i d).now
-Contains-texts words i d within =
-    subst (Contains (texts words)) (get_or-map (λ (w : Bor Text). w.now) words i d)
-    (Contains-get_or (texts words) i d.now (rw length-map within))
+-- the file that is reached is one of these
+pub Reaches-contains : (contents : Text → Option Text) (files : List Text) (file : Text) → Reaches contents files file → Contains files file
+Reaches-contains contents files file r = rw r.split (Contains-append_right r.front (file ∷ r.behind) file (Contains-get_or (file ∷ r.behind) 0 file (omega arith)))
 
 -- what strings hold is UTF-8
 pub AreUtf8-strings : {Z : Type 0} (strings : List (String Z)) → AreUtf8 (map string_bytes strings)
@@ -51,21 +37,24 @@ texts_around words i d within =
     ap texts (sym (take-append-drop i words)) ∙ (ap (λ l. texts (take i words ++ l)) (drop-cons words i d within)
     ∙ map-append (λ (w : Bor Text). w.now) (take i words) (get_or words i d ∷ drop (suc i) words))
 
--- a fault that names one file comes after those that stand before it
-pub ReachesFile-one : (contents : Text → Option Text) (files : List Text) (name : Text) → Reaches contents files name →
-    (fault : Fault) → NamesOneOf (name ∷ []) fault → ReachesFile contents files fault
-ReachesFile-one contents files name reached CarriageReturn of_one = tt
-ReachesFile-one contents files name reached NotNormal of_one = tt
-ReachesFile-one contents files name reached NotTree of_one = tt
-ReachesFile-one contents files name reached NotJson of_one = tt
-ReachesFile-one contents files name reached NoMessage of_one = tt
-ReachesFile-one contents files name reached CommandLine of_one = tt
-ReachesFile-one contents files name reached (UnknownLocale tag) of_one = tt
-ReachesFile-one contents files name reached (FileUnreadable file) of_one = subst (Reaches contents files) (only_element name file.now of_one) reached
-ReachesFile-one contents files name reached (FileNotUtf8 file) of_one = subst (Reaches contents files) (only_element name file.now of_one) reached
-ReachesFile-one contents files name reached Input of_one = tt
-ReachesFile-one contents files name reached Output of_one = tt
-ReachesFile-one contents files name reached Memory of_one = tt
+-- a fault of one file is one of several that reach it
+pub ReachesFile-one : (contents other : Text → Option Text) (files : List Text) (name : Text) → Reaches contents files name →
+    (fault : Fault) → ReachesFile other (name ∷ []) fault → ReachesFile contents files fault
+ReachesFile-one contents other files name reached (FileUnreadable file) one = subst (Reaches contents files) (only_name one.front one.behind name file.now one.split) reached
+ReachesFile-one contents other files name reached (FileNotUtf8 file) one = subst (Reaches contents files) (only_name one.front one.behind name file.now one.split) reached
+ReachesFile-one contents other files name reached fault one = one
+
+pub one_of_files : {F : Type 0} (folders : FolderGhosts F) (first before after : F) (files : List Text) (name : Text) (fault : Fault) →
+    folders.contents before ≡ folders.contents first → folders.failures before ≡ folders.failures first → Reaches (folders.contents first) files name →
+    IsFaultOfFiles folders before after (name ∷ []) fault → IsFaultOfFiles folders first after files fault
+one_of_files folders first before after files name fault same works reached one = record {
+  of_files = one.of_files;
+  says = record {
+    reached = ReachesFile-one (folders.contents first) (folders.contents before) files name reached fault one.says.reached;
+    not_utf8 = subst (λ contents. SaysNoUtf8 contents fault) same one.says.not_utf8;
+    unreadable = subst (λ count. FailsAsTold count (folders.failures after) fault) works one.says.unreadable;
+  };
+}
 
 -- the first file is reached
 pub Reaches-first : (contents : Text → Option Text) (name : Text) (behind : List Text) → Reaches contents (name ∷ behind) name

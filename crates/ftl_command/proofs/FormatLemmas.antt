@@ -1,15 +1,20 @@
 -- What the text of a message has come to.
-use Rattle.std.proofs.Common.{◌≡◌, ◌∙◌, List, [], ◌∷◌, Option, None, Some, IsSomeAnd, ap, option_map, refl, subst}
+use Rattle.std.proofs.Common.{◌≡◌, ◌∙◌, List, [], ◌∷◌, Option, None, Some, IfErr, IfOk, IsSomeAnd, ap, ok_or, option_map, refl, subst}
 use Rattle.std.specs.Io.KnownBytes.{Appends}
 use Rattle.std.specs.List.{flat_map}
 use Rattle.fluent_requests.specs.Text.{Text}
 use Rattle.fluent_requests.specs.Frames.{Reply, ended}
 use Rattle.ftl_format.specs.Shown.{Shown, error_line, shown}
-use Rattle.ftl_words.specs.Meaning.{Format}
+use Rattle.ftl_format.specs.declared.formatting.Formatted.{Formatted}
+use Rattle.ftl_words.specs.Meaning.{Format, format}
 use Rattle.ftl_command.specs.Faults.{end_status}
 use Rattle.ftl_command.specs.Plurals.{plurals_asked}
-use Rattle.ftl_command.specs.Program.{EndsWith, OnFound, errors_in, reply_for, status_by}
+use Rattle.ftl_command.specs.Program.{EndsWith, IsFound, OnFound, errors_in, reply_for, status_by}
+use Rattle.ftl_command.specs.Refusals.{IsEarlyFault}
 use Rattle.ftl_command.specs.declared.ended.Ended.{Ended}
+use Rattle.ftl_command.specs.declared.fault.Fault.TheVariants.{NoMessage}
+use Rattle.ftl_command.specs.declared.folder.Folder.{Ghosts as FolderGhosts}
+use Rattle.ftl_command.proofs.Refusals.{of_refusal}
 
 if_some : {X : Type 0} {P Q : X → Type 0} (o : Option X) → ((x : X) → P x → Q x) → IsSomeAnd o P → IsSomeAnd o Q
 if_some None f p = absurd p
@@ -28,9 +33,22 @@ on_shown written each None is = absurd cc
 on_shown written each (Some reply) is = each reply cc
 
 -- or none is
-pub nothing_shown : (found : Option Reply) → None ≡ option_map shown found → found ≡ None
+nothing_shown : (found : Option Reply) → None ≡ option_map shown found → found ≡ None
 nothing_shown None is = refl
 nothing_shown (Some reply) is = absurd cc
+
+-- what is written is what was found
+pub found_or_not : (contents : Text → Option Text) (f : Format) (written : Option Formatted) → IsFound contents f written →
+    IfOk (ok_or written NoMessage) (λ formatted. IsFound contents f (Some formatted))
+found_or_not contents f None found = tt
+found_or_not contents f (Some formatted) found = found
+
+-- or there is no such message
+pub not_found : {F : Type 0} (folders : FolderGhosts F) (before after : F) (f : Format) (written : Option Formatted) → folders.failures after ≡ folders.failures before →
+    IsFound (folders.contents before) f written → IfErr (ok_or written NoMessage) (IsEarlyFault folders before after (format f))
+not_found folders before after f None same found =
+    of_refusal folders before after (format f) NoMessage tt same (on_found (folders.contents before) f (λ o is. nothing_shown o is) found)
+not_found folders before after f (Some formatted) same found = tt
 
 -- there are lines where there are errors
 status_same : (errors : List Text) → status_by (flat_map error_line errors) ≡ status_by errors

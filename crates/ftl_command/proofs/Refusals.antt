@@ -1,24 +1,224 @@
--- What faults say of the files to be tidied.
-use Rattle.std.proofs.Common.{◌≡◌, refl, Option, None, Some}
+-- What is so of a fault, by how it came.
+use Rattle.std.proofs.Common.{◌≡◌, ◌≢◌, Option, None, Some, Result, Ok, Err, IfErr, OnErr, refl}
+use Rattle.std.proofs.lemmas.Result.{IfErr-weaker}
 use Rattle.fluent_requests.specs.Text.{Text}
+use Rattle.fluent_serve.specs.Devices.{HasFailed}
+use Rattle.fluent_serve.specs.declared.stream.Sink.{Ghosts as SinkGhosts}
+use Rattle.fluent_serve.specs.declared.stream.Source.{Ghosts as SourceGhosts}
+use Rattle.ftl_words.specs.Meaning.{Asked, Format, Tidy, run, format, check, tidy}
+use Rattle.fluent_serve.specs.Exchange.{GivesUp}
+use Rattle.fluent_serve.specs.declared.serve.RunError.{RunError}
+use Rattle.fluent_serve.specs.declared.serve.RunError.TheVariants.{Memory as RunMemory, Read as RunRead, Write as RunWrite}
+use Rattle.fluent_tidy.specs.declared.error.CleanError.{CleanError}
+use Rattle.fluent_tidy.specs.declared.error.CleanError.TheVariants as clean
+use Rattle.fluent_tidy.specs.declared.error.NormalizeError.{NormalizeError}
+use Rattle.fluent_tidy.specs.declared.error.NormalizeError.TheVariants as normalize
 use Rattle.fluent_tidy.specs.declared.error.ImportError.{ImportError}
 use Rattle.fluent_tidy.specs.declared.error.ImportError.TheVariants as import
-use Rattle.ftl_words.specs.Meaning.{Asked, Tidy, run, format, check, tidy}
-use Rattle.ftl_command.specs.Faults.{import_fault}
-use Rattle.ftl_command.specs.Refusals.{HaveNoNormalText, HoldNoTree, IsRightOf, IsRight}
-use Rattle.ftl_command.specs.declared.fault.Fault.TheVariants.{Memory}
+use Rattle.ftl_command.specs.Faults.{IsBeforeInput, IsFaultOfFiles, IsOfLocale, SaysOfFiles, SaysUnknown, clean_fault, import_fault, normalize_fault, run_fault}
+use Rattle.ftl_command.specs.Program.{files_named, locale_named}
+use Rattle.ftl_command.specs.Refusals.{HaveNoNormalText, HoldNoTree, HoldReturn, IsDeviceFault, IsEarlyFault, IsFaultOf, IsRight, IsRightOf, IsTextFault, RefusesNothing, SaysNoMessage}
+use Rattle.ftl_command.specs.declared.fault.Fault.{Fault}
+use Rattle.ftl_command.specs.declared.fault.Fault.TheVariants.{CarriageReturn, NotNormal, NotTree, NotJson, NoMessage, CommandLine, UnknownLocale, FileUnreadable, FileNotUtf8, Input, Output, Memory}
+use Rattle.ftl_command.specs.declared.ended.Ended.{Ended}
+use Rattle.ftl_command.specs.declared.folder.Folder.{Ghosts as FolderGhosts}
 
 module _ (contents : Text → Option Text) where
-  pub import_is_right : (t : Tidy) (error : ImportError) → (error ≡ import.NotNormal → HaveNoNormalText contents t) → (error ≡ import.Shape → HoldNoTree contents t) →
-      IsRightOf contents t (import_fault error)
-  import_is_right t import.Memory none shape = tt
-  import_is_right t import.NotNormal none shape = none refl
-  import_is_right t import.Shape none shape = shape refl
+  nothing_of_message : (f : Format) (fault : Fault) → RefusesNothing fault → SaysNoMessage contents f fault
+  nothing_of_message f NoMessage nothing = absurd nothing
+  nothing_of_message f fault nothing = nothing
 
-  -- that memory ran out says nothing of files, whatever the words ask for
-  pub memory_is_right : (asked : Option Asked) → IsRight contents asked Memory
-  memory_is_right None = tt
-  memory_is_right (Some (run r)) = tt
-  memory_is_right (Some (format f)) = tt
-  memory_is_right (Some (check files)) = tt
-  memory_is_right (Some (tidy t)) = tt
+  nothing_of_tidying : (t : Tidy) (fault : Fault) → RefusesNothing fault → IsRightOf contents t fault
+  nothing_of_tidying t CarriageReturn nothing = absurd nothing
+  nothing_of_tidying t NotNormal nothing = absurd nothing
+  nothing_of_tidying t NotTree nothing = absurd nothing
+  nothing_of_tidying t NotJson nothing = absurd nothing
+  nothing_of_tidying t fault nothing = nothing
+
+  -- a fault that refuses nothing says nothing of what files hold, whatever the words ask for
+  pub right_by : (asked : Option Asked) (fault : Fault) → RefusesNothing fault → IsRight contents asked fault
+  right_by None fault nothing = nothing
+  right_by (Some (run r)) fault nothing = nothing
+  right_by (Some (format f)) fault nothing = nothing_of_message f fault nothing
+  right_by (Some (check files)) fault nothing = nothing
+  right_by (Some (tidy t)) fault nothing = nothing_of_tidying t fault nothing
+
+-- a fault of memory or a device
+abbrev IsOfDevice : Fault → Type 0
+IsOfDevice Input = Unit {0}
+IsOfDevice Output = Unit {0}
+IsOfDevice Memory = Unit {0}
+IsOfDevice fault = ⊥
+
+of_device : {F : Type 0} (folders : FolderGhosts F) (before after : F) (asked : Option Asked) (fault : Fault) → IsOfDevice fault →
+    folders.failures after ≡ folders.failures before → IsFaultOf folders before after asked fault
+of_device folders before after asked Input of same =
+    record { refused = λ is. absurd cc; unknown = tt; unopened = λ of. absurd of; files = record { reached = tt; not_utf8 = tt; unreadable = same }; right = right_by (folders.contents before) asked Input tt }
+of_device folders before after asked Output of same =
+    record { refused = λ is. absurd cc; unknown = tt; unopened = λ of. absurd of; files = record { reached = tt; not_utf8 = tt; unreadable = same }; right = right_by (folders.contents before) asked Output tt }
+of_device folders before after asked Memory of same =
+    record { refused = λ is. absurd cc; unknown = tt; unopened = λ of. absurd of; files = record { reached = tt; not_utf8 = tt; unreadable = same }; right = right_by (folders.contents before) asked Memory tt }
+of_device folders before after asked fault of same = absurd of
+
+module _ {F : Type 0} (folders : FolderGhosts F) (before after : F) (asked : Asked) where
+  -- a fault that names neither a locale nor a file
+  pub nameless : (fault : Fault) → fault ≢ CommandLine → fault ≢ Input → fault ≢ Output → SaysUnknown (locale_named (Some asked)) fault →
+      (IsOfLocale fault → ⊥) → SaysOfFiles folders before after (files_named (Some asked)) fault → IsRight (folders.contents before) (Some asked) fault →
+      IsEarlyFault folders before after asked fault
+  nameless fault not_words not_input not_output unknown not_locale files right = record {
+    says = record { refused = λ is. absurd (not_words is); unknown = unknown; unopened = λ of. absurd (not_locale of); files = files; right = right };
+    not_input = not_input;
+    not_output = not_output;
+  }
+
+  pub of_files : (fault : Fault) → IsFaultOfFiles folders before after (files_named (Some asked)) fault → IsEarlyFault folders before after asked fault
+  of_files (FileUnreadable file) f =
+      nameless (FileUnreadable file) (λ is. absurd cc) (λ is. absurd cc) (λ is. absurd cc) tt (λ of. of) f.says (right_by (folders.contents before) (Some asked) (FileUnreadable file) tt)
+  of_files (FileNotUtf8 file) f =
+      nameless (FileNotUtf8 file) (λ is. absurd cc) (λ is. absurd cc) (λ is. absurd cc) tt (λ of. of) f.says (right_by (folders.contents before) (Some asked) (FileNotUtf8 file) tt)
+  of_files Memory f =
+      nameless Memory (λ is. absurd cc) (λ is. absurd cc) (λ is. absurd cc) tt (λ of. of) f.says (right_by (folders.contents before) (Some asked) Memory tt)
+  of_files fault f = absurd f.of_files
+
+  pub of_memory : folders.failures after ≡ folders.failures before → IsEarlyFault folders before after asked Memory
+  of_memory same = of_files Memory (record { of_files = tt; says = record { reached = tt; not_utf8 = tt; unreadable = same } })
+
+-- the locale is unknown: no file was read
+pub of_locale : {F : Type 0} (folders : FolderGhosts F) (folder : F) (asked : Asked) (fault : Fault) → IsOfLocale fault → SaysUnknown (locale_named (Some asked)) fault →
+    IsEarlyFault folders folder folder asked fault
+of_locale folders folder asked (UnknownLocale tag) of unknown = record {
+  says = record {
+    refused = λ is. absurd cc;
+    unknown = unknown;
+    unopened = λ of. refl;
+    files = record { reached = tt; not_utf8 = tt; unreadable = refl };
+    right = right_by (folders.contents folder) (Some asked) (UnknownLocale tag) tt;
+  };
+  not_input = λ is. absurd cc;
+  not_output = λ is. absurd cc;
+}
+of_locale folders folder asked fault of unknown = absurd of
+
+-- there is no such message, or the files are not tidied
+abbrev IsRefusal : Fault → Type 0
+IsRefusal CarriageReturn = Unit {0}
+IsRefusal NotNormal = Unit {0}
+IsRefusal NotTree = Unit {0}
+IsRefusal NotJson = Unit {0}
+IsRefusal NoMessage = Unit {0}
+IsRefusal fault = ⊥
+
+pub of_refusal : {F : Type 0} (folders : FolderGhosts F) (before after : F) (asked : Asked) (fault : Fault) → IsRefusal fault → folders.failures after ≡ folders.failures before →
+    IsRight (folders.contents before) (Some asked) fault → IsEarlyFault folders before after asked fault
+of_refusal folders before after asked CarriageReturn of same right =
+    nameless folders before after asked CarriageReturn (λ is. absurd cc) (λ is. absurd cc) (λ is. absurd cc) tt (λ of. of) (record { reached = tt; not_utf8 = tt; unreadable = same }) right
+of_refusal folders before after asked NotNormal of same right =
+    nameless folders before after asked NotNormal (λ is. absurd cc) (λ is. absurd cc) (λ is. absurd cc) tt (λ of. of) (record { reached = tt; not_utf8 = tt; unreadable = same }) right
+of_refusal folders before after asked NotTree of same right =
+    nameless folders before after asked NotTree (λ is. absurd cc) (λ is. absurd cc) (λ is. absurd cc) tt (λ of. of) (record { reached = tt; not_utf8 = tt; unreadable = same }) right
+of_refusal folders before after asked NotJson of same right =
+    nameless folders before after asked NotJson (λ is. absurd cc) (λ is. absurd cc) (λ is. absurd cc) tt (λ of. of) (record { reached = tt; not_utf8 = tt; unreadable = same }) right
+of_refusal folders before after asked NoMessage of same right =
+    nameless folders before after asked NoMessage (λ is. absurd cc) (λ is. absurd cc) (λ is. absurd cc) tt (λ of. of) (record { reached = tt; not_utf8 = tt; unreadable = same }) right
+of_refusal folders before after asked fault of same right = absurd of
+
+module _ {F : Type 0} (folders : FolderGhosts F) (before after : F) (t : Tidy) (same : folders.failures after ≡ folders.failures before) where
+  -- refusals of the engine
+  pub of_clean : (error : CleanError) → (error ≡ clean.CarriageReturn → HoldReturn (folders.contents before) t) → IsEarlyFault folders before after (tidy t) (clean_fault error)
+  of_clean clean.Memory right = of_memory folders before after (tidy t) same
+  of_clean clean.CarriageReturn right = of_refusal folders before after (tidy t) CarriageReturn tt same (right refl)
+
+  pub of_normalize : (error : NormalizeError) → (error ≡ normalize.CarriageReturn → HoldReturn (folders.contents before) t) →
+      (error ≡ normalize.NotNormal → HaveNoNormalText (folders.contents before) t) → IsEarlyFault folders before after (tidy t) (normalize_fault error)
+  of_normalize normalize.Memory right none = of_memory folders before after (tidy t) same
+  of_normalize normalize.CarriageReturn right none = of_refusal folders before after (tidy t) CarriageReturn tt same (right refl)
+  of_normalize normalize.NotNormal right none = of_refusal folders before after (tidy t) NotNormal tt same (none refl)
+
+  pub of_import : (error : ImportError) → (error ≡ import.NotNormal → HaveNoNormalText (folders.contents before) t) →
+      (error ≡ import.Shape → HoldNoTree (folders.contents before) t) → IsEarlyFault folders before after (tidy t) (import_fault error)
+  of_import import.Memory none shape = of_memory folders before after (tidy t) same
+  of_import import.NotNormal none shape = of_refusal folders before after (tidy t) NotNormal tt same (none refl)
+  of_import import.Shape none shape = of_refusal folders before after (tidy t) NotTree tt same (shape refl)
+
+-- what the output's fault says, after all files were read
+pub of_output : {F : Type 0} (folders : FolderGhosts F) (before after : F) (asked : Option Asked) → folders.failures after ≡ folders.failures before →
+    (fault : Fault) → fault ≡ Output → IsFaultOf folders before after asked fault
+of_output folders before after asked same fault is = rw is (of_device folders before after asked Output tt same)
+
+module _ {W : Type 0} (sink : SinkGhosts W) where
+  -- nothing was written
+  pub text_unwritten : (writer : W) (fault : Fault) → fault ≢ Input → fault ≢ Output → IsTextFault sink writer writer fault
+  text_unwritten writer fault not_input not_output =
+      record { not_input = not_input; unwritten = λ other. refl; failed = λ is. absurd (not_output is) }
+
+  -- the text was not written whole
+  pub text_cut : (writer writer' : W) → HasFailed (sink.failures writer) (sink.failures writer') → (fault : Fault) → fault ≡ Output →
+      IsTextFault sink writer writer' fault
+  text_cut writer writer' failed fault is = rw is (record { not_input = λ input. absurd cc; unwritten = λ other. absurd (other refl); failed = λ output. failed })
+
+module _ {R W : Type 0} (source : SourceGhosts R) (sink : SinkGhosts W) where
+  -- nothing was read but files, and nothing was written
+  pub untouched_devices : (reader : R) (writer : W) (fault : Fault) → fault ≢ Input → fault ≢ Output → IsDeviceFault source reader reader sink writer writer fault
+  untouched_devices reader writer fault not_input not_output = record {
+    unread = λ early. refl;
+    unwritten = λ early. refl;
+    given_up = λ is. absurd (not_input is);
+    failed = λ is. absurd (not_output is);
+  }
+
+  not_output : (fault : Fault) → IsBeforeInput fault → fault ≡ Output → ⊥
+  not_output fault early is = rw is at early
+
+  -- nothing was read but files
+  pub unread_device : (reader : R) (writer writer' : W) (fault : Fault) → IsTextFault sink writer writer' fault →
+      IsDeviceFault source reader reader sink writer writer' fault
+  unread_device reader writer writer' fault f = record {
+    unread = λ early. refl;
+    unwritten = λ early. f.unwritten (not_output fault early);
+    given_up = λ is. absurd (f.not_input is);
+    failed = f.failed;
+  }
+
+  -- a run ended
+  pub run_stops : (reader reader' : R) (writer writer' : W) (error : RunError) →
+      (error ≡ RunRead → GivesUp source reader reader' 4294967296) → (error ≡ RunWrite → HasFailed (sink.failures writer) (sink.failures writer')) →
+      IsDeviceFault source reader reader' sink writer writer' (run_fault error)
+  run_stops reader reader' writer writer' RunMemory given_up failed =
+      record { unread = λ early. absurd early; unwritten = λ early. absurd early; given_up = λ is. absurd cc; failed = λ is. absurd cc }
+  run_stops reader reader' writer writer' RunRead given_up failed =
+      record { unread = λ early. absurd early; unwritten = λ early. absurd early; given_up = λ is. given_up refl; failed = λ is. absurd cc }
+  run_stops reader reader' writer writer' RunWrite given_up failed =
+      record { unread = λ early. absurd early; unwritten = λ early. absurd early; given_up = λ is. absurd cc; failed = λ is. failed refl }
+
+  -- a text that the words ask for, of help or of the version, was not written whole
+  pub asked_cut : (reader : R) (writer writer' : W) (result : Result Ended Fault) → IfErr result (λ fault. fault ≡ Output) →
+      OnErr result (HasFailed (sink.failures writer) (sink.failures writer')) → IfErr result (IsDeviceFault source reader reader sink writer writer')
+  asked_cut reader writer writer' (Ok end) is failed = tt
+  asked_cut reader writer writer' (Err fault) is failed =
+      rw is (record { unread = λ early. refl; unwritten = λ early. absurd early; given_up = λ input. absurd cc; failed = λ output. failed })
+
+-- all files were read, and a run ended
+pub of_run : {F : Type 0} (folders : FolderGhosts F) (before after : F) (asked : Option Asked) → folders.failures after ≡ folders.failures before →
+    (error : RunError) → IsFaultOf folders before after asked (run_fault error)
+of_run folders before after asked same RunMemory = of_device folders before after asked Memory tt same
+of_run folders before after asked same RunRead = of_device folders before after asked Input tt same
+of_run folders before after asked same RunWrite = of_device folders before after asked Output tt same
+
+-- no file is read for a text of help or of the version
+pub of_asked : {F : Type 0} (folders : FolderGhosts F) (folder : F) (asked : Option Asked) (result : Result Ended Fault) → IfErr result (λ fault. fault ≡ Output) →
+    IfErr result (IsFaultOf folders folder folder asked)
+of_asked folders folder asked result is = IfErr-weaker result _ _ (of_output folders folder folder asked refl) is
+
+-- memory ran out while the words were read
+pub of_words : {F : Type 0} (folders : FolderGhosts F) (folder : F) (asked : Option Asked) → IsFaultOf folders folder folder asked Memory
+of_words folders folder asked = of_device folders folder folder asked Memory tt refl
+
+-- the words are bad, and ask for nothing
+pub of_bad_words : {F : Type 0} (folders : FolderGhosts F) (folder : F) (asked : Option Asked) → asked ≡ None → IsFaultOf folders folder folder asked CommandLine
+of_bad_words folders folder asked nothing = record {
+  refused = λ is. nothing;
+  unknown = tt;
+  unopened = λ of. absurd of;
+  files = record { reached = tt; not_utf8 = tt; unreadable = refl };
+  right = right_by (folders.contents folder) asked CommandLine tt;
+}

@@ -1,10 +1,11 @@
 -- The program's faults, and the status that it ends with.
-use Rattle.std.specs.Prelude.{◌≡◌, ℕ, List, ◌++◌, Contains, Option, Some, None, IfSome, IsUtf8, Result, Ok, Err, codes}
+use Rattle.std.specs.Prelude.{◌≡◌, ℕ, List, ◌++◌, Option, Some, None, IfSome, IsUtf8, Result, Ok, Err, codes}
 use Rattle.fluent_requests.specs.Text.{Text}
 use Rattle.fluent_requests.specs.Frames.{ended}
 use Rattle.fluent_serve.specs.Devices.{HasFailed}
 use Rattle.fluent_plurals.specs.Plurals.{plurals_for}
 use Rattle.ftl_command.specs.Files.{Reaches}
+use Rattle.ftl_command.specs.declared.folder.Folder.{Ghosts as FolderGhosts}
 use Rattle.ftl_command.specs.declared.fault.Fault.{Fault}
 use Rattle.ftl_command.specs.declared.fault.Fault.TheVariants.{CarriageReturn, NotNormal, NotTree, NotJson, NoMessage, CommandLine, UnknownLocale, FileUnreadable, FileNotUtf8, Input, Output, Memory}
 use Rattle.fluent_tidy.specs.declared.error.CleanError.{CleanError}
@@ -62,21 +63,6 @@ fault_text Memory = codes "out of memory"
 -- the line of it
 abbrev pub fault_line : Fault → Text
 fault_line fault = ended (codes "ftl: " ++ fault_text fault)
-
--- a file that the fault names is one of these
-abbrev pub NamesOneOf : List Text → Fault → Type 0
-NamesOneOf names CarriageReturn = Unit {0}
-NamesOneOf names NotNormal = Unit {0}
-NamesOneOf names NotTree = Unit {0}
-NamesOneOf names NotJson = Unit {0}
-NamesOneOf names NoMessage = Unit {0}
-NamesOneOf names CommandLine = Unit {0}
-NamesOneOf names (UnknownLocale tag) = Unit {0}
-NamesOneOf names (FileUnreadable file) = Contains names file.now
-NamesOneOf names (FileNotUtf8 file) = Contains names file.now
-NamesOneOf names Input = Unit {0}
-NamesOneOf names Output = Unit {0}
-NamesOneOf names Memory = Unit {0}
 
 -- if the failure says that a file isn't UTF-8, what the file holds is none, if that is known
 abbrev pub SaysNoUtf8 : (Text → Option Text) → Fault → Type 0
@@ -168,21 +154,6 @@ IsOfFiles Input = ⊥
 IsOfFiles Output = ⊥
 IsOfFiles Memory = Unit {0}
 
--- a fault that comes while the locale is looked up or files are read
-abbrev pub IsOfSources : Fault → Type 0
-IsOfSources CarriageReturn = ⊥
-IsOfSources NotNormal = ⊥
-IsOfSources NotTree = ⊥
-IsOfSources NotJson = ⊥
-IsOfSources NoMessage = ⊥
-IsOfSources CommandLine = ⊥
-IsOfSources (UnknownLocale tag) = Unit {0}
-IsOfSources (FileUnreadable file) = Unit {0}
-IsOfSources (FileNotUtf8 file) = Unit {0}
-IsOfSources Input = ⊥
-IsOfSources Output = ⊥
-IsOfSources Memory = Unit {0}
-
 -- the words or the sources are at fault
 abbrev pub IsBeforeInput : Fault → Type 0
 IsBeforeInput CarriageReturn = Unit {0}
@@ -198,26 +169,24 @@ IsBeforeInput Input = ⊥
 IsBeforeInput Output = ⊥
 IsBeforeInput Memory = ⊥
 
+-- What a fault says of the files that were to be read is so, by what is known of their folder before and after.
+pub record SaysOfFiles {F : Type 0} (folders : FolderGhosts F) (before after : F) (files : List Text) (fault : Fault) : Type 0 where
+  -- the file that it names is one of these, and those before it are held, as texts
+  pub reached : ReachesFile (folders.contents before) files fault
+  pub not_utf8 : SaysNoUtf8 (folders.contents before) fault
+  -- a read has failed exactly if it says so
+  pub unreadable : FailsAsTold (folders.failures before) (folders.failures after) fault
+
+-- a fault that came while these files were read
+pub record IsFaultOfFiles {F : Type 0} (folders : FolderGhosts F) (before after : F) (files : List Text) (fault : Fault) : Type 0 where
+  pub of_files : IsOfFiles fault
+  pub says : SaysOfFiles folders before after files fault
+
 -- what a run's end is reported as: its reader is standard input, and its writer standard output
 abbrev pub run_fault : RunError → Fault
 run_fault RunMemory = Memory
 run_fault RunRead = Input
 run_fault RunWrite = Output
-
--- a fault that comes while sources are tidied
-abbrev pub IsOfTidying : Fault → Type 0
-IsOfTidying CarriageReturn = Unit {0}
-IsOfTidying NotNormal = Unit {0}
-IsOfTidying NotTree = Unit {0}
-IsOfTidying NotJson = Unit {0}
-IsOfTidying NoMessage = ⊥
-IsOfTidying CommandLine = ⊥
-IsOfTidying (UnknownLocale tag) = ⊥
-IsOfTidying (FileUnreadable file) = Unit {0}
-IsOfTidying (FileNotUtf8 file) = Unit {0}
-IsOfTidying Input = ⊥
-IsOfTidying Output = ⊥
-IsOfTidying Memory = Unit {0}
 
 -- what the engine's refusals are reported as
 abbrev pub clean_fault : CleanError → Fault

@@ -48,6 +48,10 @@ abbrev pub run_of : Settings → Option (Bor Text) → List (Bor Text) → Run
 run_of settings locale files =
     record { isolating = settings.isolating; overriding = settings.overriding; locale = option_map (λ l. l.now) locale; files = texts files }
 
+-- what such a run asks for
+abbrev pub run_asked : Settings → Option (Bor Text) → List (Bor Text) → Option Asked
+run_asked settings locale files = Some (run (run_of settings locale files))
+
 -- what is written for a line, from sources, by these plural rules
 abbrev pub line_for : RunPlurals → Run → List Text → Text → Text
 line_for plurals r sources = line_answered NoFunction (category_in plurals) no_text (record { isolating = r.isolating; overriding = r.overriding }) sources

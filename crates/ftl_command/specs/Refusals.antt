@@ -1,16 +1,21 @@
--- Why the program refuses to tidy what its files hold.
-use Rattle.std.specs.Prelude.{◌≡◌, Option, None, Some, IsTrue, Result, IfErr}
+-- What is so of the fault that a command ends with.
+use Rattle.std.specs.Prelude.{◌≡◌, ◌≢◌, Option, None, Some, IsTrue}
 use Rattle.std.specs.List.{list_any}
 use Rattle.serde_json.specs.Read.{read as read_text}
 use Rattle.fluent_requests.specs.Text.{Text}
+use Rattle.fluent_serve.specs.Devices.{HasFailed}
+use Rattle.fluent_serve.specs.Exchange.{GivesUp}
+use Rattle.fluent_serve.specs.declared.stream.Sink.{Ghosts as SinkGhosts}
+use Rattle.fluent_serve.specs.declared.stream.Source.{Ghosts as SourceGhosts}
 use Rattle.fluent_normal.specs.Normal.{HasNoNormalText}
 use Rattle.fluent_json.specs.Json.{HasNoTree}
 use Rattle.fluent_tidy.specs.Sources.{holds_return}
 use Rattle.fluent_tidy.specs.Trees.{IsNotImported}
 use Rattle.ftl_words.specs.Meaning.{Asked, Format, Tidy, run, format, check, tidy, clean, normalize, join, export, import}
 use Rattle.ftl_command.specs.Files.{OnFile, OnTexts}
-use Rattle.ftl_command.specs.Faults.{IsOfTidying, NamesOneOf, ReachesFile, SaysNoUtf8}
-use Rattle.ftl_command.specs.Program.{OnFound, OnValue, files_of}
+use Rattle.ftl_command.specs.Faults.{IsBeforeInput, IsOfLocale, SaysOfFiles, SaysUnknown}
+use Rattle.ftl_command.specs.Program.{OnFound, OnValue, files_named, locale_named}
+use Rattle.ftl_command.specs.declared.folder.Folder.{Ghosts as FolderGhosts}
 use Rattle.ftl_command.specs.declared.fault.Fault.{Fault}
 use Rattle.ftl_command.specs.declared.fault.Fault.TheVariants.{CarriageReturn, NotNormal, NotTree, NotJson, NoMessage, CommandLine, UnknownLocale, FileUnreadable, FileNotUtf8, Input, Output, Memory}
 
@@ -61,15 +66,6 @@ IsRightOf contents t Input = Unit {0}
 IsRightOf contents t Output = Unit {0}
 IsRightOf contents t Memory = Unit {0}
 
--- what is said by the fault that tidying ended with, if it did, is so
-pub record FaultsOn {T : Type 0} (contents : Text → Option Text) (t : Tidy) (result : Result T Fault) : Type 0 where
-  pub of_tidying : IfErr result IsOfTidying
-  pub right : IfErr result (IsRightOf contents t)
-  -- of a file
-  pub named : IfErr result (NamesOneOf (files_of t))
-  pub not_utf8 : IfErr result (SaysNoUtf8 contents)
-  pub reached : IfErr result (ReachesFile contents (files_of t))
-
 -- the fault is no refusal to tidy
 abbrev pub RefusesNothing : Fault → Type 0
 RefusesNothing CarriageReturn = ⊥
@@ -107,3 +103,40 @@ IsRight contents (Some (run r)) fault = RefusesNothing fault
 IsRight contents (Some (format f)) fault = SaysNoMessage contents f fault
 IsRight contents (Some (check files)) fault = RefusesNothing fault
 IsRight contents (Some (tidy t)) fault = IsRightOf contents t fault
+
+-- ---- a fault, by what the words ask for, and by what is known of the devices before and after
+
+-- what it says of the words and of the files is so
+pub record IsFaultOf {F : Type 0} (folders : FolderGhosts F) (before after : F) (asked : Option Asked) (fault : Fault) : Type 0 where
+  pub refused : fault ≡ CommandLine → asked ≡ None
+  pub unknown : SaysUnknown (locale_named asked) fault
+  -- before the locale is found no file is read
+  pub unopened : IsOfLocale fault → after ≡ before
+  pub files : SaysOfFiles folders before after (files_named asked) fault
+  pub right : IsRight (folders.contents before) asked fault
+
+-- so it is of a fault that came before anything but files was read, and before anything was written
+pub record IsEarlyFault {F : Type 0} (folders : FolderGhosts F) (before after : F) (asked : Asked) (fault : Fault) : Type 0 where
+  pub says : IsFaultOf folders before after (Some asked) fault
+  pub not_input : fault ≢ Input
+  pub not_output : fault ≢ Output
+
+-- the fault of a command that reads files alone, and then writes a text
+pub record IsTextFault {W : Type 0} (sink : SinkGhosts W) (writer writer' : W) (fault : Fault) : Type 0 where
+  pub not_input : fault ≢ Input
+  pub unwritten : fault ≢ Output → writer' ≡ writer
+  pub failed : fault ≡ Output → HasFailed (sink.failures writer) (sink.failures writer')
+
+-- the fault of any command
+pub record IsDeviceFault {R W : Type 0} (source : SourceGhosts R) (reader reader' : R) (sink : SinkGhosts W) (writer writer' : W) (fault : Fault) : Type 0 where
+  -- before the words and all files are read nothing else is read, and nothing is written
+  pub unread : IsBeforeInput fault → reader' ≡ reader
+  pub unwritten : IsBeforeInput fault → writer' ≡ writer
+  -- the device that is at fault failed, or the input came to no end
+  pub given_up : fault ≡ Input → GivesUp source reader reader' 4294967296
+  pub failed : fault ≡ Output → HasFailed (sink.failures writer) (sink.failures writer')
+
+-- without a fault no call of a folder or a writer failed
+pub record TextWorks {F W : Type 0} (folders : FolderGhosts F) (before after : F) (sink : SinkGhosts W) (writer writer' : W) : Type 0 where
+  pub opens : folders.failures after ≡ folders.failures before
+  pub writes : sink.failures writer' ≡ sink.failures writer

@@ -1,10 +1,9 @@
 //! The report on the sources in files.
-ghost use Rattle.std.specs.Prelude.{◌≡◌, ◌≢◌, None, IfOk, IfErr, OnOk, IsErrOf, string_bytes};
+ghost use Rattle.std.specs.Prelude.{◌≡◌, Some, IfOk, IfErr, OnOk, string_bytes};
 ghost use Rattle.fluent_serve.specs.Texts.{texts};
-ghost use Rattle.fluent_serve.specs.Devices.{HasFailed};
-ghost use Rattle.ftl_command.specs.Faults.{FailsAsTold, NamesOneOf, ReachesFile, SaysNoUtf8, SaysUnknown, IsOfFiles};
+ghost use Rattle.ftl_words.specs.Meaning.{check};
 ghost use Rattle.ftl_command.specs.Program.{CheckEnds, IsReport};
-ghost use Rattle.ftl_command.specs.Refusals.{RefusesNothing};
+ghost use Rattle.ftl_command.specs.Refusals.{IsEarlyFault, IsFaultOf, IsTextFault, TextWorks};
 
 use crate::borrowed::borrow_texts;
 use crate::ended::Ended;
@@ -28,20 +27,11 @@ pub fn check_files<'words, F: Folder, O: Sink>(
 ) -> Result<Ended, Fault<'words>>
     ensures ended { CheckEnds F.Folder folder.old (texts files.now)
         O.Sink writer.old writer.new result }
-    ensures writes { OnOk result (O.failures writer.new ≡ O.failures writer.old) }
-    ensures refuses { IfErr result RefusesNothing }
-    ensures not_words { IfErr result (λ fault. fault ≢ Fault.CommandLine) }
-    ensures no_locale { IfErr result (SaysUnknown None) }
-    ensures not_input { IfErr result (λ fault. fault ≢ Fault.Input) }
-    ensures named { IfErr result (NamesOneOf (texts files.now)) }
-    ensures not_utf8 { IfErr result (SaysNoUtf8 (F.contents folder.old)) }
-    ensures reached { IfErr result (ReachesFile (F.contents folder.old) (texts files.now)) }
-    ensures opens { OnOk result (F.failures folder.new ≡ F.failures folder.old) }
-    ensures unreadable { IfErr result (FailsAsTold (F.failures folder.old)
-        (F.failures folder.new)) }
-    ensures unwritten { IfErr result (λ fault. fault ≢ Fault.Output → writer.new ≡ writer.old) }
-    ensures failed { IsErrOf result Fault.Output
-        → HasFailed (O.failures writer.old) (O.failures writer.new) }
+    ensures works { OnOk result (TextWorks F.Folder folder.old folder.new
+        O.Sink writer.old writer.new) }
+    ensures fault { IfErr result (IsFaultOf F.Folder folder.old folder.new
+        (Some (check (texts files.now)))) }
+    ensures stops { IfErr result (IsTextFault O.Sink writer.old writer.new) }
 {
     let report = report_on(folder, alloc, files)?;
     write_text(writer, report.as_str())?;
@@ -60,13 +50,9 @@ fn report_on<'words, F: Folder>(
 ) -> Result<String, Fault<'words>>
     ensures report { IfOk result (λ text.
         IsReport (F.contents folder.old) (texts files.now) (string_bytes text)) }
-    ensures fault { IfErr result IsOfFiles }
-    ensures named { IfErr result (NamesOneOf (texts files.now)) }
-    ensures not_utf8 { IfErr result (SaysNoUtf8 (F.contents folder.old)) }
-    ensures reached { IfErr result (ReachesFile (F.contents folder.old) (texts files.now)) }
+    ensures fault { IfErr result (IsEarlyFault F.Folder folder.old folder.new
+        (check (texts files.now))) }
     ensures opens { OnOk result (F.failures folder.new ≡ F.failures folder.old) }
-    ensures unreadable { IfErr result (FailsAsTold (F.failures folder.old)
-        (F.failures folder.new)) }
 {
     let texts = read_sources(folder, alloc, files)?;
     let sources = borrow_texts(alloc, &texts)?;

@@ -1,14 +1,9 @@
 //! The program: its words, its files and its streams.
-ghost use Rattle.std.specs.Prelude.{◌≡◌, ◌≢◌, ◌∷◌, [], None, Contains, OnOk, IfErr, IsErrOf};
-ghost use Rattle.fluent_serve.specs.Devices.{HasFailed};
-ghost use Rattle.fluent_serve.specs.Exchange.{GivesUp};
+ghost use Rattle.std.specs.Prelude.{◌≡◌, ◌∷◌, [], None, Contains, OnOk, IfErr, IsErrOf};
 ghost use Rattle.ftl_words.specs.Meaning.{AskForText, AskForHelpAlone, AskForVersionAlone, command_of, texts};
 ghost use Rattle.ftl_command.specs.Ends.{EndsOn, EndsOver};
-ghost use Rattle.ftl_command.specs.Faults.{FailsAsTold, NamesOneOf, ReachesFile, SaysNoUtf8, SaysUnknown};
-ghost use Rattle.ftl_command.specs.Faults.{IsBeforeInput, IsOfLocale};
-ghost use Rattle.ftl_command.specs.Program.{CommandEndsOn, ShowsVersionOn, WithoutInput};
-ghost use Rattle.ftl_command.specs.Program.{IsRefused, files_named, locale_named};
-ghost use Rattle.ftl_command.specs.Refusals.{IsRight};
+ghost use Rattle.ftl_command.specs.Program.{CommandEndsOn, IsRefused, ShowsVersionOn, WithoutInput};
+ghost use Rattle.ftl_command.specs.Refusals.{IsDeviceFault, IsFaultOf};
 
 use crate::checking::check_files;
 use crate::ended::Ended;
@@ -109,30 +104,13 @@ pub fn run_command<'words, F: Folder, I: Source, O: Sink>(
     ensures reads { OnOk result (I.failures reader.new ≡ I.failures reader.old) }
     ensures writes { OnOk result (O.failures writer.new ≡ O.failures writer.old) }
     ensures no_input { WithoutInput (command_of (texts words.now)) (reader.new ≡ reader.old) }
-
-    // Before the words and all files are read, nothing else is read and nothing is written.
-    ensures refused { IsErrOf result Fault.CommandLine → command_of (texts words.now) ≡ None }
+    ensures fault { IfErr result (IsFaultOf F.Folder folder.old folder.new
+        (command_of (texts words.now))) }
+    ensures stops { IfErr result (IsDeviceFault I.Source reader.old reader.new
+        O.Sink writer.old writer.new) }
     ensures not_help { IsErrOf result Fault.CommandLine → ¬ AskForHelpAlone (texts words.now) }
     ensures not_version { IsErrOf result Fault.CommandLine
         → ¬ AskForVersionAlone (texts words.now) }
-    ensures unknown { IfErr result (SaysUnknown (locale_named (command_of (texts words.now)))) }
-    ensures unopened { IfErr result (λ fault. IsOfLocale fault → folder.new ≡ folder.old) }
-    ensures named { IfErr result (NamesOneOf (files_named (command_of (texts words.now)))) }
-    ensures reached { IfErr result (ReachesFile (F.contents folder.old)
-        (files_named (command_of (texts words.now)))) }
-    ensures unreadable { IfErr result (FailsAsTold (F.failures folder.old)
-        (F.failures folder.new)) }
-    ensures not_utf8 { IfErr result (SaysNoUtf8 (F.contents folder.old)) }
-    ensures right { IfErr result (IsRight (F.contents folder.old)
-        (command_of (texts words.now))) }
-    ensures unread { IfErr result (λ fault. IsBeforeInput fault → reader.new ≡ reader.old) }
-    ensures unwritten { IfErr result (λ fault. IsBeforeInput fault → writer.new ≡ writer.old) }
-
-    // The device that is at fault failed, or the input came to no end.
-    ensures given_up { IsErrOf result Fault.Input
-        → GivesUp I.Source reader.old reader.new 4294967296 }
-    ensures failed { IsErrOf result Fault.Output
-        → HasFailed (O.failures writer.old) (O.failures writer.new) }
 {
     match command(alloc, words) {
         Ok(

@@ -2,7 +2,7 @@
 ghost use Rattle.std.specs.Prelude.{◌≡◌, map, IfOk, OnOk, IfErr, IfSome, IsSome, string_bytes, [], ◌∷◌};
 ghost use Rattle.std.specs.Str.{IsUtf8};
 ghost use Rattle.fluent_serve.specs.Texts.{texts};
-ghost use Rattle.ftl_command.specs.Faults.{FailsAsTold, NamesOneOf, ReachesFile, IsOfFiles, SaysNoUtf8};
+ghost use Rattle.ftl_command.specs.Faults.{IsFaultOfFiles};
 ghost use Rattle.ftl_command.specs.Files.{AreHeld};
 
 use crate::fault::Fault;
@@ -22,13 +22,8 @@ pub fn read_sources<'words, F: Folder>(
 ) -> Result<Vec<String>, Fault<'words>>
     ensures held { IfOk result (λ read.
         AreHeld (F.contents folder.old) (texts files.now) (map string_bytes read.items)) }
-    ensures named { IfErr result (NamesOneOf (texts files.now)) }
-    ensures fault { IfErr result IsOfFiles }
-    ensures not_utf8 { IfErr result (SaysNoUtf8 (F.contents folder.old)) }
-    ensures reached { IfErr result (ReachesFile (F.contents folder.old) (texts files.now)) }
+    ensures fault { IfErr result (IsFaultOfFiles F.Folder folder.old folder.new (texts files.now)) }
     ensures opens { OnOk result (F.failures folder.new ≡ F.failures folder.old) }
-    ensures unreadable { IfErr result (FailsAsTold (F.failures folder.old)
-        (F.failures folder.new)) }
 {
     let mut sources = Vec::new(alloc);
     for file in files {
@@ -50,13 +45,8 @@ pub fn read_source<'words, F: Folder>(
 ) -> Result<String, Fault<'words>>
     ensures held { IfOk result (λ text.
         IfSome (F.contents folder.old file.now) (λ held. string_bytes text ≡ held)) }
-    ensures named { IfErr result (NamesOneOf (file.now ∷ [])) }
-    ensures fault { IfErr result IsOfFiles }
-    ensures reached { IfErr result (ReachesFile (F.contents folder.old) (file.now ∷ [])) }
-    ensures not_utf8 { IfErr result (SaysNoUtf8 (F.contents folder.old)) }
+    ensures fault { IfErr result (IsFaultOfFiles F.Folder folder.old folder.new (file.now ∷ [])) }
     ensures opens { OnOk result (F.failures folder.new ≡ F.failures folder.old) }
-    ensures unreadable { IfErr result (FailsAsTold (F.failures folder.old)
-        (F.failures folder.new)) }
     ensures kept { F.contents folder.new ≡ F.contents folder.old }
 {
     let bytes = match folder.read(alloc, file) {

@@ -1,13 +1,12 @@
 //! The text of a message, from the sources in files.
-ghost use Rattle.std.specs.Prelude.{◌≡◌, ◌≢◌, IfOk, IfErr, OnOk, IsErrOf, string_bytes};
+ghost use Rattle.std.specs.Prelude.{◌≡◌, Some, IfOk, IfErr, OnOk, string_bytes};
 ghost use Rattle.fluent_serve.specs.Texts.{texts};
-ghost use Rattle.fluent_serve.specs.Devices.{HasFailed};
 ghost use Rattle.ftl_format.specs.FormatView.{IsWrittenAs};
 ghost use Rattle.ftl_words.specs.CommandView.{format_view};
-ghost use Rattle.ftl_command.specs.Faults.{FailsAsTold, NamesOneOf, ReachesFile, SaysNoUtf8, SaysUnknown};
-ghost use Rattle.ftl_command.specs.Faults.{IsOfLocale, IsOfSources, end_status};
+ghost use Rattle.ftl_words.specs.Meaning as asked;
+ghost use Rattle.ftl_command.specs.Faults.{end_status};
 ghost use Rattle.ftl_command.specs.Program.{FormatEnds, IsFound, errors_in, reply_for, status_by};
-ghost use Rattle.ftl_command.specs.Refusals.{SaysNoMessage};
+ghost use Rattle.ftl_command.specs.Refusals.{IsEarlyFault, IsFaultOf, IsTextFault, TextWorks};
 
 use crate::borrowed::borrow_texts;
 use crate::ended::Ended;
@@ -35,27 +34,13 @@ pub fn write_formatted<'words, F: Folder, O: Sink>(
 ) -> Result<Ended, Fault<'words>>
     ensures ended { FormatEnds F.Folder folder.old (format_view format.now)
         O.Sink writer.old writer.new result }
-    ensures writes { OnOk result (O.failures writer.new ≡ O.failures writer.old) }
-    ensures right { IfErr result
-        (SaysNoMessage (F.contents folder.old) (format_view format.now)) }
-    ensures unknown { IfErr result (SaysUnknown (format_view format.now).locale) }
-    ensures unopened { IfErr result (λ fault. IsOfLocale fault → folder.new ≡ folder.old) }
-    ensures not_words { IfErr result (λ fault. fault ≢ Fault.CommandLine) }
-    ensures not_input { IfErr result (λ fault. fault ≢ Fault.Input) }
-    ensures named { IfErr result (NamesOneOf (texts format.now.files.items)) }
-    ensures not_utf8 { IfErr result (SaysNoUtf8 (F.contents folder.old)) }
-    ensures reached { IfErr result (ReachesFile (F.contents folder.old)
-        (texts format.now.files.items)) }
-    ensures opens { OnOk result (F.failures folder.new ≡ F.failures folder.old) }
-    ensures unreadable { IfErr result (FailsAsTold (F.failures folder.old)
-        (F.failures folder.new)) }
-    ensures unwritten { IfErr result (λ fault. fault ≢ Fault.Output → writer.new ≡ writer.old) }
-    ensures failed { IsErrOf result Fault.Output
-        → HasFailed (O.failures writer.old) (O.failures writer.new) }
+    ensures works { OnOk result (TextWorks F.Folder folder.old folder.new
+        O.Sink writer.old writer.new) }
+    ensures fault { IfErr result (IsFaultOf F.Folder folder.old folder.new
+        (Some (asked.format (format_view format.now)))) }
+    ensures stops { IfErr result (IsTextFault O.Sink writer.old writer.new) }
 {
-    let Some(formatted) = formatted_on(folder, alloc, format)? else {
-        return Err(Fault::NoMessage);
-    };
+    let formatted = formatted_on(folder, alloc, format)?;
     write_text(writer, formatted.text.as_str())?;
     Ok(end_with(formatted.errors))
 }
@@ -72,28 +57,22 @@ fn end_with(errors: String) -> Ended
     }
 }
 
-/// What is written of the message that is asked for, if there is one.
+/// What is written of the message that is asked for.
 fn formatted_on<'words, F: Folder>(
     folder: &mut F,
     alloc: Global,
     format: &Format<'words>,
-) -> Result<Option<Formatted>, Fault<'words>>
-    ensures found { IfOk result (IsFound (F.contents folder.old) (format_view format.now)) }
-    ensures fault { IfErr result IsOfSources }
-    ensures unknown { IfErr result (SaysUnknown (format_view format.now).locale) }
-    ensures unopened { IfErr result (λ fault. IsOfLocale fault → folder.new ≡ folder.old) }
-    ensures named { IfErr result (NamesOneOf (texts format.now.files.items)) }
-    ensures not_utf8 { IfErr result (SaysNoUtf8 (F.contents folder.old)) }
-    ensures reached { IfErr result (ReachesFile (F.contents folder.old)
-        (texts format.now.files.items)) }
+) -> Result<Formatted, Fault<'words>>
+    ensures found { IfOk result (λ formatted.
+        IsFound (F.contents folder.old) (format_view format.now) (Some formatted)) }
+    ensures fault { IfErr result (IsEarlyFault F.Folder folder.old folder.new
+        (asked.format (format_view format.now))) }
     ensures opens { OnOk result (F.failures folder.new ≡ F.failures folder.old) }
-    ensures unreadable { IfErr result (FailsAsTold (F.failures folder.old)
-        (F.failures folder.new)) }
 {
     let plurals = RunPlurals::of_locale(format.locale)?;
     let texts = read_sources(folder, alloc, &format.files)?;
     let sources = borrow_texts(alloc, &texts)?;
-    Ok(formatted_from(alloc, format, &plurals, &sources)?)
+    formatted_from(alloc, format, &plurals, &sources)?.ok_or(Fault::NoMessage)
 }
 
 /// What is written of it from these sources.

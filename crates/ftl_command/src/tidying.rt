@@ -1,15 +1,13 @@
 //! What the sources' files are tidied into.
-ghost use Rattle.std.specs.Prelude.{◌≡◌, ◌≢◌, ◌⊎◌, Some, None, false, IfOk, OnOk, IfErr, IsErrOf, string_bytes};
-ghost use Rattle.fluent_serve.specs.Devices.{HasFailed};
+ghost use Rattle.std.specs.Prelude.{◌≡◌, ◌⊎◌, Some, None, false, IfOk, OnOk, IfErr, IsErrOf, string_bytes};
 ghost use Rattle.serde_json.specs.Read.{read as read_text};
 ghost use Rattle.serde_json.specs.View.{view};
 ghost use Rattle.serde_json.specs.Written.{has_float};
 ghost use Rattle.fluent_serve.specs.Texts.{texts};
 ghost use Rattle.ftl_words.specs.CommandView.{tidy_view};
 ghost use Rattle.ftl_words.specs.Meaning as asked;
-ghost use Rattle.ftl_command.specs.Faults.{FailsAsTold, NamesOneOf, ReachesFile, SaysNoUtf8, SaysUnknown};
-ghost use Rattle.ftl_command.specs.Program.{Tidies, TidyEnds, data_line, files_of};
-ghost use Rattle.ftl_command.specs.Refusals.{FaultsOn, IsRightOf};
+ghost use Rattle.ftl_command.specs.Program.{Tidies, TidyEnds, data_line};
+ghost use Rattle.ftl_command.specs.Refusals.{IsEarlyFault, IsFaultOf, IsTextFault, TextWorks};
 
 use crate::borrowed::borrow_texts;
 use crate::ended::Ended;
@@ -36,20 +34,11 @@ pub fn write_tidied<'words, F: Folder, O: Sink>(
     ensures ended { IfOk result (λ end. end ≡ Ended.Done) }
     ensures tidied { TidyEnds F.Folder folder.old (tidy_view tidy.now)
         O.Sink writer.old writer.new result }
-    ensures writes { OnOk result (O.failures writer.new ≡ O.failures writer.old) }
-    ensures named { IfErr result (NamesOneOf (files_of (tidy_view tidy.now))) }
-    ensures not_utf8 { IfErr result (SaysNoUtf8 (F.contents folder.old)) }
-    ensures reached { IfErr result (ReachesFile (F.contents folder.old) (files_of (tidy_view tidy.now))) }
-    ensures opens { OnOk result (F.failures folder.new ≡ F.failures folder.old) }
-    ensures unreadable { IfErr result (FailsAsTold (F.failures folder.old)
-        (F.failures folder.new)) }
-    ensures right { IfErr result (IsRightOf (F.contents folder.old) (tidy_view tidy.now)) }
-    ensures not_words { IfErr result (λ fault. fault ≢ Fault.CommandLine) }
-    ensures no_locale { IfErr result (SaysUnknown None) }
-    ensures not_input { IfErr result (λ fault. fault ≢ Fault.Input) }
-    ensures unwritten { IfErr result (λ fault. fault ≢ Fault.Output → writer.new ≡ writer.old) }
-    ensures failed { IsErrOf result Fault.Output
-        → HasFailed (O.failures writer.old) (O.failures writer.new) }
+    ensures works { OnOk result (TextWorks F.Folder folder.old folder.new
+        O.Sink writer.old writer.new) }
+    ensures fault { IfErr result (IsFaultOf F.Folder folder.old folder.new
+        (Some (asked.tidy (tidy_view tidy.now)))) }
+    ensures stops { IfErr result (IsTextFault O.Sink writer.old writer.new) }
 {
     let text = tidied_text(folder, alloc, tidy)?;
     write_text(writer, text.as_str())?;
@@ -67,10 +56,9 @@ pub fn tidied_text<'words, F: Folder>(
 ) -> Result<String, Fault<'words>>
     ensures text { IfOk result (λ text.
         Tidies (F.contents folder.old) (tidy_view tidy.now) (string_bytes text)) }
-    ensures faults { FaultsOn (F.contents folder.old) (tidy_view tidy.now) result }
+    ensures fault { IfErr result (IsEarlyFault F.Folder folder.old folder.new
+        (asked.tidy (tidy_view tidy.now))) }
     ensures opens { OnOk result (F.failures folder.new ≡ F.failures folder.old) }
-    ensures unreadable { IfErr result (FailsAsTold (F.failures folder.old)
-        (F.failures folder.new)) }
 {
     match tidy {
         Tidy::Clean(file) => clean_file(folder, alloc, file),
@@ -89,10 +77,9 @@ fn clean_file<'words, F: Folder>(
 ) -> Result<String, Fault<'words>>
     ensures text { IfOk result (λ text.
         Tidies (F.contents folder.old) (asked.clean file.now) (string_bytes text)) }
-    ensures faults { FaultsOn (F.contents folder.old) (asked.clean file.now) result }
+    ensures fault { IfErr result (IsEarlyFault F.Folder folder.old folder.new
+        (asked.tidy (asked.clean file.now))) }
     ensures opens { OnOk result (F.failures folder.new ≡ F.failures folder.old) }
-    ensures unreadable { IfErr result (FailsAsTold (F.failures folder.old)
-        (F.failures folder.new)) }
 {
     let source = read_source(folder, alloc, file)?;
     Ok(clean(alloc, source.as_str())?)
@@ -106,10 +93,9 @@ fn normalize_file<'words, F: Folder>(
 ) -> Result<String, Fault<'words>>
     ensures text { IfOk result (λ text.
         Tidies (F.contents folder.old) (asked.normalize file.now) (string_bytes text)) }
-    ensures faults { FaultsOn (F.contents folder.old) (asked.normalize file.now) result }
+    ensures fault { IfErr result (IsEarlyFault F.Folder folder.old folder.new
+        (asked.tidy (asked.normalize file.now))) }
     ensures opens { OnOk result (F.failures folder.new ≡ F.failures folder.old) }
-    ensures unreadable { IfErr result (FailsAsTold (F.failures folder.old)
-        (F.failures folder.new)) }
 {
     let source = read_source(folder, alloc, file)?;
     Ok(normalize(alloc, source.as_str())?)
@@ -123,10 +109,9 @@ fn join_files<'words, F: Folder>(
 ) -> Result<String, Fault<'words>>
     ensures text { IfOk result (λ text.
         Tidies (F.contents folder.old) (asked.join (texts files.now)) (string_bytes text)) }
-    ensures faults { FaultsOn (F.contents folder.old) (asked.join (texts files.now)) result }
+    ensures fault { IfErr result (IsEarlyFault F.Folder folder.old folder.new
+        (asked.tidy (asked.join (texts files.now)))) }
     ensures opens { OnOk result (F.failures folder.new ≡ F.failures folder.old) }
-    ensures unreadable { IfErr result (FailsAsTold (F.failures folder.old)
-        (F.failures folder.new)) }
 {
     let texts = read_sources(folder, alloc, files)?;
     let sources = borrow_texts(alloc, &texts)?;
@@ -141,10 +126,9 @@ fn export_file<'words, F: Folder>(
 ) -> Result<String, Fault<'words>>
     ensures text { IfOk result (λ text.
         Tidies (F.contents folder.old) (asked.export file.now) (string_bytes text)) }
-    ensures faults { FaultsOn (F.contents folder.old) (asked.export file.now) result }
+    ensures fault { IfErr result (IsEarlyFault F.Folder folder.old folder.new
+        (asked.tidy (asked.export file.now))) }
     ensures opens { OnOk result (F.failures folder.new ≡ F.failures folder.old) }
-    ensures unreadable { IfErr result (FailsAsTold (F.failures folder.old)
-        (F.failures folder.new)) }
 {
     let source = read_source(folder, alloc, file)?;
     let value = export(alloc, source.as_str())?;
@@ -170,10 +154,9 @@ fn import_file<'words, F: Folder>(
 ) -> Result<String, Fault<'words>>
     ensures text { IfOk result (λ text.
         Tidies (F.contents folder.old) (asked.import file.now) (string_bytes text)) }
-    ensures faults { FaultsOn (F.contents folder.old) (asked.import file.now) result }
+    ensures fault { IfErr result (IsEarlyFault F.Folder folder.old folder.new
+        (asked.tidy (asked.import file.now))) }
     ensures opens { OnOk result (F.failures folder.new ≡ F.failures folder.old) }
-    ensures unreadable { IfErr result (FailsAsTold (F.failures folder.old)
-        (F.failures folder.new)) }
 {
     let source = read_source(folder, alloc, file)?;
     let value = json_value(alloc, source.as_str())?;

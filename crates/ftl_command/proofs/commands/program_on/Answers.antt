@@ -1,4 +1,4 @@
-use Rattle.std.proofs.Common.{◌∙◌, Err, Ok, ap, refl, sym}
+use Rattle.std.proofs.Common.{◌∙◌, Err, Ok, ap, sym}
 use Rattle.clap.specs.declared.error.kind.ErrorKind.TheVariants.{DisplayHelp, DisplayVersion}
 use Rattle.ftl_words.specs.Meaning.{command_of, texts}
 use Rattle.ftl_command.proofs.EndLemmas.{not_alone_by, refused_by, untouched, without_input}
@@ -34,7 +34,7 @@ returns-in-Ok-clause-ended g c = record {
 }
 
 pub returns-in-Err-clause-ended : goal.returns-in-Err-clause-ended
-returns-in-Err-clause-ended g c = record {
+returns-in-Err-clause-ended g c = let fault = c.in-Err.ensures.fault in record {
   outcome = Err c.in-Err.fault;
   exact = c.tell_on.ensures.status;
   reports = c.tell_on.ensures.told;
@@ -45,20 +45,20 @@ returns-in-Err-clause-ended g c = record {
   reads = tt;
   writes = tt;
   no_input = without_input (command_of (texts c.args.words.now)) (untouched g.I.Source.remaining g.I.Source.failures) c.run_command.ensures.no_input;
-  refused = c.in-Err.ensures.refused;
+  refused = λ is. fault.refused cc;
   not_help = c.in-Err.ensures.not_help;
   not_version = c.in-Err.ensures.not_version;
-  unknown = c.in-Err.ensures.unknown;
-  reached = c.in-Err.ensures.reached;
-  unreadable = c.in-Err.ensures.unreadable;
-  not_utf8 = c.in-Err.ensures.not_utf8;
-  right = c.in-Err.ensures.right;
-  unread = λ before. untouched g.I.Source.remaining g.I.Source.failures (c.in-Err.ensures.unread before);
-  unwritten = λ before. untouched g.O.Sink.contents g.O.Sink.failures (c.in-Err.ensures.unwritten before);
+  unknown = fault.unknown;
+  reached = fault.files.reached;
+  unreadable = fault.files.unreadable;
+  not_utf8 = fault.files.not_utf8;
+  right = fault.right;
+  unread = λ before. untouched g.I.Source.remaining g.I.Source.failures (c.in-Err.ensures.stops.unread before);
+  unwritten = λ before. untouched g.O.Sink.contents g.O.Sink.failures (c.in-Err.ensures.stops.unwritten before);
   memory_out = c.in-Err.ensures.ended.memory;
   input_failed = c.in-Err.ensures.ended.input;
   output_cut = c.in-Err.ensures.ended.output;
-  output_failed = c.in-Err.ensures.failed;
+  output_failed = λ is. c.in-Err.ensures.stops.failed cc;
 }
 
 pub returns-in-Err-clause-statuses : goal.returns-in-Err-clause-statuses
@@ -66,15 +66,15 @@ returns-in-Err-clause-statuses g c = rw c.tell_on.ensures.status (status_of-amon
 
 pub returns-in-Err-clause-refused : goal.returns-in-Err-clause-refused
 returns-in-Err-clause-refused g c = λ two.
-    refused_by (command_of (texts c.args.words.now)) c.in-Err.fault (λ is. c.in-Err.ensures.refused (ap Err is)) c.in-Err.ensures.unknown
+    refused_by (command_of (texts c.args.words.now)) c.in-Err.fault c.in-Err.ensures.fault.refused c.in-Err.ensures.fault.unknown
     (sym c.tell_on.ensures.status ∙ two)
 
 pub returns-in-Err-clause-not_help : goal.returns-in-Err-clause-not_help
 returns-in-Err-clause-not_help g c = λ two.
-    not_alone_by (texts c.args.words.now) DisplayHelp c.in-Err.fault (λ is. c.in-Err.ensures.not_help (ap Err is)) c.in-Err.ensures.unknown
+    not_alone_by (texts c.args.words.now) DisplayHelp c.in-Err.fault (λ is. c.in-Err.ensures.not_help (ap Err is)) c.in-Err.ensures.fault.unknown
     (sym c.tell_on.ensures.status ∙ two)
 
 pub returns-in-Err-clause-not_version : goal.returns-in-Err-clause-not_version
 returns-in-Err-clause-not_version g c = λ two.
-    not_alone_by (texts c.args.words.now) DisplayVersion c.in-Err.fault (λ is. c.in-Err.ensures.not_version (ap Err is)) c.in-Err.ensures.unknown
+    not_alone_by (texts c.args.words.now) DisplayVersion c.in-Err.fault (λ is. c.in-Err.ensures.not_version (ap Err is)) c.in-Err.ensures.fault.unknown
     (sym c.tell_on.ensures.status ∙ two)

@@ -1,9 +1,9 @@
-use Rattle.std.proofs.Common.{[]}
+use Rattle.std.proofs.Common.{rules}
 use Rattle.ftl_command.proofs.FaultLemmas.{Reaches-first}
 use Rattle.ftl_command.proofs.files.read_source.Goals as goal
 
-pub returns-in-Err-Unreadable-clause-reached : goal.returns-in-Err-Unreadable-clause-reached
-returns-in-Err-Unreadable-clause-reached g c = Reaches-first (g.F.Folder.contents c.args.folder.now) c.args.file.now []
+pub returns-in-Err-Unreadable-clause-fault : goal.returns-in-Err-Unreadable-clause-fault
+returns-in-Err-Unreadable-clause-fault g c = search (rules, Reaches-first)
 
-pub returns-in-None-clause-reached : goal.returns-in-None-clause-reached
-returns-in-None-clause-reached g c = Reaches-first (g.F.Folder.contents c.args.folder.now) c.args.file.now []
+pub returns-in-None-clause-fault : goal.returns-in-None-clause-fault
+returns-in-None-clause-fault g c = search (rules, Reaches-first)

@@ -1,22 +1,15 @@
 use Rattle.std.proofs.Common.{◌∙◌, map, take, drop, suc, rules, string_bytes}
 use Rattle.fluent_serve.specs.Texts.{texts}
-use Rattle.ftl_command.specs.Faults.{NamesOneOf, ReachesFile}
-use Rattle.ftl_command.proofs.FaultLemmas.{AreUtf8-strings, Contains-texts, NamesOneOf-one, ReachesFile-one, texts_around}
+use Rattle.ftl_command.specs.Faults.{IsFaultOfFiles}
+use Rattle.ftl_command.proofs.FaultLemmas.{AreUtf8-strings, one_of_files, texts_around}
 use Rattle.ftl_command.proofs.RunLemmas.{held_next}
 use Rattle.ftl_command.proofs.files.read_sources.Goals as goal
 
-pub returns-in_err-source-clause-named : goal.returns-in_err-source-clause-named
-returns-in_err-source-clause-named g c =
-    let named : NamesOneOf (texts c.args.files.now) c.in_err-source.field-0.0 =
-    NamesOneOf-one _ _ (Contains-texts c.args.files.now c.loop-file.file-index _ c.loop-file-test.true) _ c.in_err-source.ensures.named in
-    search rules
-
-pub returns-in_err-source-clause-reached : goal.returns-in_err-source-clause-reached
-returns-in_err-source-clause-reached g c =
-    let contents = g.F.Folder.contents c.args.folder.now in
-    let files = texts c.args.files.now in
-    let reached : ReachesFile contents files c.in_err-source.field-0.0 =
-    ReachesFile-one contents files _
+pub returns-in_err-source-clause-fault : goal.returns-in_err-source-clause-fault
+returns-in_err-source-clause-fault g c =
+    let fault : IsFaultOfFiles g.F.Folder c.args.folder.now c.read_source.new.folder (texts c.args.files.now) c.in_err-source.field-0.0 =
+    one_of_files g.F.Folder c.args.folder.now c.loop-file.folder c.read_source.new.folder (texts c.args.files.now) _ _
+    c.loop-file.invariant.kept c.loop-file.invariant.works
     (record {
       front = texts (take c.loop-file.file-index c.args.files.now);
       behind = texts (drop (suc c.loop-file.file-index) c.args.files.now);
@@ -24,7 +17,7 @@ returns-in_err-source-clause-reached g c =
       sources = map string_bytes c.loop-file.sources.items;
       held = c.loop-file.invariant.held;
       utf8 = AreUtf8-strings c.loop-file.sources.items;
-    }) _ c.in_err-source.ensures.named in
+    }) c.in_err-source.ensures.fault in
     search rules
 
 pub loop-file-preserved : goal.loop-file-preserved

@@ -1,9 +1,13 @@
-use Rattle.std.proofs.Common.{◌≡◌, map, subst, arith, rules, string_bytes}
+use Rattle.std.proofs.Common.{◌≡◌, ◌∙◌, Err, Some, ap, map, subst, arith, rules, string_bytes}
 use Rattle.std.proofs.lemmas.Grind.{common_steps}
 use Rattle.ftl_command.proofs.RunLemmas.{before_answers, by_plurals, known_alike}
 use Rattle.fluent_serve.specs.Texts.{texts}
 use Rattle.ftl_command.specs.Files.{AreHeld}
-use Rattle.ftl_command.specs.Program.{run_of}
+use Rattle.ftl_command.specs.Program.{run_asked, run_of}
+use Rattle.ftl_words.specs.Meaning.{run}
+use Rattle.ftl_command.specs.Faults.{run_fault}
+use Rattle.ftl_command.specs.Refusals.{IsDeviceFault, IsFaultOf}
+use Rattle.ftl_command.proofs.Refusals.{of_files, of_locale, of_run, run_stops, untouched_devices}
 use Rattle.ftl_command.proofs.running.run_files.Goals as goal
 
 pub returns-in_err-texts-clause-ran : goal.returns-in_err-texts-clause-ran
@@ -67,3 +71,48 @@ returns-in_err-run-clause-ran g c =
       input = λ is. by_plurals _ c.in_ok-plurals.plurals _ c.in_ok-plurals.ensures.known (record { sources = texts c.deref-2.result.now; held = held; outcome = search rules });
       output = λ is. by_plurals _ c.in_ok-plurals.plurals _ c.in_ok-plurals.ensures.known (record { sources = texts c.deref-2.result.now; held = held; outcome = search rules });
     }
+
+pub returns-in_err-plurals-clause-fault : goal.returns-in_err-plurals-clause-fault
+returns-in_err-plurals-clause-fault g c =
+    let asked = run (run_of c.args.settings c.args.locale c.args.files.now) in
+    let early = of_locale g.F.Folder c.args.folder.now asked c.in_err-plurals.field-0.0 c.in_err-plurals.ensures.fault c.in_err-plurals.ensures.unknown in
+    let says : IsFaultOf g.F.Folder c.args.folder.now c.args.folder.now (Some asked) c.in_err-plurals.field-0.0 = early.says in
+    search rules
+
+pub returns-in_err-plurals-clause-stops : goal.returns-in_err-plurals-clause-stops
+returns-in_err-plurals-clause-stops g c =
+    let asked = run (run_of c.args.settings c.args.locale c.args.files.now) in
+    let early = of_locale g.F.Folder c.args.folder.now asked c.in_err-plurals.field-0.0 c.in_err-plurals.ensures.fault c.in_err-plurals.ensures.unknown in
+    let stops : IsDeviceFault g.I.Source c.args.reader.now c.args.reader.now g.O.Sink c.args.writer.now c.args.writer.now c.in_err-plurals.field-0.0 =
+    untouched_devices g.I.Source g.O.Sink c.args.reader.now c.args.writer.now c.in_err-plurals.field-0.0 early.not_input early.not_output in
+    search rules
+
+pub returns-in_err-texts-clause-fault : goal.returns-in_err-texts-clause-fault
+returns-in_err-texts-clause-fault g c =
+    let asked = run (run_of c.args.settings c.args.locale c.args.files.now) in
+    let early = of_files g.F.Folder c.args.folder.now c.read_sources.new.folder asked c.in_err-texts.field-0.0 c.in_err-texts.ensures.fault in
+    let says : IsFaultOf g.F.Folder c.args.folder.now c.read_sources.new.folder (Some asked) c.in_err-texts.field-0.0 = early.says in
+    search rules
+
+pub returns-in_err-texts-clause-stops : goal.returns-in_err-texts-clause-stops
+returns-in_err-texts-clause-stops g c =
+    let asked = run (run_of c.args.settings c.args.locale c.args.files.now) in
+    let early = of_files g.F.Folder c.args.folder.now c.read_sources.new.folder asked c.in_err-texts.field-0.0 c.in_err-texts.ensures.fault in
+    let stops : IsDeviceFault g.I.Source c.args.reader.now c.args.reader.now g.O.Sink c.args.writer.now c.args.writer.now c.in_err-texts.field-0.0 =
+    untouched_devices g.I.Source g.O.Sink c.args.reader.now c.args.writer.now c.in_err-texts.field-0.0 early.not_input early.not_output in
+    search rules
+
+pub returns-in_err-run-clause-fault : goal.returns-in_err-run-clause-fault
+returns-in_err-run-clause-fault g c =
+    let says : IsFaultOf g.F.Folder c.args.folder.now c.read_sources.new.folder (run_asked c.args.settings c.args.locale c.args.files.now) (run_fault c.in_err-run.field-0.0) =
+    of_run g.F.Folder c.args.folder.now c.read_sources.new.folder (run_asked c.args.settings c.args.locale c.args.files.now) c.in_ok-texts.ensures.opens c.in_err-run.field-0.0 in
+    search rules
+
+pub returns-in_err-run-clause-stops : goal.returns-in_err-run-clause-stops
+returns-in_err-run-clause-stops g c =
+    let error = c.in_err-run.field-0.0 in
+    let stops : IsDeviceFault g.I.Source c.args.reader.now c.run.new.reader g.O.Sink c.args.writer.now c.run.new.writer (run_fault error) =
+    run_stops g.I.Source g.O.Sink c.args.reader.now c.run.new.reader c.args.writer.now c.run.new.writer error
+    (λ is. c.run.ensures.given_up (c.in_err-run.was ∙ ap Err is))
+    (λ is. c.run.ensures.failed (c.in_err-run.was ∙ ap Err is)) in
+    search rules

@@ -6,6 +6,7 @@ use Rattle.fluent_cut.specs.Cut.{cut}
 use Rattle.fluent_json.specs.Json.{json}
 use Rattle.fluent_json.proofs.NoFloats.{has_no_float}
 use Rattle.fluent_requests.specs.Text.{line_feed}
+use Rattle.ftl_command.proofs.Refusals.{of_clean, of_files}
 use Rattle.ftl_command.proofs.tidying.export_file.Goals as goal
 
 pub returns-clause-text : goal.returns-clause-text
@@ -17,3 +18,9 @@ returns-clause-text g c =
       held = c.in_ok-source.ensures.held;
       outcome = (search rules, c.in_ok-line_of.ensures (ap has_float same ∙ has_no_float (tree (cut source))) ∙ ap (λ v. compact_text v ++ line_feed ∷ []) same);
     }
+
+pub returns-in_err-source-clause-fault : goal.returns-in_err-source-clause-fault
+returns-in_err-source-clause-fault g c = search (rules, of_files)
+
+pub returns-in_err-value-clause-fault : goal.returns-in_err-value-clause-fault
+returns-in_err-value-clause-fault g c = search (rules, of_clean)

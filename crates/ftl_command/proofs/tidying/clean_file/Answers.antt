@@ -1,0 +1,9 @@
+use Rattle.std.proofs.Common.{rules}
+use Rattle.ftl_command.proofs.Refusals.{of_clean, of_files}
+use Rattle.ftl_command.proofs.tidying.clean_file.Goals as goal
+
+pub returns-in_err-source-clause-fault : goal.returns-in_err-source-clause-fault
+returns-in_err-source-clause-fault g c = search (rules, of_files)
+
+pub returns-in_err-clean-clause-fault : goal.returns-in_err-clean-clause-fault
+returns-in_err-clean-clause-fault g c = search (rules, of_clean)

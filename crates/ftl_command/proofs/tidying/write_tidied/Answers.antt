@@ -1,0 +1,12 @@
+use Rattle.std.proofs.Common.{rules}
+use Rattle.ftl_command.proofs.Refusals.{of_output, text_cut, text_unwritten}
+use Rattle.ftl_command.proofs.tidying.write_tidied.Goals as goal
+
+pub returns-in_err-text-clause-stops : goal.returns-in_err-text-clause-stops
+returns-in_err-text-clause-stops g c = search (rules, text_unwritten)
+
+pub returns-in_err-write_text-clause-fault : goal.returns-in_err-write_text-clause-fault
+returns-in_err-write_text-clause-fault g c = search (rules, of_output)
+
+pub returns-in_err-write_text-clause-stops : goal.returns-in_err-write_text-clause-stops
+returns-in_err-write_text-clause-stops g c = search (rules, text_cut)
