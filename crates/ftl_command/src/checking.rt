@@ -8,9 +8,9 @@ ghost use Rattle.ftl_command.specs.Refusals.{IsEarlyFault, IsFaultOf, IsTextFaul
 use crate::borrowed::borrow_texts;
 use crate::ended::Ended;
 use crate::fault::Fault;
-use crate::files::read_sources;
+use crate::files::read_text_files;
 use crate::folder::Folder;
-use crate::output::write_text;
+use crate::output::write_to_stream;
 use fluent_serve::stream::Sink;
 use ftl_report::check_text;
 use std::alloc::Global;
@@ -34,7 +34,7 @@ pub fn check_files<'words, F: Folder, O: Sink>(
     ensures stops { IfErr result (IsTextFault O.Sink writer.old writer.new) }
 {
     let report = report_on(folder, alloc, files)?;
-    write_text(writer, report.as_str())?;
+    write_to_stream(writer, report.as_str())?;
     Ok(if report.is_empty() {
         Ended::Done
     } else {
@@ -54,7 +54,7 @@ fn report_on<'words, F: Folder>(
         (check (texts files.now))) }
     ensures opens { OnOk result (F.failures folder.new ≡ F.failures folder.old) }
 {
-    let texts = read_sources(folder, alloc, files)?;
+    let texts = read_text_files(folder, alloc, files)?;
     let sources = borrow_texts(alloc, &texts)?;
     Ok(check_text(alloc, &sources)?)
 }

@@ -15,7 +15,7 @@ use std::alloc::Global;
 /// # Errors
 /// For the first file that has no text: [`Fault::FileUnreadable`] if it can't be read, [`Fault::FileNotUtf8`] if it
 /// isn't UTF-8. [`Fault::Memory`] if memory runs out; nothing is left behind.
-pub fn read_sources<'words, F: Folder>(
+pub fn read_text_files<'words, F: Folder>(
     folder: &mut F,
     alloc: Global,
     files: &[&'words str],
@@ -27,7 +27,7 @@ pub fn read_sources<'words, F: Folder>(
 {
     let mut sources = Vec::new(alloc);
     for file in files {
-        let source = read_source(folder, alloc, file)?;
+        let source = read_text_file(folder, alloc, file)?;
         sources.push(source)?;
     }
     Ok(sources)
@@ -38,7 +38,7 @@ pub fn read_sources<'words, F: Folder>(
 /// # Errors
 /// [`Fault::Memory`] if memory runs out; nothing is left behind. [`Fault::FileUnreadable`] if the file can't be read.
 /// [`Fault::FileNotUtf8`] if it isn't UTF-8.
-pub fn read_source<'words, F: Folder>(
+pub fn read_text_file<'words, F: Folder>(
     folder: &mut F,
     alloc: Global,
     file: &'words str,

@@ -11,9 +11,9 @@ ghost use Rattle.ftl_command.specs.Refusals.{IsEarlyFault, IsFaultOf, IsTextFaul
 use crate::borrowed::borrow_texts;
 use crate::ended::Ended;
 use crate::fault::Fault;
-use crate::files::read_sources;
+use crate::files::read_text_files;
 use crate::folder::Folder;
-use crate::output::write_text;
+use crate::output::write_to_stream;
 use crate::plurals::RunPlurals;
 use fluent_run::Settings;
 use fluent_serve::stream::Sink;
@@ -41,7 +41,7 @@ pub fn write_formatted<'words, F: Folder, O: Sink>(
     ensures stops { IfErr result (IsTextFault O.Sink writer.old writer.new) }
 {
     let formatted = formatted_on(folder, alloc, format)?;
-    write_text(writer, formatted.text.as_str())?;
+    write_to_stream(writer, formatted.text.as_str())?;
     Ok(end_with(formatted.errors))
 }
 
@@ -70,7 +70,7 @@ fn formatted_on<'words, F: Folder>(
     ensures opens { OnOk result (F.failures folder.new ≡ F.failures folder.old) }
 {
     let plurals = RunPlurals::of_locale(format.locale)?;
-    let texts = read_sources(folder, alloc, &format.files)?;
+    let texts = read_text_files(folder, alloc, &format.files)?;
     let sources = borrow_texts(alloc, &texts)?;
     formatted_from(alloc, format, &plurals, &sources)?.ok_or(Fault::NoMessage)
 }

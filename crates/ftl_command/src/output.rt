@@ -9,11 +9,11 @@ use crate::fault::Fault;
 use fluent_serve::serve::write_all;
 use fluent_serve::stream::Sink;
 
-/// Writes a text.
+/// Writes a text to a stream.
 ///
 /// # Errors
 /// [`Fault::Output`] if the writer fails, or takes none of a piece that isn't empty; a front of the text was written.
-pub fn write_text<'words, O: Sink>(writer: &mut O, text: &str) -> Result<(), Fault<'words>>
+pub fn write_to_stream<'words, O: Sink>(writer: &mut O, text: &str) -> Result<(), Fault<'words>>
     ensures written { OnOk result
         (Appends (O.contents writer.old) (O.contents writer.new) text.now) }
     ensures writes { OnOk result (O.failures writer.new ≡ O.failures writer.old) }
@@ -42,6 +42,6 @@ pub fn write_asked<'words, O: Sink>(writer: &mut O, text: &str) -> Result<Ended,
     ensures failed { OnErr result (HasFailed (O.failures writer.old) (O.failures writer.new)) }
     ensures fault { IfErr result (λ fault. fault ≡ Fault.Output) }
 {
-    write_text(writer, text)?;
+    write_to_stream(writer, text)?;
     Ok(Ended::Done)
 }

@@ -6,10 +6,10 @@ ghost use Rattle.ftl_command.specs.Refusals.{IsDeviceFault, IsFaultOf};
 use crate::borrowed::borrow_texts;
 use crate::ended::Ended;
 use crate::fault::Fault;
-use crate::files::read_sources;
+use crate::files::read_text_files;
 use crate::folder::Folder;
 use crate::plurals::RunPlurals;
-use fluent_run::{Settings, Sink, Source, run};
+use fluent_run::{Settings, Sink, Source, run_before_exit};
 use std::alloc::Global;
 
 /// Answers the request lines of `reader` from the sources in `files`, by the plural rules of `locale`, and by those of
@@ -40,8 +40,8 @@ pub fn run_files<'words, F: Folder, I: Source, O: Sink>(
         O.Sink writer.old writer.new) }
 {
     let plurals = RunPlurals::of_locale(locale)?;
-    let texts = read_sources(folder, alloc, files)?;
+    let texts = read_text_files(folder, alloc, files)?;
     let sources = borrow_texts(alloc, &texts)?;
-    run(alloc, &sources, settings, &plurals, reader, writer)?;
+    run_before_exit(alloc, &sources, settings, &plurals, reader, writer)?;
     Ok(Ended::Done)
 }

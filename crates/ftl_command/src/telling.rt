@@ -8,7 +8,7 @@ ghost use Rattle.ftl_command.specs.Program.{WritesFront};
 
 use crate::ended::Ended;
 use crate::fault::Fault;
-use crate::output::write_text;
+use crate::output::write_to_stream;
 use fluent_serve::serve::write_all;
 use fluent_serve::stream::{FromWrite, Sink, WriteFailed};
 use std::io;
@@ -39,7 +39,7 @@ pub fn tell_errors_on<S: Sink>(faults: &mut S, end: &Ended) -> u8
     ensures told { ReportsErrors (seen S.contents S.failures faults.old faults.new) end.now }
 {
     if let Ended::Incomplete { errors } = end {
-        let _ = write_text(faults, errors.as_str());
+        let _ = write_to_stream(faults, errors.as_str());
     }
     end.status()
 }

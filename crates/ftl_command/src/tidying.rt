@@ -12,9 +12,9 @@ ghost use Rattle.ftl_command.specs.Refusals.{IsEarlyFault, IsFaultOf, IsTextFaul
 use crate::borrowed::borrow_texts;
 use crate::ended::Ended;
 use crate::fault::Fault;
-use crate::files::{read_source, read_sources};
+use crate::files::{read_text_file, read_text_files};
 use crate::folder::Folder;
-use crate::output::write_text;
+use crate::output::write_to_stream;
 use fluent_serve::stream::Sink;
 use fluent_tidy::{clean, export, import, join, normalize};
 use ftl_words::Tidy;
@@ -41,7 +41,7 @@ pub fn write_tidied<'words, F: Folder, O: Sink>(
     ensures stops { IfErr result (IsTextFault O.Sink writer.old writer.new) }
 {
     let text = tidied_text(folder, alloc, tidy)?;
-    write_text(writer, text.as_str())?;
+    write_to_stream(writer, text.as_str())?;
     Ok(Ended::Done)
 }
 
@@ -81,7 +81,7 @@ fn clean_file<'words, F: Folder>(
         (asked.tidy (asked.clean file.now))) }
     ensures opens { OnOk result (F.failures folder.new ≡ F.failures folder.old) }
 {
-    let source = read_source(folder, alloc, file)?;
+    let source = read_text_file(folder, alloc, file)?;
     Ok(clean(alloc, source.as_str())?)
 }
 
@@ -97,7 +97,7 @@ fn normalize_file<'words, F: Folder>(
         (asked.tidy (asked.normalize file.now))) }
     ensures opens { OnOk result (F.failures folder.new ≡ F.failures folder.old) }
 {
-    let source = read_source(folder, alloc, file)?;
+    let source = read_text_file(folder, alloc, file)?;
     Ok(normalize(alloc, source.as_str())?)
 }
 
@@ -113,7 +113,7 @@ fn join_files<'words, F: Folder>(
         (asked.tidy (asked.join (texts files.now)))) }
     ensures opens { OnOk result (F.failures folder.new ≡ F.failures folder.old) }
 {
-    let texts = read_sources(folder, alloc, files)?;
+    let texts = read_text_files(folder, alloc, files)?;
     let sources = borrow_texts(alloc, &texts)?;
     Ok(join(alloc, &sources)?)
 }
@@ -130,7 +130,7 @@ fn export_file<'words, F: Folder>(
         (asked.tidy (asked.export file.now))) }
     ensures opens { OnOk result (F.failures folder.new ≡ F.failures folder.old) }
 {
-    let source = read_source(folder, alloc, file)?;
+    let source = read_text_file(folder, alloc, file)?;
     let value = export(alloc, source.as_str())?;
     drop(source);
     Ok(line_of(alloc, &value)?)
@@ -158,7 +158,7 @@ fn import_file<'words, F: Folder>(
         (asked.tidy (asked.import file.now))) }
     ensures opens { OnOk result (F.failures folder.new ≡ F.failures folder.old) }
 {
-    let source = read_source(folder, alloc, file)?;
+    let source = read_text_file(folder, alloc, file)?;
     let value = json_value(alloc, source.as_str())?;
     drop(source);
     Ok(import(alloc, &value)?)

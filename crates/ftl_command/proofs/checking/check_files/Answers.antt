@@ -5,8 +5,8 @@ use Rattle.ftl_command.proofs.checking.check_files.Goals as goal
 pub returns-in_err-report-clause-stops : goal.returns-in_err-report-clause-stops
 returns-in_err-report-clause-stops g c = search (rules, text_unwritten)
 
-pub returns-in_err-write_text-clause-fault : goal.returns-in_err-write_text-clause-fault
-returns-in_err-write_text-clause-fault g c = search (rules, of_output)
+pub returns-in_err-write_to_stream-clause-fault : goal.returns-in_err-write_to_stream-clause-fault
+returns-in_err-write_to_stream-clause-fault g c = search (rules, of_output)
 
-pub returns-in_err-write_text-clause-stops : goal.returns-in_err-write_text-clause-stops
-returns-in_err-write_text-clause-stops g c = search (rules, text_cut)
+pub returns-in_err-write_to_stream-clause-stops : goal.returns-in_err-write_to_stream-clause-stops
+returns-in_err-write_to_stream-clause-stops g c = search (rules, text_cut)

@@ -16,8 +16,8 @@ returns-in_err-plurals-clause-fault g c = search (rules, of_locale)
 pub returns-in_err-texts-clause-fault : goal.returns-in_err-texts-clause-fault
 returns-in_err-texts-clause-fault g c =
     let asked = format (format_view c.args.format.now) in
-    let fault : IsEarlyFault g.F.Folder c.args.folder.now c.read_sources.new.folder asked c.in_err-texts.field-0.0 =
-    of_files g.F.Folder c.args.folder.now c.read_sources.new.folder asked c.in_err-texts.field-0.0 (rw c.deref.ensures.value at c.in_err-texts.ensures.fault) in
+    let fault : IsEarlyFault g.F.Folder c.args.folder.now c.read_text_files.new.folder asked c.in_err-texts.field-0.0 =
+    of_files g.F.Folder c.args.folder.now c.read_text_files.new.folder asked c.in_err-texts.field-0.0 (rw c.deref.ensures.value at c.in_err-texts.ensures.fault) in
     search rules
 
 pub returns-in_err-sources-clause-fault : goal.returns-in_err-sources-clause-fault
@@ -48,4 +48,4 @@ returns-clause-fault g c =
       held = held;
       outcome = rw c.deref-3.ensures.value at c.in_ok-formatted_from.ensures;
     }) in
-    rw c.ok_or.ensures.value (not_found g.F.Folder c.args.folder.now c.read_sources.new.folder (format_view c.args.format.now) c.in_ok-formatted_from.field-0 c.in_ok-texts.ensures.opens found)
+    rw c.ok_or.ensures.value (not_found g.F.Folder c.args.folder.now c.read_text_files.new.folder (format_view c.args.format.now) c.in_ok-formatted_from.field-0 c.in_ok-texts.ensures.opens found)

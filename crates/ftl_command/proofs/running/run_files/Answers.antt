@@ -41,26 +41,26 @@ returns-clause-ran g c =
         sources = texts c.deref-2.result.now;
         held = held;
         outcome = record {
-          exact = c.in_ok-run.ensures.answered.exact;
-          given = c.in_ok-run.ensures.answered.served.ok;
-          end = c.in_ok-run.ensures.end;
+          exact = c.in_ok-run_before_exit.ensures.answered.exact;
+          given = c.in_ok-run_before_exit.ensures.answered.served.ok;
+          end = c.in_ok-run_before_exit.ensures.end;
         };
       });
       tidied = by_plurals _ c.in_ok-plurals.plurals _ c.in_ok-plurals.ensures.known (record {
         sources = texts c.deref-2.result.now;
         held = held;
-        outcome = λ others steps. known_alike _ (g.I.Source.remaining c.args.reader.now) _ (c.in_ok-run.ensures.answered.tidied) others steps;
+        outcome = λ others steps. known_alike _ (g.I.Source.remaining c.args.reader.now) _ (c.in_ok-run_before_exit.ensures.answered.tidied) others steps;
       });
       memory = λ is. absurd cc;
       input = λ is. absurd cc;
       output = λ is. absurd cc;
     }
 
-pub returns-in_err-run-clause-ran : goal.returns-in_err-run-clause-ran
-returns-in_err-run-clause-ran g c =
+pub returns-in_err-run_before_exit-clause-ran : goal.returns-in_err-run_before_exit-clause-ran
+returns-in_err-run_before_exit-clause-ran g c =
     let same : map string_bytes c.in_ok-texts.texts.items ≡ texts c.deref-2.result.now = search rules in
     let held = subst (AreHeld (g.F.Folder.contents c.args.folder.now) (texts c.args.files.now)) same c.in_ok-texts.ensures.held in
-    let so_far = c.in_err-run.ensures.answered.served in
+    let so_far = c.in_err-run_before_exit.ensures.answered.served in
     let first = so_far.memory in
     let whole = so_far.read in
     let front = so_far.write in
@@ -90,29 +90,29 @@ returns-in_err-plurals-clause-stops g c =
 pub returns-in_err-texts-clause-fault : goal.returns-in_err-texts-clause-fault
 returns-in_err-texts-clause-fault g c =
     let asked = run (run_of c.args.settings c.args.locale c.args.files.now) in
-    let early = of_files g.F.Folder c.args.folder.now c.read_sources.new.folder asked c.in_err-texts.field-0.0 c.in_err-texts.ensures.fault in
-    let says : IsFaultOf g.F.Folder c.args.folder.now c.read_sources.new.folder (Some asked) c.in_err-texts.field-0.0 = early.says in
+    let early = of_files g.F.Folder c.args.folder.now c.read_text_files.new.folder asked c.in_err-texts.field-0.0 c.in_err-texts.ensures.fault in
+    let says : IsFaultOf g.F.Folder c.args.folder.now c.read_text_files.new.folder (Some asked) c.in_err-texts.field-0.0 = early.says in
     search rules
 
 pub returns-in_err-texts-clause-stops : goal.returns-in_err-texts-clause-stops
 returns-in_err-texts-clause-stops g c =
     let asked = run (run_of c.args.settings c.args.locale c.args.files.now) in
-    let early = of_files g.F.Folder c.args.folder.now c.read_sources.new.folder asked c.in_err-texts.field-0.0 c.in_err-texts.ensures.fault in
+    let early = of_files g.F.Folder c.args.folder.now c.read_text_files.new.folder asked c.in_err-texts.field-0.0 c.in_err-texts.ensures.fault in
     let stops : IsDeviceFault g.I.Source c.args.reader.now c.args.reader.now g.O.Sink c.args.writer.now c.args.writer.now c.in_err-texts.field-0.0 =
     untouched_devices g.I.Source g.O.Sink c.args.reader.now c.args.writer.now c.in_err-texts.field-0.0 early.not_input early.not_output in
     search rules
 
-pub returns-in_err-run-clause-fault : goal.returns-in_err-run-clause-fault
-returns-in_err-run-clause-fault g c =
-    let says : IsFaultOf g.F.Folder c.args.folder.now c.read_sources.new.folder (run_asked c.args.settings c.args.locale c.args.files.now) (run_fault c.in_err-run.field-0.0) =
-    of_run g.F.Folder c.args.folder.now c.read_sources.new.folder (run_asked c.args.settings c.args.locale c.args.files.now) c.in_ok-texts.ensures.opens c.in_err-run.field-0.0 in
+pub returns-in_err-run_before_exit-clause-fault : goal.returns-in_err-run_before_exit-clause-fault
+returns-in_err-run_before_exit-clause-fault g c =
+    let says : IsFaultOf g.F.Folder c.args.folder.now c.read_text_files.new.folder (run_asked c.args.settings c.args.locale c.args.files.now) (run_fault c.in_err-run_before_exit.field-0.0) =
+    of_run g.F.Folder c.args.folder.now c.read_text_files.new.folder (run_asked c.args.settings c.args.locale c.args.files.now) c.in_ok-texts.ensures.opens c.in_err-run_before_exit.field-0.0 in
     search rules
 
-pub returns-in_err-run-clause-stops : goal.returns-in_err-run-clause-stops
-returns-in_err-run-clause-stops g c =
-    let error = c.in_err-run.field-0.0 in
-    let stops : IsDeviceFault g.I.Source c.args.reader.now c.run.new.reader g.O.Sink c.args.writer.now c.run.new.writer (run_fault error) =
-    run_stops g.I.Source g.O.Sink c.args.reader.now c.run.new.reader c.args.writer.now c.run.new.writer error
-    (λ is. c.run.ensures.given_up (c.in_err-run.was ∙ ap Err is))
-    (λ is. c.run.ensures.failed (c.in_err-run.was ∙ ap Err is)) in
+pub returns-in_err-run_before_exit-clause-stops : goal.returns-in_err-run_before_exit-clause-stops
+returns-in_err-run_before_exit-clause-stops g c =
+    let error = c.in_err-run_before_exit.field-0.0 in
+    let stops : IsDeviceFault g.I.Source c.args.reader.now c.run_before_exit.new.reader g.O.Sink c.args.writer.now c.run_before_exit.new.writer (run_fault error) =
+    run_stops g.I.Source g.O.Sink c.args.reader.now c.run_before_exit.new.reader c.args.writer.now c.run_before_exit.new.writer error
+    (λ is. c.run_before_exit.ensures.given_up (c.in_err-run_before_exit.was ∙ ap Err is))
+    (λ is. c.run_before_exit.ensures.failed (c.in_err-run_before_exit.was ∙ ap Err is)) in
     search rules

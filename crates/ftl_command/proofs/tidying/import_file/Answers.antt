@@ -17,8 +17,8 @@ returns-in_err-import-clause-fault g c =
     let value = view c.in_ok-value.value in
     let error = c.in_err-import.field-0.0 in
     let read : read_text source ≡ Some value = ap read_text (sym c.as_str.ensures.value) ∙ c.in_ok-value.ensures.value in
-    let fault : IsEarlyFault g.F.Folder c.args.folder.now c.read_source.new.folder (tidy (import c.args.file.now)) (import_fault error) =
-    of_import g.F.Folder c.args.folder.now c.read_source.new.folder (import c.args.file.now) c.in_ok-source.ensures.opens error
+    let fault : IsEarlyFault g.F.Folder c.args.folder.now c.read_text_file.new.folder (tidy (import c.args.file.now)) (import_fault error) =
+    of_import g.F.Folder c.args.folder.now c.read_text_file.new.folder (import c.args.file.now) c.in_ok-source.ensures.opens error
     (λ is. record { source = source; held = held; outcome = record { value = value; read = read; outcome = c.import.ensures.not_normal (c.in_err-import.was ∙ ap Err is) } })
     (λ is. record { source = source; held = held; outcome = record { value = value; read = read; outcome = c.import.ensures.shape (c.in_err-import.was ∙ ap Err is) } }) in
     search rules

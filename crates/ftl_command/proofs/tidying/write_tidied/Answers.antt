@@ -5,8 +5,8 @@ use Rattle.ftl_command.proofs.tidying.write_tidied.Goals as goal
 pub returns-in_err-text-clause-stops : goal.returns-in_err-text-clause-stops
 returns-in_err-text-clause-stops g c = search (rules, text_unwritten)
 
-pub returns-in_err-write_text-clause-fault : goal.returns-in_err-write_text-clause-fault
-returns-in_err-write_text-clause-fault g c = search (rules, of_output)
+pub returns-in_err-write_to_stream-clause-fault : goal.returns-in_err-write_to_stream-clause-fault
+returns-in_err-write_to_stream-clause-fault g c = search (rules, of_output)
 
-pub returns-in_err-write_text-clause-stops : goal.returns-in_err-write_text-clause-stops
-returns-in_err-write_text-clause-stops g c = search (rules, text_cut)
+pub returns-in_err-write_to_stream-clause-stops : goal.returns-in_err-write_to_stream-clause-stops
+returns-in_err-write_to_stream-clause-stops g c = search (rules, text_cut)

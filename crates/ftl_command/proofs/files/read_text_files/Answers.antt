@@ -3,12 +3,12 @@ use Rattle.fluent_serve.specs.Texts.{texts}
 use Rattle.ftl_command.specs.Faults.{IsFaultOfFiles}
 use Rattle.ftl_command.proofs.FaultLemmas.{AreUtf8-strings, one_of_files, texts_around}
 use Rattle.ftl_command.proofs.RunLemmas.{held_next}
-use Rattle.ftl_command.proofs.files.read_sources.Goals as goal
+use Rattle.ftl_command.proofs.files.read_text_files.Goals as goal
 
 pub returns-in_err-source-clause-fault : goal.returns-in_err-source-clause-fault
 returns-in_err-source-clause-fault g c =
-    let fault : IsFaultOfFiles g.F.Folder c.args.folder.now c.read_source.new.folder (texts c.args.files.now) c.in_err-source.field-0.0 =
-    one_of_files g.F.Folder c.args.folder.now c.loop-file.folder c.read_source.new.folder (texts c.args.files.now) _ _
+    let fault : IsFaultOfFiles g.F.Folder c.args.folder.now c.read_text_file.new.folder (texts c.args.files.now) c.in_err-source.field-0.0 =
+    one_of_files g.F.Folder c.args.folder.now c.loop-file.folder c.read_text_file.new.folder (texts c.args.files.now) _ _
     c.loop-file.invariant.kept c.loop-file.invariant.works
     (record {
       front = texts (take c.loop-file.file-index c.args.files.now);

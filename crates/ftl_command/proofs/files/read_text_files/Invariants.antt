@@ -1,7 +1,7 @@
 use Rattle.std.proofs.Common.{◌≡◌, map, take, string_bytes}
 use Rattle.fluent_serve.specs.Texts.{texts}
 use Rattle.ftl_command.specs.Files.{AreHeld}
-use Rattle.ftl_command.proofs.files.read_sources.Given as goal
+use Rattle.ftl_command.proofs.files.read_text_files.Given as goal
 
 -- the files so far are held, and the folder is as it was
 abbrev pub invariant-loop-file : goal.invariant-loop-file
