@@ -8,6 +8,10 @@
  * Each call that returns a number returns one of those below, and its comment says which. If it isn't FLUENT_READ, what
  * you passed for the result is unchanged. A call frees all that it allocates, except for a text that it hands out and
  * a bundle that it makes.
+ *
+ * A thread with a stack of 2 MB can make each call. If the placeables, calls and selects of a source or of an answer nest
+ * so deep that they would take more than 1.5 MB of stack, the call returns FLUENT_NO_MEMORY; fluent_bundle_new_within makes
+ * a bundle with another budget.
  */
 #ifndef FLUENT_C_H
 #define FLUENT_C_H
@@ -24,7 +28,7 @@ extern "C" {
 #define FLUENT_READ 0
 /* The text isn't UTF-8. */
 #define FLUENT_NOT_UTF8 1
-/* Memory was refused. */
+/* Memory was refused, or placeables, calls and selects nest too deep for the budget of the stack. */
 #define FLUENT_NO_MEMORY 2
 /* The locale has no plural rules. */
 #define FLUENT_UNKNOWN_LOCALE 3
@@ -141,6 +145,20 @@ uint32_t fluent_bundle_new(
     size_t locale_len,
     bool isolating,
     bool overriding,
+    struct FluentBundle *made
+);
+
+/* The same with a budget of `stack` bytes in the place of 1.5 MB (1,572,864). It is for each message and term that is
+ * read, and for each answer of the bundle. A thread that makes the bundle or asks it needs 400 KB of stack beside it; with
+ * 6,291,456, which is what `ftl` has, 8 MB are enough. fluent_bundle_errors never takes more than 6 MB. */
+uint32_t fluent_bundle_new_within(
+    const struct FluentSource *sources,
+    size_t count,
+    const uint8_t *locale,
+    size_t locale_len,
+    bool isolating,
+    bool overriding,
+    size_t stack,
     struct FluentBundle *made
 );
 

@@ -20,6 +20,9 @@ DECIMAL = 1
 INTEGER = 2
 UNSIGNED = 3
 
+# The budget of the stack that fluent_bundle_new has.
+THREAD_STACK = 1_572_864
+
 
 class FluentSource(ctypes.Structure):
     _fields_ = [("text", ctypes.c_char_p), ("len", ctypes.c_size_t)]
@@ -63,8 +66,8 @@ def _load() -> ctypes.CDLL:
     text = ctypes.POINTER(FluentText)
     size = ctypes.c_size_t
     calls: dict[str, list[object]] = {
-        "fluent_bundle_new": [
-            ctypes.POINTER(FluentSource), size, ctypes.c_char_p, size, ctypes.c_bool, ctypes.c_bool, bundle,
+        "fluent_bundle_new_within": [
+            ctypes.POINTER(FluentSource), size, ctypes.c_char_p, size, ctypes.c_bool, ctypes.c_bool, size, bundle,
         ],
         "fluent_bundle_format": [
             bundle, ctypes.c_char_p, size, ctypes.c_char_p, size, ctypes.POINTER(FluentArgument), size, text, text,

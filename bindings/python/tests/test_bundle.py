@@ -109,6 +109,42 @@ class BundleTest(unittest.TestCase):
         with Bundle([]) as bundle:
             self.assertNotIn("a", bundle)
 
+    def test_deep_sources(self):
+        deep = f"a = {'{' * 2000}\"x\"{'}' * 2000}\n"
+        with self.assertRaises(MemoryError):
+            Bundle(deep)
+        with Bundle(deep, isolating=False, stack=6 * 2**20) as bundle:
+            self.assertEqual(bundle.format("a").text, "x")
+            self.assertEqual(bundle.errors, [])
+        for stack in [-1, 2**63]:
+            with self.assertRaises(ValueError):
+                Bundle(SOURCE, stack=stack)
+
+    def test_deep_sources_on_a_small_stack(self):
+        shapes = [("{", "}", 99), ("{NUMBER(", ")}", 1), ("{-t({", "})}", 99), ("{NUMBER({ 1 ->\n *[o] ", "\n })}", 1)]
+        refused = []
+
+        def ask(opens, closes, messages):
+            for levels in [2**power for power in range(15)]:
+                inner = [f"{{m{number + 1}}}" for number in range(messages - 1)] + ['{"x"}']
+                lines = [f"m{number} = {opens * levels}{inner[number]}{closes * levels}\n" for number in range(messages)]
+                with Bundle("".join([*lines, "-t = x\n"])) as bundle:
+                    bundle.format("m0")
+
+        def try_shape(shape):
+            try:
+                ask(*shape)
+            except MemoryError:
+                refused.append(shape)
+
+        usual = threading.stack_size(2 * 2**20)
+        self.addCleanup(threading.stack_size, usual)
+        for shape in shapes:
+            thread = threading.Thread(target=try_shape, args=(shape,))
+            thread.start()
+            thread.join()
+        self.assertEqual(refused, shapes)
+
     def test_closed(self):
         self.bundle.close()
         self.bundle.close()

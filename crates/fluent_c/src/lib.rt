@@ -2,6 +2,9 @@
 //! by line ([`fluent_answer`]); what a source is made of, in numbers; and its tree as text, written back or as JSON. Each call makes
 //! the one of `fluent_c_calls` that does it.
 //!
+//! No call takes much of the machine's stack: a source or an answer that nests too deep for 1.5 MB is refused as out of memory, so
+//! a thread with a stack of 2 MB can make each call. A bundle made by [`fluent_bundle_new_within`] has another budget.
+//!
 //! A text that is returned is in memory of the library, which the caller frees by [`fluent_free_text`]; a bundle is freed by
 //! [`fluent_bundle_free`]. A program that calls the library links C's `malloc`, `realloc` and `free`, as `bindings/c/run.sh` does.
 //! `fluent_c.h`, next to this crate's folder `src`, declares the calls for C.
@@ -22,7 +25,8 @@ ghost use Rattle.fluent_c_calls.specs.Results.{IsOneOf};
 
 use fluent_c_calls::{
     FluentArgument, FluentBundle, FluentCounts, FluentSource, FluentText, Form, Reading, answer,
-    bundle_errors, bundle_format, bundle_free, bundle_has, bundle_new, count, hand_out,
+    bundle_errors, bundle_format, bundle_free, bundle_has, bundle_new, bundle_new_within, count,
+    hand_out,
 };
 use std::alloc::Global;
 
@@ -153,6 +157,31 @@ pub extern "C" fn fluent_bundle_new(
     ensures unchanged { result ≢ 0 → made.new ≡ made.old }
 {
     bundle_new(alloc, sources, locale, isolating, overriding, made)
+}
+
+/// As [`fluent_bundle_new`], with so many bytes of the machine's stack in the place of 1.5 MB: for a message or a term that is read,
+/// and for an answer of the bundle.
+///
+/// The answer is [`FLUENT_NO_MEMORY`](fluent_c_calls::FLUENT_NO_MEMORY), too, if a message or a term nests too deep for that.
+#[unsafe(no_mangle)]
+pub extern "C" fn fluent_bundle_new_within(
+    alloc: Global,
+    sources: &[FluentSource<'_>],
+    locale: &[u8],
+    isolating: bool,
+    overriding: bool,
+    stack: usize,
+    made: &mut FluentBundle,
+) -> u32
+    ensures decided { IsOneOf result (0 ∷ 1 ∷ 2 ∷ 3 ∷ []) }
+    ensures made { result ≡ 0 → IsSomeAnd (catalog_in locale.now isolating overriding
+        (texts_of sources.now)) (Keeps made.new) }
+    ensures utf8 { result ≢ 1 → AreUtf8 sources.now }
+    ensures not_utf8 { result ≡ 1 → HoldsOther sources.now }
+    ensures unknown { result ≡ 3 → plurals_in locale.now ≡ None }
+    ensures unchanged { result ≢ 0 → made.new ≡ made.old }
+{
+    bundle_new_within(alloc, sources, locale, isolating, overriding, stack, made)
 }
 
 /// Formats a message of a bundle with these arguments: its value if `attribute` is empty, and otherwise its first

@@ -9,7 +9,8 @@ ghost use Rattle.fluent_c_calls.specs.declared.answering.Refusal.TheVariants.{Me
 use crate::text::FluentText;
 use crate::{FLUENT_NO_MEMORY, FLUENT_NOT_UTF8, FLUENT_READ, FLUENT_UNKNOWN_LOCALE};
 use fluent_plurals::LanguagePlurals;
-use fluent_run::{Settings, answers};
+use fluent_run::{Settings, answers_within};
+use fluent_stack::StackBudget;
 use simdutf8::basic::from_utf8;
 use std::alloc::{AllocError, Global};
 
@@ -70,7 +71,7 @@ fn is_utf8(source: &FluentSource<'_>) -> bool
 }
 
 /// The texts of sources, if each is UTF-8.
-pub(crate) fn read_sources<'s>(
+pub(crate) fn checked_texts<'s>(
     alloc: Global,
     sources: &[FluentSource<'s>],
 ) -> Result<Vec<&'s str>, Refusal>
@@ -130,11 +131,12 @@ fn answered(
     ensures unknown { IfErr result (λ refusal. refusal ≡ UnknownLocale
         → plurals_in locale.now ≡ None) }
 {
-    let sources = read_sources(alloc, sources)?;
+    let sources = checked_texts(alloc, sources)?;
     let Some(plurals) = plurals_of(locale) else {
         return Err(Refusal::UnknownLocale);
     };
-    let answers = answers(alloc, &sources, settings, &plurals, requests)?;
+    let stack = StackBudget::THREAD;
+    let answers = answers_within(alloc, &sources, settings, &plurals, requests, stack)?;
     Ok(FluentText::of(alloc, answers)?)
 }
 

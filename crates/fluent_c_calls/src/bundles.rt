@@ -9,7 +9,7 @@ ghost use Rattle.fluent_c_calls.specs.Made.{Holds, HoldsSame};
 ghost use Rattle.fluent_c_calls.specs.Results.{IsOneOf};
 ghost use Rattle.fluent_c_calls.specs.declared.answering.Refusal.TheVariants.{NotUtf8, UnknownLocale};
 
-use crate::answering::{FluentSource, Refusal, are_utf8, plurals_of, read_sources};
+use crate::answering::{FluentSource, Refusal, are_utf8, checked_texts, plurals_of};
 use crate::filling::fill;
 use crate::names::names_of;
 use crate::text::FluentText;
@@ -19,6 +19,7 @@ use crate::{
 };
 use fluent_kept::{Answer, FluentBundle, Question, Sources};
 use fluent_run::Settings;
+use fluent_stack::StackBudget;
 use std::alloc::{AllocError, Global};
 
 /// Copies of texts, in their order.
@@ -35,16 +36,17 @@ fn copied(alloc: Global, borrowed: &[&str]) -> Result<Vec<String>, AllocError>
     Ok(owned)
 }
 
-/// A bundle of copies of sources.
+/// A bundle of copies of sources, which reads and answers within a budget of the machine's stack.
 ///
 /// # Errors
 /// [`Refusal::UnknownLocale`] if the locale has no plural rules, [`Refusal::NotUtf8`] if a source isn't UTF-8, and
-/// [`Refusal::Memory`] if memory runs out; nothing is left behind.
+/// [`Refusal::Memory`] if memory or the budget runs out; nothing is left behind.
 fn kept(
     alloc: Global,
     sources: &[FluentSource<'_>],
     locale: &[u8],
     settings: Settings,
+    stack: StackBudget,
 ) -> Result<FluentBundle, Refusal>
     ensures kept { IfOk result (λ made. IsSomeAnd (catalog_in locale.now settings.isolating
         settings.overriding (texts_of sources.now)) (Keeps made)) }
@@ -55,12 +57,13 @@ fn kept(
     let Some(plurals) = plurals_of(locale) else {
         return Err(Refusal::UnknownLocale);
     };
-    let borrowed = read_sources(alloc, sources)?;
+    let borrowed = checked_texts(alloc, sources)?;
     let texts = copied(alloc, &borrowed)?;
     let sources = Sources {
         texts,
         settings,
         plurals,
+        stack,
     };
     Ok(FluentBundle::new(alloc, sources)?)
 }
@@ -71,12 +74,37 @@ fn kept(
 /// if a source has errors: then `made` keeps the bundle, and what it kept before is freed. The answer is [`FLUENT_NOT_UTF8`] if a
 /// source isn't UTF-8, which is seen before anything is allocated, [`FLUENT_UNKNOWN_LOCALE`] if the locale has no
 /// plural rules, or [`FLUENT_NO_MEMORY`] otherwise, and `made` is unchanged then.
+///
+/// It is [`bundle_new_within`] the budget of a thread, [`StackBudget::THREAD`].
 pub fn bundle_new(
     alloc: Global,
     sources: &[FluentSource<'_>],
     locale: &[u8],
     isolating: bool,
     overriding: bool,
+    made: &mut FluentBundle,
+) -> u32
+    ensures decided { IsOneOf result (0 ∷ 1 ∷ 2 ∷ 3 ∷ []) }
+    ensures made { result ≡ 0 → IsSomeAnd (catalog_in locale.now isolating overriding
+        (texts_of sources.now)) (Keeps made.new) }
+    ensures utf8 { result ≢ 1 → AreUtf8 sources.now }
+    ensures not_utf8 { result ≡ 1 → HoldsOther sources.now }
+    ensures unknown { result ≡ 3 → plurals_in locale.now ≡ None }
+    ensures unchanged { result ≢ 0 → made.new ≡ made.old }
+{
+    let stack = StackBudget::THREAD.bytes();
+    bundle_new_within(alloc, sources, locale, isolating, overriding, stack, made)
+}
+
+/// As [`bundle_new`], with so many bytes of the machine's stack for a message or a term that is read, and for an answer of the
+/// bundle. The answer is [`FLUENT_NO_MEMORY`], too, if a message or a term nests too deep for that.
+pub fn bundle_new_within(
+    alloc: Global,
+    sources: &[FluentSource<'_>],
+    locale: &[u8],
+    isolating: bool,
+    overriding: bool,
+    stack: usize,
     made: &mut FluentBundle,
 ) -> u32
     ensures decided { IsOneOf result (0 ∷ 1 ∷ 2 ∷ 3 ∷ []) }
@@ -94,7 +122,8 @@ pub fn bundle_new(
         isolating,
         overriding,
     };
-    match kept(alloc, sources, locale, settings) {
+    let stack = StackBudget::of_bytes(stack);
+    match kept(alloc, sources, locale, settings, stack) {
         Ok(bundle) => {
             made.put(alloc, bundle);
             FLUENT_READ

@@ -6,8 +6,9 @@ ghost use Rattle.fluent_c_calls.specs.Counts.{Counted, HasEntries, IsCountOf, Te
 ghost use Rattle.fluent_c_calls.specs.Results.{IsOneOf};
 
 use crate::{FLUENT_NO_MEMORY, FLUENT_NOT_UTF8, FLUENT_READ};
+use fluent_stack::StackBudget;
 use fluent_syntax::ast::{Entry, Resource};
-use fluent_syntax::parser::{self, Error, parse, parse_runtime};
+use fluent_syntax::parser::{self, Error, parse_runtime_within, parse_within};
 use simdutf8::basic::from_utf8;
 use std::alloc::{AllocError, Global};
 
@@ -104,8 +105,8 @@ fn counts_of(alloc: Global, text: &str, reading: Reading) -> Result<FluentCounts
         (errors_of reading text.now)) }
 {
     match reading {
-        Reading::Whole => counts_of_read(parse(alloc, text)),
-        Reading::Runtime => counts_of_read(parse_runtime(alloc, text)),
+        Reading::Whole => counts_of_read(parse_within(alloc, text, StackBudget::THREAD)),
+        Reading::Runtime => counts_of_read(parse_runtime_within(alloc, text, StackBudget::THREAD)),
     }
 }
 

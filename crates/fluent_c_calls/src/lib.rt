@@ -18,7 +18,7 @@ mod writing;
 
 pub use answering::{FluentSource, answer};
 pub use arguments::FluentArgument;
-pub use bundles::{bundle_errors, bundle_free, bundle_has, bundle_new};
+pub use bundles::{bundle_errors, bundle_free, bundle_has, bundle_new, bundle_new_within};
 pub use counts::{FluentCounts, Reading, count};
 pub use fluent_kept::FluentBundle;
 pub use formatting::bundle_format;

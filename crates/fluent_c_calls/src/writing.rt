@@ -14,8 +14,9 @@ ghost use Rattle.fluent_c_calls.specs.Results.{IsOneOf};
 use crate::text::FluentText;
 use crate::{FLUENT_NO_MEMORY, FLUENT_NOT_UTF8, FLUENT_READ};
 use fluent_json::to_value;
+use fluent_stack::StackBudget;
 use fluent_syntax::ast::Resource;
-use fluent_syntax::parser::{Error, parse};
+use fluent_syntax::parser::{Error, parse_within};
 use fluent_syntax::serializer::{Options, serialize_with_options};
 use simdutf8::basic::from_utf8;
 use std::alloc::{AllocError, Global};
@@ -24,7 +25,7 @@ use std::alloc::{AllocError, Global};
 fn read(alloc: Global, text: &str) -> Result<Resource<&str>, AllocError>
     ensures { IfOk result (λ resource. plain resource ≡ tree text.now) }
 {
-    match parse(alloc, text) {
+    match parse_within(alloc, text, StackBudget::THREAD) {
         Ok(resource) => Ok(resource),
         Err(Error::Broken(resource, _errors)) => Ok(resource),
         Err(Error::Memory) => Err(AllocError),
@@ -35,7 +36,7 @@ fn read(alloc: Global, text: &str) -> Result<Resource<&str>, AllocError>
 fn read_owned(alloc: Global, text: &str) -> Result<Resource<String>, AllocError>
     ensures { IfOk result (λ resource. owned.plain resource ≡ tree text.now) }
 {
-    match parse(alloc, String::from_str(alloc, text)?) {
+    match parse_within(alloc, String::from_str(alloc, text)?, StackBudget::THREAD) {
         Ok(resource) => Ok(resource),
         Err(Error::Broken(resource, _errors)) => Ok(resource),
         Err(Error::Memory) => Err(AllocError),

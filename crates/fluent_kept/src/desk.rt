@@ -32,7 +32,13 @@ impl<'r, 's> KeptDesk<'r, 's> {
         ensures { IfOk result (IsDeskFor read.now) }
     {
         let sources = read.sources;
-        let desk = Desk::new(alloc, &read.list, sources.settings, &sources.plurals)?;
+        let desk = Desk::within(
+            alloc,
+            &read.list,
+            sources.settings,
+            &sources.plurals,
+            sources.stack,
+        )?;
         Ok(KeptDesk { sources, desk })
     }
 
@@ -80,7 +86,8 @@ impl<'r, 's> KeptDesk<'r, 's> {
         }
     }
 
-    /// What a check of the sources reports.
+    /// What a check of the sources reports. It reads them whole. That opens the same placeables, calls and selects as the first
+    /// reading, so it takes no more of the stack.
     ///
     /// # Errors
     /// [`AllocError`] if memory runs out; nothing is left behind.

@@ -7,7 +7,7 @@ ghost use Rattle.fluent_kept.specs.Catalogs.{IsReadOf, catalog_of};
 
 use crate::loose::Loose;
 use crate::sources::{Sources, borrow_texts};
-use fluent_check::sources::parse_sources;
+use fluent_check::sources::parse_sources_within;
 use fluent_resource::FluentResource;
 use std::alloc::{AllocError, Global};
 
@@ -18,10 +18,10 @@ pub(crate) struct Resources<'s> {
     pub(crate) list: Vec<FluentResource<'s>>,
 }
 
-/// What is read of each source.
+/// What is read of each source, within the budget of the stack.
 ///
 /// # Errors
-/// [`AllocError`] if memory runs out; nothing is left behind.
+/// [`AllocError`] if memory runs out, or the budget does; nothing is left behind.
 fn read_texts<'s>(
     alloc: Global,
     sources: &'s Sources,
@@ -30,7 +30,7 @@ fn read_texts<'s>(
         ≡ map runtime_tree (catalog_of sources.now).sources) }
 {
     let texts = borrow_texts(alloc, &sources.texts)?;
-    parse_sources(alloc, &texts)
+    parse_sources_within(alloc, &texts, sources.stack)
 }
 
 /// What is read of sources, in a box.

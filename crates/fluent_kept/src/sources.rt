@@ -5,9 +5,10 @@ ghost use Rattle.fluent_serve.specs.Texts.{texts};
 
 use fluent_plurals::LanguagePlurals;
 use fluent_run::Settings;
+use fluent_stack::StackBudget;
 use std::alloc::{AllocError, Global};
 
-/// The texts of sources, in their order, and the settings and plural rules by which they are asked.
+/// The texts of sources, in their order, and how they are read and asked.
 #[derive(Drop)]
 pub struct Sources {
     /// The texts of the sources.
@@ -16,6 +17,8 @@ pub struct Sources {
     pub settings: Settings,
     /// The rules by which variants are chosen.
     pub plurals: LanguagePlurals,
+    /// How much of the machine's stack a message or a term takes when it is read, and an answer.
+    pub stack: StackBudget,
 }
 
 /// The texts, borrowed, in their order.

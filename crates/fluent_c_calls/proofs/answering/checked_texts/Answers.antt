@@ -4,7 +4,7 @@ use Rattle.std.proofs.lemmas.List.{take_all}
 use Rattle.std.proofs.lemmas.List.Elements.{All-more, Contains-get_or}
 use Rattle.fluent_c_calls.specs.Answering.{IsUtf8Source}
 use Rattle.fluent_c_calls.proofs.Sources.{handed_on}
-use Rattle.fluent_c_calls.proofs.answering.read_sources.Goals as goal
+use Rattle.fluent_c_calls.proofs.answering.checked_texts.Goals as goal
 
 pub loop-source-preserved : goal.loop-source-preserved
 loop-source-preserved c = record {

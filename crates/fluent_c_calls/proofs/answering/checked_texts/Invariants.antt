@@ -2,7 +2,7 @@
 use Rattle.std.proofs.Common.{◌≡◌, take}
 use Rattle.fluent_serve.specs.Texts.{texts}
 use Rattle.fluent_c_calls.specs.Answering.{texts_of, AreUtf8}
-use Rattle.fluent_c_calls.proofs.answering.read_sources.Given as goal
+use Rattle.fluent_c_calls.proofs.answering.checked_texts.Given as goal
 
 abbrev pub invariant-loop-source : goal.invariant-loop-source
 invariant-loop-source l = record {
