@@ -16,7 +16,7 @@ pub enum Command<'words> {
     },
     /// Write the text of one message.
     Format(Format<'words>),
-    /// Report the syntax errors of sources, and the duplicate ids.
+    /// Report the syntax errors of sources, and each entry whose id was taken.
     Check {
         /// The names of the sources' files.
         files: Vec<&'words str>,

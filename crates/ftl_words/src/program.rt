@@ -20,7 +20,7 @@ pub(crate) fn program<'a>(alloc: Global) -> Result<Command<'a>, AllocError>
         alloc,
         program,
         "check",
-        "Tells what is damaged in sources, and which ids stand in them twice",
+        "Reports the syntax errors of sources, and each entry whose id was taken",
     )?;
     let program = with_file(
         alloc,
