@@ -16,9 +16,9 @@ ghost use Rattle.fluent_syntax.specs.Tiling.{tree, errors, runtime_tree, runtime
 ghost use Rattle.fluent_syntax.specs.Written.{written_with};
 ghost use Rattle.fluent_json.specs.Json.{json};
 ghost use Rattle.ftl_report.specs.Report.{report_text};
-ghost use Rattle.fluent_c_calls.specs.Answering.{texts_of, AreUtf8, HoldsOther, IsAnswer, plurals_in};
+ghost use Rattle.fluent_c_calls.specs.Answering.{AreUtf8, HoldsOther, IsAnswer, plurals_in};
 ghost use Rattle.fluent_c_calls.specs.Arguments.{AreTaken, HoldsBad};
-ghost use Rattle.fluent_c_calls.specs.Bundles.{AreNames, HasNoMessage, HasNoPattern, HasOther, HoldReply, Keeps, KeepsNone, KeepsSame, catalog_in, pattern_in, reply_in};
+ghost use Rattle.fluent_c_calls.specs.Bundles.{AreNames, HasNoMessage, HasNoPattern, HasOther, HoldReply, KeepsNone, KeepsSame, KeepsSources, pattern_in, reply_in};
 ghost use Rattle.fluent_c_calls.specs.Counts.{Counted};
 ghost use Rattle.fluent_c_calls.specs.Made.{Holds, HoldsNone, HoldsSame};
 ghost use Rattle.fluent_c_calls.specs.Results.{IsOneOf};
@@ -149,8 +149,8 @@ pub extern "C" fn fluent_bundle_new(
     made: &mut FluentBundle,
 ) -> u32
     ensures decided { IsOneOf result (0 ∷ 1 ∷ 2 ∷ 3 ∷ []) }
-    ensures made { result ≡ 0 → IsSomeAnd (catalog_in locale.now isolating overriding
-        (texts_of sources.now)) (Keeps made.new) }
+    ensures made { result ≡ 0
+        → KeepsSources locale.now isolating overriding sources.now made.new }
     ensures utf8 { result ≢ 1 → AreUtf8 sources.now }
     ensures not_utf8 { result ≡ 1 → HoldsOther sources.now }
     ensures unknown { result ≡ 3 → plurals_in locale.now ≡ None }
@@ -174,8 +174,8 @@ pub extern "C" fn fluent_bundle_new_within(
     made: &mut FluentBundle,
 ) -> u32
     ensures decided { IsOneOf result (0 ∷ 1 ∷ 2 ∷ 3 ∷ []) }
-    ensures made { result ≡ 0 → IsSomeAnd (catalog_in locale.now isolating overriding
-        (texts_of sources.now)) (Keeps made.new) }
+    ensures made { result ≡ 0
+        → KeepsSources locale.now isolating overriding sources.now made.new }
     ensures utf8 { result ≢ 1 → AreUtf8 sources.now }
     ensures not_utf8 { result ≡ 1 → HoldsOther sources.now }
     ensures unknown { result ≡ 3 → plurals_in locale.now ≡ None }

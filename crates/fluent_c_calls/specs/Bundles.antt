@@ -1,5 +1,5 @@
 -- What C learns of a bundle that it keeps.
-use Rattle.std.specs.Prelude.{◌≡◌, ◌⊎◌, Bool, true, false, List, [], ◌∷◌, Option, Some, None, IsNone, IsSome, IsUtf8, map, option_copied, option_map}
+use Rattle.std.specs.Prelude.{◌≡◌, ◌⊎◌, Bool, true, false, List, [], ◌∷◌, Option, Some, None, IsNone, IsSome, IsSomeAnd, IsUtf8, map, option_copied, option_map}
 use Rattle.std.specs.List.{flat_map}
 use denote.Ref.{Bor}
 use Rattle.fluent_answers.specs.Answers.{pattern_asked, reply_to}
@@ -9,9 +9,10 @@ use Rattle.fluent_ids.specs.Found.{message_in}
 use Rattle.fluent_kept.specs.Catalogs.{Catalog, catalog_environment}
 use Rattle.fluent_kept.specs.declared.handle.FluentBundle.{FluentBundle}
 use Rattle.fluent_requests.specs.Frames.{Reply, ended}
-use Rattle.fluent_c_calls.specs.Answering.{plurals_in}
+use Rattle.fluent_c_calls.specs.Answering.{plurals_in, texts_of}
 use Rattle.fluent_c_calls.specs.Arguments.{AreRefusedFor, pair_of}
 use Rattle.fluent_c_calls.specs.Made.{Holds, HoldsNone}
+use Rattle.fluent_c_calls.specs.declared.answering.FluentSource.{FluentSource}
 use Rattle.fluent_c_calls.specs.declared.arguments.ArgumentRefusal.TheVariants.{NotUtf8}
 use Rattle.fluent_c_calls.specs.declared.arguments.FluentArgument.{FluentArgument}
 use Rattle.fluent_c_calls.specs.declared.text.FluentText.{FluentText}
@@ -24,6 +25,11 @@ catalog_in locale isolating overriding sources =
 -- there is a bundle, of this catalog
 abbrev pub Keeps : FluentBundle → Catalog → Type 0
 Keeps bundle catalog = (bundle.held ≡ true) × (bundle.catalog ≡ catalog)
+
+-- there is a bundle of these sources, for a locale that has plural rules and with these settings
+abbrev pub KeepsSources : Text → Bool → Bool → List FluentSource → FluentBundle → Type 0
+KeepsSources locale isolating overriding sources bundle =
+    IsSomeAnd (catalog_in locale isolating overriding (texts_of sources)) (Keeps bundle)
 
 -- there is no bundle
 abbrev pub KeepsNone : FluentBundle → Type 0

@@ -1,10 +1,10 @@
 //! Bundles that a caller which isn't Rattle keeps from call to call.
 
-ghost use Rattle.std.specs.Prelude.{◌≡◌, ◌≢◌, ◌∷◌, [], true, IfErr, IfOk, IsSome, IsSomeAnd, None, map, string_bytes};
+ghost use Rattle.std.specs.Prelude.{◌≡◌, ◌≢◌, ◌∷◌, [], true, IfErr, IfOk, IsSome, None, map, string_bytes};
 ghost use Rattle.fluent_serve.specs.Texts.{texts};
 ghost use Rattle.ftl_report.specs.Report.{report_text};
-ghost use Rattle.fluent_c_calls.specs.Answering.{AreUtf8, HoldsOther, plurals_in, texts_of};
-ghost use Rattle.fluent_c_calls.specs.Bundles.{AreNames, HasNoMessage, HasNoPattern, Keeps, KeepsNone, KeepsSame, catalog_in, pattern_in};
+ghost use Rattle.fluent_c_calls.specs.Answering.{AreUtf8, HoldsOther, plurals_in};
+ghost use Rattle.fluent_c_calls.specs.Bundles.{AreNames, HasNoMessage, HasNoPattern, KeepsNone, KeepsSame, KeepsSources, pattern_in};
 ghost use Rattle.fluent_c_calls.specs.Made.{Holds, HoldsSame};
 ghost use Rattle.fluent_c_calls.specs.Results.{IsOneOf};
 ghost use Rattle.fluent_c_calls.specs.declared.answering.Refusal.TheVariants.{NotUtf8, UnknownLocale};
@@ -48,8 +48,8 @@ fn kept(
     settings: Settings,
     stack: StackBudget,
 ) -> Result<FluentBundle, Refusal>
-    ensures kept { IfOk result (λ made. IsSomeAnd (catalog_in locale.now settings.isolating
-        settings.overriding (texts_of sources.now)) (Keeps made)) }
+    ensures kept { IfOk result (KeepsSources locale.now settings.isolating settings.overriding
+        sources.now) }
     ensures not_utf8 { IfErr result (λ refusal. refusal ≡ NotUtf8 → HoldsOther sources.now) }
     ensures unknown { IfErr result (λ refusal. refusal ≡ UnknownLocale
         → plurals_in locale.now ≡ None) }
@@ -85,8 +85,8 @@ pub fn bundle_new(
     made: &mut FluentBundle,
 ) -> u32
     ensures decided { IsOneOf result (0 ∷ 1 ∷ 2 ∷ 3 ∷ []) }
-    ensures made { result ≡ 0 → IsSomeAnd (catalog_in locale.now isolating overriding
-        (texts_of sources.now)) (Keeps made.new) }
+    ensures made { result ≡ 0
+        → KeepsSources locale.now isolating overriding sources.now made.new }
     ensures utf8 { result ≢ 1 → AreUtf8 sources.now }
     ensures not_utf8 { result ≡ 1 → HoldsOther sources.now }
     ensures unknown { result ≡ 3 → plurals_in locale.now ≡ None }
@@ -108,8 +108,8 @@ pub fn bundle_new_within(
     made: &mut FluentBundle,
 ) -> u32
     ensures decided { IsOneOf result (0 ∷ 1 ∷ 2 ∷ 3 ∷ []) }
-    ensures made { result ≡ 0 → IsSomeAnd (catalog_in locale.now isolating overriding
-        (texts_of sources.now)) (Keeps made.new) }
+    ensures made { result ≡ 0
+        → KeepsSources locale.now isolating overriding sources.now made.new }
     ensures utf8 { result ≢ 1 → AreUtf8 sources.now }
     ensures not_utf8 { result ≡ 1 → HoldsOther sources.now }
     ensures unknown { result ≡ 3 → plurals_in locale.now ≡ None }

@@ -1,9 +1,10 @@
 -- What the first declarations are to contracts.
-use Rattle.std.specs.Prelude.{◌≡◌, ◌||◌, if◌then◌else◌, List, [], ◌∷◌, ◌++◌, map, Option, Some, None, is_some, option_map}
+use Rattle.std.specs.Prelude.{ℕ, ◌≡◌, ◌||◌, if◌then◌else◌, List, [], ◌∷◌, ◌++◌, map, Option, Some, None, is_some, option_map}
 use Rattle.std.specs.Option.{option_to_list}
 use Rattle.std.specs.HashMap.{get_by}
 use Rattle.std.specs.Str.{bytes_eq}
 use Rattle.fluent_grammar.specs.Words.{Text}
+use Rattle.fluent_grammar.specs.Tree.{Entry}
 use Rattle.fluent_meaning.specs.Ids.{Ids, find}
 use Rattle.fluent_finding.specs.View.{finding_view}
 use Rattle.fluent_finding.specs.declared.records.Finding as code
@@ -50,3 +51,7 @@ IsDuplicateAfter functions known id text = (before : List Declaration) → AreFi
 abbrev pub HasFindingAfter : Declarations → (List Declaration → List Finding) → Option code.Finding → Type 0
 HasFindingAfter known findings found =
     (before : List Declaration) → AreFirst known before → map finding_view (option_to_list found) ≡ findings before
+
+-- the finding of an entry with this id at an offset, after the declarations that are known, if there is one
+abbrev pub HasDuplicateFinding : {F : Type 0} → Declarations → Ids F → Entry → ℕ → Text → Option code.Finding → Type 0
+HasDuplicateFinding known functions e at id = HasFindingAfter known (λ before. d.duplicate_findings functions before e at id)

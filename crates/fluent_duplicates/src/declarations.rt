@@ -4,8 +4,7 @@
 ghost use Rattle.std.specs.Prelude.{◌≡◌, [], IfOk, OnErr, OnOk, option_map};
 ghost use Rattle.fluent_ast.specs.Borrowed.{entry_of};
 ghost use Rattle.fluent_duplicates.specs.DuplicateText.{duplicate_text};
-ghost use Rattle.fluent_duplicates.specs.First.{AreFirst, GetsDeclaration, HasFindingAfter, IsDuplicateAfter, IsSame};
-ghost use Rattle.fluent_findings.specs.DuplicateIds.{duplicate_findings};
+ghost use Rattle.fluent_duplicates.specs.First.{AreFirst, GetsDeclaration, HasDuplicateFinding, IsDuplicateAfter, IsSame};
 ghost use Rattle.fluent_ids.specs.IdsView.{ids_view};
 
 use crate::duplicate::Duplicate;
@@ -71,8 +70,8 @@ impl<'a> Declarations<'a> {
         id: &str,
         offset: usize,
     ) -> Result<Option<Finding>, AllocError>
-        ensures { IfOk result (HasFindingAfter self.now (λ before. duplicate_findings
-            (ids_view F functions.now) before (entry_of entry.now) offset id.now)) }
+        ensures { IfOk result (HasDuplicateFinding self.now (ids_view F functions.now)
+            (entry_of entry.now) offset id.now) }
     {
         let Some(duplicate) = self.duplicate(functions, id) else {
             return Ok(None);

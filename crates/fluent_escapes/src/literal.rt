@@ -11,6 +11,9 @@ use memchr::memchr;
 use std::alloc::AllocError;
 
 /// Adds the escapes of a raw text that stand for no character.
+///
+/// # Errors
+/// [`AllocError`] if memory runs out; `found` then holds its old texts and some of these.
 pub fn push_invalid_escapes<'s>(raw: &'s str, found: &mut Vec<&'s str>) -> Result<(), AllocError>
     ensures { OnOk result (AddsTexts found.old found.new (invalid_escapes raw.now)) }
 {

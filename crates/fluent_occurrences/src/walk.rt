@@ -23,6 +23,10 @@ use fluent_ast::{
 use fluent_nodes::{Keys, Node};
 use std::alloc::AllocError;
 
+/// Adds the occurrences in a pattern that is read at the front of a text. Returns the text after it.
+///
+/// # Errors
+/// [`AllocError`] if memory runs out; `found` then holds its old occurrences and some of these.
 #[cycle(walk)]
 pub fn push_pattern<'a, 's, 't>(
     pattern: &'a Pattern<&'s str>,
