@@ -1,0 +1,2 @@
+pub mod PlacesView
+pub mod Holding

@@ -1,0 +1,132 @@
+//! The patterns of a catalog that references enter.
+#![tactic(auto)]
+
+ghost use Rattle.std.specs.Prelude.{◌≡◌, ◌++◌, [], ◌∷◌, true, All, IfOk, List, OnOk, Option, map, option_map};
+ghost use Rattle.fluent_ast.specs.Borrowed.{attributes_of, elements_found, elements_of, entries_of};
+ghost use Rattle.fluent_endless.specs.Holding.{GetsEntry, GetsPattern, HasPatternsOf, declared_ids};
+ghost use Rattle.fluent_grammar.specs.Words.{Text};
+ghost use Rattle.fluent_ids.specs.IdsView.{ids_view};
+
+use crate::places::Places;
+use fluent_ast::{Attribute, Pattern, Resource};
+use fluent_duplicates::declared_id;
+use fluent_ids::{Entry, FluentIds};
+use std::alloc::{AllocError, Global};
+use std::collections::HashSet;
+
+/// The patterns of a catalog that references enter, each once, and the place of each.
+///
+/// ```no_run
+/// let mut entered = EnteredPatterns::new(alloc, &ids);
+/// entered.add_resource(&ids, &resource)?;
+/// if let Some(place) = entered.places.get(true, "brand", None) {
+///     let pattern = entered.patterns[place]; // the value of the term `-brand`
+/// }
+/// ```
+#[derive(Drop)]
+pub struct EnteredPatterns<'r, 's> {
+    /// The place of each in the list, by the names of the references that enter it.
+    pub places: Places<'s>,
+    /// The list.
+    pub patterns: Vec<&'r Pattern<&'s str>>,
+    /// The ids that were looked at.
+    seen: HashSet<&'s str>,
+}
+
+impl<'r, 's> EnteredPatterns<'r, 's> {
+    /// No patterns, of a catalog with these ids. It doesn't allocate.
+    pub fn new<F>(alloc: Global, ids: &FluentIds<'r, 's, F>) -> Self
+        ensures { HasPatternsOf (ids_view F ids.now) result [] }
+    {
+        EnteredPatterns {
+            places: Places::new(alloc),
+            patterns: Vec::new(alloc),
+            seen: HashSet::new(alloc),
+        }
+    }
+
+    /// Adds those that references to the ids of a resource enter, in a catalog with these ids. So all are there once each
+    /// resource of the catalog was added, in any order.
+    ///
+    /// # Errors
+    /// [`AllocError`] if memory runs out; some may be added then.
+    pub fn add_resource<F>(
+        &mut self,
+        ids: &FluentIds<'r, 's, F>,
+        resource: &Resource<&'s str>,
+    ) -> Result<(), AllocError>
+        ensures { OnOk result ((seen : List Text) →
+            HasPatternsOf (ids_view F ids.now) self.old seen →
+            HasPatternsOf (ids_view F ids.now) self.new (seen ++ declared_ids (entries_of resource.now))) }
+    {
+        for entry in &resource.body {
+            if let Some(id) = declared_id(entry) {
+                self.add(ids, id)?;
+            }
+        }
+        Ok(())
+    }
+
+    /// Adds those that references to an id enter.
+    fn add<F>(&mut self, ids: &FluentIds<'r, 's, F>, id: &'s str) -> Result<(), AllocError>
+        ensures { OnOk result ((seen : List Text) →
+            HasPatternsOf (ids_view F ids.now) self.old seen →
+            HasPatternsOf (ids_view F ids.now) self.new (seen ++ id.now ∷ [])) }
+    {
+        if !self.seen.insert(id)? {
+            return Ok(());
+        }
+        match ids.get(id) {
+            Some(Entry::Message((_, message))) => {
+                self.add_entry(false, id, message.value.as_ref(), &message.attributes)
+            }
+            Some(Entry::Term((_, term))) => {
+                self.add_entry(true, id, Some(&term.value), &term.attributes)
+            }
+            Some(Entry::Function(_)) => Ok(()),
+            Some(Entry::Number) => Ok(()),
+            None => Ok(()),
+        }
+    }
+
+    /// Adds the patterns of an entry with this value and these attributes.
+    fn add_entry(
+        &mut self,
+        is_term: bool,
+        id: &'s str,
+        value: Option<&'r Pattern<&'s str>>,
+        attributes: &'r [Attribute<&'s str>],
+    ) -> Result<(), AllocError>
+        ensures patterns { OnOk result (GetsEntry self.old self.new is_term id.now
+            (elements_found value.entry) (attributes_of attributes.now)) }
+        ensures seen { self.new.seen ≡ self.old.seen }
+    {
+        if let Some(value) = value {
+            self.add_pattern(is_term, id, None, value)?;
+        }
+        for attribute in attributes {
+            self.add_pattern(is_term, id, Some(attribute.id.name), &attribute.value)?;
+        }
+        Ok(())
+    }
+
+    /// Adds a pattern, if its names are new.
+    fn add_pattern(
+        &mut self,
+        is_term: bool,
+        id: &'s str,
+        attribute: Option<&'s str>,
+        pattern: &'r Pattern<&'s str>,
+    ) -> Result<(), AllocError>
+        ensures pattern { OnOk result (GetsPattern self.old self.new is_term id.now
+            (option_map (λ s. s.now) attribute.entry) (elements_of pattern.now)) }
+        ensures seen { self.new.seen ≡ self.old.seen }
+    {
+        if self.places.get(is_term, id, attribute).is_none() {
+            let place = self.patterns.len();
+            self.patterns.push(pattern)?;
+            self.places.insert(is_term, id, attribute, place)?;
+        }
+        Ok(())
+    }
+}
