@@ -5,7 +5,8 @@ use Rattle.std.specs.Option.{option_to_list}
 use Rattle.std.specs.Str.{bytes_eq}
 use Rattle.std.specs.HashSet.{contains_by}
 use denote.Ref.{Bor}
-use Rattle.fluent_ast.specs.Borrowed.{elements_of}
+use Rattle.fluent_ast.specs.Borrowed.{attributes_of, elements_found, elements_of}
+use Rattle.fluent_ast.specs.declared.Attribute.{Attribute}
 use Rattle.fluent_ast.specs.declared.Pattern.{Pattern}
 use Rattle.fluent_grammar.specs.Words.{Text, is_among}
 use Rattle.fluent_grammar.specs.Tree as t
@@ -90,3 +91,13 @@ GetsEntry old new is_term id value attributes = (others : List Elements) (named 
     Holds others old.places (patterns_of old.patterns.items) named →
     All (λ es. is_pattern_among es others ≡ true) (option_to_list value ++ map (λ (a : t.Attribute). a.value) attributes) →
     Holds others new.places (patterns_of new.patterns.items) (with_entry is_term id value attributes named)
+
+-- ---- what calls add
+
+-- the patterns that references to more ids enter
+abbrev pub GetsIds : {F : Type 0} → Ids F → EnteredPatterns → EnteredPatterns → List Text → Type 0
+GetsIds ids old new more = (seen : List Text) → HasPatternsOf ids old seen → HasPatternsOf ids new (seen ++ more)
+
+-- those of an entry with this value and these attributes
+abbrev pub GetsEntryOf : EnteredPatterns → EnteredPatterns → Bool → Text → Option (Bor (Pattern (Bor Text))) → List (Attribute (Bor Text)) → Type 0
+GetsEntryOf old new is_term id value attributes = GetsEntry old new is_term id (elements_found value) (attributes_of attributes)

@@ -1,10 +1,9 @@
 //! The patterns of a catalog that references enter.
 #![tactic(auto)]
 
-ghost use Rattle.std.specs.Prelude.{◌≡◌, ◌++◌, [], ◌∷◌, true, All, IfOk, List, OnOk, Option, map, option_map};
-ghost use Rattle.fluent_ast.specs.Borrowed.{attributes_of, elements_found, elements_of, entries_of};
-ghost use Rattle.fluent_endless.specs.Holding.{GetsEntry, GetsPattern, HasPatternsOf, declared_ids};
-ghost use Rattle.fluent_grammar.specs.Words.{Text};
+ghost use Rattle.std.specs.Prelude.{◌≡◌, [], ◌∷◌, OnOk, option_map};
+ghost use Rattle.fluent_ast.specs.Borrowed.{elements_of, entries_of};
+ghost use Rattle.fluent_endless.specs.Holding.{GetsEntryOf, GetsIds, GetsPattern, HasPatternsOf, declared_ids};
 ghost use Rattle.fluent_ids.specs.IdsView.{ids_view};
 
 use crate::places::Places;
@@ -55,9 +54,8 @@ impl<'r, 's> EnteredPatterns<'r, 's> {
         ids: &FluentIds<'r, 's, F>,
         resource: &Resource<&'s str>,
     ) -> Result<(), AllocError>
-        ensures { OnOk result ((seen : List Text) →
-            HasPatternsOf (ids_view F ids.now) self.old seen →
-            HasPatternsOf (ids_view F ids.now) self.new (seen ++ declared_ids (entries_of resource.now))) }
+        ensures { OnOk result (GetsIds (ids_view F ids.now) self.old self.new
+            (declared_ids (entries_of resource.now))) }
     {
         for entry in &resource.body {
             if let Some(id) = declared_id(entry) {
@@ -69,9 +67,7 @@ impl<'r, 's> EnteredPatterns<'r, 's> {
 
     /// Adds those that references to an id enter.
     fn add<F>(&mut self, ids: &FluentIds<'r, 's, F>, id: &'s str) -> Result<(), AllocError>
-        ensures { OnOk result ((seen : List Text) →
-            HasPatternsOf (ids_view F ids.now) self.old seen →
-            HasPatternsOf (ids_view F ids.now) self.new (seen ++ id.now ∷ [])) }
+        ensures { OnOk result (GetsIds (ids_view F ids.now) self.old self.new (id.now ∷ [])) }
     {
         if !self.seen.insert(id)? {
             return Ok(());
@@ -97,8 +93,8 @@ impl<'r, 's> EnteredPatterns<'r, 's> {
         value: Option<&'r Pattern<&'s str>>,
         attributes: &'r [Attribute<&'s str>],
     ) -> Result<(), AllocError>
-        ensures patterns { OnOk result (GetsEntry self.old self.new is_term id.now
-            (elements_found value.entry) (attributes_of attributes.now)) }
+        ensures patterns { OnOk result (GetsEntryOf self.old self.new is_term id.now value.entry
+            attributes.now) }
         ensures seen { self.new.seen ≡ self.old.seen }
     {
         if let Some(value) = value {
