@@ -8,3 +8,4 @@ mod missing;
 mod rules;
 
 pub use missing::node_categories;
+pub use rules::category_text;

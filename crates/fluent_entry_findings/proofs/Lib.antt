@@ -1,0 +1,10 @@
+pub mod BodiesAreRead
+pub mod NameSets
+pub mod FirstIsHint
+pub mod PatternFound
+pub mod EntryFound
+pub mod CodeNodes
+pub mod SameRests
+pub mod Pushed
+pub mod AttributesAdded
+pub mod EntryAdded

@@ -1,0 +1,10 @@
+pub mod Labels
+pub mod Problems
+pub mod Made
+pub mod FirstEndless
+pub mod FoundAt
+pub mod AttributePlaces
+pub mod HasNames
+pub mod AttributesFound
+pub mod Found
+pub mod Added
