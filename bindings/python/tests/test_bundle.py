@@ -120,6 +120,17 @@ class BundleTest(unittest.TestCase):
             with self.assertRaises(ValueError):
                 Bundle(SOURCE, stack=stack)
 
+    def test_the_last_level(self):
+        def nested(levels):
+            return f"a = {'{' * levels}\"x\"{'}' * levels}\n"
+
+        # A placeable counts as 1,700 bytes.
+        for stack, levels in [(17_000, 10), (1_572_864, 925)]:
+            with Bundle(nested(levels), stack=stack) as bundle:
+                self.assertEqual(bundle.errors, [])
+            with self.assertRaises(MemoryError):
+                Bundle(nested(levels + 1), stack=stack)
+
     def test_deep_sources_on_a_small_stack(self):
         shapes = [("{", "}", 99), ("{NUMBER(", ")}", 1), ("{-t({", "})}", 99), ("{NUMBER({ 1 ->\n *[o] ", "\n })}", 1)]
         refused = []
