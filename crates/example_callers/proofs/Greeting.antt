@@ -8,7 +8,7 @@ use Rattle.fluent_meaning.specs.Ids.{Meaning, find}
 use Rattle.fluent_meaning.specs.Same.{same_elements}
 use Rattle.fluent_meaning.specs.Substitution.{answer_handed, expression_with, elements_with, pattern_at, pattern_written}
 use Rattle.fluent_ids.specs.Found.{message_in}
-use Rattle.fluent_environment.specs.Settings.{formatted_by, transformed_by}
+use Rattle.fluent_ids.specs.Settings.{formatted_by, transformed_by}
 use Rattle.fluent_value.specs.Args.{with_argument}
 use Rattle.fluent_value.specs.Matching.{Plurals}
 use Rattle.fluent_value.specs.Value.{Value, text}

@@ -8,7 +8,7 @@ use Rattle.fluent_grammar.specs.Tiling.{list, listed, runtime_tree}
 use Rattle.fluent_grammar.specs.TilingLaws.{HasNoComment}
 use Rattle.fluent_grammar.proofs.TilesPlain.{runtime_has_no_comments}
 use Rattle.fluent_grammar.proofs.TilesRuntime.{runtime_has_the_same_list}
-use Rattle.fluent_cut.specs.Joined.{lists}
+use Rattle.fluent_tidy_laws.specs.Joined.{lists}
 use Rattle.fluent_meaning.specs.Ids.{message, term, number_pair, with_ids, notices, entries_by_id}
 use Rattle.fluent_meaning.proofs.InTurn.{with_ids-++, notices-++}
 use Rattle.fluent_answers.specs.AnswersLaws.{IdsGoOn, NoticesGoOn, RuntimeHasTheSameIds}

@@ -10,7 +10,7 @@ use Rattle.fluent_number.specs.Reading.{read_number}
 use Rattle.fluent_number.specs.Operands.{operands_of}
 use Rattle.fluent_number.specs.Plurals.{english}
 use Rattle.fluent_errors.specs.Errors.{overriding, message, term}
-use Rattle.fluent_cut.specs.Joined.{joined}
+use Rattle.fluent_tidy_laws.specs.Joined.{joined}
 use Rattle.fluent_meaning.specs.Same.{same_elements}
 use Rattle.fluent_meaning.specs.Substitution.{expression_with, elements_with, pattern_at, pattern_written}
 use Rattle.fluent_requests.specs.Lines.{whole_lines, unfinished, lines_of}

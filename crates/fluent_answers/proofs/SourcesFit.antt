@@ -13,7 +13,7 @@ use Rattle.fluent_grammar.specs.Tiling as p
 use Rattle.fluent_grammar.specs.Tiling.{entries_of, waiting, left_alone, listed, list, tree}
 use Rattle.fluent_grammar.specs.Tiles.{Mode, full, Part, blank_block, entry, junk, passed_over, Tiles, blank_first, TilesItems, source_ends, an_entry, some_junk, a_line, pieces_of, lies_apart}
 use Rattle.fluent_grammar.proofs.TilesPieces.{each_text_has_a_tiling, tiling_gives_tree_and_errors}
-use Rattle.fluent_cut.specs.Joined.{lists}
+use Rattle.fluent_tidy_laws.specs.Joined.{lists}
 use Rattle.fluent_value.specs.Args.{order}
 use Rattle.fluent_meaning.specs.Ids.{Ids, Meaning, number_function, function, message, term, find, with_id, with_ids, entries_by_id, number_pair}
 use Rattle.fluent_meaning.specs.ReachLaws.{over}

@@ -1,10 +1,10 @@
 -- Sources with the same messages and terms.
 use Rattle.std.proofs.Common.{◌≡◌, [], ◌∷◌, ap, ◌∙◌, append-nil}
-use Rattle.fluent_cut.specs.Joined.{joined, lists}
+use Rattle.fluent_tidy_laws.specs.Joined.{joined, lists}
 use Rattle.fluent_grammar.specs.Tiling.{list}
-use Rattle.fluent_cut.specs.CutLaws.{JoinsCleanly}
-use Rattle.fluent_cut.proofs.Joining.{joined_texts_keep_lists}
-use Rattle.fluent_normal.proofs.TidiedSources as tidied
+use Rattle.fluent_tidy_laws.specs.CutLaws.{JoinsCleanly}
+use Rattle.fluent_tidy_laws.proofs.Joining.{joined_texts_keep_lists}
+use Rattle.fluent_tidy_laws.proofs.TidiedSources as tidied
 use Rattle.fluent_meaning.specs.Ids.{number_pair, with_ids, notices, entries_by_id, find}
 use Rattle.fluent_answers.specs.Sources.{environment_of}
 use Rattle.fluent_answers.specs.Answers.{answers_from}

@@ -2,8 +2,8 @@
 use Rattle.std.specs.Prelude.{◌≡◌, Bool, false, List, [], ◌∷◌, ◌++◌}
 use Rattle.fluent_grammar.specs.Words.{Text}
 use Rattle.fluent_grammar.specs.Tiling.{list, runtime_tree}
-use Rattle.fluent_cut.specs.Joined.{joined, lists, HaveNoReturn, AreUtf8}
-use Rattle.fluent_normal.specs.Tidied.{Tidied}
+use Rattle.fluent_tidy_laws.specs.Joined.{joined, lists, HaveNoReturn, AreUtf8}
+use Rattle.fluent_tidy_laws.specs.Tidied.{Tidied}
 use Rattle.fluent_value.specs.Matching.{Plurals}
 use Rattle.fluent_meaning.specs.Ids.{with_ids, notices, entries_by_id}
 use Rattle.fluent_answers.specs.Sources.{Settings, ids_of, notices_of}

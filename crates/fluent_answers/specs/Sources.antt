@@ -1,7 +1,7 @@
 -- What sources stand for when they are asked.
 use Rattle.std.specs.Prelude.{Bool, List, [], ◌∷◌, None}
 use Rattle.fluent_grammar.specs.Words.{Text}
-use Rattle.fluent_cut.specs.Joined.{lists}
+use Rattle.fluent_tidy_laws.specs.Joined.{lists}
 use Rattle.fluent_errors.specs.Errors.{Reported}
 use Rattle.fluent_value.specs.Matching.{Plurals}
 use Rattle.fluent_value.specs.Value.{error}

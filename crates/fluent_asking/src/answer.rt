@@ -14,7 +14,7 @@ use fluent_errors::FluentError;
 use fluent_progress::{Context, Place, Progress};
 use fluent_resolver::pattern::write_pattern;
 use fluent_value::{FluentType, FluentValue, ValueScope};
-use fluent_write::{TextWrite, WriteError};
+use fluent_text::{TextWrite, WriteError};
 use std::alloc::AllocError;
 use std::borrow::CowStr;
 use std::mem;

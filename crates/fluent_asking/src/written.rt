@@ -8,7 +8,7 @@ use fluent_ast::{Expression, Pattern, PatternElement};
 use fluent_progress::{Context, Place, Progress};
 use fluent_resolver::pattern::write_placeable;
 use fluent_value::FluentType;
-use fluent_write::{TextWrite, WriteError};
+use fluent_text::{TextWrite, WriteError};
 
 /// Writes a pattern: each text and each placeable of it is a piece.
 ///

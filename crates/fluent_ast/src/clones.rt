@@ -12,7 +12,7 @@ use crate::{
     Attribute, CallArguments, Comment, Entry, Expression, Identifier, InlineExpression, Message,
     NamedArgument, Pattern, PatternElement, Resource, Term, Variant, VariantKey,
 };
-use fluent_slice::{Slice, Slices};
+use fluent_text::{Slice, Slices};
 use std::alloc::{AllocError, Global};
 
 impl<'s, S: Slice<'s>> Identifier<S> {

@@ -12,7 +12,7 @@ use crate::{
     CallArguments, Expression, Identifier, InlineExpression, NamedArgument, Pattern,
     PatternElement, Variant, VariantKey,
 };
-use fluent_slice::Texts;
+use fluent_text::Texts;
 use std::alloc::{AllocError, Global};
 
 pub(crate) fn clone_identifier<S: Drop, T: Texts<S>>(

@@ -7,7 +7,7 @@ use crate::{
     Attribute, CallArguments, Comment, Entry, Expression, Identifier, InlineExpression, Message,
     NamedArgument, Pattern, PatternElement, Resource, Term, Variant, VariantKey,
 };
-use fluent_slice::Slice;
+use fluent_text::Slice;
 
 /// `==` of nodes of each type is an equivalence, and two nodes are equal exactly if they are the same plain data. So a
 /// copy equals what it copies.

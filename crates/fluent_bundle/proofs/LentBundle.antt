@@ -2,7 +2,7 @@
 use Rattle.std.proofs.Common.{◌≡◌, ◌∙◌, ◌++◌, Option, None, Some, Bor, map, ap, sym}
 use Rattle.std.specs.Prelude.{option_copied}
 use Rattle.std.specs.Global.{Vec}
-use Rattle.fluent_environment.specs.Settings.{formatted_by, transformed_by}
+use Rattle.fluent_ids.specs.Settings.{formatted_by, transformed_by}
 use Rattle.fluent_grammar.specs.Words.{Text}
 use Rattle.fluent_ids.specs.IdsView.{ids_view}
 use Rattle.fluent_meaning.specs.Environment.{Environment, value_text}

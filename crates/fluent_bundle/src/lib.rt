@@ -43,4 +43,4 @@ pub use fluent_value::{
     EnglishPlurals, FluentArgs, FluentFunction, FluentValue, IntoIter, Iter, NoCustom, NoFormatter,
     NoFunction, NoTransform, TextTransform, ValueFormatter, ValueScope,
 };
-pub use fluent_write::{TextWrite, WriteError};
+pub use fluent_text::{TextWrite, WriteError};

@@ -8,7 +8,7 @@ use Rattle.fluent_errors.specs.Errors as e
 use Rattle.fluent_grammar.specs.Words.{Text}
 use Rattle.fluent_grammar.specs.Tree as t
 use Rattle.fluent_grammar.specs.Tiling.{tree, list, listed}
-use Rattle.fluent_cut.specs.Joined.{lists}
+use Rattle.fluent_tidy_laws.specs.Joined.{lists}
 use Rattle.fluent_value.specs.declared.function.NoFunction.{NoFunction}
 use Rattle.fluent_meaning.specs.Ids.{Ids, Meaning, find, kind_of, with_id, notice, notices, entries_by_id}
 use Rattle.fluent_answers.proofs.InTurn.{entries_by_id-++}

@@ -6,7 +6,7 @@ ghost use Rattle.fluent_ast.specs.View.{element_view};
 ghost use Rattle.fluent_elements.specs.Elements.{AreDedented, IsDedented, cut_len, line_behind};
 
 use fluent_ast::PatternElement;
-use fluent_slice::Texts;
+use fluent_text::Texts;
 use fluent_words as words;
 use std::alloc::{AllocError, Global};
 

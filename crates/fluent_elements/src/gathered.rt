@@ -10,7 +10,7 @@ use crate::dedent::dedent_all;
 use crate::kept::{kept_len, trim_last};
 use crate::room::{push_tight, shrink_short};
 use fluent_ast::{Pattern, PatternElement};
-use fluent_slice::Texts;
+use fluent_text::Texts;
 use std::alloc::{AllocError, Global};
 
 /// How many elements most patterns of more than one have: a text, a placeable and a text.

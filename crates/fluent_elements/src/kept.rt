@@ -7,7 +7,7 @@ ghost use Rattle.fluent_ast.specs.View.{element_view};
 ghost use Rattle.fluent_elements.specs.Elements.{is_blank, kept_of, plain_elements, trimmed, last_trimmed};
 
 use fluent_ast::PatternElement;
-use fluent_slice::Texts;
+use fluent_text::Texts;
 
 /// How many elements there are up to the last one that isn't blank.
 pub fn kept_len<S: Drop, T: Texts<S>>(texts: &T, elements: &[PatternElement<S>]) -> usize

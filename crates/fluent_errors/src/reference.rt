@@ -6,7 +6,7 @@ ghost use Rattle.fluent_errors.specs.Errors.{reference_of};
 ghost use Rattle.fluent_errors.specs.View.{reference_view};
 
 use fluent_ast::{Identifier, InlineExpression};
-use fluent_slice::Slice;
+use fluent_text::Slice;
 use std::alloc::{AllocError, Global};
 
 /// What an expression refers to, by names without `-` and `$`.

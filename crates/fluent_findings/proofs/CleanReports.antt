@@ -8,7 +8,7 @@ use Rattle.fluent_grammar.specs.Words.{Text, hyphen, is_among}
 use Rattle.fluent_grammar.specs.Tree as t
 use Rattle.fluent_grammar.specs.Tree.{Elements, Inline, Variants}
 use Rattle.fluent_grammar.specs.Tiling.{listed, list}
-use Rattle.fluent_cut.specs.Joined.{lists}
+use Rattle.fluent_tidy_laws.specs.Joined.{lists}
 use Rattle.fluent_errors.specs.Errors.{Unresolved, unknown, no_value, missing_default, cyclic, to_message, to_term}
 use Rattle.fluent_meaning.specs.Choice.{first_default}
 use Rattle.fluent_meaning.specs.Fallback.{with_attribute}

@@ -10,7 +10,7 @@ use Rattle.fluent_grammar.specs.Words.{Text, is_among}
 use Rattle.fluent_grammar.specs.Tree as t
 use Rattle.fluent_grammar.specs.Tree.{Elements}
 use Rattle.fluent_grammar.specs.Tiling.{listed, list}
-use Rattle.fluent_cut.specs.Joined.{lists}
+use Rattle.fluent_tidy_laws.specs.Joined.{lists}
 use Rattle.fluent_value.specs.Args.{order}
 use Rattle.fluent_meaning.specs.Choice.{or_else}
 use Rattle.fluent_meaning.specs.Ids.{Ids, Meaning, number_function, function, message, term, find, number_pair, entries_by_id}

@@ -4,7 +4,7 @@ use Rattle.std.specs.List.{flat_map}
 use Rattle.fluent_grammar.specs.Words.{Text}
 use Rattle.fluent_grammar.specs.Tree as t
 use Rattle.fluent_grammar.specs.Tree.{Inline}
-use Rattle.fluent_cut.specs.Joined.{lists}
+use Rattle.fluent_tidy_laws.specs.Joined.{lists}
 use Rattle.fluent_meaning.specs.Ids.{Ids}
 use Rattle.fluent_plurals.specs.declared.plurals.LanguagePlurals.{LanguagePlurals}
 use Rattle.fluent_findings.specs.Tiles.{Tile, entry_tile, junk_tile, tiles}

@@ -5,7 +5,7 @@ use Rattle.std.specs.Option.{option_to_list}
 use Rattle.fluent_grammar.specs.Words.{Text, hyphen}
 use Rattle.fluent_grammar.specs.Tree as t
 use Rattle.fluent_grammar.specs.Tree.{Elements, Expression, Variants, VariantKey, Inline, Arguments, Inlines, Nameds, MaybeArguments}
-use Rattle.fluent_cut.specs.Joined.{lists}
+use Rattle.fluent_tidy_laws.specs.Joined.{lists}
 use Rattle.fluent_errors.specs.Errors.{Unresolved, missing_default, cyclic}
 use Rattle.fluent_meaning.specs.Ids.{Ids, function, find, with_ids, number_pair, entries_by_id}
 use Rattle.fluent_meaning.specs.Same.{same_key}

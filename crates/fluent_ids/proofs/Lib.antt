@@ -1,3 +1,4 @@
 pub mod Named
 pub mod Sorted
 pub mod Steps
+mod FirstAttribute

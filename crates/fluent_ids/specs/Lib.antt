@@ -9,3 +9,5 @@ pub mod Found
 pub mod Known
 pub mod ErrorTexts
 pub mod Adding
+pub mod Settings
+pub mod Laws

@@ -12,6 +12,7 @@ mod entry;
 mod error;
 mod functions;
 mod ids;
+pub mod laws;
 mod lookup;
 mod message;
 mod notices;

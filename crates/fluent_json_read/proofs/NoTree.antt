@@ -10,7 +10,7 @@ use Rattle.fluent_grammar.specs.Tree as t
 use Rattle.fluent_ast.specs.View as v
 use Rattle.fluent_json_read.specs.declared.error.FromValueError.{FromValueError}
 use Rattle.fluent_json_read.specs.declared.error.FromValueError.TheVariants.{Shape}
-use Rattle.fluent_json_objects.specs.Objects.{resource, unversioned_resource, message, term, comment, group_comment, resource_comment, junk, identifier, text_element, placeable, select, string_literal, number_literal, function_reference, message_reference, term_reference, variable_reference, call_arguments}
+use Rattle.fluent_json_values.specs.Objects.{resource, unversioned_resource, message, term, comment, group_comment, resource_comment, junk, identifier, text_element, placeable, select, string_literal, number_literal, function_reference, message_reference, term_reference, variable_reference, call_arguments}
 use Rattle.fluent_json_values.specs.Json.{HasNone, HasNoTree, with_version, without_version, json_entry, each, or_null, json_key, json_elements, json_expression, json_variants, json_inline, json_arguments, json_maybe_arguments, json_positional, json_named}
 use Rattle.fluent_json_values.specs.Parts.{json_element, json_variant, json_one_named}
 use Rattle.fluent_json_values.specs.Selectors.{selects_by_attribute}

@@ -3,7 +3,7 @@ use Rattle.std.specs.Prelude.{◌≡◌, List, Result, IfErr}
 use Rattle.serde_json.specs.Data.{Data}
 use Rattle.serde_json.specs.View.{view, items_view}
 use Rattle.serde_json.specs.declared.value.Value.{Value}
-use Rattle.fluent_json_objects.specs.Objects.{message, term, term_reference}
+use Rattle.fluent_json_values.specs.Objects.{message, term, term_reference}
 use Rattle.fluent_json_read.specs.declared.error.FromValueError.{FromValueError}
 use Rattle.fluent_json_read.specs.declared.error.FromValueError.TheVariants.{Shape}
 

@@ -5,7 +5,7 @@ use Rattle.std.proofs.lemmas.Slice.Eq.{bytes_eq-Decides}
 use Rattle.serde_json.specs.Find.{get, as_str}
 use Rattle.serde_json.specs.Data.{Data, null, string, Items, item}
 use Rattle.fluent_grammar.specs.Tree as t
-use Rattle.fluent_json_objects.specs.Objects.{resource, unversioned_resource, pattern, variant, identifier}
+use Rattle.fluent_json_values.specs.Objects.{resource, unversioned_resource, pattern, variant, identifier}
 use Rattle.fluent_json_values.specs.Json.{json, unversioned_json, HasValue, with_version, without_version, ValueDecides, each, or_null, json_key, json_elements, json_expression, json_variants, json_inline, json_maybe_arguments, json_arguments, json_positional, json_named, json_pattern, json_attribute, json_comment, json_entry}
 
 -- the text of an object's `type`

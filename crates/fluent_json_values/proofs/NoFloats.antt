@@ -4,7 +4,7 @@ use Rattle.std.specs.Prelude.{◌||◌}
 use Rattle.serde_json.specs.Data.{Data, string}
 use Rattle.serde_json.specs.Written.{has_float, items_have_float}
 use Rattle.fluent_grammar.specs.Tree as t
-use Rattle.fluent_json_objects.specs.Objects.{identifier}
+use Rattle.fluent_json_values.specs.Objects.{identifier}
 use Rattle.fluent_json_values.specs.Json.{json, each, or_null, json_key, json_elements, json_expression, json_variants, json_inline, json_maybe_arguments, json_arguments, json_positional, json_named, json_pattern, json_attribute, json_comment, json_entry}
 
 neither : {a b : Bool} → a ≡ false → b ≡ false → (a || b) ≡ false

@@ -3,7 +3,7 @@ use Rattle.std.specs.Prelude.{◌≡◌, ◌≢◌, ℕ, false, List, [], ◌∷
 use Rattle.serde_json.specs.Data.{Data, null, string, Items, no_items, item}
 use Rattle.fluent_grammar.specs.Tree as t
 use Rattle.fluent_grammar.specs.Tree.{VariantKey, Elements, Expression, Variants, Inline, MaybeArguments, Arguments, Inlines, Nameds, Attribute, Entry}
-use Rattle.fluent_json_objects.specs.Objects.{resource, unversioned_resource, message, term, comment, group_comment, resource_comment, junk, identifier, attribute, pattern, text_element, placeable, select, variant, string_literal, number_literal, function_reference, message_reference, term_reference, variable_reference, call_arguments, named_argument}
+use Rattle.fluent_json_values.specs.Objects.{resource, unversioned_resource, message, term, comment, group_comment, resource_comment, junk, identifier, attribute, pattern, text_element, placeable, select, variant, string_literal, number_literal, function_reference, message_reference, term_reference, variable_reference, call_arguments, named_argument}
 use Rattle.fluent_json_values.specs.Selectors.{selects_by_attribute}
 
 -- what may be absent: null, or its value

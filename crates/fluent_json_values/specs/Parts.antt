@@ -19,7 +19,7 @@ use Rattle.fluent_ast.specs.declared.Pattern.{Pattern}
 use Rattle.fluent_ast.specs.declared.Variant.{Variant}
 use Rattle.fluent_ast.specs.declared.CallArguments.{CallArguments}
 use Rattle.fluent_ast.specs.declared.NamedArgument.{NamedArgument}
-use Rattle.fluent_json_objects.specs.Objects.{node, identifier, variable_reference, text_element, placeable, variant, named_argument}
+use Rattle.fluent_json_values.specs.Objects.{node, identifier, variable_reference, text_element, placeable, variant, named_argument}
 use Rattle.fluent_json_values.specs.Json.{each, or_null, json_maybe_arguments, json_key, json_expression, json_inline, json_arguments, json_pattern, json_attribute, json_comment, json_entry, json_elements, json_variants, json_positional, json_named}
 
 abbrev Text : Type 0

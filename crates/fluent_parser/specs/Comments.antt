@@ -2,7 +2,7 @@
 use Rattle.std.specs.Prelude.{ℕ, List, Result, drop, map}
 use Rattle.fluent_grammar.specs.Words.{Text}
 use Rattle.fluent_grammar.specs.Reading.{comment_line_at}
-use Rattle.fluent_slice.specs.declared.Texts.{Ghosts}
+use Rattle.fluent_text.specs.declared.slice.Texts.{Ghosts}
 use Rattle.fluent_parser.specs.Entries.{lines_with}
 use Rattle.fluent_parser.specs.Frame.{Reads}
 use Rattle.fluent_parser.specs.declared.fault.Fault.{Fault}

@@ -3,7 +3,7 @@ use Rattle.std.specs.Prelude.{◌≡◌, ◌≤◌, Bool, true, false, Result, l
 use Rattle.fluent_grammar.specs.Words.{Text}
 use Rattle.fluent_grammar.specs.Refusal.{Reading}
 use Rattle.fluent_grammar.specs.Tiling.{at_column_zero}
-use Rattle.fluent_slice.specs.declared.Texts.{Ghosts}
+use Rattle.fluent_text.specs.declared.slice.Texts.{Ghosts}
 use Rattle.fluent_parser.specs.Reads.{Gives}
 use Rattle.fluent_parser.specs.declared.fault.Fault.{Fault}
 use Rattle.fluent_parser.specs.declared.parser.Parser.{Parser}

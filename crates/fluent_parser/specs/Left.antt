@@ -2,7 +2,7 @@
 use Rattle.std.specs.Prelude.{ℕ, suc, ◌-◌, List, length}
 use Rattle.fluent_grammar.specs.Words.{Text}
 use Rattle.fluent_grammar.specs.Tiling.{Piece, pieces_from, runtime_pieces_from}
-use Rattle.fluent_slice.specs.declared.Texts.{Ghosts}
+use Rattle.fluent_text.specs.declared.slice.Texts.{Ghosts}
 use Rattle.fluent_parser.specs.declared.parser.Parser.{Parser}
 
 -- the pieces of the end of a source of so many bytes

@@ -4,7 +4,7 @@ use Rattle.fluent_grammar.specs.Words.{Text}
 use Rattle.fluent_grammar.specs.Refusal.{Reading, got, refused}
 use Rattle.fluent_grammar.specs.Tree as t
 use Rattle.fluent_grammar.specs.Reading.{entry_at}
-use Rattle.fluent_slice.specs.declared.Texts.{Ghosts}
+use Rattle.fluent_text.specs.declared.slice.Texts.{Ghosts}
 use Rattle.fluent_parser.specs.declared.parser.Parser.{Parser}
 use Rattle.fluent_grammar.specs.Tiling.{Piece, entry, junk, error_of, behind_junk}
 

@@ -6,7 +6,7 @@ use Rattle.fluent_grammar.specs.Lines.{Piece, indent_of, lesser}
 use Rattle.fluent_ast.specs.View.{element_view}
 use Rattle.fluent_elements.specs.declared.gathered.Gathered.{Gathered}
 use Rattle.fluent_elements.specs.Pieces.{undented}
-use Rattle.fluent_slice.specs.declared.Texts.{Ghosts}
+use Rattle.fluent_text.specs.declared.slice.Texts.{Ghosts}
 use Rattle.fluent_parser.specs.Reads.{Fails}
 use Rattle.fluent_parser.specs.declared.fault.Fault.{Fault}
 use Rattle.fluent_parser.specs.declared.parser.Parser.{Parser}

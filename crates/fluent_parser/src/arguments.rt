@@ -10,7 +10,7 @@ use crate::named_arguments::NamedArguments;
 use crate::parser::Parser;
 use fluent_ast::{CallArguments, Identifier, InlineExpression, NamedArgument};
 use fluent_parsed::ErrorKind;
-use fluent_slice::Texts;
+use fluent_text::Texts;
 use fluent_words as words;
 
 /// An argument of a call.

@@ -6,7 +6,7 @@ ghost use Rattle.fluent_grammar.specs.Words as w;
 ghost use Rattle.fluent_parser.specs.Frame.{Advances};
 
 use crate::parser::Parser;
-use fluent_slice::Texts;
+use fluent_text::Texts;
 use fluent_words as words;
 
 impl<'p, S: Drop, T: Texts<S>> Parser<'p, S, T> {

@@ -12,7 +12,7 @@ use crate::fault::Fault;
 use crate::parser::Parser;
 use fluent_ast::{Comment, Entry};
 use fluent_parsed::ErrorKind;
-use fluent_slice::Texts;
+use fluent_text::Texts;
 use fluent_words as words;
 
 /// The comment of so many signs: one, two or three.

@@ -11,7 +11,7 @@ use crate::parser::Parser;
 use fluent_ast::{Attribute, Entry, Identifier, Message, Pattern, Term};
 use fluent_elements::push_tight;
 use fluent_parsed::ErrorKind;
-use fluent_slice::Texts;
+use fluent_text::Texts;
 use fluent_words as words;
 
 /// How many attributes messages mostly have that have any: one or two.

@@ -8,7 +8,7 @@ ghost use Rattle.fluent_parser.specs.Frame.{Advances};
 use crate::fault::Fault;
 use crate::parser::Parser;
 use fluent_parsed::ErrorKind;
-use fluent_slice::Texts;
+use fluent_text::Texts;
 
 impl<'p, S: Drop, T: Texts<S>> Parser<'p, S, T> {
     ghost use Rattle.fluent_parser.specs.Frame.{Reads};

@@ -10,7 +10,7 @@ use crate::fault::Fault;
 use crate::parser::Parser;
 use fluent_ast::{Expression, Identifier, InlineExpression, Variant};
 use fluent_parsed::ErrorKind;
-use fluent_slice::Texts;
+use fluent_text::Texts;
 use fluent_stack::reading;
 use fluent_words as words;
 

@@ -26,8 +26,8 @@ ghost use Rattle.fluent_parsed.specs.ErrorView.{error_told};
 ghost use Rattle.fluent_parsed.specs.Collected.{HasTree, HasErrors};
 
 pub use fluent_parsed::{Error, ErrorKind, ParserError, Result, laws};
-pub use fluent_slice::Slice;
-use fluent_slice::Slices;
+pub use fluent_text::Slice;
+use fluent_text::Slices;
 pub use fluent_stack::StackBudget;
 pub use refusals::{Refusal, refusals_at};
 use resource::{parts_of, runtime_parts_of};

@@ -9,7 +9,7 @@ ghost use Rattle.fluent_parser.specs.Indexed.{IsIndexed, StaysIndexed, names_in}
 ghost use Rattle.fluent_ast.specs.View.{named_view};
 
 use fluent_ast::NamedArgument;
-use fluent_slice::Texts;
+use fluent_text::Texts;
 use std::alloc::{AllocError, Global};
 use std::collections::BTreeSet;
 

@@ -12,7 +12,7 @@ ghost use Rattle.fluent_grammar.specs.Tiling.{resume};
 ghost use Rattle.fluent_parser.specs.Reads.{past_byte};
 
 use fluent_lines::{Lines, Row};
-use fluent_slice::Texts;
+use fluent_text::Texts;
 use fluent_stack::{Stack, StackBudget};
 use fluent_words as words;
 use std::alloc::{AllocError, Global};

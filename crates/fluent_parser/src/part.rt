@@ -12,7 +12,7 @@ use crate::fault::Fault;
 use crate::parser::Parser;
 use fluent_lines::begins_entry;
 use fluent_parsed::{Collected, ErrorKind, ParserError};
-use fluent_slice::Texts;
+use fluent_text::Texts;
 use std::alloc::AllocError;
 
 impl<'p, S: Drop, T: Texts<S>> Parser<'p, S, T> {

@@ -13,7 +13,7 @@ use crate::parser::Parser;
 use fluent_ast::{Pattern, PatternElement};
 use fluent_elements::{Gathered, is_blank_text};
 use fluent_parsed::ErrorKind;
-use fluent_slice::Texts;
+use fluent_text::Texts;
 use fluent_words as words;
 
 /// What a text says of the common indent, behind so many spaces at a line start or within a line: nothing where it is blank.

@@ -10,7 +10,7 @@ use crate::fault::Fault;
 use crate::parser::Parser;
 use fluent_lines::line_table;
 use fluent_parsed::ErrorKind;
-use fluent_slice::{Slice, Slices, Texts};
+use fluent_text::{Slice, Slices, Texts};
 use fluent_stack::StackBudget;
 use std::alloc::{AllocError, Global};
 

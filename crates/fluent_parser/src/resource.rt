@@ -11,7 +11,7 @@ ghost use Rattle.fluent_parser.specs.Frame.{Advances};
 use crate::parser::Parser;
 use fluent_lines::line_table;
 use fluent_parsed::Collected;
-use fluent_slice::Texts;
+use fluent_text::Texts;
 use fluent_stack::StackBudget;
 use std::alloc::{AllocError, Global};
 

@@ -10,7 +10,7 @@ use crate::fault::Fault;
 use crate::parser::Parser;
 use fluent_ast::{Identifier, InlineExpression, Variant, VariantKey};
 use fluent_parsed::ErrorKind;
-use fluent_slice::Texts;
+use fluent_text::Texts;
 use fluent_words as words;
 
 impl<'p, S: Drop, T: Texts<S>> Parser<'p, S, T> {

@@ -14,7 +14,7 @@ use crate::fault::Fault;
 use crate::parser::{Parser, behind};
 use fluent_ast::Identifier;
 use fluent_parsed::ErrorKind;
-use fluent_slice::Texts;
+use fluent_text::Texts;
 use fluent_words as words;
 use fluent_words::StringEnd;
 

@@ -1,6 +1,6 @@
 -- What functions give.
 use Rattle.std.specs.Prelude.{◌≡◌, List, IfOk, Result, map}
-use Rattle.fluent_environment.specs.Settings.{result_of}
+use Rattle.fluent_ids.specs.Settings.{result_of}
 use Rattle.fluent_ids.specs.EntryView.{function_meaning}
 use Rattle.fluent_ids.specs.declared.entry.FunctionRef.{FunctionRef}
 use Rattle.fluent_meaning.specs.Environment.{Environment}

@@ -1,6 +1,6 @@
 -- What is lent while a pattern is resolved, as plain data.
 use Rattle.std.specs.Prelude.{List, Option, None}
-use Rattle.fluent_environment.specs.Settings.{formatted_by, transformed_by}
+use Rattle.fluent_ids.specs.Settings.{formatted_by, transformed_by}
 use Rattle.fluent_grammar.specs.Words.{Text}
 use Rattle.fluent_meaning.specs.Environment.{Environment}
 use Rattle.fluent_progress.specs.declared.lent.Lent.{Lent}

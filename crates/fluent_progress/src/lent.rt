@@ -2,7 +2,7 @@
 
 ghost use Rattle.std.proofs.Common.{refl};
 ghost use Rattle.std.specs.Prelude.{is_some};
-ghost use Rattle.fluent_environment.specs.Settings.{formatted_by};
+ghost use Rattle.fluent_ids.specs.Settings.{formatted_by};
 ghost use Rattle.fluent_progress.specs.LentView.{lent_view};
 
 use crate::context::Context;

@@ -3,7 +3,7 @@ use Rattle.std.proofs.Common.{◌≡◌, List, IfSome, Option, Some, None, Resul
 use Rattle.std.specs.Io.KnownBytes.{Appends, IsAtEnd}
 use denote.Ref.{Bor}
 use Rattle.fluent_grammar.specs.Words.{Text}
-use Rattle.fluent_normal.specs.Tidied.{Tidied}
+use Rattle.fluent_tidy_laws.specs.Tidied.{Tidied}
 use Rattle.fluent_run.specs.RunView.{RunsFrom, answers_by, answers_of, line_by}
 use Rattle.fluent_run.specs.declared.settings.Settings.{Settings}
 use Rattle.fluent_serve.proofs.Outcomes.{on_ok_map, on_ok_both}

@@ -5,7 +5,7 @@ use denote.Ref.{Bor}
 use Rattle.fluent_answers.specs.Answers.{line_answered, answers}
 use Rattle.fluent_answers.specs.Sources as plain
 use Rattle.fluent_grammar.specs.Words.{Text}
-use Rattle.fluent_normal.specs.Tidied.{Tidied}
+use Rattle.fluent_tidy_laws.specs.Tidied.{Tidied}
 use Rattle.fluent_run.specs.declared.settings.Settings.{Settings}
 use Rattle.fluent_serve.specs.Exchange.{Runs}
 use Rattle.fluent_serve.specs.Texts.{texts}

@@ -17,7 +17,7 @@ use crate::reply::{ErrorLine, Reply, push_text, resolve};
 use crate::settings::Settings;
 use fluent_asking::answer::lone_text;
 use fluent_ast::Pattern;
-use fluent_environment::laws::attributes_agree;
+use fluent_ids::laws::attributes_agree;
 use fluent_ids::{FluentIds, FluentMessage};
 use fluent_progress::{Lent, Place};
 use fluent_resource::FluentResource;

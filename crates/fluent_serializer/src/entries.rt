@@ -10,7 +10,7 @@ use crate::Options;
 use crate::expressions::write_pattern;
 use crate::pieces::{write_new_line, write_piece};
 use fluent_ast::{Attribute, Comment, Entry, Message, Pattern, Resource, Term};
-use fluent_slice::{Slice, Slices};
+use fluent_text::{Slice, Slices};
 use std::alloc::AllocError;
 
 /// Writes what is after the sign of a comment's line: nothing if the line is empty or white space alone.

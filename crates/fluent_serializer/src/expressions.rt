@@ -14,7 +14,7 @@ use crate::names::write_variant_head;
 use crate::pieces::{deeper, write_new_line, write_piece};
 use crate::shapes::begins_on_new_line;
 use fluent_ast::{Expression, InlineExpression, Pattern, PatternElement, Variant};
-use fluent_slice::Texts;
+use fluent_text::Texts;
 use std::alloc::AllocError;
 
 /// Writes a pattern at its level.

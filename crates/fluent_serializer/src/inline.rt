@@ -9,7 +9,7 @@ use crate::expressions::write_expression;
 use crate::names::{write_accessor, write_argument_name, write_name, write_separator};
 use crate::pieces::write_piece;
 use fluent_ast::{CallArguments, InlineExpression, NamedArgument};
-use fluent_slice::Texts;
+use fluent_text::Texts;
 use std::alloc::AllocError;
 
 /// Writes an inline expression anywhere but directly in a placeable of a pattern.

@@ -18,7 +18,7 @@ ghost use Rattle.fluent_grammar.specs.Written.{written, written_with};
 ghost use Rattle.fluent_ast.specs.View.{resource_view};
 
 use fluent_ast::Resource;
-use fluent_slice::Slice;
+use fluent_text::Slice;
 use std::alloc::{AllocError, Global};
 
 /// What is written of a tree.

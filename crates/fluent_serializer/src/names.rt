@@ -8,7 +8,7 @@ ghost use Rattle.fluent_serializer.specs.Writing.{Writes};
 
 use crate::pieces::{deeper, write_default_mark, write_new_line, write_piece};
 use fluent_ast::{Identifier, VariantKey};
-use fluent_slice::Texts;
+use fluent_text::Texts;
 use std::alloc::AllocError;
 
 /// Writes a name.

@@ -9,7 +9,7 @@ ghost use Rattle.fluent_ast.specs.View.{element_view, elements_of, expression_vi
 ghost use Rattle.fluent_serializer.specs.Writing.{begins_on_new_line};
 
 use fluent_ast::{Expression, InlineExpression, Pattern, PatternElement};
-use fluent_slice::Texts;
+use fluent_text::Texts;
 
 /// Whether an expression is a select, also in placeables nested directly in each other.
 #[cycle(selects)]

@@ -2,7 +2,7 @@
 
 pub use fluent_ast::laws::equal_nodes;
 // Damage: a text without errors after any lines.
-pub use fluent_cut::laws::damage_stays;
+pub use fluent_tidy_laws::laws::damage_stays;
 // The tiling of a source by blank blocks, entries and junk, of which trees and errors are made.
 pub use fluent_grammar::laws::tiling::{
     each_text_has_a_tiling, no_text_has_two_tilings, parts_are_the_text,

@@ -18,8 +18,8 @@ use Rattle.fluent_grammar.proofs.Within.{end-same, end-blank_block, entry-fair}
 use Rattle.fluent_grammar.proofs.TilesJunk.{resume-end, place-end}
 use Rattle.fluent_parsed.specs.ErrorView.{error_told, told}
 use Rattle.fluent_parser.specs.Refusals.{RefusalView, refusal_of, attribute_refusal, first_refusal, refusal_told, refusal_from, refusals_from}
-use Rattle.fluent_cut.specs.CutLaws.{StandsBetweenCharacters}
-use Rattle.fluent_cut.proofs.Between.{slices_stand_between_characters}
+use Rattle.fluent_tidy_laws.specs.CutLaws.{StandsBetweenCharacters}
+use Rattle.fluent_tidy_laws.proofs.Between.{slices_stand_between_characters}
 use Rattle.fluent_findings.specs.Finding.{Finding, error}
 use Rattle.fluent_findings.specs.Tiles.{Tile, entry_tile, junk_tile, tiles, and_tiles, tiles_from}
 use Rattle.fluent_findings.specs.Hints as hints

@@ -4,8 +4,8 @@ use denote.Ref.{Bor}
 use Rattle.std.specs.Str.{IsUtf8}
 use Rattle.std.proofs.Math.Seq.{drop-cons}
 use Rattle.fluent_grammar.specs.Words.{Text}
-use Rattle.fluent_cut.specs.Cut.{cut}
-use Rattle.fluent_cut.specs.Joined.{joined, line_ended, AreUtf8}
+use Rattle.fluent_tidy_laws.specs.Cut.{cut}
+use Rattle.fluent_tidy_laws.specs.Joined.{joined, line_ended, AreUtf8}
 use Rattle.fluent_tidy.specs.Sources.{texts}
 use Rattle.fluent_tidy.proofs.LinesEnded.{are_lines, line_ended-lines, line_ended-behind}
 

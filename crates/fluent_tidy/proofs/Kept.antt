@@ -14,9 +14,9 @@ use Rattle.fluent_grammar.specs.Tiles.{full}
 use Rattle.fluent_grammar.proofs.TilesErrors.{slices_ascend}
 use Rattle.fluent_parsed.specs.ErrorView.{Span, span, error_view, error_told}
 use Rattle.fluent_parsed.specs.declared.errors.ParserError.{ParserError as Found}
-use Rattle.fluent_cut.specs.Cut.{without_slices, cut}
-use Rattle.fluent_cut.specs.CutLaws.{StandsBetweenCharacters}
-use Rattle.fluent_cut.proofs.Between.{slices_stand_between_characters}
+use Rattle.fluent_tidy_laws.specs.Cut.{without_slices, cut}
+use Rattle.fluent_tidy_laws.specs.CutLaws.{StandsBetweenCharacters}
+use Rattle.fluent_tidy_laws.proofs.Between.{slices_stand_between_characters}
 
 -- what was written, with what these errors leave of the source from here on, is the cut text after what was there before
 pub record Left (before source now : Text) (end : ℕ) (es : List ParserError) : Type 0 where

@@ -2,7 +2,7 @@
 use Rattle.std.proofs.Common.{◌≡◌, ℕ, Bool, true, false, cond, [], ◌∷◌, ◌++◌, length, refl, sym, ap, ◌∙◌, append_assoc, append-nil}
 use Rattle.fluent_grammar.specs.Words.{Text, line_feed}
 use Rattle.fluent_grammar.specs.Lines.{ends_line}
-use Rattle.fluent_cut.specs.Joined.{line_ended}
+use Rattle.fluent_tidy_laws.specs.Joined.{line_ended}
 
 -- nothing, or lines
 abbrev pub are_lines : Text → Bool

@@ -4,7 +4,7 @@ use denote.Ref.{Bor}
 use Rattle.std.specs.List.{list_any}
 use Rattle.memchr.specs.Find.{IsFirstByte, is_byte}
 use Rattle.fluent_grammar.specs.Words.{Text, carriage_return}
-use Rattle.fluent_cut.specs.Joined.{HasNoReturn, HaveNoReturn}
+use Rattle.fluent_tidy_laws.specs.Joined.{HasNoReturn, HaveNoReturn}
 use Rattle.fluent_tidy.specs.Sources.{texts, holds_return}
 
 neither : (a b : Bool) → (a || b) ≡ false → (a ≡ false) × (b ≡ false)

@@ -4,12 +4,12 @@ use Rattle.std.specs.Prelude.{IsTrue, IfErr, IsErrOf}
 use Rattle.fluent_grammar.specs.Tiling.{ParserError, tree}
 use Rattle.fluent_grammar.specs.Written.{written}
 use Rattle.fluent_parsed.specs.ErrorView.{error_told}
-use Rattle.fluent_cut.specs.Cut.{cut}
+use Rattle.fluent_tidy_laws.specs.Cut.{cut}
 use Rattle.serde_json.specs.Data.{Data}
 use Rattle.fluent_grammar.specs.Words.{Text}
 use Rattle.fluent_grammar.specs.Tree.{Entry}
 use Rattle.fluent_json.specs.Json.{HasValue, with_version, without_version, ValueDecides}
-use Rattle.fluent_normal.specs.Normal.{IsCanonical}
+use Rattle.fluent_tidy_laws.specs.Normal.{IsCanonical}
 use Rattle.fluent_tidy.specs.DeskLaws.{ExportsAreImported, VersionsAreImportedAlike}
 use Rattle.fluent_tidy.specs.Trees.{IsImported, IsNotImported}
 

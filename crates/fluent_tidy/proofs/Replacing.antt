@@ -4,12 +4,12 @@ use Rattle.std.specs.Str.{IsUtf8}
 use Rattle.fluent_grammar.specs.Words.{Text}
 use Rattle.fluent_grammar.specs.Tiling.{tree}
 use Rattle.fluent_grammar.specs.Written.{written}
-use Rattle.fluent_cut.specs.Cut.{cut}
+use Rattle.fluent_tidy_laws.specs.Cut.{cut}
 use Rattle.fluent_json.specs.Json.{json, ValueDecides}
-use Rattle.fluent_normal.specs.Normal.{IsNormalText}
-use Rattle.fluent_normal.specs.NormalLaws.{UnshapedIsCanonical}
-use Rattle.fluent_normal.specs.Tidied as tidied
-use Rattle.fluent_normal.specs.Tidied.{Tidied}
+use Rattle.fluent_tidy_laws.specs.Normal.{IsNormalText}
+use Rattle.fluent_tidy_laws.specs.NormalLaws.{UnshapedIsCanonical}
+use Rattle.fluent_tidy_laws.specs.Tidied as tidied
+use Rattle.fluent_tidy_laws.specs.Tidied.{Tidied}
 use Rattle.fluent_answers.specs.AnswersLaws.{TidiedSourcesKeepAnswers}
 use Rattle.fluent_tidy.specs.Trees.{IsImported}
 use Rattle.fluent_tidy.specs.DeskLaws.{ExportsAreImported}

@@ -3,10 +3,10 @@ use Rattle.std.specs.Prelude.{◌≡◌, ◌↔◌, false, List}
 use Rattle.fluent_grammar.specs.Words.{Text}
 use Rattle.fluent_grammar.specs.Tree.{Entry}
 use Rattle.fluent_grammar.specs.Tiling.{tree}
-use Rattle.fluent_cut.specs.Cut.{cut}
+use Rattle.fluent_tidy_laws.specs.Cut.{cut}
 use Rattle.fluent_json.specs.Selectors.{selects_by_attribute}
 use Rattle.fluent_json.specs.Json.{json, unversioned_json, HasNoTree}
-use Rattle.fluent_normal.specs.Normal.{IsNormalText, HasNoNormalText}
+use Rattle.fluent_tidy_laws.specs.Normal.{IsNormalText, HasNoNormalText}
 use Rattle.fluent_tidy.specs.Trees.{IsImported, IsNotImported}
 
 -- What the JSON tree of a source is imported as.

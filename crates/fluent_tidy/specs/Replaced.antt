@@ -3,11 +3,11 @@ use Rattle.std.specs.Prelude.{List, ◌∷◌, ◌++◌}
 use Rattle.std.specs.Str.{IsUtf8}
 use Rattle.fluent_grammar.specs.Words.{Text}
 use Rattle.fluent_grammar.specs.Tiling.{tree}
-use Rattle.fluent_cut.specs.Cut.{cut}
-use Rattle.fluent_cut.specs.Joined.{joined, HasNoReturn, HaveNoReturn, AreUtf8}
+use Rattle.fluent_tidy_laws.specs.Cut.{cut}
+use Rattle.fluent_tidy_laws.specs.Joined.{joined, HasNoReturn, HaveNoReturn, AreUtf8}
 use Rattle.fluent_json.specs.Json.{json}
-use Rattle.fluent_normal.specs.Normal.{IsNormalText}
-use Rattle.fluent_normal.specs.Shapes.{IsShaped}
+use Rattle.fluent_tidy_laws.specs.Normal.{IsNormalText}
+use Rattle.fluent_tidy_laws.specs.Shapes.{IsShaped}
 use Rattle.fluent_answers.specs.AnswersLaws.{AnswerAlike}
 use Rattle.fluent_tidy.specs.Trees.{IsImported}
 

@@ -6,7 +6,7 @@ use Rattle.fluent_grammar.specs.Tree as t
 use Rattle.fluent_grammar.specs.Tiling.{tree, errors}
 use Rattle.fluent_grammar.specs.Written.{written}
 use Rattle.fluent_json.specs.Json.{HasValue}
-use Rattle.fluent_normal.specs.Normal.{IsCanonical}
+use Rattle.fluent_tidy_laws.specs.Normal.{IsCanonical}
 
 -- A text is read whole, and as these entries.
 pub record IsReadAs (text : Text) (entries : List t.Entry) : Type 0 where

@@ -2,7 +2,7 @@
 
 ghost use Rattle.std.specs.Prelude.{◌≡◌, ◌↔◌, [], IsTrue, IfOk, IsErrOf, string_bytes};
 ghost use Rattle.fluent_grammar.specs.Tiling.{errors, list};
-ghost use Rattle.fluent_cut.specs.Cut.{cut};
+ghost use Rattle.fluent_tidy_laws.specs.Cut.{cut};
 ghost use Rattle.fluent_tidy.specs.Sources.{holds_return};
 ghost use Rattle.fluent_tidy.specs.declared.error.CleanError.TheVariants.{CarriageReturn};
 

@@ -4,7 +4,7 @@ ghost use Rattle.std.specs.Prelude.{◌≡◌, ◌++◌, IfOk, OnOk, map, string
 ghost use Rattle.std.specs.Str.{IsUtf8};
 ghost use Rattle.fluent_grammar.specs.Tiling.{errors};
 ghost use Rattle.fluent_parsed.specs.ErrorView.{error_view, error_told};
-ghost use Rattle.fluent_cut.specs.Cut.{cut};
+ghost use Rattle.fluent_tidy_laws.specs.Cut.{cut};
 
 use fluent_parser::{Error, ParserError, parse};
 use std::alloc::{AllocError, Global};

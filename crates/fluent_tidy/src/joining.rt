@@ -3,7 +3,7 @@
 ghost use Rattle.std.specs.Prelude.{◌≡◌, ◌++◌, ◌∷◌, ◌↔◌, [], IfOk, IsTrue, OnOk, IsErrOf, string_bytes};
 ghost use Rattle.std.specs.List.{list_any};
 ghost use Rattle.fluent_grammar.specs.Tiling.{errors, list};
-ghost use Rattle.fluent_cut.specs.Joined.{joined, lists, line_ended, AreUtf8};
+ghost use Rattle.fluent_tidy_laws.specs.Joined.{joined, lists, line_ended, AreUtf8};
 ghost use Rattle.fluent_tidy.specs.Sources.{texts, holds_return, notices_in};
 ghost use Rattle.fluent_tidy.specs.declared.error.CleanError.TheVariants.{CarriageReturn};
 

@@ -4,9 +4,9 @@ ghost use Rattle.std.specs.Prelude.{◌≡◌, ◌≢◌, ◌↔◌, [], IsTrue,
 ghost use Rattle.fluent_grammar.specs.Tiling.{tree, list};
 ghost use Rattle.fluent_grammar.specs.Words.{Text};
 ghost use Rattle.fluent_grammar.specs.Written.{written};
-ghost use Rattle.fluent_cut.specs.Cut.{cut};
-ghost use Rattle.fluent_normal.specs.Normal.{IsCanonical, IsNormalText, HasNoNormalText};
-ghost use Rattle.fluent_normal.specs.Shapes.{IsShaped};
+ghost use Rattle.fluent_tidy_laws.specs.Cut.{cut};
+ghost use Rattle.fluent_tidy_laws.specs.Normal.{IsCanonical, IsNormalText, HasNoNormalText};
+ghost use Rattle.fluent_tidy_laws.specs.Shapes.{IsShaped};
 ghost use Rattle.fluent_tidy.specs.Sources.{holds_return};
 ghost use Rattle.fluent_tidy.specs.Trees.{IsReadAs};
 ghost use Rattle.fluent_tidy.specs.declared.error.NormalizeError.TheVariants.{CarriageReturn, NotNormal};

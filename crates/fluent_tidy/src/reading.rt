@@ -7,7 +7,7 @@ ghost use Rattle.fluent_tidy.specs.Trees.{IsReadAs};
 
 use fluent_ast::Resource;
 use fluent_parser::{Error, parse};
-use fluent_slice::Slice;
+use fluent_text::Slice;
 use std::alloc::{AllocError, Global};
 
 /// The tree of a text, its errors passed over.

@@ -4,10 +4,10 @@ ghost use Rattle.std.specs.Prelude.{◌≡◌, ◌≢◌, ◌↔◌, IsTrue, IfO
 ghost use Rattle.serde_json.specs.View.{view};
 ghost use Rattle.fluent_grammar.specs.Tiling.{tree};
 ghost use Rattle.fluent_grammar.specs.Written.{written};
-ghost use Rattle.fluent_cut.specs.Cut.{cut};
+ghost use Rattle.fluent_tidy_laws.specs.Cut.{cut};
 ghost use Rattle.fluent_json.specs.Json.{json, HasNoTree};
 ghost use Rattle.fluent_json.specs.Parts.{plain};
-ghost use Rattle.fluent_normal.specs.Normal.{IsCanonical};
+ghost use Rattle.fluent_tidy_laws.specs.Normal.{IsCanonical};
 ghost use Rattle.fluent_tidy.specs.Sources.{holds_return};
 ghost use Rattle.fluent_tidy.specs.Trees.{IsImported, IsNotImported, IsReadAs};
 ghost use Rattle.fluent_tidy.specs.declared.error.CleanError.TheVariants.{CarriageReturn};

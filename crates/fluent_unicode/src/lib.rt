@@ -4,5 +4,5 @@
 mod escape;
 mod unescape;
 
-pub use fluent_write::TextWrite;
+pub use fluent_text::TextWrite;
 pub use unescape::{unescape_unicode, unescape_unicode_to_string};

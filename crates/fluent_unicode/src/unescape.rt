@@ -6,7 +6,7 @@ ghost use Rattle.fluent_grammar.specs.Escapes.{unescaped};
 ghost use Rattle.fluent_unicode.specs.Unescaped.{TookPrefix, has_backslash};
 
 use crate::escape::escape_at;
-use fluent_write::TextWrite;
+use fluent_text::TextWrite;
 use memchr::memchr;
 use std::alloc::{AllocError, Global};
 use std::borrow::CowStr;

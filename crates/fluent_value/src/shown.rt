@@ -10,7 +10,7 @@ ghost use Rattle.fluent_value.specs.declared.value.FluentValue.TheVariants as of
 use crate::custom::FluentType;
 use crate::scope::ValueScope;
 use crate::value::FluentValue;
-use fluent_write::{TextWrite, WriteError};
+use fluent_text::{TextWrite, WriteError};
 use std::alloc::AllocError;
 use std::borrow::CowStr;
 

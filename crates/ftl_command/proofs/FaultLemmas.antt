@@ -6,7 +6,7 @@ use Rattle.std.proofs.lemmas.List.{map-append}
 use Rattle.std.proofs.lemmas.Str.{IsUtf8-string_bytes}
 use Rattle.fluent_requests.specs.Text.{Text}
 use Rattle.fluent_serve.specs.Texts.{texts}
-use Rattle.fluent_cut.specs.Joined.{AreUtf8}
+use Rattle.fluent_tidy_laws.specs.Joined.{AreUtf8}
 use Rattle.ftl_command.specs.Files.{Reaches}
 use Rattle.ftl_command.specs.Faults.{FailsAsTold, IsFaultOfFiles, ReachesFile, SaysNoUtf8, end_status, status_of}
 use Rattle.ftl_command.specs.declared.folder.Folder.{Ghosts as FolderGhosts}

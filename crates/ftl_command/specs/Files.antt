@@ -1,7 +1,7 @@
 -- What files hold. `contents` is what a file of a name holds, if that is known.
 use Rattle.std.specs.Prelude.{◌≡◌, ℕ, List, [], ◌∷◌, ◌++◌, ⊤, Option, IfSome, Result, Ok, Err}
 use Rattle.fluent_requests.specs.Text.{Text}
-use Rattle.fluent_cut.specs.Joined.{AreUtf8}
+use Rattle.fluent_tidy_laws.specs.Joined.{AreUtf8}
 use Rattle.fluent_serve.specs.Devices.{one_more}
 use Rattle.ftl_command.specs.declared.folder.FileError.{FileError}
 use Rattle.ftl_command.specs.declared.folder.FileError.TheVariants.{Memory, Unreadable}

@@ -18,10 +18,10 @@ use Rattle.serde_json.specs.Data.{Data}
 use Rattle.serde_json.specs.Read.{read as read_text}
 use Rattle.serde_json.specs.Written.{compact_text}
 use Rattle.fluent_grammar.specs.Tiling.{tree}
-use Rattle.fluent_cut.specs.Cut.{cut}
-use Rattle.fluent_cut.specs.Joined.{joined}
-use Rattle.fluent_normal.specs.Tidied as tidying
-use Rattle.fluent_normal.specs.Normal.{IsNormalText}
+use Rattle.fluent_tidy_laws.specs.Cut.{cut}
+use Rattle.fluent_tidy_laws.specs.Joined.{joined}
+use Rattle.fluent_tidy_laws.specs.Tidied as tidying
+use Rattle.fluent_tidy_laws.specs.Normal.{IsNormalText}
 use Rattle.fluent_json.specs.Json.{json}
 use Rattle.fluent_tidy.specs.Sources.{holds_return}
 use Rattle.fluent_tidy.specs.Trees.{IsImported}

@@ -6,7 +6,7 @@ use fluent_bundle::{
     EnglishPlurals, FluentArgs, FluentBundle, FluentError, FluentResource, FluentValue, NoCustom,
     NoFormatter, NoFunction,
 };
-use fluent_write::WriteError;
+use fluent_text::WriteError;
 use rows_common::Tally;
 use rows_patterns_bundles::bundle::read;
 use rows_patterns_bundles::pieces::Pieces;

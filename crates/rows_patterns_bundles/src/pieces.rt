@@ -5,7 +5,7 @@ ghost use Rattle.std.specs.Prelude.{string_bytes};
 use crate::asking::Asked;
 use crate::wanted::Wanted;
 use fluent_bundle::FluentError;
-use fluent_write::{TextWrite, WriteError};
+use fluent_text::{TextWrite, WriteError};
 use std::alloc::{AllocError, Global};
 use std::fmt;
 

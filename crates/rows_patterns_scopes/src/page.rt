@@ -2,7 +2,7 @@
 
 ghost use Rattle.std.specs.Prelude.{string_bytes};
 
-use fluent_write::{TextWrite, WriteError};
+use fluent_text::{TextWrite, WriteError};
 use std::alloc::{AllocError, Global};
 use std::fmt;
 

@@ -16,7 +16,7 @@ use fluent_progress::{Lent, Place};
 use fluent_value::{
     FluentArgs, FluentFunction, FluentType, MemoizerKind, TextTransform, ValueFormatter,
 };
-use fluent_write::{TextWrite, WriteError};
+use fluent_text::{TextWrite, WriteError};
 use std::alloc::AllocError;
 use std::borrow::CowStr;
 

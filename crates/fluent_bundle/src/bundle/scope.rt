@@ -2,7 +2,7 @@
 
 ghost use Rattle.std.specs.Prelude.{is_some};
 ghost use Rattle.fluent_bundle.specs.BundleView.{bundle_of};
-ghost use Rattle.fluent_environment.specs.Settings.{formatted_by};
+ghost use Rattle.fluent_ids.specs.Settings.{formatted_by};
 
 use super::FluentBundle;
 use fluent_number::{PluralCategory, PluralOperands, PluralRuleType};

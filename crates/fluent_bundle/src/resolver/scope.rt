@@ -22,7 +22,7 @@ use fluent_value::{
     FluentArgs, FluentFunction, FluentType, FluentValue, MemoizerKind, TextTransform,
     ValueFormatter,
 };
-use fluent_write::{TextWrite, WriteError};
+use fluent_text::{TextWrite, WriteError};
 use std::alloc::AllocError;
 
 /// What the placeables of a pattern are resolved in, by a program that writes the pattern by itself: a bundle, the arguments of a

@@ -13,7 +13,7 @@ mod patterns;
 use crate::error::FromValueError;
 use crate::selects::selects_by_attribute;
 use fluent_ast::{Attribute, Comment, Entry, Message, Pattern, Resource, Term};
-use fluent_json_objects::parts;
+use fluent_json_values::parts;
 use patterns::{read_identifier, read_pattern};
 use serde_json::Value;
 use std::alloc::Global;

@@ -4,7 +4,7 @@
 
 ghost use Rattle.std.specs.Prelude.{◌≡◌, IfOk};
 ghost use Rattle.serde_json.specs.View.{view, items_view};
-ghost use Rattle.fluent_json_objects.specs.Objects.{placeable, function_reference, message_reference, identifier};
+ghost use Rattle.fluent_json_values.specs.Objects.{placeable, function_reference, message_reference, identifier};
 ghost use Rattle.fluent_json_read.specs.Given.{IfShape, term_reference_of};
 ghost use Rattle.fluent_json_values.specs.Json.{HasNone, or_null, json_key, json_pattern, json_elements, json_expression, json_variants, json_inline, json_arguments, json_maybe_arguments, json_positional, json_named};
 ghost use Rattle.fluent_json_values.specs.Parts.{accessor_json, maybe_arguments_json, identifier_json, key_json, pattern_json, element_json, json_element, expression_json, inline_json, variant_json, json_variant, variants_json, elements_json, arguments_json, positional_json, named_json, json_one_named, nameds_json};
@@ -14,7 +14,7 @@ use fluent_ast::{
     CallArguments, Expression, Identifier, InlineExpression, NamedArgument, Pattern,
     PatternElement, Variant, VariantKey,
 };
-use fluent_json_objects::parts;
+use fluent_json_values::parts;
 use serde_json::Value;
 use std::alloc::Global;
 

@@ -6,7 +6,7 @@ use crate::values::count::{Count, Value};
 use crate::values::made::value_of;
 use crate::values::scope::Plain;
 use fluent_value::{EnglishPlurals, FluentType, MemoizerKind, ValueScope};
-use fluent_write::{TextWrite, WriteError};
+use fluent_text::{TextWrite, WriteError};
 use rows_common::Row;
 use std::alloc::{AllocError, Global};
 use std::borrow::CowStr;

@@ -1,7 +1,7 @@
 use Rattle.std.proofs.Common.{◌≡◌, string_bytes, ◌++◌, ap, ◌∙◌}
 use Rattle.fluent_grammar.specs.Tiling.{errors, list}
-use Rattle.fluent_cut.specs.Cut.{cut}
-use Rattle.fluent_cut.proofs.Slices.{damage_is_local}
+use Rattle.fluent_tidy_laws.specs.Cut.{cut}
+use Rattle.fluent_tidy_laws.proofs.Slices.{damage_is_local}
 use Rattle.fluent_tidy.proofs.cleaning.clean.Goals as goal
 
 pub returns-clause-no_errors : goal.returns-clause-no_errors

@@ -1,6 +1,6 @@
 use Rattle.std.proofs.Common.{[], ◌∷◌, ap, sym, ◌∙◌}
 use Rattle.fluent_grammar.specs.Tiling.{errors, list}
-use Rattle.fluent_cut.proofs.Joining.{joined_texts_keep_lists}
+use Rattle.fluent_tidy_laws.proofs.Joining.{joined_texts_keep_lists}
 use Rattle.fluent_value.specs.declared.function.NoFunction.{NoFunction}
 use Rattle.fluent_answers.specs.Sources.{notices_of}
 use Rattle.fluent_answers.proofs.Tidying.{joined_sources_keep_notices}

@@ -1,8 +1,8 @@
 use Rattle.std.proofs.Common.{◌≡◌, refl, sym, ◌∙◌, subst}
 use Rattle.fluent_grammar.specs.Tiling.{tree}
-use Rattle.fluent_cut.specs.Cut.{cut}
-use Rattle.fluent_normal.specs.Normal.{IsCanonical}
-use Rattle.fluent_normal.proofs.NormalTexts.{no_normal_text_means_shaped}
+use Rattle.fluent_tidy_laws.specs.Cut.{cut}
+use Rattle.fluent_tidy_laws.specs.Normal.{IsCanonical}
+use Rattle.fluent_tidy_laws.proofs.NormalTexts.{no_normal_text_means_shaped}
 use Rattle.fluent_tidy.specs.Sources.{holds_return}
 use Rattle.fluent_tidy.proofs.NoReturn.{none_held}
 use Rattle.fluent_tidy.proofs.Read.{of_error, not_true, value_is_no_error}

@@ -2,7 +2,7 @@ use Rattle.std.proofs.Common.{rules, ◌≡◌, ◌∷◌, ◌++◌, [], ap, ◌
 use Rattle.serde_json.specs.View.{view}
 use Rattle.serde_json.specs.Written.{compact_text, has_float}
 use Rattle.fluent_grammar.specs.Tiling.{tree}
-use Rattle.fluent_cut.specs.Cut.{cut}
+use Rattle.fluent_tidy_laws.specs.Cut.{cut}
 use Rattle.fluent_json.specs.Json.{json}
 use Rattle.fluent_json.proofs.NoFloats.{has_no_float}
 use Rattle.fluent_requests.specs.Text.{line_feed}

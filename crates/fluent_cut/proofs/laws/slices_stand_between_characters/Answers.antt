@@ -1,5 +1,0 @@
-use Rattle.fluent_cut.proofs.Between.{slices_stand_between_characters}
-use Rattle.fluent_cut.proofs.laws.slices_stand_between_characters.Goals as goal
-
-pub returns : goal.returns
-returns c = slices_stand_between_characters

@@ -1,3 +1,0 @@
-pub mod Cut
-pub mod Joined
-pub mod CutLaws

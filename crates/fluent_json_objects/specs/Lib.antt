@@ -1,4 +1,0 @@
-pub mod Objects
-pub mod Left
-pub mod Given
-pub mod Taken

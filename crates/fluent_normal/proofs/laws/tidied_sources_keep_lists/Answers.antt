@@ -1,5 +1,0 @@
-use Rattle.fluent_normal.proofs.TidiedSources.{tidied_sources_keep_lists}
-use Rattle.fluent_normal.proofs.laws.tidied_sources_keep_lists.Goals as goal
-
-pub returns : goal.returns
-returns c = tidied_sources_keep_lists

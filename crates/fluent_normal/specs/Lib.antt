@@ -1,5 +1,0 @@
-pub mod Shapes
-pub mod Normal
-pub mod WellFormed
-pub mod Tidied
-pub mod NormalLaws
