@@ -1,4 +1,5 @@
 pub mod InTurn
+pub mod OneByOne
 pub mod Tidying
 mod Rows
 pub mod SourcesFit

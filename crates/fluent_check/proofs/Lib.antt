@@ -1,3 +1,1 @@
-pub mod Loops
-pub mod InTurn
 mod SameKinds

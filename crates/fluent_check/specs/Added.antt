@@ -1,4 +1,4 @@
--- What resources that are added stand for.
+-- What trees that are added stand for.
 use Rattle.std.specs.Prelude.{List}
 use Rattle.std.specs.List.{flat_map}
 use denote.Ref.{Bor}
@@ -6,21 +6,11 @@ use Rattle.fluent_ast.specs.declared.Resource.{Resource}
 use Rattle.fluent_grammar.specs.Words.{Text}
 use Rattle.fluent_value.specs.declared.function.NoFunction.{NoFunction}
 use Rattle.fluent_meaning.specs.Ids.{Ids, Meaning, entries_by_id}
-use Rattle.fluent_resource.specs.ResourceView.{entries_view}
-use Rattle.fluent_resource.specs.declared.resource.FluentResource.{FluentResource}
 use Rattle.fluent_ids.specs.IdsView.{ids_view}
 use Rattle.fluent_ids.specs.ResourceEntries.{entries_in}
 use Rattle.fluent_errors.specs.Errors.{Reported}
 use Rattle.fluent_check.specs.ReportView.{notices_view}
 use Rattle.fluent_check.specs.declared.notices.Added.{Added}
-
--- the messages and terms of a resource, by their ids
-abbrev pub by_id : FluentResource → List (Text × Meaning NoFunction)
-by_id r = entries_by_id (entries_view r)
-
--- those of resources, one after the other
-abbrev pub all_by_id : List FluentResource → List (Text × Meaning NoFunction)
-all_by_id rs = flat_map by_id rs
 
 -- the messages and terms of a tree, by their ids
 abbrev pub tree_by_id : Resource (Bor Text) → List (Text × Meaning NoFunction)

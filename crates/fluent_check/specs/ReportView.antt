@@ -1,7 +1,6 @@
 -- The plain data that a report stands for.
 use Rattle.std.specs.Prelude.{List, map}
 use Rattle.std.specs.Global.{Vec}
-use denote.Ref.{Bor}
 use Rattle.fluent_grammar.specs.Words.{Text}
 use Rattle.fluent_grammar.specs.Tiling.{errors}
 use Rattle.fluent_parsed.specs.ErrorView.{ErrorView, error_view, error_told}
@@ -9,9 +8,6 @@ use Rattle.fluent_parsed.specs.declared.errors.ParserError.{ParserError}
 use Rattle.fluent_errors.specs.Errors.{Reported}
 use Rattle.fluent_errors.specs.View.{bundle_view}
 use Rattle.fluent_errors.specs.declared.bundle.FluentError.{FluentError}
-
-abbrev pub texts : List (Bor Text) → List Text
-texts sources = map (λ s. s.now) sources
 
 -- errors that were found
 abbrev pub errors_view : Vec ParserError → List ErrorView

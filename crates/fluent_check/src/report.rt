@@ -2,7 +2,8 @@
 
 ghost use Rattle.std.specs.Prelude.{◌≡◌, IfOk, map};
 ghost use Rattle.fluent_answers.specs.Sources.{notices_of};
-ghost use Rattle.fluent_check.specs.ReportView.{errors_view, errors_told, notices_view, texts};
+ghost use Rattle.fluent_check.specs.ReportView.{errors_view, errors_told, notices_view};
+ghost use Rattle.fluent_resource.specs.Sources.{texts};
 
 use crate::notices::notices_of_trees;
 use crate::whole::read_whole;

@@ -1,7 +1,8 @@
 //! Sources, read whole: their trees, comments included, and their errors.
 
 ghost use Rattle.std.specs.Prelude.{◌≡◌, IfOk, OnOk, [], ◌++◌, ◌∷◌, map};
-ghost use Rattle.fluent_check.specs.ReportView.{errors_view, errors_told, texts};
+ghost use Rattle.fluent_check.specs.ReportView.{errors_view, errors_told};
+ghost use Rattle.fluent_resource.specs.Sources.{texts};
 ghost use Rattle.fluent_check.specs.WholeView.{trees_in, errors_in};
 ghost use Rattle.fluent_grammar.specs.Tiling.{tree};
 ghost use Rattle.fluent_ids.specs.ResourceEntries.{entries_in};

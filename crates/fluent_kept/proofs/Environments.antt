@@ -1,7 +1,7 @@
 -- A desk over what was read of a catalog answers from the catalog's environment.
 use Rattle.std.proofs.Common.{◌≡◌, Bool, List, [], ◌∷◌, map, None, ap, ◌∙◌}
 use Rattle.fluent_answers.specs.Sources.{ids_of}
-use Rattle.fluent_check.proofs.InTurn.{all_by_id-read}
+use Rattle.fluent_run.proofs.ResourceIds.{all_by_id-read}
 use Rattle.fluent_grammar.specs.Tiling.{runtime_tree}
 use Rattle.fluent_meaning.specs.Environment.{Environment}
 use Rattle.fluent_meaning.specs.Ids.{Ids, find, number_pair, with_ids}

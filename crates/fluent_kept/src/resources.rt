@@ -7,8 +7,7 @@ ghost use Rattle.fluent_kept.specs.Catalogs.{IsReadOf, catalog_of};
 
 use crate::loose::Loose;
 use crate::sources::{Sources, borrow_texts};
-use fluent_check::sources::parse_sources_within;
-use fluent_resource::FluentResource;
+use fluent_resource::{FluentResource, parse_sources_within};
 use std::alloc::{AllocError, Global};
 
 /// What is read of sources.

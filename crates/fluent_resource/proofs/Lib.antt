@@ -1,1 +1,2 @@
 pub mod Junk
+pub mod Loops

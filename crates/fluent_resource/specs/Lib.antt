@@ -1,3 +1,4 @@
 pub mod EntriesLeft
 pub mod ResourceView
 pub mod Reading
+pub mod Sources

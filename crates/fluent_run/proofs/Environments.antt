@@ -3,8 +3,8 @@ use Rattle.std.proofs.Common.{◌≡◌, Bool, List, [], ◌∷◌, map, None, a
 use denote.Ref.{Bor}
 use Rattle.fluent_answers.specs.Answers.{line_from}
 use Rattle.fluent_answers.specs.Sources.{ids_of}
-use Rattle.fluent_check.proofs.InTurn.{all_by_id-read}
-use Rattle.fluent_check.specs.Added.{all_by_id}
+use Rattle.fluent_run.proofs.ResourceIds.{all_by_id-read}
+use Rattle.fluent_run.specs.ResourceIds.{all_by_id}
 use Rattle.fluent_grammar.specs.Tiling.{runtime_tree}
 use Rattle.fluent_grammar.specs.Words.{Text}
 use Rattle.fluent_meaning.specs.Environment.{Environment}

@@ -1,3 +1,4 @@
+pub mod ResourceIds
 pub mod Answered
 pub mod Environments
 pub mod Lines

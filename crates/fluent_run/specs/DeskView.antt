@@ -4,7 +4,7 @@ use denote.Ref.{Bor}
 use Rattle.fluent_answers.specs.Answers.{line_from, pattern_asked, told}
 use Rattle.fluent_ast.specs.View.{pattern_view}
 use Rattle.fluent_ast.specs.declared.Pattern.{Pattern}
-use Rattle.fluent_check.specs.Added.{all_by_id}
+use Rattle.fluent_run.specs.ResourceIds.{all_by_id}
 use Rattle.fluent_grammar.specs.Tree.{Elements}
 use Rattle.fluent_grammar.specs.Words.{Text}
 use Rattle.fluent_ids.specs.IdsView.{ids_view}

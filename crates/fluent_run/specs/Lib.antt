@@ -1,3 +1,4 @@
+pub mod ResourceIds
 pub mod RunView
 pub mod DeskView
 pub mod ReplyView

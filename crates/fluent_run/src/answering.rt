@@ -9,7 +9,7 @@ ghost use Rattle.fluent_serve.specs.Exchange.{GivesUp};
 use crate::desk::Desk;
 use crate::settings::Settings;
 use fluent_answers::laws::tidied_sources_keep_answers;
-use fluent_check::sources::{parse_sources, parse_sources_within};
+use fluent_resource::{parse_sources, parse_sources_within};
 use fluent_serve::serve::{RunError, serve};
 use fluent_serve::stream::{Sink, Source};
 use fluent_stack::StackBudget;

@@ -1,7 +1,7 @@
 //! The ids of sources that were read.
 
 ghost use Rattle.std.specs.Prelude.{◌≡◌, false, IfOk, OnOk};
-ghost use Rattle.fluent_check.specs.Added.{by_id};
+ghost use Rattle.fluent_run.specs.ResourceIds.{by_id};
 ghost use Rattle.fluent_meaning.specs.Ids.{number_pair, with_id, with_ids};
 ghost use Rattle.fluent_run.specs.DeskView.{ids_added, plain_ids};
 

@@ -2,8 +2,8 @@
 use Rattle.std.proofs.Common.{◌≡◌, Bool, List, [], ◌∷◌, map, None, Option, ap, ◌∙◌}
 use denote.Ref.{Bor}
 use Rattle.fluent_answers.specs.Sources.{environment_of, ids_of}
-use Rattle.fluent_check.proofs.InTurn.{all_by_id-read}
-use Rattle.fluent_check.specs.Added.{all_by_id}
+use Rattle.fluent_run.proofs.ResourceIds.{all_by_id-read}
+use Rattle.fluent_run.specs.ResourceIds.{all_by_id}
 use Rattle.fluent_grammar.specs.Tiling.{runtime_tree}
 use Rattle.fluent_grammar.specs.Words.{Text}
 use Rattle.fluent_meaning.specs.Environment.{Environment}

@@ -5,7 +5,7 @@ ghost use Rattle.fluent_run.specs.ReplyView.{reply_view};
 ghost use Rattle.ftl_format.specs.FormatView.{IsReply, IsWritten, IsWrittenAs, request_of};
 
 use crate::errors::error_lines;
-use fluent_check::sources::parse_sources;
+use fluent_resource::parse_sources;
 use fluent_run::{Desk, Reply, Settings, valued_arguments};
 use fluent_value::{FluentArgs, MemoizerKind, NoCustom};
 use std::alloc::{AllocError, Global};

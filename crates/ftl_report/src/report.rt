@@ -1,7 +1,7 @@
 //! The text of a report.
 
 ghost use Rattle.std.specs.Prelude.{◌≡◌, IfOk, string_bytes};
-ghost use Rattle.fluent_check.specs.ReportView.{texts};
+ghost use Rattle.fluent_resource.specs.Sources.{texts};
 ghost use Rattle.ftl_report.specs.Report.{report_text};
 
 use crate::errors::push_errors;

@@ -3,7 +3,7 @@ use Rattle.std.proofs.lemmas.List.{take_all}
 use Rattle.fluent_value.specs.declared.function.NoFunction.{NoFunction}
 use Rattle.fluent_meaning.specs.Ids.{notices, number_pair, with_ids}
 use Rattle.fluent_check.specs.Added.{tree_by_id, trees_by_id, ids_in}
-use Rattle.fluent_check.proofs.InTurn.{pairs-ids-next, pairs-notices-next}
+use Rattle.fluent_answers.proofs.OneByOne.{pairs-ids-next, pairs-notices-next}
 use Rattle.fluent_check.proofs.notices.notices_of_trees.Goals as goal
 
 pub loop-tree-preserved : goal.loop-tree-preserved

@@ -1,6 +1,6 @@
 use Rattle.std.proofs.Common.{ap, ◌∙◌, [], ◌∷◌}
 use Rattle.fluent_meaning.specs.Ids.{notices, number_pair}
-use Rattle.fluent_check.specs.ReportView.{texts}
+use Rattle.fluent_resource.specs.Sources.{texts}
 use Rattle.fluent_check.specs.Added.{trees_by_id}
 use Rattle.fluent_check.proofs.SameKinds.{notices-read}
 use Rattle.fluent_check.proofs.report.check.Goals as goal

@@ -3,7 +3,7 @@ use Rattle.std.proofs.lemmas.List.{take_all}
 use Rattle.std.proofs.lemmas.Simd.{map-map}
 use Rattle.fluent_grammar.specs.Tiling.{tree}
 use Rattle.fluent_check.specs.ReportView.{errors_told}
-use Rattle.fluent_check.proofs.Loops.{one-more}
+use Rattle.fluent_resource.proofs.Loops.{one-more}
 use Rattle.fluent_check.proofs.whole.read_whole.Goals as goal
 
 pub loop-source-preserved : goal.loop-source-preserved

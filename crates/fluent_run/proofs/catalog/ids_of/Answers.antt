@@ -1,7 +1,7 @@
 use Rattle.std.proofs.Common.{[], ◌∷◌, ap, sym, ◌∙◌}
 use Rattle.std.proofs.lemmas.List.{take_all}
-use Rattle.fluent_check.specs.Added.{all_by_id, by_id}
-use Rattle.fluent_check.proofs.InTurn.{ids-next}
+use Rattle.fluent_run.specs.ResourceIds.{all_by_id, by_id}
+use Rattle.fluent_run.proofs.ResourceIds.{ids-next}
 use Rattle.fluent_meaning.specs.Ids.{number_pair, with_ids}
 use Rattle.fluent_run.proofs.catalog.ids_of.Goals as goal
 

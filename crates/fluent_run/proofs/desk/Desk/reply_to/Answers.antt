@@ -1,7 +1,7 @@
 use Rattle.std.proofs.Common.{ap, refl, ◌∙◌}
 use Rattle.fluent_answers.specs.Answers.{told}
 use Rattle.fluent_ast.specs.View.{pattern_view}
-use Rattle.fluent_check.proofs.Loops.{if_ok-map}
+use Rattle.fluent_resource.proofs.Loops.{if_ok-map}
 use Rattle.fluent_meaning.proofs.EqualEnvironments.{one_environment}
 use Rattle.fluent_meaning.specs.Substitution.{answer_written}
 use Rattle.fluent_run.specs.DeskView.{arguments_view, environment_in}

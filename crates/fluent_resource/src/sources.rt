@@ -1,12 +1,13 @@
 //! Sources, parsed for run time.
 
 ghost use Rattle.std.specs.Prelude.{◌≡◌, IfOk, map};
-ghost use Rattle.fluent_check.specs.ReportView.{texts};
+ghost use Rattle.fluent_resource.specs.Sources.{texts};
 ghost use Rattle.fluent_grammar.specs.Tiling.{runtime_tree};
 ghost use Rattle.fluent_resource.specs.ResourceView.{entries_view};
 
+use crate::error::ResourceError;
+use crate::resource::FluentResource;
 use fluent_parser::StackBudget;
-use fluent_resource::{FluentResource, ResourceError};
 use std::alloc::{AllocError, Global};
 
 /// The resource of each source, in their order. What is no entry is passed over: a resource has it as junk.

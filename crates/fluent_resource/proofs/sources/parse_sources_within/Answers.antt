@@ -3,8 +3,8 @@ use Rattle.std.proofs.lemmas.List.{take_all}
 use Rattle.std.proofs.lemmas.Simd.{map-map}
 use Rattle.fluent_grammar.specs.Tiling.{runtime_tree}
 use Rattle.fluent_resource.specs.ResourceView.{entries_view}
-use Rattle.fluent_check.proofs.Loops.{map-next}
-use Rattle.fluent_check.proofs.sources.parse_sources_within.Goals as goal
+use Rattle.fluent_resource.proofs.Loops.{map-next}
+use Rattle.fluent_resource.proofs.sources.parse_sources_within.Goals as goal
 
 pub loop-source-preserved : goal.loop-source-preserved
 loop-source-preserved c =

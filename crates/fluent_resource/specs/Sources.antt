@@ -1,0 +1,7 @@
+-- Sources, as plain texts.
+use Rattle.std.specs.Prelude.{List, map}
+use denote.Ref.{Bor}
+use Rattle.fluent_grammar.specs.Words.{Text}
+
+abbrev pub texts : List (Bor Text) → List Text
+texts sources = map (λ s. s.now) sources
