@@ -7,11 +7,11 @@
 
 use fluent_bundle::resolver::Scope;
 use fluent_bundle::{EnglishPlurals, FluentError, FluentResource, TextTransform};
-use rows_patterns_bundles::bundle::{Bundle, is_added};
-use rows_patterns_bundles::told::errors_of;
+use rows_patterns_data::bundle::{Bundle, is_added};
 use rows_patterns_data::json::{is_set, list_in};
 use rows_patterns_data::own::{Args, Brackets, Capitals};
 use rows_patterns_data::settings::Settings;
+use rows_patterns_data::told::errors_of;
 use rows_patterns_data::values::arguments_of;
 use rows_patterns_scopes::call::{Call, Name, Writing};
 use rows_patterns_scopes::page::Page;

@@ -7,14 +7,14 @@
 
 use fluent_ast::Pattern;
 use fluent_bundle::{EnglishPlurals, FluentResource, TextTransform};
-use rows_patterns_bundles::asking::Asked;
-use rows_patterns_bundles::bundle::{Bundle, is_added, pattern_in, read};
-use rows_patterns_bundles::wanted::Wanted;
+use rows_patterns_data::asking::Asked;
+use rows_patterns_data::bundle::{Bundle, is_added, pattern_in, read};
 use rows_patterns_data::json::text_in;
 use rows_patterns_data::own::{Args, Brackets, Capitals};
 use rows_patterns_data::settings::Settings;
 use rows_patterns_data::trees::pattern_of;
 use rows_patterns_data::values::arguments_of;
+use rows_patterns_data::wanted::Wanted;
 use serde_json::Value as Json;
 use std::alloc::{AllocError, Global};
 

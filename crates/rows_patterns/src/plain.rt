@@ -8,8 +8,8 @@ use fluent_bundle::{
 };
 use fluent_text::WriteError;
 use rows_common::Tally;
-use rows_patterns_bundles::bundle::read;
-use rows_patterns_bundles::pieces::Pieces;
+use rows_patterns_data::bundle::read;
+use rows_patterns_data::pieces::Pieces;
 use std::alloc::{AllocError, Global};
 use std::borrow::CowStr;
 

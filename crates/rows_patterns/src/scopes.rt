@@ -4,7 +4,7 @@
 //! by their names; placeables are isolated where `isolating` isn't `false`.
 
 use crate::calls::are_right;
-use rows_patterns_bundles::bundle::read;
+use rows_patterns_data::bundle::read;
 use rows_patterns_data::json::{list_in, text_in};
 use rows_patterns_data::values::are_set;
 use serde_json::Value as Json;

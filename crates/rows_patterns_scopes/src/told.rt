@@ -2,8 +2,8 @@
 
 use crate::bundle::Called;
 use fluent_bundle::FluentError;
-use rows_patterns_bundles::told::is_told;
 use rows_patterns_data::json::{list_in, number_in};
+use rows_patterns_data::told::is_told;
 use serde_json::Value as Json;
 use std::alloc::{AllocError, Global};
 use std::slice;

@@ -1,8 +1,8 @@
 //! The errors that are told.
 
+use crate::json::list_in;
 use fluent_bundle::FluentError;
 use fluent_bundle::resolver::ResolverError;
-use rows_patterns_data::json::list_in;
 use serde_json::Value as Json;
 use std::alloc::{AllocError, Global};
 

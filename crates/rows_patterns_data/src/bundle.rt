@@ -1,10 +1,10 @@
 //! The bundles that rows are tried in.
 
+use crate::own::{Brackets, Function, Token};
 use fluent_ast::Pattern;
 use fluent_bundle::{
     AddResourceError, EnglishPlurals, FluentBundle, FluentResource, ResourceError,
 };
-use rows_patterns_data::own::{Brackets, Function, Token};
 use std::alloc::{AllocError, Global};
 
 /// A bundle of English plurals, and of what the program brings.

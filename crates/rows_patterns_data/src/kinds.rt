@@ -1,8 +1,8 @@
 //! What expressions refer to.
 
+use crate::json::text_in;
 use fluent_ast::InlineExpression;
 use fluent_bundle::resolver::errors::ReferenceKind;
-use rows_patterns_data::json::text_in;
 use serde_json::Value as Json;
 use std::alloc::{AllocError, Global};
 

@@ -1,10 +1,10 @@
 //! Asking a bundle for what a pattern gives, by each of its calls.
 
 use crate::bundle::Bundle;
+use crate::own::Args;
 use crate::wanted::Wanted;
 use fluent_ast::Pattern;
 use fluent_bundle::FluentError;
-use rows_patterns_data::own::Args;
 use std::alloc::{AllocError, Global};
 
 /// A pattern that a bundle is asked for, and the arguments that it is asked with.

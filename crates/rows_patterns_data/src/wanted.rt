@@ -1,8 +1,8 @@
 //! What a pattern must give, and the errors that are told.
 
+use crate::json::text_in;
 use crate::told::is_told;
 use fluent_bundle::FluentError;
-use rows_patterns_data::json::text_in;
 use serde_json::Value as Json;
 use std::alloc::{AllocError, Global};
 
