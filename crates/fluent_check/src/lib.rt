@@ -7,4 +7,4 @@ mod notices;
 mod report;
 mod whole;
 
-pub use report::{Report, check};
+pub use report::{Report, check, check_within};

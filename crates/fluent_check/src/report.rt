@@ -8,7 +8,7 @@ ghost use Rattle.fluent_resource.specs.Sources.{texts};
 use crate::notices::notices_of_trees;
 use crate::whole::read_whole;
 use fluent_errors::FluentError;
-use fluent_parser::ParserError;
+use fluent_parser::{ParserError, StackBudget};
 use fluent_value::NoFunction;
 use std::alloc::{AllocError, Global};
 
@@ -39,14 +39,32 @@ pub struct Report {
 /// ```
 ///
 /// # Errors
-/// [`AllocError`] if memory runs out; nothing is left behind.
+/// [`AllocError`] if memory runs out; nothing is left behind. It also means that placeables, calls and selects of a source
+/// are nested so deep that reading them would take more than the budget of a program, [`StackBudget::PROGRAM`].
 pub fn check(alloc: Global, sources: &[&str]) -> Result<Report, AllocError>
     ensures errors { IfOk result (λ report. map errors_view report.errors.items
         ≡ map errors_told (texts sources.now)) }
     ensures notices { IfOk result (λ report. notices_view report.notices
         ≡ notices_of NoFunction (texts sources.now)) }
 {
-    let read = read_whole(alloc, sources)?;
+    check_within(alloc, sources, StackBudget::PROGRAM)
+}
+
+/// As [`check`], within this budget of the machine's stack for each message and term.
+///
+/// # Errors
+/// Those of [`check`].
+pub fn check_within(
+    alloc: Global,
+    sources: &[&str],
+    budget: StackBudget,
+) -> Result<Report, AllocError>
+    ensures errors { IfOk result (λ report. map errors_view report.errors.items
+        ≡ map errors_told (texts sources.now)) }
+    ensures notices { IfOk result (λ report. notices_view report.notices
+        ≡ notices_of NoFunction (texts sources.now)) }
+{
+    let read = read_whole(alloc, sources, budget)?;
     let notices = notices_of_trees(alloc, &read.trees)?;
     Ok(Report {
         errors: read.errors,

@@ -8,7 +8,7 @@ ghost use Rattle.fluent_grammar.specs.Tiling.{tree};
 ghost use Rattle.fluent_ids.specs.ResourceEntries.{entries_in};
 
 use fluent_ast::Resource;
-use fluent_parser::{Error, ParserError, parse};
+use fluent_parser::{Error, ParserError, StackBudget, parse_within};
 use std::alloc::{AllocError, Global};
 
 /// The trees of sources, and for each source its errors.
@@ -30,14 +30,19 @@ impl<'s> Whole<'s> {
         }
     }
 
-    /// Reads one more source.
-    fn read(&mut self, alloc: Global, source: &'s str) -> Result<(), AllocError>
+    /// Reads one more source, within this budget of the machine's stack.
+    fn read(
+        &mut self,
+        alloc: Global,
+        source: &'s str,
+        budget: StackBudget,
+    ) -> Result<(), AllocError>
         ensures trees { OnOk result (trees_in self.new
             ≡ trees_in self.old ++ tree source.now ∷ []) }
         ensures errors { OnOk result (errors_in self.new
             ≡ errors_in self.old ++ errors_told source.now ∷ []) }
     {
-        match parse(alloc, source) {
+        match parse_within(alloc, source, budget) {
             Ok(tree) => self.push(tree, Vec::new(alloc)),
             Err(Error::Broken(tree, errors)) => self.push(tree, errors),
             Err(Error::Memory) => Err(AllocError),
@@ -57,17 +62,21 @@ impl<'s> Whole<'s> {
     }
 }
 
-/// What is read of each source, in their order.
+/// What is read of each source, in their order, within this budget of the machine's stack for each message and term.
 ///
 /// # Errors
-/// [`AllocError`] if memory runs out; nothing is left behind.
-pub(crate) fn read_whole<'s>(alloc: Global, sources: &[&'s str]) -> Result<Whole<'s>, AllocError>
+/// [`AllocError`] if memory runs out, or the budget does; nothing is left behind.
+pub(crate) fn read_whole<'s>(
+    alloc: Global,
+    sources: &[&'s str],
+    budget: StackBudget,
+) -> Result<Whole<'s>, AllocError>
     ensures trees { IfOk result (λ whole. trees_in whole ≡ map tree (texts sources.now)) }
     ensures errors { IfOk result (λ whole. errors_in whole ≡ map errors_told (texts sources.now)) }
 {
     let mut whole = Whole::new(alloc);
     for source in sources {
-        whole.read(alloc, source)?;
+        whole.read(alloc, source, budget)?;
     }
     Ok(whole)
 }

@@ -13,7 +13,7 @@ use crate::sources::{Sources, borrow_texts};
 use fluent_plurals::LanguagePlurals;
 use fluent_run::Desk;
 use fluent_value::{FluentArgs, NoCustom};
-use ftl_report::check_text;
+use ftl_report::check_text_within;
 use std::alloc::{AllocError, Global};
 
 /// What answers questions. It refers to what was read, and to the sources.
@@ -86,17 +86,16 @@ impl<'r, 's> KeptDesk<'r, 's> {
         }
     }
 
-    /// What a check of the sources reports. It reads them whole. That opens the same placeables, calls and selects as the first
-    /// reading, so it takes no more of the stack.
+    /// What a check of the sources reports. It reads them whole, within the budget of the stack.
     ///
     /// # Errors
-    /// [`AllocError`] if memory runs out; nothing is left behind.
+    /// [`AllocError`] if memory runs out, or the budget does; nothing is left behind.
     fn report(&self, alloc: Global) -> Result<String, AllocError>
         ensures { IfOk result (λ text. string_bytes text
             ≡ report_text (catalog_of self.now.sources.now).sources) }
     {
         let texts = borrow_texts(alloc, &self.sources.texts)?;
-        check_text(alloc, &texts)
+        check_text_within(alloc, &texts, self.sources.stack)
     }
 
     /// The answer to a question.

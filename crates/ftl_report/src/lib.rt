@@ -8,4 +8,4 @@ mod errors;
 mod notices;
 mod report;
 
-pub use report::check_text;
+pub use report::{check_text, check_text_within};

@@ -3,7 +3,7 @@ use Rattle.fluent_meaning.specs.Ids.{notices, number_pair}
 use Rattle.fluent_resource.specs.Sources.{texts}
 use Rattle.fluent_check.specs.Added.{trees_by_id}
 use Rattle.fluent_check.proofs.SameKinds.{notices-read}
-use Rattle.fluent_check.proofs.report.check.Goals as goal
+use Rattle.fluent_check.proofs.report.check_within.Goals as goal
 
 pub returns-clause-notices : goal.returns-clause-notices
 returns-clause-notices c =
