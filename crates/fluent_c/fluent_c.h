@@ -149,8 +149,8 @@ uint32_t fluent_bundle_new(
 );
 
 /* The same with a budget of `stack` bytes in the place of 1.5 MB (1,572,864). It is for each message and term that is
- * read, and for each answer of the bundle. A thread that makes the bundle or asks it needs 400 KB of stack beside it; with
- * 6,291,456, which is what `ftl` has, 8 MB are enough. fluent_bundle_errors never takes more than 6 MB. */
+ * read, for each answer of the bundle, and for fluent_bundle_errors. A thread that makes the bundle or asks it needs
+ * 400 KB of stack beside it; with 6,291,456, which is what `ftl` has, 8 MB are enough. */
 uint32_t fluent_bundle_new_within(
     const struct FluentSource *sources,
     size_t count,

@@ -7,8 +7,8 @@ ghost use Rattle.fluent_resolver.specs.Steps.{pattern_step};
 use fluent_ast::{Expression, Pattern, PatternElement};
 use fluent_progress::{Context, Place, Progress};
 use fluent_resolver::pattern::write_placeable;
-use fluent_value::FluentType;
 use fluent_text::{TextWrite, WriteError};
+use fluent_value::FluentType;
 
 /// Writes a pattern: each text and each placeable of it is a piece.
 ///

@@ -39,8 +39,8 @@ pub use fluent_ids::{
 };
 pub use fluent_plurals::LanguagePlurals;
 pub use fluent_resource::{Entries, FluentResource, ResourceError};
+pub use fluent_text::{TextWrite, WriteError};
 pub use fluent_value::{
     EnglishPlurals, FluentArgs, FluentFunction, FluentValue, IntoIter, Iter, NoCustom, NoFormatter,
     NoFunction, NoTransform, TextTransform, ValueFormatter, ValueScope,
 };
-pub use fluent_text::{TextWrite, WriteError};

@@ -10,8 +10,8 @@ use crate::fault::Fault;
 use crate::parser::Parser;
 use fluent_ast::{Expression, Identifier, InlineExpression, Variant};
 use fluent_parsed::ErrorKind;
-use fluent_text::Texts;
 use fluent_stack::reading;
+use fluent_text::Texts;
 use fluent_words as words;
 
 impl<'p, S: Drop, T: Texts<S>> Parser<'p, S, T> {

@@ -12,8 +12,8 @@ ghost use Rattle.fluent_grammar.specs.Tiling.{resume};
 ghost use Rattle.fluent_parser.specs.Reads.{past_byte};
 
 use fluent_lines::{Lines, Row};
-use fluent_text::Texts;
 use fluent_stack::{Stack, StackBudget};
+use fluent_text::Texts;
 use fluent_words as words;
 use std::alloc::{AllocError, Global};
 

@@ -10,8 +10,8 @@ use crate::fault::Fault;
 use crate::parser::Parser;
 use fluent_lines::line_table;
 use fluent_parsed::ErrorKind;
-use fluent_text::{Slice, Slices, Texts};
 use fluent_stack::StackBudget;
+use fluent_text::{Slice, Slices, Texts};
 use std::alloc::{AllocError, Global};
 
 /// Why nothing is read at an offset of a source. Offsets are bytes of the source.

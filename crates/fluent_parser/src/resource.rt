@@ -11,8 +11,8 @@ ghost use Rattle.fluent_parser.specs.Frame.{Advances};
 use crate::parser::Parser;
 use fluent_lines::line_table;
 use fluent_parsed::Collected;
-use fluent_text::Texts;
 use fluent_stack::StackBudget;
+use fluent_text::Texts;
 use std::alloc::{AllocError, Global};
 
 /// How many bytes a short entry has, about. Room to spare, which there is for longer ones, is never touched.

@@ -6,13 +6,13 @@ ghost use Rattle.fluent_tidy.specs.Replaced.{ReplacedSourcesKeepAnswers, Unshape
 pub use fluent_answers::laws::{
     joined_sources_keep_notices, lists_decide, tidied_sources_keep_answers,
 };
-pub use fluent_tidy_laws::laws::{cut_texts_are_texts, damage_is_local, joined_texts_keep_lists};
 use fluent_json::laws::value_decides_tree;
-pub use fluent_tidy_laws::laws::{
-    canonical_trees_are_told_apart, normal_texts_stay, reading_is_unique,
-    tidied_sources_keep_lists, well_formed_trees_are_canonical,
-};
 pub use fluent_requests::laws::streams_join;
+pub use fluent_tidy_laws::laws::{
+    canonical_trees_are_told_apart, cut_texts_are_texts, damage_is_local, joined_texts_keep_lists,
+    normal_texts_stay, reading_is_unique, tidied_sources_keep_lists,
+    well_formed_trees_are_canonical,
+};
 use fluent_value::FluentType;
 
 /// What tidying keeps. Sources answer as they did, to all requests and with all settings and plural sources, whichever of them are

@@ -13,10 +13,10 @@ use fluent_ast::Pattern;
 use fluent_errors::FluentError;
 use fluent_meaning::laws::work_is_bounded;
 use fluent_progress::{Lent, Place};
+use fluent_text::{TextWrite, WriteError};
 use fluent_value::{
     FluentArgs, FluentFunction, FluentType, MemoizerKind, TextTransform, ValueFormatter,
 };
-use fluent_text::{TextWrite, WriteError};
 use std::alloc::AllocError;
 use std::borrow::CowStr;
 

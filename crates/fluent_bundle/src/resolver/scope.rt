@@ -18,11 +18,11 @@ use fluent_asking::steps::none_given;
 use fluent_ast::{CallArguments, Expression, InlineExpression, Pattern};
 use fluent_errors::{FluentError, ResolverError};
 use fluent_meaning::laws::work_is_bounded;
+use fluent_text::{TextWrite, WriteError};
 use fluent_value::{
     FluentArgs, FluentFunction, FluentType, FluentValue, MemoizerKind, TextTransform,
     ValueFormatter,
 };
-use fluent_text::{TextWrite, WriteError};
 use std::alloc::AllocError;
 
 /// What the placeables of a pattern are resolved in, by a program that writes the pattern by itself: a bundle, the arguments of a
