@@ -1,5 +1,5 @@
 -- What `format` is asked for, in words of the rows that were found.
-use Rattle.std.proofs.Common.{◌≡◌, ◌∙◌, ℕ, ◌+◌, ◌<◌, ◌≤◌, List, [], ◌∷◌, ◌++◌, Option, Some, None, Bor, length, get_or, drop, ap, refl, sym, drop-cons, add-one}
+use Rattle.std.proofs.Common.{◌≡◌, ◌∙◌, ℕ, ◌+◌, ◌<◌, ◌≤◌, List, [], ◌∷◌, ◌++◌, Option, Some, None, Bor, length, get_or, drop, ap, refl, drop-cons, add-one}
 use Rattle.std.proofs.lemmas.List.{drop_all}
 use Rattle.fluent_requests.specs.Requests.{argument_of, arguments_of}
 use Rattle.fluent_requests.specs.Text.{Text, cut_at, equals}
