@@ -1,7 +1,7 @@
 //! Patterns.
 #![tactic(auto, using(crate::proofs::Failing::handed, fluent_words::proofs::Counted::cuts))]
 
-ghost use Rattle.std.specs.Prelude.{◌≡◌, ◌≤◌, ◌<◌, ◌||◌, IfOk, IfSome, Some, true, false, length, drop, map, option_map};
+ghost use Rattle.std.specs.Prelude.{◌≡◌, ◌≤◌, ◌<◌, ◌||◌, ◌&&◌, ◌==◌, IfOk, IfSome, Some, true, false, length, drop, map, option_map};
 ghost use Rattle.fluent_grammar.specs.Words as w;
 ghost use Rattle.fluent_grammar.specs.Lines.{indent_of};
 ghost use Rattle.fluent_parser.specs.Steps.{text_piece};
@@ -26,6 +26,13 @@ fn said_by(at_line_start: bool, indent: usize, text: &[u8]) -> Option<usize>
     } else {
         None
     }
+}
+
+/// Whether a piece behind so many spaces, at a line start or within a line, stands at column zero.
+fn is_column_zero(at_line_start: bool, indent: usize) -> bool
+    ensures { result ≡ (at_line_start && indent == 0) }
+{
+    at_line_start && indent == 0
 }
 
 impl<'p, S: Drop, T: Texts<S>> Parser<'p, S, T> {
@@ -149,8 +156,7 @@ impl<'p, S: Drop, T: Texts<S>> Parser<'p, S, T> {
             Ok(None)
         } else if words::begins_with(behind, b'{') {
             self.advance(indent);
-            let column_zero = at_line_start && indent == 0;
-            self.get_placeable_piece(column_zero, gathered)
+            self.get_placeable_piece(is_column_zero(at_line_start, indent), gathered)
         } else if words::begins_crlf(behind) {
             self.advance(indent + 1);
             let value = self.take(1)?;

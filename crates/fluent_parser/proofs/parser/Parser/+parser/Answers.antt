@@ -33,7 +33,7 @@ use Rattle.fluent_parser.proofs.LineStarts.{first_starts, piece_starts}
 use Rattle.fluent_parser.proofs.PutPieces.{piece_put, no_piece, placeable_next, feed_put}
 use Rattle.fluent_parser.proofs.GatheredPieces.{gathers_none, gathers_more, gathers_all}
 use Rattle.fluent_parser.proofs.parser.Parser.+parser.Goals as goal
-use Rattle.fluent_parser.proofs.parser.Parser.+parser.Goals.{get_piece_behind-then-at_line_start, get_piece_behind-else-at_line_start, get_call_arguments-in-Positional+in_ok-push-in-Positional, get_call_arguments-in-Named+in_ok-push-in-Named}
+use Rattle.fluent_parser.proofs.parser.Parser.+parser.Goals.{get_call_arguments-in-Positional+in_ok-push-in-Positional, get_call_arguments-in-Named+in_ok-push-in-Named}
 
 pub get_inline_expression-returns-then-begins_literal-clause-gives : goal.get_inline_expression-returns-then-begins_literal-clause-gives
 get_inline_expression-returns-then-begins_literal-clause-gives g t c =
@@ -276,12 +276,8 @@ pub get_piece_behind-returns-then-begins_with-clause-gives : goal.get_piece_behi
 get_piece_behind-returns-then-begins_with-clause-gives g t c =
     let u = drop c.args.indent c.args.self.now.rest.now in
     let behind = c.from-behind.ensures ∙ ap (drop c.args.indent) c.bytes.ensures.value in
-    let zero : c.if-at_line_start.column_zero ≡ (c.args.at_line_start && c.args.indent == 0) = elim c.if-at_line_start.branch [
-      | get_piece_behind-then-at_line_start w ↦ rw w.if-at_line_start.true w.column_zero-is
-      | get_piece_behind-else-at_line_start w ↦ rw w.if-at_line_start.false (w.column_zero-is ∙ w.if-at_line_start.false)
-    ] in
-    let next = ap (placeable_piece_by c.if-at_line_start.column_zero) c.advance-then-begins_with.ensures.rest
-    ∙ placeable_next c.args.at_line_start c.if-at_line_start.column_zero c.args.indent u (ap (λ z. length z == 0) (sym behind) ∙ sym c.is_empty.ensures ∙ c.if-is_empty.false) (ap (begins_with w.open_brace) (sym behind) ∙ sym c.begins_with.ensures ∙ c.if-begins_with.true) zero in
+    let next = ap (placeable_piece_by c.is_column_zero.result) c.advance-then-begins_with.ensures.rest
+    ∙ placeable_next c.args.at_line_start c.is_column_zero.result c.args.indent u (ap (λ z. length z == 0) (sym behind) ∙ sym c.is_empty.ensures ∙ c.if-is_empty.false) (ap (begins_with w.open_brace) (sym behind) ∙ sym c.begins_with.ensures ∙ c.if-begins_with.true) c.is_column_zero.ensures in
     subst (λ (r : Reading (Option (Piece × Bool))). GivesPiece g.row.S.Denot g.T.Texts.text c.args.gathered.now c.get_placeable_piece.new.gathered c.get_placeable_piece.new.self.rest.now c.get_placeable_piece.result r) next c.get_placeable_piece.ensures.gives
 
 pub get_piece_behind-returns-in_ok-push-clause-gives : goal.get_piece_behind-returns-in_ok-push-clause-gives
