@@ -27,8 +27,10 @@ use std::alloc::{AllocError, Global};
 /// ```
 #[derive(Drop)]
 pub struct EndlessPatterns<'c, 'r, 's, F> {
+    /// Only contracts speak of them.
     ids: &'c FluentIds<'r, 's, F>,
     indices: Indices<'s>,
+    /// At the index of each pattern, whether its references never end.
     marks: Vec<bool>,
     ghost below: { AreBelow (length marks.items) indices },
     ghost right: { SayWhatIsEntered (ids_view F ids.now) indices marks.items },

@@ -2,8 +2,8 @@
 //!
 //! [`EnteredPatterns`] lists the patterns that references enter, each once, with their [`Indices`]. The indices are the
 //! nodes of a graph, with an edge for each reference, and the patterns that lead into a circle of it are those whose
-//! references never end. [`EndlessPatterns`] marks them, in linear time, and looks references up. `specs/Endless.antt` of
-//! `fluent_findings` says which patterns these are.
+//! references never end. [`EndlessPatterns`] marks them, in linear time, and looks references up.
+//! `specs/Endless.antt` of `fluent_findings` says which patterns these are.
 #![tactic(auto)]
 
 mod endless;
