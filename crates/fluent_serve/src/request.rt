@@ -58,6 +58,13 @@ impl<'line> Asked<'line> {
 }
 
 /// What the arguments of a line are put into, one after the other.
+///
+/// ```no_run
+/// let mut arguments = Vec::new(alloc); // of a name and a text
+/// if read_arguments(asked.arguments, &mut arguments)? {
+///     println!(rt; "{} arguments", arguments.len())?;
+/// }
+/// ```
 pub trait Arguments<'line> {
     /// Whether these were put into it, in their order.
     ghost has: { Self → List (List ℕ × List ℕ) → Type 0 };
