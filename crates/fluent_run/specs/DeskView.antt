@@ -19,7 +19,7 @@ use Rattle.fluent_run.specs.declared.reply.Reply as code
 use Rattle.fluent_run.specs.ReplyView.{reply_view}
 use Rattle.fluent_run.specs.RunView.{no_text}
 use Rattle.fluent_serve.specs.RequestView.{arguments_behind}
-use Rattle.fluent_value.specs.Args.{all_set}
+use Rattle.fluent_value.specs.Args.{all_set, with_argument}
 use Rattle.fluent_value.specs.ArgsView.{args_view}
 use Rattle.fluent_value.specs.Matching.{Plurals}
 use Rattle.fluent_value.specs.Value.{Value, error, number_or_text}
@@ -55,6 +55,10 @@ arguments_view args = args_view (λ c. tt) args
 -- an argument of a line with its value: the number that its text is, or else the text
 abbrev pub valued : Text × Text → Text × Value (Unit {0})
 valued pair = (pair.0, number_or_text pair.1)
+
+-- an argument was set to the value of a text
+abbrev pub IsSetTo : Text → Text → FluentArgs NoCustom → FluentArgs NoCustom → Type 0
+IsSetTo name text old new = arguments_view new ≡ with_argument name (number_or_text text) (arguments_view old)
 
 -- what a message gives for these arguments: its value, or its first attribute of a name
 abbrev pub message_reply : {S F : Type 0} → Environment S F → Text → Option Text → List (Text × Value S) → Option Reply

@@ -1,10 +1,9 @@
 //! The arguments of a request, as values.
 
 ghost use Rattle.std.specs.Prelude.{◌≡◌, ⊤, [], IfOk, OnOk, is_some, map};
-ghost use Rattle.fluent_run.specs.DeskView.{arguments_view, valued};
+ghost use Rattle.fluent_run.specs.DeskView.{IsSetTo, arguments_view, valued};
 ghost use Rattle.fluent_serve.specs.RequestView.{arguments_behind, arguments_view as texts_view};
-ghost use Rattle.fluent_value.specs.Args.{all_set, with_argument};
-ghost use Rattle.fluent_value.specs.Value.{number_or_text};
+ghost use Rattle.fluent_value.specs.Args.{all_set};
 
 use fluent_serve::request::{Arguments, read_arguments};
 use fluent_value::{FluentArgs, FluentValue, NoCustom};
@@ -42,8 +41,7 @@ fn set_valued<'line>(
     name: &'line str,
     text: &'line str,
 ) -> Result<(), AllocError>
-    ensures { OnOk result (arguments_view values.new
-        ≡ with_argument name.now (number_or_text text.now) (arguments_view values.old)) }
+    ensures { OnOk result (IsSetTo name.now text.now values.old values.new) }
 {
     values.set_value(CowStr::Borrowed(name), FluentValue::try_number(text))?;
     Ok(())
