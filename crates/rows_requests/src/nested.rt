@@ -1,8 +1,8 @@
 //! Sources that nest as deep as a budget of the stack lets them, and one level deeper.
 //!
-//! A row has what a level `opens` and `closes`, what is `inner`most, and a `budget` in bytes. Of its `messages` each is
-//! nested `levels` deep, and all but the last have a reference to the next innermost. With the first numbers of `messages`
-//! and `levels` the first message is answered, and with the second ones memory runs out.
+//! A row has what is `before` and `after` all levels, what a level `opens` and `closes`, what is `inner`most, and a `budget`
+//! in bytes. Of its `messages` each is nested `levels` deep, and all but the last have a reference to the next innermost.
+//! With the first numbers of `messages` and `levels` the first message is answered, and with the second ones memory runs out.
 
 use crate::json::{count_of, list_in};
 use anyhow::{Context, Result};
@@ -17,9 +17,11 @@ use std::fs;
 /// What a message of a row is made of.
 #[derive(Clone, Copy)]
 struct Level<'row> {
+    before: &'row str,
     opens: &'row str,
     inner: &'row str,
     closes: &'row str,
+    after: &'row str,
 }
 
 /// Tries the rows of `nested.jsonl`.
@@ -35,9 +37,11 @@ pub fn try_nested(rt: &HostRuntime) -> Result<Tally> {
 
 fn try_row(alloc: Global, row: &Value) -> Result<Tally> {
     let level = Level {
+        before: text_in(row, "before")?,
         opens: text_in(row, "opens")?,
         inner: text_in(row, "inner")?,
         closes: text_in(row, "closes")?,
+        after: text_in(row, "after")?,
     };
     let budget = row.get("budget").context("a budget")?;
     let budget = StackBudget::of_bytes(count_of(budget)?);
@@ -61,7 +65,7 @@ fn text_in<'row>(row: &'row Value, name: &str) -> Result<&'row str> {
 fn source_of(alloc: Global, level: Level<'_>, messages: usize, levels: usize) -> Result<String> {
     let mut source = String::new(alloc);
     for number in 1..=messages {
-        write!(source, "m{number} = ")?;
+        write!(source, "m{number} = {}", level.before)?;
         for _ in 0..levels {
             source.push_str(level.opens)?;
         }
@@ -73,7 +77,7 @@ fn source_of(alloc: Global, level: Level<'_>, messages: usize, levels: usize) ->
         for _ in 0..levels {
             source.push_str(level.closes)?;
         }
-        source.push('\n')?;
+        writeln!(source, "{}", level.after)?;
     }
     Ok(source)
 }
