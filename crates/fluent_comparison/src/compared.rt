@@ -55,11 +55,28 @@ fn push_differences<'s, F>(
         (None, Some(_)) => Ok(found.push(Difference::MissingMessage)?),
         (Some(_), None) => Ok(found.push(Difference::ObsoleteMessage)?),
         (Some(message), Some(other)) => {
-            push_of_message(alloc, message, other, found)?;
-            push_variables(alloc, ids, reference, id, found)?;
-            push_untranslated(message, other, found)
+            push_of_both(alloc, ids, reference, id, message, other, found)
         }
     }
+}
+
+/// Adds those of a message that both have.
+fn push_of_both<'s, F>(
+    alloc: Global,
+    ids: &FluentIds<'_, 's, F>,
+    reference: &FluentIds<'_, 's, F>,
+    id: &'s str,
+    message: &Message<&'s str>,
+    other: &Message<&'s str>,
+    found: &mut Vec<Difference<'s>>,
+) -> Result<(), AllocError>
+    ensures { OnOk result (Adds found.old found.new
+        (c.message_differences (ids_view F ids.now) (ids_view F reference.now) id.now (message_of message.now)
+        (message_of other.now))) }
+{
+    push_of_message(alloc, message, other, found)?;
+    push_variables(alloc, ids, reference, id, found)?;
+    push_untranslated(message, other, found)
 }
 
 /// Adds those of the value and of the attributes.

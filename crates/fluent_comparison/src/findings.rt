@@ -19,7 +19,8 @@ use fluent_finding::Finding;
 use fluent_ids::FluentIds;
 use std::alloc::{AllocError, Global};
 
-/// How a message of a catalog differs from that of the reference, as findings. The text is the source from the message on.
+/// How a message of a catalog differs from that of the reference, as findings. The text is the source from the message
+/// on.
 ///
 /// # Errors
 /// [`AllocError`] if memory runs out; nothing is left behind.
@@ -42,8 +43,8 @@ pub fn message_findings<'s, F>(
     findings_of(alloc, source, message, text, &found)
 }
 
-/// The finding that a catalog has no message of the id of this one, which is of the reference, if it has none. The text is
-/// the source from the message on.
+/// The finding that a catalog has no message of the id of this one, which is of the reference, if it has none. The text
+/// is the source from the message on.
 ///
 /// # Errors
 /// [`AllocError`] if memory runs out; nothing is left behind.
