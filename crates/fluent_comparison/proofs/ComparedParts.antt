@@ -1,5 +1,5 @@
 -- The parts of the differences of a message, one after the other.
-use Rattle.std.proofs.Common.{◌≡◌, ◌∙◌, Bool, if◌then◌else◌, List, [], ◌∷◌, ◌++◌, map, Option, Some, None, refl, ap, sym, append_assoc, Bor}
+use Rattle.std.proofs.Common.{◌≡◌, ◌∙◌, List, ◌++◌, Option, Some, None, refl, ap, sym, append_assoc, Bor}
 use Rattle.fluent_findings.specs.Comparison as c
 use Rattle.fluent_findings.specs.Comparison.{as_message, attribute_names, differences_between, message_differences, missing_attribute, obsolete_attribute, same_message, unknown_variable, unused_variable, untranslated, value_difference, variables_of, without}
 use Rattle.fluent_grammar.specs.Tree as t

@@ -6,7 +6,7 @@ use Rattle.fluent_grammar.specs.Words.{Text}
 use Rattle.fluent_grammar.specs.Tree as t
 use Rattle.fluent_grammar.specs.Tree.{Elements, Expression, Variants, VariantKey, Inline, Arguments, Inlines, Nameds, MaybeArguments}
 use Rattle.fluent_findings.specs.References.{elements_references, expression_references, variants_references, inline_references, maybe_references, arguments_references, inlines_references, nameds_references}
-use Rattle.fluent_findings.specs.Nodes.{Node, expression, select, repeated_key, elements_nodes, expression_nodes, variants_nodes, inline_nodes, maybe_nodes, arguments_nodes, inlines_nodes, nameds_nodes, is_literal}
+use Rattle.fluent_findings.specs.Nodes.{Node, repeated_key, elements_nodes, expression_nodes, variants_nodes, inline_nodes, maybe_nodes, arguments_nodes, inlines_nodes, nameds_nodes, is_literal}
 use Rattle.fluent_comparison.specs.HasReached.{node_references}
 
 -- literals name nothing

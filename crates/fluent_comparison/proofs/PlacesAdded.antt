@@ -1,8 +1,7 @@
 -- The places of a message, part by part.
-use Rattle.std.proofs.Common.{◌≡◌, ◌∙◌, ℕ, ◌+◌, ◌<◌, Bool, true, false, if◌then◌else◌, List, [], ◌∷◌, ◌++◌, length, map, take, drop, get_or, Option, Some, None, option_map, refl, ap, sym, subst, append_assoc, append-nil, add-one, drop-cons, Bor}
+use Rattle.std.proofs.Common.{◌≡◌, ◌∙◌, ℕ, ◌+◌, ◌<◌, false, if◌then◌else◌, List, [], ◌∷◌, ◌++◌, length, map, take, get_or, Option, Some, None, refl, ap, sym, subst, append_assoc, append-nil}
 use Rattle.std.specs.List.{flat_map}
 use Rattle.std.specs.Option.{option_map_or}
-use Rattle.std.specs.Bool.{nat_eq}
 use Rattle.std.specs.Str.{bytes_eq}
 use Rattle.std.proofs.lemmas.Cmp.{nat_list_eq_equiv}
 use Rattle.std.proofs.lemmas.List.Concat.{flat_map-append}
@@ -11,7 +10,6 @@ use Rattle.fluent_findings.specs.ComparisonFindings.{first_attribute_at, first_v
 use Rattle.fluent_findings.specs.Nodes.{Node, expression, select, repeated_key}
 use Rattle.fluent_findings.specs.Occurrences as o
 use Rattle.fluent_findings.specs.Occurrences.{PatternPlace, entry_places, after_equals, occurrences, pattern_read}
-use Rattle.fluent_findings.specs.PlaceLaws.{nodes}
 use Rattle.fluent_findings.proofs.OccurrencesAreTheNodes.{occurrences_are_the_nodes}
 use Rattle.fluent_grammar.specs.Refusal.{got}
 use Rattle.fluent_grammar.specs.Tree as t

@@ -5,7 +5,7 @@ use Rattle.std.specs.List.{flat_map}
 use Rattle.std.specs.Str.{bytes_eq}
 use Rattle.std.proofs.lemmas.List.{length-append, length-map, length-take-le, take_all}
 use Rattle.std.proofs.lemmas.List.Concat.{flat_map-append}
-use Rattle.fluent_findings.specs.Comparison.{message_of, messages_of, messages_within, references_of, union, variable_of, variables_of}
+use Rattle.fluent_findings.specs.Comparison.{messages_of, messages_within, references_of, union, variables_of}
 use Rattle.fluent_findings.proofs.NothingMissing.{key_is}
 use Rattle.fluent_grammar.specs.Words.{Text, is_among}
 use Rattle.fluent_meaning.specs.Ids.{Ids, Meaning, find}

@@ -1,5 +1,5 @@
 -- What references name is added one after the other.
-use Rattle.std.proofs.Common.{◌≡◌, ◌∙◌, ℕ, ◌+◌, ◌<◌, List, [], ◌∷◌, ◌++◌, length, map, take, get_or, Option, Some, None, option_map, refl, ap, sym, subst, append-nil, Bor}
+use Rattle.std.proofs.Common.{◌≡◌, ◌∙◌, ℕ, ◌+◌, ◌<◌, List, [], ◌∷◌, ◌++◌, length, map, take, get_or, Option, Some, None, refl, ap, sym, subst, append-nil, Bor}
 use Rattle.std.specs.List.{flat_map}
 use Rattle.std.specs.Option.{option_to_list}
 use Rattle.std.proofs.lemmas.List.{map-append}
@@ -7,7 +7,7 @@ use Rattle.std.proofs.lemmas.List.Concat.{flat_map-append}
 use Rattle.fluent_ast.proofs.Copied.{map-take_more}
 use Rattle.fluent_ast.specs.Borrowed.{attribute_of, attributes_of}
 use Rattle.fluent_ast.specs.declared.Attribute.{Attribute}
-use Rattle.fluent_findings.specs.Comparison.{message_of, message_patterns, references_of, union, variable_of}
+use Rattle.fluent_findings.specs.Comparison.{message_of, references_of, union, variable_of}
 use Rattle.fluent_findings.specs.Nodes as n
 use Rattle.fluent_findings.specs.References.{elements_references}
 use Rattle.fluent_grammar.specs.Tree as t

@@ -1,5 +1,5 @@
 -- Messages with the same attributes.
-use Rattle.std.proofs.Common.{◌≡◌, ◌∙◌, ℕ, zero, suc, ◌+◌, ◌<◌, Bool, true, false, ◌&&◌, ◌||◌, List, [], ◌∷◌, ◌++◌, length, map, drop, get_or, refl, ap, sym, arith, add-one, drop-cons, Bor}
+use Rattle.std.proofs.Common.{◌≡◌, ◌∙◌, ℕ, suc, ◌+◌, ◌<◌, Bool, true, false, ◌&&◌, ◌||◌, List, [], ◌∷◌, length, drop, get_or, refl, ap, add-one, drop-cons, Bor}
 use Rattle.std.specs.Str.{bytes_eq}
 use Rattle.fluent_ast.specs.Borrowed.{attribute_of, attributes_of}
 use Rattle.fluent_ast.specs.declared.Attribute.{Attribute}

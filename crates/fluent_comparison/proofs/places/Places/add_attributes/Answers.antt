@@ -1,5 +1,5 @@
 use Rattle.std.proofs.Common.{◌∙◌, ◌+◌, [], ◌∷◌, map, drop, refl, sym, ap, subst}
-use Rattle.fluent_ast.specs.Borrowed.{attribute_of, attributes_of}
+use Rattle.fluent_ast.specs.Borrowed.{attribute_of}
 use Rattle.fluent_entry_findings.specs.AttributePlaces.{AreAttributesAt, places_of_attributes, read_rest}
 use Rattle.fluent_entry_findings.proofs.AttributesAdded.{others_there, value_there}
 use Rattle.fluent_entry_findings.proofs.Pushed.{next, none_left}
