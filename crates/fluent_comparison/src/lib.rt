@@ -13,10 +13,10 @@
 mod attributes;
 mod compared;
 mod findings;
+mod first_places;
 mod lack;
 mod names;
 mod places;
-mod positions;
 mod reached;
 mod same;
 mod text;
