@@ -19,7 +19,6 @@ mod names;
 mod places;
 mod reached;
 mod same;
-mod text;
 mod variables;
 
 pub use findings::{message_findings, missing_finding};

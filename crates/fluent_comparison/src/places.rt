@@ -13,9 +13,9 @@ ghost use Rattle.fluent_nodes.specs.NodeView.{node_view};
 ghost use Rattle.fluent_occurrences.specs.OccurrenceView.{IsPatternAt, occurrence_view};
 
 use crate::first_places::FirstPlaces;
-use crate::text::{after_equals, skip, skip_blank_block, skip_spaces};
 use fluent_ast::{Attribute, InlineExpression, Message, Pattern};
 use fluent_differences::Difference;
+use fluent_entry_findings::text::{after_equals, skip, skip_blank_block, skip_spaces};
 use fluent_nodes::Node;
 use fluent_occurrences::{Occurrence, empty_pattern_rest, pattern_occurrences};
 use std::alloc::{AllocError, Global};

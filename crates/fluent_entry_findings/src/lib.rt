@@ -19,7 +19,7 @@ mod names;
 mod nodes;
 mod pattern;
 mod problem;
-mod text;
+pub mod text;
 
 pub use catalog::{Catalog, Endless};
 pub use entry::{EntryFindings, message_findings, term_findings};
