@@ -87,7 +87,10 @@ fn answers(alloc: Global, source: &str, budget: StackBudget) -> bool {
     answers_within(
         alloc,
         &[source],
-        Settings::default(),
+        Settings {
+            isolating: true,
+            overriding: false,
+        },
         &EnglishPlurals,
         b"m1\n",
         budget,
