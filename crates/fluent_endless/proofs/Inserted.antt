@@ -1,4 +1,4 @@
--- Places, once one more was put in.
+-- Indices, once one more was put in.
 use Rattle.std.proofs.Common.{◌≡◌, ◌∙◌, Bool, true, false, cond, ◌&&◌, ℕ, List, [], ◌∷◌, Option, Some, None, option_map, refl, ap, sym, Bor}
 use Rattle.std.specs.Option.{option_eq}
 use Rattle.std.specs.Bool.{nat_eq}
@@ -10,7 +10,7 @@ use Rattle.fluent_grammar.specs.Words.{Text}
 use Rattle.std.specs.contracts.prelude.BoolPartialEq.TheImpl.{ghosts}
 use Rattle.std.specs.HashMap.{HashMap, get, get_by}
 use Rattle.std.specs.Prelude.{if◌then◌else◌}
-use Rattle.fluent_endless.specs.PlacesView.{attribute_text, is_key, same_names}
+use Rattle.fluent_endless.specs.IndicesView.{attribute_text, is_key, same_names}
 
 -- two tests that agree find the same
 pub same_found : {K X : Type 0} (p q : K → Bool) → ((k : K) → p k ≡ q k) → (es : List (K × X)) → lookup p es ≡ lookup q es
@@ -64,12 +64,12 @@ put_key s id x t i a =
     ∙ ap (λ b. b && (bytes_eq id.now i && option_eq same_lent x (option_map lent a))) (sym (same_kind s t))
     ∙ ap (λ b. same_bool s t && (bytes_eq id.now i && b)) (put x a)
 
--- what is found once a place was put in
-pub placed : {S : Type 0} (m n : HashMap Key ℕ S) (s : Bool) (id : Bor Text) (x : Option (Bor Text)) (place : ℕ) → ((q : Key) → get same_key n q ≡ cond (same_key (s, id, x) q) (Some place) (get same_key m q)) → (t : Bool) (i : Text) (a : Option Text) →
-    get_by (is_key t i a) n ≡ (if same_names s id.now (attribute_text x) t i a then Some place else get_by (is_key t i a) m)
-placed m n s id x place updates t i a =
+-- what is found once an index was put in
+pub inserted : {S : Type 0} (m n : HashMap Key ℕ S) (s : Bool) (id : Bor Text) (x : Option (Bor Text)) (index : ℕ) → ((q : Key) → get same_key n q ≡ cond (same_key (s, id, x) q) (Some index) (get same_key m q)) → (t : Bool) (i : Text) (a : Option Text) →
+    get_by (is_key t i a) n ≡ (if same_names s id.now (attribute_text x) t i a then Some index else get_by (is_key t i a) m)
+inserted m n s id x index updates t i a =
     let query : Key = (t, lent i, option_map lent a) in
     same_found (is_key t i a) (same_key query) (asked_key t i a) n.entries
     ∙ updates query
-    ∙ ap (λ b. cond b (Some place) (get_by (same_key query) m)) (put_key s id x t i a)
-    ∙ ap (λ o. if same_names s id.now (attribute_text x) t i a then Some place else o) (sym (same_found (is_key t i a) (same_key query) (asked_key t i a) m.entries))
+    ∙ ap (λ b. cond b (Some index) (get_by (same_key query) m)) (put_key s id x t i a)
+    ∙ ap (λ o. if same_names s id.now (attribute_text x) t i a then Some index else o) (sym (same_found (is_key t i a) (same_key query) (asked_key t i a) m.entries))
