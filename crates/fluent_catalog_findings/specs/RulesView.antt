@@ -12,11 +12,11 @@ use Rattle.fluent_catalog_findings.specs.declared.rules.Rules.{Rules}
 abbrev pub rules_view : {E C : Type 0} → (C → Text → t.Entry → Text → List Finding) → Rules E C → f.Rules
 rules_view compared rules = record {
   functions = ids_view (Unit {0}) rules.functions.now;
-  ids = ids_view (Unit {0}) rules.catalog.ids.now;
-  plurals = rules.catalog.plurals;
+  ids = ids_view (Unit {0}) rules.catalog.now.ids.now;
+  plurals = rules.catalog.now.plurals;
   compare = compared rules.comparison.now;
 }
 
 -- the references that never end are those of the catalog
 abbrev pub HasSameIds : {E C : Type 0} → (E → Ids (Unit {0})) → Rules E C → Type 0
-HasSameIds ids_of rules = ids_of rules.endless.now ≡ ids_view (Unit {0}) rules.catalog.ids.now
+HasSameIds ids_of rules = ids_of rules.endless.now ≡ ids_view (Unit {0}) rules.catalog.now.ids.now

@@ -84,7 +84,7 @@ fn push_own<'s, E: Endless<()>, C: Comparison>(
         Entry::Message(message) => {
             let mut found = message_findings(
                 alloc,
-                &rules.catalog,
+                rules.catalog,
                 rules.endless,
                 source,
                 message,
@@ -95,7 +95,7 @@ fn push_own<'s, E: Endless<()>, C: Comparison>(
         Entry::Term(term) => {
             let mut found = term_findings(
                 alloc,
-                &rules.catalog,
+                rules.catalog,
                 rules.endless,
                 source,
                 term,
