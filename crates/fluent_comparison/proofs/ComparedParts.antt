@@ -1,12 +1,10 @@
 -- The parts of the differences of a message, one after the other.
-use Rattle.std.proofs.Common.{◌≡◌, ◌∙◌, List, ◌++◌, Option, Some, None, refl, ap, sym, append_assoc, Bor}
+use Rattle.std.proofs.Common.{◌≡◌, ◌∙◌, List, ◌++◌, ap, append_assoc, Bor}
 use Rattle.fluent_findings.specs.Comparison as c
 use Rattle.fluent_findings.specs.Comparison.{as_message, attribute_names, differences_between, message_differences, missing_attribute, obsolete_attribute, same_message, unknown_variable, unused_variable, untranslated, value_difference, variables_of, without}
 use Rattle.fluent_grammar.specs.Tree as t
 use Rattle.fluent_grammar.specs.Words.{Text}
-use Rattle.fluent_ids.specs.Found.{message_in}
-use Rattle.fluent_meaning.specs.Ids.{Ids, Meaning, number_function, function, message, term}
-use Rattle.fluent_comparison.specs.Compared.{own_differences, untranslated_if, variable_differences}
+use Rattle.fluent_comparison.specs.Compared.{own_differences, variable_differences}
 use Rattle.fluent_comparison.specs.HasNames.{HasNames, texts}
 use Rattle.fluent_comparison.specs.Lacks.{lacking}
 use Rattle.fluent_comparison.specs.LackingAttributes.{names_of}
@@ -31,35 +29,3 @@ module _ (a b d : List c.Difference) where
   variables_added own others xs vs ns ms has has_too p q first second =
       both_added a (lacking of.UnknownVariable xs vs) (lacking of.UnusedVariable vs xs)
       (first ∙ ap (λ l. a ++ lacking of.UnknownVariable l vs) (ap texts p ∙ has.listed)) (second ∙ ap (λ l. b ++ lacking of.UnusedVariable l xs) (ap texts q ∙ has_too.listed))
-
-module _ (a b d e : List c.Difference) where
-  -- all of them
-  pub all_added : {F : Type 0} (ids reference : Ids F) (id : Text) (m o : t.Message) → b ≡ a ++ own_differences m o → d ≡ b ++ variable_differences (variables_of ids id) (variables_of reference id) →
-      e ≡ d ++ untranslated_if (same_message m o) → e ≡ a ++ message_differences ids reference id m o
-  all_added ids reference id m o first second third =
-      let value = value_difference m.value o.value in
-      let missing = lacking of.MissingAttribute (attribute_names o) (attribute_names m) in
-      let obsolete = lacking of.ObsoleteAttribute (attribute_names m) (attribute_names o) in
-      let unknown = lacking of.UnknownVariable (variables_of ids id) (variables_of reference id) in
-      let unused = lacking of.UnusedVariable (variables_of reference id) (variables_of ids id) in
-      let same = untranslated_if (same_message m o) in
-      let own = value ++ (missing ++ obsolete) in
-      let variables = unknown ++ unused in
-      both_added a (own ++ variables) same (both_added a own variables first second) third
-      ∙ ap (λ l. a ++ l) (append_assoc own variables same ∙ ap (λ l. own ++ l) (append_assoc unknown unused same)
-      ∙ append_assoc value (missing ++ obsolete) (unknown ++ (unused ++ same)) ∙ ap (λ l. value ++ l) (append_assoc missing obsolete (unknown ++ (unused ++ same))))
-
--- ---- what an id stands for
-
-as_is_in : {F : Type 0} (o : Option (Meaning F)) → as_message o ≡ message_in o
-as_is_in None = refl
-as_is_in (Some number_function) = refl
-as_is_in (Some (function f)) = refl
-as_is_in (Some (term m)) = refl
-as_is_in (Some (message m)) = refl
-
-pub message_is : {F : Type 0} (o : Option (Meaning F)) (m : Option t.Message) → m ≡ message_in o → as_message o ≡ m
-message_is o m e = as_is_in o ∙ sym e
-
-pub between : {F : Type 0} (ids reference : Ids F) (id : Text) {o p m n : Option t.Message} → o ≡ m → p ≡ n → differences_between ids reference id o p ≡ differences_between ids reference id m n
-between ids reference id {o} {p} {m} {n} e f = ap (λ x. differences_between ids reference id x p) e ∙ ap (differences_between ids reference id m) f

@@ -7,7 +7,7 @@ pub mod Reaching
 pub mod Lacking
 pub mod SameMessages
 pub mod ComparedParts
-pub mod PositionsAdded
+pub mod FirstPlacesAdded
 pub mod PlacesAdded
 pub mod FindingsAdded
 pub mod Placed

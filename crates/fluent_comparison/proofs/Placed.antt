@@ -9,7 +9,7 @@ use Rattle.fluent_findings.specs.ComparisonFindings.{difference_at, first_attrib
 use Rattle.fluent_findings.specs.Occurrences.{PatternPlace, entry_places, occurrences}
 use Rattle.fluent_grammar.specs.Words.{Text}
 use Rattle.fluent_comparison.specs.HasPlaces.{HasPlacesOf}
-use Rattle.fluent_comparison.specs.HasPositions.{position_of}
+use Rattle.fluent_comparison.specs.HasFirstPlaces.{first_place_of}
 use Rattle.fluent_comparison.specs.declared.places.Places.{Places}
 use Rattle.fluent_comparison.proofs.PlacesAdded.{first_attribute, first_variable}
 
@@ -20,12 +20,12 @@ chosen (Some x) text result None is e = absurd cc
 chosen (Some x) text result (Some y) is e = let same : x.now ≡ y = cc in ap (λ (z : Bor Text). z.now) is ∙ same
 
 module _ (places : Places) (d : Difference) (place : Option (Bor Text)) (text result : Bor Text) (has : HasPlacesOf places (entry_places text.now)) (is : result ≡ unwrap_or place text) where
-  pub attribute_placed : (name : Bor Text) → d ≡ of.ObsoleteAttribute name → option_map (λ s. s.now) place ≡ position_of places.attributes name.now → result.now ≡ difference_at text.now (difference_view d)
+  pub attribute_placed : (name : Bor Text) → d ≡ of.ObsoleteAttribute name → option_map (λ s. s.now) place ≡ first_place_of places.attributes name.now → result.now ≡ difference_at text.now (difference_view d)
   attribute_placed name e found =
       chosen place text result (first_attribute_at name.now (entry_places text.now)) is (found ∙ has.attributes_are name.now ∙ first_attribute name.now (entry_places text.now))
       ∙ sym (ap (λ x. difference_at text.now (difference_view x)) e)
 
-  pub variable_placed : (name : Bor Text) → d ≡ of.UnknownVariable name → option_map (λ s. s.now) place ≡ position_of places.variables name.now → result.now ≡ difference_at text.now (difference_view d)
+  pub variable_placed : (name : Bor Text) → d ≡ of.UnknownVariable name → option_map (λ s. s.now) place ≡ first_place_of places.variables name.now → result.now ≡ difference_at text.now (difference_view d)
   variable_placed name e found =
       chosen place text result (first_variable_at name.now (flat_map (λ (p : PatternPlace). occurrences p.pattern_at) (entry_places text.now))) is (found ∙ has.variables_are name.now ∙ first_variable name.now (entry_places text.now))
       ∙ sym (ap (λ x. difference_at text.now (difference_view x)) e)

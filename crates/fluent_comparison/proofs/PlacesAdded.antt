@@ -18,7 +18,7 @@ use Rattle.fluent_occurrences.specs.OccurrenceView.{occurrence_view}
 use Rattle.fluent_occurrences.specs.declared.occurrence.Occurrence.{Occurrence}
 use Rattle.fluent_entry_findings.specs.AttributePlaces.{attribute_value, places_of_attributes, read_rest, value_elements, LeavesRest}
 use Rattle.fluent_entry_findings.proofs.BodiesAreRead.{message_parts}
-use Rattle.fluent_comparison.specs.HasPositions.{GetsPosition, HasPositions, first_at}
+use Rattle.fluent_comparison.specs.HasFirstPlaces.{GetsFirstPlace, HasFirstPlaces, first_at}
 use Rattle.fluent_comparison.specs.HasPlaces.{HasPlaces, GetsPlaces, GetsOccurrences, GetsVariables, GetsPatternPlaces, variable_at, variables_among, attribute_at, attributes_among, variables_within}
 use Rattle.fluent_comparison.specs.declared.places.Places.{Places}
 
@@ -36,15 +36,6 @@ pub none_added : (a : Places) → GetsPlaces a [] [] a
 none_added a = λ xs ys has. subst (λ zs. HasPlaces a zs (ys ++ [])) (sym (append-nil xs)) (subst (λ zs. HasPlaces a xs zs) (sym (append-nil ys)) has)
 
 -- ---- nodes and patterns
-
-pub variable_added : (old new : Places) (node : Node) (x at : Text) → node ≡ expression (t.variable_reference x) → new.attributes ≡ old.attributes → GetsPosition old.variables x at new.variables → GetsPlaces old [] (variable_at node at) new
-variable_added old new node x at is same gets = λ xs ys has. record {
-  attributes_are = subst (λ p. HasPositions p (xs ++ [])) (sym same) (subst (HasPositions old.attributes) (sym (append-nil xs)) has.attributes_are);
-  variables_are = subst (λ zs. HasPositions new.variables (ys ++ zs)) (sym (ap (λ n. variable_at n at) is)) (gets ys has.variables_are);
-}
-
-pub no_variable_added : (a : Places) (node : Node) (at : Text) → variable_at node at ≡ [] → GetsPlaces a [] (variable_at node at) a
-no_variable_added a node at none = subst (λ zs. GetsPlaces a [] zs a) (sym none) (none_added a)
 
 pub next_occurrence : (a b c : Places) (xs : List Occurrence) (i : ℕ) (item : Occurrence) → i < length xs → item ≡ get_or xs i item → GetsOccurrences a (map occurrence_view (take i xs)) b →
     GetsPlaces b [] (variable_at (occurrence_view item).node (occurrence_view item).at) c → GetsOccurrences a (map occurrence_view (take (i + 1) xs)) c
@@ -72,12 +63,12 @@ nothing_added a s rest es none read =
 abbrev pub place_here : Text → Text → PatternPlace
 place_here name s = record { attribute = Some name; name_at = skip_spaces s; pattern_at = attribute_value s }
 
-pub attribute_added : (a b c : Places) (name at v s : Text) → at ≡ skip_spaces s → v ≡ attribute_value s → b.variables ≡ a.variables → GetsPosition a.attributes name at b.attributes → GetsVariables b v c →
+pub attribute_added : (a b c : Places) (name at v s : Text) → at ≡ skip_spaces s → v ≡ attribute_value s → b.variables ≡ a.variables → GetsFirstPlace a.attributes name at b.attributes → GetsVariables b v c →
     GetsPatternPlaces a (place_here name s ∷ []) c
 attribute_added a b c name at v s there value same gets later =
     let first : GetsPlaces a ((name, at) ∷ []) [] b = λ xs ys has. record {
       attributes_are = gets xs has.attributes_are;
-      variables_are = subst (λ p. HasPositions p (ys ++ [])) (sym same) (subst (HasPositions a.variables) (sym (append-nil ys)) has.variables_are);
+      variables_are = subst (λ p. HasFirstPlaces p (ys ++ [])) (sym same) (subst (HasFirstPlaces a.variables) (sym (append-nil ys)) has.variables_are);
     } in
     same_places a c ((name, at) ∷ []) (attributes_among (place_here name s ∷ [])) (variables_among (occurrences v)) (variables_within (place_here name s ∷ []))
     (ap (λ x. (name, x) ∷ []) there) (ap (λ x. variables_among (occurrences x)) value ∙ sym (append-nil (variables_among (occurrences (attribute_value s)))))

@@ -54,10 +54,6 @@ nil_left : (xs ys : List Text) → xs ++ ys ≡ [] → xs ≡ []
 nil_left [] ys e = refl
 nil_left (x ∷ xs) ys e = absurd cc
 
-nil_right : (xs ys : List Text) → xs ++ ys ≡ [] → ys ≡ []
-nil_right [] ys e = e
-nil_right (x ∷ xs) ys e = absurd cc
-
 no_more : (xs more : List Text) → xs ≡ xs ++ more → more ≡ []
 no_more xs more e = sym (append_cancel_left xs [] more (append-nil xs ∙ e))
 

@@ -7,19 +7,19 @@ use Rattle.fluent_findings.specs.Nodes.{Node, expression, select, repeated_key}
 use Rattle.fluent_findings.specs.Occurrences.{Occurrence, PatternPlace, entry_places, occurrences}
 use Rattle.fluent_grammar.specs.Tree as t
 use Rattle.fluent_grammar.specs.Words.{Text}
-use Rattle.fluent_comparison.specs.HasPositions.{HasPositions}
+use Rattle.fluent_comparison.specs.HasFirstPlaces.{HasFirstPlaces}
 use Rattle.fluent_comparison.specs.declared.places.Places.{Places}
 
--- Attributes and variables have the first of these positions.
+-- Attributes and variables have the first of these places.
 pub record HasPlaces (places : Places) (attributes variables : List (Text × Text)) : Type 0 where
-  pub attributes_are : HasPositions places.attributes attributes
-  pub variables_are : HasPositions places.variables variables
+  pub attributes_are : HasFirstPlaces places.attributes attributes
+  pub variables_are : HasFirstPlaces places.variables variables
 
--- after these positions were added, after the others
+-- after these places were added at the end
 abbrev pub GetsPlaces : Places → List (Text × Text) → List (Text × Text) → Places → Type 0
 GetsPlaces old attributes variables new = (as' vs : List (Text × Text)) → HasPlaces old as' vs → HasPlaces new (as' ++ attributes) (vs ++ variables)
 
--- ---- the positions in patterns
+-- ---- the places in patterns
 
 -- a variable at a place
 abbrev pub variable_at : Node → Text → List (Text × Text)

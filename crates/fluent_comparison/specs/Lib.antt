@@ -3,6 +3,6 @@ pub mod HasReached
 pub mod Lacks
 pub mod LackingAttributes
 pub mod Compared
-pub mod HasPositions
+pub mod HasFirstPlaces
 pub mod HasPlaces
 pub mod Found

@@ -13,13 +13,12 @@
 mod attributes;
 mod compared;
 mod findings;
+mod first_places;
 mod lack;
 mod names;
 mod places;
-mod positions;
 mod reached;
 mod same;
-mod text;
 mod variables;
 
 pub use findings::{message_findings, missing_finding};

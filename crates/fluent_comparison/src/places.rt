@@ -12,10 +12,10 @@ ghost use Rattle.fluent_grammar.specs.Tree as t;
 ghost use Rattle.fluent_nodes.specs.NodeView.{node_view};
 ghost use Rattle.fluent_occurrences.specs.OccurrenceView.{IsPatternAt, occurrence_view};
 
-use crate::positions::Positions;
-use crate::text::{after_equals, skip, skip_blank_block, skip_spaces};
+use crate::first_places::FirstPlaces;
 use fluent_ast::{Attribute, InlineExpression, Message, Pattern};
 use fluent_differences::Difference;
+use fluent_entry_findings::text::{after_equals, skip, skip_blank_block, skip_spaces};
 use fluent_nodes::Node;
 use fluent_occurrences::{Occurrence, empty_pattern_rest, pattern_occurrences};
 use std::alloc::{AllocError, Global};
@@ -23,8 +23,8 @@ use std::alloc::{AllocError, Global};
 /// The first places of the attributes and of the variables of a message.
 #[derive(Drop)]
 pub struct Places<'s, 't> {
-    attributes: Positions<'s, 't>,
-    variables: Positions<'s, 't>,
+    attributes: FirstPlaces<'s, 't>,
+    variables: FirstPlaces<'s, 't>,
     alloc: Global,
 }
 
@@ -42,8 +42,8 @@ impl<'s, 't> Places<'s, 't> {
         ensures { IfOk result (λ places. HasPlacesOf places (entry_places text.now)) }
     {
         let mut places = Places {
-            attributes: Positions::new(alloc),
-            variables: Positions::new(alloc),
+            attributes: FirstPlaces::new(alloc),
+            variables: FirstPlaces::new(alloc),
             alloc,
         };
         places.add_message(message, text)?;

@@ -102,3 +102,7 @@ GetsIds ids old new more = (seen : List Text) → HasPatternsOf ids old seen →
 -- those of an entry with this value and these attributes
 abbrev pub GetsEntryOf : EnteredPatterns → EnteredPatterns → Bool → Text → Option (Bor (Pattern (Bor Text))) → List (Attribute (Bor Text)) → Type 0
 GetsEntryOf old new is_term id value attributes = GetsEntry old new is_term id (elements_found value) (attributes_of attributes)
+
+-- a pattern of an entry
+abbrev pub GetsPatternOf : EnteredPatterns → EnteredPatterns → Bool → Text → Option (Bor Text) → Pattern (Bor Text) → Type 0
+GetsPatternOf old new is_term id attribute pattern = GetsPattern old new is_term id (attribute_text attribute) (elements_of pattern)

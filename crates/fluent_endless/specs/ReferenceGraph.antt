@@ -4,6 +4,8 @@ use Rattle.std.specs.List.{filter_map}
 use Rattle.fluent_grammar.specs.Tree as t
 use Rattle.fluent_grammar.specs.Tree.{Elements, Inline}
 use Rattle.fluent_findings.specs.Nodes.{Node, expression, select, repeated_key, elements_nodes}
+use Rattle.fluent_nodes.specs.NodeView.{node_view}
+use Rattle.fluent_nodes.specs.declared.nodes.Node as code
 use Rattle.fluent_endless.specs.IndicesView.{index_of}
 use Rattle.fluent_endless.specs.declared.indices.Indices.{Indices}
 
@@ -22,6 +24,10 @@ abbrev pub node_index : Indices → Node → Option ℕ
 node_index indices (expression i) = reference_index indices i
 node_index indices (select i vs) = None
 node_index indices (repeated_key k) = None
+
+-- the indices of the patterns that the code's nodes enter
+abbrev pub entered_indices : Indices → List code.Node → List ℕ
+entered_indices indices nodes = filter_map (λ node. node_index indices (node_view node)) nodes
 
 -- the indices of the patterns that the references of a pattern enter
 abbrev pub next_indices : Indices → Elements → List ℕ

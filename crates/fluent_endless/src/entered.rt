@@ -1,10 +1,10 @@
 //! The patterns of a catalog that references enter.
 #![tactic(auto)]
 
-ghost use Rattle.std.specs.Prelude.{◌≡◌, [], ◌∷◌, IfOk, OnOk, option_map};
-ghost use Rattle.fluent_ast.specs.Borrowed.{elements_of, entries_of};
+ghost use Rattle.std.specs.Prelude.{◌≡◌, [], ◌∷◌, IfOk, OnOk};
+ghost use Rattle.fluent_ast.specs.Borrowed.{entries_of};
 ghost use Rattle.fluent_endless.specs.Catalog.{ids_of_trees};
-ghost use Rattle.fluent_endless.specs.Holding.{GetsEntryOf, GetsIds, GetsPattern, HasPatternsOf, declared_ids};
+ghost use Rattle.fluent_endless.specs.Holding.{GetsEntryOf, GetsIds, GetsPatternOf, HasPatternsOf, declared_ids};
 ghost use Rattle.fluent_ids.specs.IdsView.{ids_view};
 
 use crate::indices::Indices;
@@ -140,8 +140,7 @@ impl<'r, 's> EnteredPatterns<'r, 's> {
         attribute: Option<&'s str>,
         pattern: &'r Pattern<&'s str>,
     ) -> Result<(), AllocError>
-        ensures pattern { OnOk result (GetsPattern self.old self.new is_term id.now
-            (option_map (λ s. s.now) attribute.entry) (elements_of pattern.now)) }
+        ensures pattern { OnOk result (GetsPatternOf self.old self.new is_term id.now attribute.entry pattern.now) }
         ensures seen { self.new.seen ≡ self.old.seen }
     {
         if self.indices.get(is_term, id, attribute).is_none() {

@@ -2,12 +2,10 @@
 #![tactic(auto)]
 
 ghost use Rattle.std.specs.Prelude.{◌≡◌, IfOk, map};
-ghost use Rattle.std.specs.List.{filter_map};
 ghost use Rattle.fluent_ast.specs.Borrowed.{elements_of};
 ghost use Rattle.fluent_endless.specs.Holding.{patterns_of};
-ghost use Rattle.fluent_endless.specs.ReferenceGraph.{graph_by, next_indices, node_index};
+ghost use Rattle.fluent_endless.specs.ReferenceGraph.{entered_indices, graph_by, next_indices};
 ghost use Rattle.fluent_graph.specs.Graph.{graph_of};
-ghost use Rattle.fluent_nodes.specs.NodeView.{node_view};
 
 use crate::entered::EnteredPattern;
 use crate::indices::Indices;
@@ -53,8 +51,7 @@ fn entered_by(
     indices: &Indices<'_>,
     nodes: &[Node<'_, '_>],
 ) -> Result<Vec<usize>, AllocError>
-    ensures { IfOk result (λ entered. entered.items
-        ≡ filter_map (λ node. node_index indices.now (node_view node)) nodes.now) }
+    ensures { IfOk result (λ entered. entered.items ≡ entered_indices indices.now nodes.now) }
 {
     nodes
         .iter()

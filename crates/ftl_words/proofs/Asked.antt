@@ -1,10 +1,10 @@
 -- What `format` is asked for, in words of the rows that were found.
-use Rattle.std.proofs.Common.{◌≡◌, ◌∙◌, ℕ, ◌+◌, ◌<◌, ◌≤◌, List, [], ◌∷◌, ◌++◌, Option, Some, None, Bor, length, get_or, drop, ap, refl, sym, drop-cons, add-one}
+use Rattle.std.proofs.Common.{◌≡◌, ◌∙◌, ℕ, ◌+◌, ◌<◌, ◌≤◌, List, [], ◌∷◌, ◌++◌, Option, Some, None, Bor, length, get_or, drop, ap, refl, drop-cons, add-one}
 use Rattle.std.proofs.lemmas.List.{drop_all}
 use Rattle.fluent_requests.specs.Requests.{argument_of, arguments_of}
 use Rattle.fluent_requests.specs.Text.{Text, cut_at, equals}
 use Rattle.fluent_serve.specs.RequestView.{argument_view, arguments_view}
-use Rattle.fluent_serve.proofs.Requests.{behind_all, behind_argument, behind_arguments, behind_no_argument}
+use Rattle.ftl_words.proofs.ArgumentsBehind.{behind_all, behind_argument, behind_arguments, behind_no_argument}
 use Rattle.ftl_words.specs.Meaning.{texts}
 
 -- the arguments of words, after those that were read

@@ -5,7 +5,8 @@ use Rattle.std.specs.Str.{bytes_eq}
 use Rattle.clap.specs.Words.{Text, all_of, first_value, matched_of, raw_values, rows_of}
 use Rattle.clap.specs.declared.parser.matches.Found.{Found}
 use Rattle.clap.proofs.WalkLemmas.{first_value-rows, raw_values-rows}
-use Rattle.ftl_words.specs.Meaning.{is_given, file_in, texts}
+use Rattle.ftl_words.specs.Found.{is_given, file_in}
+use Rattle.ftl_words.specs.Meaning.{texts}
 
 -- a value that is compared with `true`
 pub given : (same : Bor Text → Bor Text → Bool) → ((a b : Bor Text) → same a b ≡ bytes_eq a.now b.now)

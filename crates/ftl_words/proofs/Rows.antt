@@ -2,7 +2,8 @@
 use Rattle.std.proofs.Common.{◌≡◌, [], ◌∷◌, true, false, Some, None, refl, codes}
 use Rattle.clap.specs.declared.error.kind.ErrorKind.TheVariants.{ArgumentConflict, DisplayHelp, InvalidValue, MissingRequiredArgument, MissingSubcommand, UnknownArgument}
 use Rattle.clap.proofs.OnLiterals.{clap_on_literals}
-use Rattle.ftl_words.specs.Meaning.{AskForHelpAlone, AskForVersionAlone, check, clean, command_of, faults_of, format, join, run, tidy}
+use Rattle.ftl_words.specs.Linting.{github, json, text}
+use Rattle.ftl_words.specs.Meaning.{AskForHelpAlone, AskForVersionAlone, check, clean, command_of, faults_of, format, join, lint, run, tidy}
 
 no_words : faults_of [] ≡ MissingSubcommand ∷ []
 unfolding clap_on_literals
@@ -117,3 +118,58 @@ no_value = refl
 no_file_to_format : faults_of (codes "format" ∷ codes "hi" ∷ []) ≡ MissingRequiredArgument ∷ []
 unfolding clap_on_literals
 no_file_to_format = refl
+
+a_lint : command_of (codes "lint" ∷ codes "a" ∷ [])
+    ≡ Some (lint (record { references = []; functions = []; locale = None; notes = false; strict = false; format = text; files = codes "a" ∷ [] }))
+unfolding clap_on_literals
+a_lint = refl
+
+a_lint_with_options : command_of (codes "lint" ∷ codes "--reference" ∷ codes "r1" ∷ codes "a" ∷ codes "--notes" ∷ codes "--function=F" ∷ codes "--reference=r2" ∷ codes "--strict" ∷ codes "--locale" ∷ codes "pl_PL.UTF-8" ∷ codes "--function" ∷ codes "G" ∷ codes "--format" ∷ codes "json" ∷ codes "b" ∷ [])
+    ≡ Some (lint (record {
+      references = codes "r1" ∷ codes "r2" ∷ [];
+      functions = codes "F" ∷ codes "G" ∷ [];
+      locale = Some (codes "pl_PL.UTF-8");
+      notes = true;
+      strict = true;
+      format = json;
+      files = codes "a" ∷ codes "b" ∷ [];
+    }))
+unfolding clap_on_literals
+a_lint_with_options = refl
+
+lint_after_two_hyphens : command_of (codes "lint" ∷ codes "--format=github" ∷ codes "--" ∷ codes "-a" ∷ codes "--notes" ∷ [])
+    ≡ Some (lint (record { references = []; functions = []; locale = None; notes = false; strict = false; format = github; files = codes "-a" ∷ codes "--notes" ∷ [] }))
+unfolding clap_on_literals
+lint_after_two_hyphens = refl
+
+no_such_format : command_of (codes "lint" ∷ codes "--format" ∷ codes "xml" ∷ codes "a" ∷ []) ≡ None
+unfolding clap_on_literals
+no_such_format = refl
+
+a_format_in_capitals : command_of (codes "lint" ∷ codes "--format=JSON" ∷ codes "a" ∷ []) ≡ None
+unfolding clap_on_literals
+a_format_in_capitals = refl
+
+two_formats : faults_of (codes "lint" ∷ codes "--format=json" ∷ codes "--format=line" ∷ codes "a" ∷ []) ≡ ArgumentConflict ∷ []
+unfolding clap_on_literals
+two_formats = refl
+
+a_reference_alone : faults_of (codes "lint" ∷ codes "--reference" ∷ codes "a" ∷ []) ≡ MissingRequiredArgument ∷ []
+unfolding clap_on_literals
+a_reference_alone = refl
+
+no_reference : faults_of (codes "lint" ∷ codes "a" ∷ codes "--reference" ∷ []) ≡ InvalidValue ∷ []
+unfolding clap_on_literals
+no_reference = refl
+
+notes_twice : faults_of (codes "lint" ∷ codes "--notes" ∷ codes "--notes" ∷ codes "a" ∷ []) ≡ ArgumentConflict ∷ []
+unfolding clap_on_literals
+notes_twice = refl
+
+notes_of_check : faults_of (codes "check" ∷ codes "--notes" ∷ codes "a" ∷ []) ≡ UnknownArgument ∷ []
+unfolding clap_on_literals
+notes_of_check = refl
+
+help_of_lint : AskForHelpAlone (codes "lint" ∷ codes "--help" ∷ [])
+unfolding clap_on_literals
+help_of_lint = refl

@@ -1,14 +1,20 @@
 -- What the code's commands stand for.
 use Rattle.std.specs.Prelude.{◌≡◌, List, Option, option_copied, option_map, Result, IfErr}
+use Rattle.std.specs.Global.{Vec}
 use denote.Ref.{Bor}
 use Rattle.clap.specs.Words.{Row, Text, found_of, rows_of}
 use Rattle.clap.specs.declared.parser.matches.ArgMatches.{ArgMatches}
 use Rattle.fluent_serve.specs.RequestView.{arguments_view}
+use Rattle.ftl_words.specs.Linting as linting
+use Rattle.ftl_words.specs.Linting.{Lint, ReportFormat}
 use Rattle.ftl_words.specs.Meaning as asked
 use Rattle.ftl_words.specs.Meaning.{Asked, Format, asked_by, texts}
 use Rattle.ftl_words.specs.declared.commands.Command.{Command}
 use Rattle.ftl_words.specs.declared.commands.Command.TheVariants as command
 use Rattle.ftl_words.specs.declared.commands.Format as code
+use Rattle.ftl_words.specs.declared.commands.Lint as linted
+use Rattle.ftl_words.specs.declared.commands.ReportFormat as written
+use Rattle.ftl_words.specs.declared.commands.ReportFormat.TheVariants as form
 use Rattle.ftl_words.specs.declared.commands.Tidy.{Tidy}
 use Rattle.ftl_words.specs.declared.commands.Tidy.TheVariants as of
 use Rattle.ftl_words.specs.declared.reading.WordsError.{WordsError}
@@ -20,6 +26,10 @@ tidy_view (of.Normalize file) = asked.normalize file.now
 tidy_view (of.Join files) = asked.join (texts files.items)
 tidy_view (of.Export file) = asked.export file.now
 tidy_view (of.Import file) = asked.import file.now
+
+-- the arguments that were read, if each has an equals sign
+abbrev pub read_view : Option (Vec (Bor Text × Bor Text)) → Option (List (Text × Text))
+read_view arguments = option_map (λ v. arguments_view v.items) arguments
 
 -- an id and the name of an attribute
 abbrev pub name_view : Bor Text × Option (Bor Text) → Text × Option Text
@@ -34,11 +44,29 @@ format_view f = record {
   files = texts f.files.items;
 }
 
+abbrev pub report_format_view : written.ReportFormat → ReportFormat
+report_format_view form.Text = linting.text
+report_format_view form.Line = linting.line
+report_format_view form.Json = linting.json
+report_format_view form.Github = linting.github
+
+abbrev pub lint_view : linted.Lint → Lint
+lint_view l = record {
+  references = texts l.references.items;
+  functions = texts l.functions.items;
+  locale = option_map (λ l. l.now) l.locale;
+  notes = l.notes;
+  strict = l.strict;
+  format = report_format_view l.format;
+  files = texts l.files.items;
+}
+
 abbrev pub command_view : Command → Asked
 command_view (command.Run isolating overriding locale files) =
     asked.run (record { isolating = isolating; overriding = overriding; locale = option_map (λ l. l.now) locale; files = texts files.items })
 command_view (command.Format f) = asked.format (format_view f)
 command_view (command.Check files) = asked.check (texts files.items)
+command_view (command.Lint l) = asked.lint (lint_view l)
 command_view (command.Tidy t) = asked.tidy (tidy_view t)
 
 -- what was found for a command

@@ -20,6 +20,10 @@ option_rule name = record (new_rule name) { long = Some name; value_names = 1 }
 abbrev pub each_rule : Text → Rule
 each_rule name = record (option_rule name) { action = Some Append }
 
+-- `--name VALUE`, which has this value if it isn't given
+abbrev pub default_rule : Text → Text → Rule
+default_rule name value = record (option_rule name) { defaults = value ∷ [] }
+
 -- a message
 abbrev pub id_rule : Rule
 id_rule = record (new_rule (codes "ID")) { required = true }
@@ -53,6 +57,17 @@ run_shape = shaped (codes "run") (asking_rules ++ files_rule ∷ [])
 abbrev pub format_shape : Shape
 format_shape = shaped (codes "format") (asking_rules ++ each_rule (codes "argument") ∷ id_rule ∷ files_rule ∷ [])
 
+-- what is known of the program and of the language: the texts that are translated, functions, and the locale
+abbrev pub known_rules : List Rule
+known_rules = each_rule (codes "reference") ∷ each_rule (codes "function") ∷ option_rule (codes "locale") ∷ []
+
+-- the same, and how findings are reported
+abbrev pub linting_rules : List Rule
+linting_rules = known_rules ++ flag_rule (codes "notes") ∷ flag_rule (codes "strict") ∷ default_rule (codes "format") (codes "text") ∷ []
+
+abbrev pub lint_shape : Shape
+lint_shape = shaped (codes "lint") (linting_rules ++ files_rule ∷ [])
+
 -- the program, which has a version, of which a command has to be named, and whose first word is no name of its own
 abbrev pub bare_program : App
 bare_program =
@@ -64,6 +79,7 @@ program_app = record {
   subs = run_shape
       ∷ format_shape
       ∷ shaped (codes "check") (files_rule ∷ [])
+      ∷ lint_shape
       ∷ shaped (codes "clean") (file_rule ∷ [])
       ∷ shaped (codes "normalize") (file_rule ∷ [])
       ∷ shaped (codes "join") (files_rule ∷ [])
@@ -71,6 +87,19 @@ program_app = record {
       ∷ shaped (codes "import") (file_rule ∷ [])
       ∷ [];
 }
+
+-- one more command for each way to report on sources
+abbrev pub with_reports : App → App
+with_reports a = with_subcommand (with_command a (codes "check") files_rule) lint_shape
+
+-- and for each way to tidy them
+abbrev pub with_tidying : App → App
+with_tidying a =
+    let clean = with_command a (codes "clean") file_rule in
+    let normalize = with_command clean (codes "normalize") file_rule in
+    let join = with_command normalize (codes "join") files_rule in
+    let export = with_command join (codes "export") file_rule in
+    with_command export (codes "import") file_rule
 
 -- `clap` knows the argument so, and for its own command alone
 abbrev pub IsLocal : Rule → Arg → Type 0

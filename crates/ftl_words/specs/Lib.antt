@@ -1,4 +1,6 @@
 pub mod Commands
+pub mod Found
+pub mod Linting
 pub mod Meaning
 pub mod CommandView
 pub mod ErrorTexts

@@ -1,13 +1,13 @@
 -- What words ask for, by what `clap` makes of them.
-use Rattle.std.specs.Prelude.{◌≡◌, ◌⊎◌, Bool, not, if◌then◌else◌, List, [], ◌∷◌, Option, Some, None, map, option_map, unwrap_or, false, codes}
-use Rattle.std.specs.Prelude.{option_and_then}
-use Rattle.std.specs.Option.{option_map_or}
+use Rattle.std.specs.Prelude.{◌≡◌, ◌⊎◌, Bool, not, if◌then◌else◌, List, [], ◌∷◌, Option, Some, None, map, option_map, option_and_then, codes}
 use Rattle.std.specs.Str.{bytes_eq}
 use denote.Ref.{Bor}
-use Rattle.clap.specs.Words.{Kinds, IsAmong, Row, Text, all_of, fault_of, first_of, subcommand_of}
+use Rattle.clap.specs.Words.{Kinds, IsAmong, Row, Text, fault_of, first_of, subcommand_of}
 use Rattle.clap.specs.declared.error.kind.ErrorKind.TheVariants.{DisplayHelp, DisplayVersion}
 use Rattle.fluent_requests.specs.Requests.{Request, request_of_parts}
 use Rattle.ftl_words.specs.Commands.{program_app}
+use Rattle.ftl_words.specs.Found.{is_given, values_in, locale_in, file_in, files_in}
+use Rattle.ftl_words.specs.Linting.{Lint, lint_in}
 
 -- answer the request lines of standard input, from the sources in these files
 pub record Run : Type 0 where
@@ -38,27 +38,14 @@ pub data Asked : Type 0 where
   run : Run → Asked
   format : Format → Asked
   check : List Text → Asked
+  lint : Lint → Asked
   tidy : Tidy → Asked
 
--- ---- what `clap` found for a command
-
--- a flag that was given
-abbrev pub is_given : Text → List Row → Bool
-is_given name rows = option_map_or (λ s. bytes_eq s (codes "true")) (first_of name rows) false
-
--- the value of `--locale`
-abbrev pub locale_in : List Row → Option Text
-locale_in rows = first_of (codes "locale") rows
-
-abbrev pub file_in : List Row → Option Text
-file_in rows = first_of (codes "FILE") rows
-
-abbrev pub files_in : List Row → List Text
-files_in rows = unwrap_or (all_of (codes "FILE") rows) []
+-- ---- what was found for a command
 
 -- the values of `--argument`
 abbrev pub arguments_in : List Row → List Text
-arguments_in rows = unwrap_or (all_of (codes "argument") rows) []
+arguments_in rows = values_in (codes "argument") rows
 
 abbrev pub id_in : List Row → Option Text
 id_in rows = first_of (codes "ID") rows
@@ -99,6 +86,7 @@ asked_by found =
     if bytes_eq found.0 (codes "run") then Some (run (run_in found.1))
     else if bytes_eq found.0 (codes "format") then option_map format (format_in found.1)
     else if bytes_eq found.0 (codes "check") then Some (check (files_in found.1))
+    else if bytes_eq found.0 (codes "lint") then option_map lint (lint_in found.1)
     else if bytes_eq found.0 (codes "clean") then on_file clean found.1
     else if bytes_eq found.0 (codes "normalize") then on_file normalize found.1
     else if bytes_eq found.0 (codes "join") then Some (tidy (join (files_in found.1)))

@@ -1,5 +1,5 @@
 -- What `ftl --version` prints.
-use Rattle.std.specs.Prelude.{List, ◌++◌, ◌∷◌, [], codes}
+use Rattle.std.specs.Prelude.{◌++◌, ◌∷◌, [], codes}
 use Rattle.clap.specs.Words.{Text}
 
 abbrev pub version : Text

@@ -21,6 +21,8 @@ pub enum Command<'words> {
         /// The names of the sources' files.
         files: Vec<&'words str>,
     },
+    /// Report what is found in a catalog.
+    Lint(Lint<'words>),
     /// Write what sources are tidied into.
     Tidy(Tidy<'words>),
 }
@@ -42,6 +44,38 @@ pub struct Format<'words> {
     pub arguments: Vec<(&'words str, &'words str)>,
     /// The names of the sources' files.
     pub files: Vec<&'words str>,
+}
+
+/// Which sources are a catalog, what it is compared with, and how findings are reported.
+#[derive(Debug, PartialEq, Eq, Drop)]
+pub struct Lint<'words> {
+    /// The names of the files that are translated from.
+    pub references: Vec<&'words str>,
+    /// The names of the functions that the program adds.
+    pub functions: Vec<&'words str>,
+    /// The tag of the locale whose plural categories are looked for, if one is given.
+    pub locale: Option<&'words str>,
+    /// Whether notes are reported, too.
+    pub notes: bool,
+    /// Whether warnings count for the status.
+    pub strict: bool,
+    /// How findings are written.
+    pub format: ReportFormat,
+    /// The names of the sources' files.
+    pub files: Vec<&'words str>,
+}
+
+/// How findings are written.
+#[derive(Clone, Copy, Debug, PartialEq, Eq)]
+pub enum ReportFormat {
+    /// As a line for each, the line of its source, and a hint if there is one.
+    Text,
+    /// As a line for each.
+    Line,
+    /// As a JSON object for each, on a line.
+    Json,
+    /// As a command for each, by which GitHub shows it at its line.
+    Github,
 }
 
 /// How sources are tidied, and the names of their files.

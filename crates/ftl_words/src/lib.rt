@@ -7,10 +7,11 @@
 mod commands;
 mod errors;
 mod formatting;
+mod linting;
 mod program;
 mod reading;
 mod version;
 
-pub use commands::{Command, Format, Tidy};
+pub use commands::{Command, Format, Lint, ReportFormat, Tidy};
 pub use reading::{WordsError, command};
 pub use version::VERSION;

@@ -2,8 +2,10 @@
 ghost use Rattle.std.specs.Prelude.{◌≡◌, ◌∷◌, [], false, codes, IfOk};
 ghost use Rattle.clap.specs.Words.{app_of, rule_of, with_subcommand};
 ghost use Rattle.ftl_words.specs.Commands.{IsShaped, IsLocal, shaped, with_command};
-ghost use Rattle.ftl_words.specs.Commands.{flag_rule, option_rule, each_rule, id_rule, file_rule, files_rule};
+ghost use Rattle.ftl_words.specs.Commands.{flag_rule, option_rule, each_rule, default_rule};
+ghost use Rattle.ftl_words.specs.Commands.{id_rule, file_rule, files_rule};
 ghost use Rattle.ftl_words.specs.Commands.{bare_program, program_app, asking_rules, flagged_rules, format_shape, run_shape};
+ghost use Rattle.ftl_words.specs.Commands.{known_rules, lint_shape, linting_rules, with_reports, with_tidying};
 
 use crate::version::VERSION;
 use clap::{Arg, ArgAction, Command};
@@ -16,12 +18,27 @@ pub(crate) fn program<'a>(alloc: Global) -> Result<Command<'a>, AllocError>
     let run = run(alloc)?;
     let program = bare_program(alloc)?.subcommand(run)?;
     let program = with_format(alloc, program)?;
+    let program = with_reports(alloc, program)?;
+    with_tidying(alloc, program)
+}
+
+/// The program with the commands that report on sources, too.
+fn with_reports<'a>(alloc: Global, program: Command<'a>) -> Result<Command<'a>, AllocError>
+    ensures { IfOk result (λ more. app_of more ≡ with_reports (app_of program.entry)) }
+{
     let program = with_files(
         alloc,
         program,
         "check",
         "Reports the syntax errors of sources, and each entry whose id was taken",
     )?;
+    with_lint(alloc, program)
+}
+
+/// The program with the commands that tidy sources, too.
+fn with_tidying<'a>(alloc: Global, program: Command<'a>) -> Result<Command<'a>, AllocError>
+    ensures { IfOk result (λ more. app_of more ≡ with_tidying (app_of program.entry)) }
+{
     let program = with_file(
         alloc,
         program,
@@ -128,6 +145,43 @@ fn format<'a>(alloc: Global) -> Result<Command<'a>, AllocError>
         .arg(files(alloc))
 }
 
+/// The program with the command `lint`, too.
+fn with_lint<'a>(alloc: Global, program: Command<'a>) -> Result<Command<'a>, AllocError>
+    ensures { IfOk result (λ more. app_of more ≡ with_subcommand (app_of program.entry) lint_shape) }
+{
+    program.subcommand(lint(alloc)?)
+}
+
+/// The command `lint`.
+fn lint<'a>(alloc: Global) -> Result<Command<'a>, AllocError>
+    ensures { IfOk result (IsShaped lint_shape) }
+{
+    reporting(alloc)?
+        .after_help("Example: ftl lint --reference en.ftl de.ftl")
+        .arg(files(alloc))
+}
+
+/// The command `lint` without its files.
+fn reporting<'a>(alloc: Global) -> Result<Command<'a>, AllocError>
+    ensures { IfOk result (IsShaped (shaped (codes "lint") linting_rules)) }
+{
+    comparing(alloc)?
+        .arg(flag(alloc, "notes").help("Reports notes, too"))?
+        .arg(flag(alloc, "strict").help("Lets warnings count for the status"))?
+        .arg(report_format(alloc))
+}
+
+/// The same with the options alone that say what is known of the program and of the language.
+fn comparing<'a>(alloc: Global) -> Result<Command<'a>, AllocError>
+    ensures { IfOk result (IsShaped (shaped (codes "lint") known_rules)) }
+{
+    Command::new(alloc, "lint")
+        .about("Reports the mistakes of sources that are one catalog, each with its line")
+        .arg(reference(alloc))?
+        .arg(function(alloc))?
+        .arg(categories(alloc))
+}
+
 /// A command of this name with the options that say how texts are made.
 fn asking<'a>(alloc: Global, name: &'a str, about: &'a str) -> Result<Command<'a>, AllocError>
     ensures { IfOk result (IsShaped (shaped name.entry.now asking_rules)) }
@@ -168,11 +222,52 @@ fn option<'a>(alloc: Global, name: &'a str, value: &'a str) -> Arg<'a>
     Arg::new(alloc, name).long(name).value_name(value)
 }
 
+/// An option of this name with one value, which it has if it isn't given, too.
+fn option_or<'a>(alloc: Global, name: &'a str, value: &'a str, default: &'a str) -> Arg<'a>
+    ensures { IsLocal (default_rule name.entry.now default.entry.now) result }
+{
+    option(alloc, name, value).default_value(default)
+}
+
 /// An option of this name that may come more than once, with one value each, which help calls so.
 fn each<'a>(alloc: Global, name: &'a str, value: &'a str) -> Arg<'a>
     ensures { IsLocal (each_rule name.entry.now) result }
 {
     option(alloc, name, value).action(ArgAction::Append)
+}
+
+/// A file that `lint` compares with.
+fn reference<'a>(alloc: Global) -> Arg<'a>
+    ensures { IsLocal (each_rule (codes "reference")) result }
+{
+    each(alloc, "reference", "FILE").help(
+        "Compares with a file that is translated from, once for each",
+    )
+}
+
+/// A function that `lint` knows.
+fn function<'a>(alloc: Global) -> Arg<'a>
+    ensures { IsLocal (each_rule (codes "function")) result }
+{
+    each(alloc, "function", "NAME").help("Names a function that your program adds, once for each")
+}
+
+/// The locale whose plural categories `lint` looks for.
+fn categories<'a>(alloc: Global) -> Arg<'a>
+    ensures { IsLocal (option_rule (codes "locale")) result }
+{
+    option(alloc, "locale", "TAG").help(
+        "Reports plural categories of this locale that have no variant",
+    )
+}
+
+/// How `lint` writes findings.
+fn report_format<'a>(alloc: Global) -> Arg<'a>
+    ensures { IsLocal (default_rule (codes "format") (codes "text")) result }
+{
+    option_or(alloc, "format", "FORMAT", "text").help(
+        "Writes findings as text, line, json or github",
+    )
 }
 
 /// The message that a command is on.

@@ -3,13 +3,15 @@ ghost use Rattle.std.specs.Prelude.{◌≡◌, IfOk, IfErr, IsErrOf, Some, None,
 ghost use Rattle.clap.specs.Words.{kind_of, subcommand_rows_of};
 ghost use Rattle.ftl_words.specs.Meaning.{AskForHelp, AskForHelpAlone, command_of, texts};
 ghost use Rattle.ftl_words.specs.Meaning.{AskForVersion, AskForVersionAlone};
-ghost use Rattle.ftl_words.specs.Meaning.{asked_of, file_in, files_in, is_given, locale_in};
+ghost use Rattle.ftl_words.specs.Meaning.{asked_of};
+ghost use Rattle.ftl_words.specs.Found.{file_in, files_in, is_given, locale_in, values_in};
 ghost use Rattle.ftl_words.specs.CommandView.{asked_with, command_view, found_rows, IfRefused};
 ghost use Rattle.ftl_words.specs.Version.{version_line};
 ghost use Rattle.ftl_words.specs.declared.reading.WordsError.TheVariants.{Memory};
 
 use crate::commands::{Command, Tidy};
 use crate::formatting::format_in;
+use crate::linting::lint_in;
 use crate::program::program;
 use crate::version::version_line;
 use clap::error::ErrorKind;
@@ -136,6 +138,7 @@ fn command_named<'words>(
         "check" => Ok(Command::Check {
             files: files_in(alloc, found)?,
         }),
+        "lint" => Ok(Command::Lint(lint_in(alloc, found)?)),
         "clean" => Ok(Command::Tidy(Tidy::Clean(file_in(found)?))),
         "normalize" => Ok(Command::Tidy(Tidy::Normalize(file_in(found)?))),
         "join" => Ok(Command::Tidy(Tidy::Join(files_in(alloc, found)?))),
@@ -176,5 +179,17 @@ pub(crate) fn files_in<'words>(
     ensures { IfOk result (λ files.
         texts files.items ≡ files_in (found_rows found.now)) }
 {
-    Vec::from_slice(alloc, found.get_raw("FILE").unwrap_or(&[]))
+    values_in(alloc, found, "FILE")
+}
+
+/// All values of an argument, in the order of the words.
+pub(crate) fn values_in<'words>(
+    alloc: Global,
+    found: &ArgMatches<'words>,
+    name: &str,
+) -> Result<Vec<&'words str>, AllocError>
+    ensures { IfOk result (λ values.
+        texts values.items ≡ values_in name.now (found_rows found.now)) }
+{
+    Vec::from_slice(alloc, found.get_raw(name).unwrap_or(&[]))
 }

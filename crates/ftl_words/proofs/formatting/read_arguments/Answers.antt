@@ -1,5 +1,5 @@
 use Rattle.std.proofs.Common.{rules}
-use Rattle.ftl_words.proofs.Asked.{all_read, none_read, not_read, one_read}
+use Rattle.ftl_words.proofs.Asked.{none_read}
 use Rattle.ftl_words.proofs.formatting.read_arguments.Goals as goal
 
 pub loop-word-init : goal.loop-word-init

@@ -2,8 +2,8 @@ use Rattle.std.proofs.Common.{◌≡◌, ◌∙◌, Some, ap, subst, sym, rules}
 use Rattle.std.specs.Option.{unwrap_or}
 use Rattle.std.specs.HashMap.{Updates}
 use Rattle.std.specs.HashMap.Entry.{map_with_value}
-use Rattle.fluent_comparison.proofs.PositionsAdded.{added, same_name}
-use Rattle.fluent_comparison.proofs.positions.Positions.add.Goals as goal
+use Rattle.fluent_comparison.proofs.FirstPlacesAdded.{added, same_name}
+use Rattle.fluent_comparison.proofs.first_places.FirstPlaces.add.Goals as goal
 
 pub returns : goal.returns
 returns c = λ ps first.

@@ -1,4 +1,4 @@
--- The first positions of names, once one more was added.
+-- The first places of names, once one more was added.
 use Rattle.std.proofs.Common.{◌≡◌, ◌∙◌, Bool, true, false, cond, if◌then◌else◌, List, [], ◌∷◌, ◌++◌, Option, Some, None, option_map, refl, ap, sym, Bor}
 use Rattle.std.specs.Option.{unwrap_or}
 use Rattle.std.specs.Bool.{nat_eq}
@@ -6,7 +6,7 @@ use Rattle.std.specs.Str.{bytes_eq}
 use Rattle.std.specs.Cmp.Lexicographic.{pointwise, same_text}
 use Rattle.std.specs.HashMap.{HashMap, Updates, get, get_by}
 use Rattle.fluent_grammar.specs.Words.{Text}
-use Rattle.fluent_comparison.specs.HasPositions.{first_at}
+use Rattle.fluent_comparison.specs.HasFirstPlaces.{first_at}
 
 -- names are the same, by their bytes
 abbrev pub same_name : Bor Text → Bor Text → Bool
