@@ -19,7 +19,7 @@ use Rattle.fluent_findings.specs.Endless.{all_patterns, is_pattern_among}
 use Rattle.fluent_endless.specs.declared.entered.EnteredPattern.{EnteredPattern}
 use Rattle.fluent_endless.specs.declared.entered.EnteredPatterns.{EnteredPatterns}
 use Rattle.fluent_endless.specs.declared.indices.Indices.{Indices}
-use Rattle.fluent_endless.specs.IndicesView.{index_of, same_names}
+use Rattle.fluent_endless.specs.IndicesView.{attribute_text, index_of, same_names}
 
 -- the pattern that is listed at an index
 abbrev pub pattern_at : List Elements → ℕ → Elements

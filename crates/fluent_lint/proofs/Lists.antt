@@ -1,6 +1,5 @@
 -- Lists that are made one item after the other.
 use Rattle.std.proofs.Common.{◌≡◌, ◌∙◌, ℕ, ◌+◌, ◌<◌, List, [], ◌∷◌, ◌++◌, length, take, drop, set, get_or, map, false, sym, ap, arith, append-nil, append_assoc}
-use Rattle.std.specs.List.{flat_map}
 use Rattle.std.proofs.lemmas.List.{map-append, take_more, take_more_set, drop-set-lt, drop_more}
 use Rattle.std.proofs.lemmas.List.Concat.{flat_map-append}
 use denote.Ref.{Bor}

@@ -1,6 +1,5 @@
 -- The trees of files are those of their sources, and so are the ids.
 use Rattle.std.proofs.Common.{◌≡◌, ◌∙◌, ℕ, zero, suc, ◌<◌, false, List, [], ◌∷◌, ◌++◌, length, get_or, map, Some, None, refl, sym, ap, arith}
-use Rattle.std.specs.List.{flat_map}
 use Rattle.std.proofs.lemmas.List.Elements.{All-cons, All-map}
 use denote.Ref.{Bor}
 use Rattle.fluent_ast.specs.Borrowed.{entries_of}
@@ -15,7 +14,7 @@ use Rattle.fluent_grammar.specs.Tiling.{list, listed, tree}
 use Rattle.fluent_grammar.specs.Tree as t
 use Rattle.fluent_grammar.specs.Words.{Text}
 use Rattle.fluent_meaning.proofs.Stays.{first_stays}
-use Rattle.fluent_meaning.specs.Ids.{Ids, Meaning, entries_by_id, function, message, number_pair, term, with_ids}
+use Rattle.fluent_meaning.specs.Ids.{Ids, Meaning, entries_by_id, function, message, number_pair, term}
 use Rattle.fluent_tidy_laws.specs.Joined.{lists}
 use Rattle.fluent_tiles.specs.Kept.{kept_entries}
 use Rattle.fluent_lint.specs.FileTiles.{files_view}

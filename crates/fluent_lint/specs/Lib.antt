@@ -2,3 +2,5 @@ pub mod Reading
 pub mod Known
 pub mod FileTiles
 pub mod Found
+pub mod Reports
+pub mod KnownRules
