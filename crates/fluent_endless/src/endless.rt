@@ -29,6 +29,8 @@ use std::alloc::{AllocError, Global};
 pub struct EndlessPatterns<'c, 'r, 's, F> {
     /// Only contracts speak of them.
     ids: &'c FluentIds<'r, 's, F>,
+    /// What the ids refer to.
+    _trees: &'r [Resource<&'s str>],
     indices: Indices<'s>,
     /// At the index of each pattern, whether its references never end.
     marks: Vec<bool>,
@@ -48,7 +50,7 @@ impl<'c, 'r, 's, F> EndlessPatterns<'c, 'r, 's, F> {
     pub fn new(
         alloc: Global,
         ids: &'c FluentIds<'r, 's, F>,
-        trees: &[Resource<&'s str>],
+        trees: &'r [Resource<&'s str>],
     ) -> Result<Self, AllocError>
         requires { AreDeclaredIn (ids_view F ids.now) trees.now }
         ensures { IfOk result (λ endless. ids_of F endless ≡ ids_view F ids.now) }
@@ -58,6 +60,7 @@ impl<'c, 'r, 's, F> EndlessPatterns<'c, 'r, 's, F> {
         let EnteredPatterns { indices, .. } = entered;
         Ok(EndlessPatterns {
             ids,
+            _trees: trees,
             indices,
             marks,
         })

@@ -1,0 +1,3 @@
+pub mod TilesFound
+pub mod EntryPushed
+pub mod TilesPushed

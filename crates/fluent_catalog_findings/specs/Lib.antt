@@ -1,0 +1,3 @@
+pub mod PartFindings
+pub mod RulesView
+pub mod Pushes

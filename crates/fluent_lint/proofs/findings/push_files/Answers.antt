@@ -1,0 +1,31 @@
+use Rattle.std.proofs.Common.{◌∙◌, [], ◌++◌, refl, sym, ap, append-nil}
+use Rattle.std.proofs.lemmas.List.{drop_all}
+use Rattle.fluent_catalog_findings.specs.PartFindings.{declared_in, findings_of_files}
+use Rattle.fluent_catalog_findings.specs.RulesView.{rules_view}
+use Rattle.fluent_finding.specs.View.{file_view, findings_view}
+use Rattle.fluent_lint.specs.FileTiles.{files_of, files_view}
+use Rattle.fluent_lint.proofs.FilesFound.{one_found}
+use Rattle.fluent_lint.proofs.findings.push_files.Goals as goal
+
+pub loop-file-init : goal.loop-file-init
+loop-file-init g c = ([], c.requires.none, refl)
+
+pub loop-file-preserved : goal.loop-file-preserved
+loop-file-preserved g c =
+    let rules = rules_view g.C.Comparison.compared c.args.rules.now in
+    let item = c.file-item.result in
+    let inv = c.loop-file.invariant in (
+      inv.0 ++ declared_in (file_view item.file),
+      c.in_ok-findings.ensures.declared inv.0 inv.1,
+      one_found rules c.args.files.now c.loop-file.file-index item c.loop-file.found.items c.push.new.self.items _ inv.0
+          c.loop-file-test.true c.file-item.is c.in_ok-push.ensures.items refl (c.in_ok-findings.ensures.findings inv.0 inv.1) inv.2,
+    )
+
+pub returns : goal.returns
+returns g c =
+    let rules = rules_view g.C.Comparison.compared c.args.rules.now in
+    let inv = c.loop-file.invariant in
+    let now = findings_view c.loop-file.found.items in
+    sym (append-nil now)
+    ∙ ap (λ l. now ++ findings_of_files rules inv.0 (files_view (files_of l))) (sym (drop_all c.loop-file.file-index c.args.files.now c.loop-file-test.false))
+    ∙ inv.2

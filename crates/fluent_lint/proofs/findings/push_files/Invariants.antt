@@ -1,0 +1,15 @@
+use Rattle.std.proofs.Common.{◌≡◌, ◌++◌, [], List, drop}
+use Rattle.fluent_catalog_findings.specs.PartFindings.{findings_of_files}
+use Rattle.fluent_catalog_findings.specs.RulesView.{rules_view}
+use Rattle.fluent_duplicates.specs.First.{AreFirst}
+use Rattle.fluent_finding.specs.View.{findings_view}
+use Rattle.fluent_findings.specs.DuplicateIds.{Declaration}
+use Rattle.fluent_lint.specs.FileTiles.{files_of, files_view}
+use Rattle.fluent_lint.proofs.findings.push_files.Given as goal
+
+abbrev pub invariant-loop-file : goal.invariant-loop-file
+invariant-loop-file g l =
+    let rules = rules_view g.C.Comparison.compared l.rules in
+    (before : List Declaration) × AreFirst l.declarations before
+    × (findings_view l.found.items ++ findings_of_files rules before (files_view (files_of (drop l.file-index l.files)))
+    ≡ findings_view l.initial.found.items ++ findings_of_files rules [] (files_view (files_of l.files)))

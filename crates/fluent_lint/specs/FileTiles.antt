@@ -1,0 +1,20 @@
+-- Files with their tiles.
+use Rattle.std.specs.Prelude.{◌≡◌, All, List, map}
+use Rattle.fluent_finding.specs.View.{file_view}
+use Rattle.fluent_finding.specs.declared.records.File.{File}
+use Rattle.fluent_findings.specs.Files as f
+use Rattle.fluent_tiles.specs.Kept.{parts}
+use Rattle.fluent_tiles.specs.TileView.{AreErrorsOf, IsReadPart, tile_view}
+use Rattle.fluent_lint.specs.declared.tiles.FileTiles.{FileTiles}
+
+-- the tiles and the errors of a file are those of its source
+pub record AreTilesOf (tiled : FileTiles) : Type 0 where
+  pub parts : map tile_view tiled.tiles.items ≡ parts tiled.file.source.now
+  pub read : All IsReadPart (map tile_view tiled.tiles.items)
+  pub errors : AreErrorsOf tiled.file.source.now tiled.errors.now
+
+abbrev pub files_of : List FileTiles → List File
+files_of tiled = map (λ (t : FileTiles). t.file) tiled
+
+abbrev pub files_view : List File → List f.File
+files_view files = map file_view files

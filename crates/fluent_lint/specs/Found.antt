@@ -1,0 +1,27 @@
+-- What is found in files.
+use Rattle.std.specs.Prelude.{◌≡◌, List, [], ◌++◌, Vec, map}
+use Rattle.std.specs.Global.{Global}
+use Rattle.fluent_catalog_findings.specs.PartFindings.{declared_in, findings_of_file, findings_of_files}
+use Rattle.fluent_duplicates.specs.First.{AreFirst}
+use Rattle.fluent_duplicates.specs.declared.declarations.Declarations.{Declarations}
+use Rattle.fluent_finding.specs.View.{file_view, finding_view, findings_view}
+use Rattle.fluent_finding.specs.declared.records.File.{File}
+use Rattle.fluent_finding.specs.declared.records.FileFindings.{FileFindings}
+use Rattle.fluent_finding.specs.declared.records.Finding.{Finding}
+use Rattle.fluent_findings.specs.DuplicateIds.{Declaration}
+use Rattle.fluent_findings.specs.Findings.{Rules}
+use Rattle.fluent_lint.specs.FileTiles.{files_of, files_view}
+use Rattle.fluent_lint.specs.declared.tiles.FileTiles.{FileTiles}
+
+-- the declarations of a file come after those that are known
+abbrev pub DeclaresFile : Declarations → Declarations → File → Type 0
+DeclaresFile old new file = (before : List Declaration) → AreFirst old before → AreFirst new (before ++ declared_in (file_view file))
+
+-- these are the findings of a file after the declarations that are known
+abbrev pub IsFoundInFile : Rules → Declarations → File → Vec Finding Global → Type 0
+IsFoundInFile rules known file found = (before : List Declaration) → AreFirst known before →
+    map finding_view found.items ≡ findings_of_file rules before (file_view file)
+
+-- the findings of files are added
+abbrev pub AddsFiles : Rules → List FileTiles → Vec FileFindings Global → Vec FileFindings Global → Type 0
+AddsFiles rules files old new = findings_view new.items ≡ findings_view old.items ++ findings_of_files rules [] (files_view (files_of files))

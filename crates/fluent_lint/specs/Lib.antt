@@ -1,0 +1,6 @@
+pub mod Reading
+pub mod Known
+pub mod FileTiles
+pub mod Found
+pub mod Reports
+pub mod KnownRules

@@ -1,0 +1,79 @@
+//! The findings of a catalog.
+#![tactic(auto)]
+
+ghost use Rattle.std.specs.Prelude.{◌≡◌, ◌++◌, [], All, IfOk, OnOk};
+ghost use Rattle.fluent_catalog_findings.specs.PartFindings.{findings_of_files};
+ghost use Rattle.fluent_catalog_findings.specs.RulesView.{HasSameIds, rules_view};
+ghost use Rattle.fluent_duplicates.specs.First.{AreFirst};
+ghost use Rattle.fluent_finding.specs.View.{findings_view};
+ghost use Rattle.fluent_lint.specs.FileTiles.{AreTilesOf, files_of, files_view};
+ghost use Rattle.fluent_lint.specs.Found.{AddsFiles, DeclaresFile, IsFoundInFile};
+
+use crate::tiles::FileTiles;
+use fluent_catalog_findings::{Comparison, Rules, file_findings};
+use fluent_duplicates::Declarations;
+use fluent_entry_findings::Endless;
+use fluent_finding::{FileFindings, Finding};
+use fluent_syntax_findings::syntax_findings;
+use std::alloc::{AllocError, Global};
+
+/// The findings of the files of a catalog, by these rules.
+///
+/// # Errors
+/// [`AllocError`] if memory runs out; nothing is left behind.
+pub fn catalog_findings<'s, E: Endless<()>, C: Comparison>(
+    alloc: Global,
+    rules: &Rules<'_, '_, 's, E, C>,
+    files: &[FileTiles<'_, 's>],
+) -> Result<Vec<FileFindings<'s>>, AllocError>
+    requires same_ids { HasSameIds E.ids rules.now }
+    requires tiles { All AreTilesOf files.now }
+    ensures { IfOk result (λ found. findings_view found.items
+        ≡ findings_of_files (rules_view C.compared rules.now) [] (files_view (files_of files.now))) }
+{
+    let mut found = Vec::new(alloc);
+    let declarations = Declarations::new(alloc);
+    push_files(alloc, rules, files, declarations, &mut found)?;
+    Ok(found)
+}
+
+/// Adds the findings of files, after these declarations.
+fn push_files<'s, E: Endless<()>, C: Comparison>(
+    alloc: Global,
+    rules: &Rules<'_, '_, 's, E, C>,
+    files: &[FileTiles<'_, 's>],
+    before: Declarations<'s>,
+    found: &mut Vec<FileFindings<'s>>,
+) -> Result<(), AllocError>
+    requires same_ids { HasSameIds E.ids rules.now }
+    requires tiles { All AreTilesOf files.now }
+    requires none { AreFirst before [] }
+    ensures { OnOk result (AddsFiles (rules_view C.compared rules.now) files.now found.old found.new) }
+{
+    let mut declarations = before;
+    for file in files {
+        let findings = findings_of_file(alloc, rules, file, &mut declarations)?;
+        found.push(FileFindings {
+            file: file.file,
+            findings,
+        })?;
+    }
+    Ok(())
+}
+
+/// The findings of a file, after the declarations of others. Its own declarations are added to those.
+fn findings_of_file<'s, E: Endless<()>, C: Comparison>(
+    alloc: Global,
+    rules: &Rules<'_, '_, 's, E, C>,
+    file: &FileTiles<'_, 's>,
+    declarations: &mut Declarations<'s>,
+) -> Result<Vec<Finding>, AllocError>
+    requires same_ids { HasSameIds E.ids rules.now }
+    requires tiles { AreTilesOf file.now }
+    ensures declared { OnOk result (DeclaresFile declarations.old declarations.new file.now.file) }
+    ensures findings { IfOk result (IsFoundInFile (rules_view C.compared rules.now) declarations.old file.now.file) }
+{
+    let syntax = syntax_findings(alloc, file.file.source, file.errors)?;
+    let findings = file_findings(alloc, rules, file.file, &file.tiles, syntax, declarations)?;
+    Ok(findings)
+}

@@ -1,0 +1,67 @@
+//! What the ids of a catalog stand for.
+#![tactic(auto)]
+
+ghost use Rattle.std.specs.Prelude.{◌≡◌, ◌++◌, [], ◌∷◌, false, IfOk, OnOk};
+ghost use Rattle.fluent_ids.specs.IdsView.{ids_view};
+ghost use Rattle.fluent_lint.specs.Known.{by_ids, functions_by_id, trees_by_id};
+ghost use Rattle.fluent_meaning.specs.Ids.{function, number_pair, with_id, with_ids};
+ghost use Rattle.fluent_resource.specs.Sources.{texts};
+
+use fluent_ast::Resource;
+use fluent_ids::{AddFunctionError, FluentIds};
+use std::alloc::{AllocError, Global};
+
+/// What the ids of a catalog stand for: first `NUMBER` and these functions, and then the entries of these trees. The first
+/// of an id stays.
+///
+/// # Errors
+/// [`AllocError`] if memory runs out; nothing is left behind.
+pub fn catalog_ids<'r, 's>(
+    alloc: Global,
+    functions: &[&str],
+    trees: &'r [Resource<&'s str>],
+) -> Result<FluentIds<'r, 's, ()>, AllocError>
+    ensures { IfOk result (λ ids. ids_view _ ids ≡ by_ids (texts functions.now) (trees_by_id trees.now)) }
+{
+    let mut ids = FluentIds::new(alloc);
+    add_functions(&mut ids, functions)?;
+    for tree in trees {
+        ids.add_resource_silently(tree)?;
+    }
+    Ok(ids)
+}
+
+/// Adds `NUMBER` and these functions to no ids.
+fn add_functions(ids: &mut FluentIds<'_, '_, ()>, functions: &[&str]) -> Result<(), AllocError>
+    requires { ids_view _ ids.old ≡ [] }
+    ensures { OnOk result (ids_view _ ids.new ≡ by_ids (texts functions.now) []) }
+{
+    add_number(ids)?;
+    for id in functions {
+        add_function(ids, id)?;
+    }
+    Ok(())
+}
+
+/// Adds `NUMBER` to no ids.
+fn add_number(ids: &mut FluentIds<'_, '_, ()>) -> Result<(), AllocError>
+    requires { ids_view _ ids.old ≡ [] }
+    ensures { OnOk result (ids_view _ ids.new ≡ number_pair ∷ []) }
+{
+    match ids.add_builtins() {
+        Ok(()) => Ok(()),
+        Err(AddFunctionError::Overriding(_)) => Ok(()),
+        Err(AddFunctionError::Memory) => Err(AllocError),
+    }
+}
+
+/// Adds a function, unless its id is taken.
+fn add_function(ids: &mut FluentIds<'_, '_, ()>, id: &str) -> Result<(), AllocError>
+    ensures { OnOk result (ids_view _ ids.new ≡ with_id false (ids_view _ ids.old) (id.now, function tt)) }
+{
+    match ids.add_function(id, ()) {
+        Ok(()) => Ok(()),
+        Err(AddFunctionError::Overriding(_)) => Ok(()),
+        Err(AddFunctionError::Memory) => Err(AllocError),
+    }
+}

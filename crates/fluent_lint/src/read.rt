@@ -1,0 +1,97 @@
+//! Reading the files of a catalog.
+#![tactic(auto)]
+
+ghost use Rattle.std.specs.Prelude.{◌≡◌, ◌++◌, [], ◌∷◌, IfOk, OnOk, map};
+ghost use Rattle.fluent_ast.specs.Borrowed.{entries_of, entry_of};
+ghost use Rattle.fluent_entry_findings.specs.AttributePlaces.{uncommented};
+ghost use Rattle.fluent_lint.specs.Reading.{bare_tree, IsReadOf, errors_in, errors_told, errors_view, trees_in};
+ghost use Rattle.fluent_parsed.specs.ErrorView.{error_view};
+
+use fluent_ast::{Entry, Resource};
+use fluent_finding::File;
+use fluent_parser::{Error, ParserError, parse};
+use std::alloc::{AllocError, Global};
+
+/// The trees of files, without the comments above messages and terms, and the errors of each file.
+#[derive(Drop)]
+pub struct ReadFiles<'s> {
+    pub trees: Vec<Resource<&'s str>>,
+    pub errors: Vec<Vec<ParserError>>,
+}
+
+impl<'s> ReadFiles<'s> {
+    /// Of no files. It doesn't allocate.
+    fn new(alloc: Global) -> Self
+        ensures trees { trees_in result ≡ [] }
+        ensures errors { errors_in result ≡ [] }
+    {
+        ReadFiles {
+            trees: Vec::new(alloc),
+            errors: Vec::new(alloc),
+        }
+    }
+
+    /// Reads one more source.
+    fn read(&mut self, alloc: Global, source: &'s str) -> Result<(), AllocError>
+        ensures trees { OnOk result (trees_in self.new ≡ trees_in self.old ++ bare_tree source.now ∷ []) }
+        ensures errors { OnOk result (errors_in self.new ≡ errors_in self.old ++ errors_told source.now ∷ []) }
+    {
+        match parse(alloc, source) {
+            Ok(tree) => self.push(tree, Vec::new(alloc)),
+            Err(Error::Broken(tree, errors)) => self.push(tree, errors),
+            Err(Error::Memory) => Err(AllocError),
+        }
+    }
+
+    /// Puts what was read of one more source after the others.
+    fn push(
+        &mut self,
+        mut tree: Resource<&'s str>,
+        errors: Vec<ParserError>,
+    ) -> Result<(), AllocError>
+        ensures trees { OnOk result (trees_in self.new
+            ≡ trees_in self.old ++ map uncommented (entries_of tree.entry) ∷ []) }
+        ensures errors { OnOk result (errors_in self.new ≡ errors_in self.old ++ errors_view errors ∷ []) }
+    {
+        drop_comments(&mut tree.body);
+        self.trees.push(tree)?;
+        self.errors.push(errors)?;
+        Ok(())
+    }
+}
+
+/// Drops the comments above the messages and terms of a tree. They make no difference to findings, and so the entries
+/// are those that an id stands for.
+fn drop_comments(entries: &mut [Entry<&str>])
+    ensures { map entry_of entries.new ≡ map uncommented (map entry_of entries.old) }
+{
+    for entry in entries.iter_mut() {
+        drop_comment(entry);
+    }
+}
+
+/// Drops the comment above a message or a term.
+fn drop_comment(entry: &mut Entry<&str>)
+    ensures { entry_of entry.new ≡ uncommented (entry_of entry.old) }
+{
+    match entry {
+        Entry::Message(message) => message.comment = None,
+        Entry::Term(term) => term.comment = None,
+        _ => {}
+    }
+}
+
+/// Reads files, each once.
+///
+/// # Errors
+/// [`AllocError`] if memory runs out, or a file nests so deep that reading it would take more of the machine's stack
+/// than [`StackBudget::PROGRAM`](fluent_parser::StackBudget::PROGRAM); nothing is left behind.
+pub fn read_files<'s>(alloc: Global, files: &[File<'s>]) -> Result<ReadFiles<'s>, AllocError>
+    ensures { IfOk result (IsReadOf files.now) }
+{
+    let mut read = ReadFiles::new(alloc);
+    for file in files {
+        read.read(alloc, file.source)?;
+    }
+    Ok(read)
+}

@@ -1,0 +1,5 @@
+pub mod Starts
+pub mod Kept
+pub mod Ahead
+pub mod TileView
+pub mod Walks
