@@ -7,9 +7,9 @@ import tempfile
 
 from nested import REQUEST, SHAPES, source
 
-COMMANDS = ("check", "run", "clean", "normalize", "export", "import")
+COMMANDS = ("check", "lint", "run", "clean", "normalize", "export", "import")
 LEAST, MOST = 10, 1_000_000
-ANSWERED, NO_JSON, OUT_OF_MEMORY = 0, 1, 4
+ANSWERED, FOUND, NO_JSON, OUT_OF_MEMORY = 0, 1, 1, 4
 
 
 class Trial:
@@ -31,10 +31,12 @@ class Trial:
         status = self.call(command, text).returncode
         # JSON that nests more than 127 deep is none to `import`.
         may_be_no_json = command == "import" and status == NO_JSON
-        if status not in (ANSWERED, OUT_OF_MEMORY) and not may_be_no_json:
+        # `lint` may have found something.
+        is_answered = status == ANSWERED or command == "lint" and status == FOUND
+        if not is_answered and status != OUT_OF_MEMORY and not may_be_no_json:
             how = f"signal {-status}" if status < 0 else f"status {status}"
             self.wrong.append(f"{command} of {depth} {shape}: {how}")
-        return status == ANSWERED
+        return is_answered
 
     def call(self, command, text):
         """One run of a command on a file with this text. What it writes is kept if it is to be imported."""

@@ -3,6 +3,7 @@ use Rattle.std.specs.Prelude.{◌≡◌, ◌==◌, if◌then◌else◌, List, Op
 use Rattle.fluent_grammar.specs.Words.{Text}
 use Rattle.fluent_number.specs.Number.{number_from_integer}
 use Rattle.fluent_number.specs.Reading.{read_number}
+use Rattle.fluent_value.specs.Args.{with_argument}
 use Rattle.fluent_value.specs.Value.{Value, none, number, text}
 use Rattle.fluent_value.specs.View.{value_view}
 use Rattle.fluent_value.specs.declared.custom.NoCustom.{NoCustom}
@@ -28,6 +29,10 @@ value_seen found = option_map (value_view (λ c. tt)) found
 -- an argument's name and its value
 abbrev pub pair_of : FluentArgument → Text × Value (Unit {0})
 pair_of a = (a.name.now, unwrap_or (value_given a) none)
+
+-- the values of arguments by their names, once this one was set
+abbrev pub with_given : FluentArgument → List (Text × Value (Unit {0})) → List (Text × Value (Unit {0}))
+with_given a args = with_argument (pair_of a).0 (pair_of a).1 args
 
 -- its name and its text are UTF-8
 abbrev pub HasTexts : FluentArgument → Type 0

@@ -2,8 +2,8 @@
 
 ghost use Rattle.std.specs.Prelude.{◌≡◌, [], IfErr, IfOk, OnOk, map};
 ghost use Rattle.fluent_run.specs.DeskView.{arguments_view};
-ghost use Rattle.fluent_value.specs.Args.{all_set, with_argument};
-ghost use Rattle.fluent_c_calls.specs.Arguments.{AreRefusedFor, AreTaken, IsRefusedFor, IsTaken, number_given, pair_of, value_given, value_seen};
+ghost use Rattle.fluent_value.specs.Args.{all_set};
+ghost use Rattle.fluent_c_calls.specs.Arguments.{AreRefusedFor, AreTaken, IsRefusedFor, IsTaken, number_given, pair_of, value_given, value_seen, with_given};
 ghost use Rattle.fluent_c_calls.specs.declared.arguments.ArgumentRefusal.TheVariants.{Memory};
 
 use crate::{FLUENT_DECIMAL, FLUENT_INTEGER, FLUENT_TEXT, FLUENT_UNSIGNED};
@@ -92,8 +92,8 @@ fn set<'a>(
     arguments: &mut FluentArgs<'a, NoCustom>,
     argument: &FluentArgument<'a>,
 ) -> Result<(), ArgumentRefusal>
-    ensures set { OnOk result (arguments_view arguments.new ≡ with_argument (pair_of argument.now).0
-        (pair_of argument.now).1 (arguments_view arguments.old)) }
+    ensures set { OnOk result (arguments_view arguments.new
+        ≡ with_given argument.now (arguments_view arguments.old)) }
     ensures taken { OnOk result (IsTaken argument.now) }
     ensures refused { IfErr result (IsRefusedFor argument.now) }
 {

@@ -5,15 +5,14 @@ use Rattle.std.specs.Cmp.Lexicographic.{same_text}
 use Rattle.std.proofs.lemmas.List.Elements.{All-nil, All-cons, All-append}
 use Rattle.std.proofs.lemmas.List.{map-append}
 use Rattle.std.specs.Prelude.{is_some}
-use Rattle.std.proofs.Common.{Bor}
 use Rattle.fluent_ast.specs.Borrowed.{elements_of}
-use Rattle.fluent_ast.specs.declared.Pattern.{Pattern}
 use Rattle.fluent_grammar.specs.Words.{Text}
 use Rattle.fluent_grammar.specs.Tree.{Elements}
 use Rattle.fluent_value.specs.Matching.{same_bool, same_option}
 use Rattle.fluent_findings.specs.Endless.{is_pattern_among}
-use Rattle.fluent_endless.specs.declared.places.Places.{Places}
-use Rattle.fluent_endless.specs.PlacesView.{place_at, same_names, GetsPlace}
+use Rattle.fluent_endless.specs.declared.entered.EnteredPattern.{EnteredPattern}
+use Rattle.fluent_endless.specs.declared.indices.Indices.{Indices}
+use Rattle.fluent_endless.specs.IndicesView.{index_of, same_names, GetsIndex}
 use Rattle.fluent_endless.specs.Holding.{pattern_at, patterns_of, Named, Holds, or_else, with_pattern}
 
 first_of_both : (a b : Bool) → (a && b) ≡ true → a ≡ true
@@ -72,14 +71,14 @@ one_longer (p ∷ ps) es = let rest = one_longer ps es in omega arith
 
 module _ (others : List Elements) (ps : List Elements) (named : Named) (s : Bool) (j : Text) (b : Option Text) (es : Elements) where
   -- the names have a pattern already
-  module _ (places : Places) (v : ℕ) (holds : Holds others places ps named) (is : place_at places s j b ≡ Some v) where
+  module _ (indices : Indices) (v : ℕ) (holds : Holds others indices ps named) (is : index_of indices s j b ≡ Some v) where
     there_by : (t : Bool) (i : Text) (a : Option Text) (c : Bool) → same_names s j b t i a ≡ c → named t i a ≡ or_else (named t i a) (if c then Some es else None)
     there_by t i a true e =
-        let found : place_at places t i a ≡ Some v = names_are (λ t' i' a'. place_at places t' i' a' ≡ Some v) s j b t i a e is in
-        some_stays v ps (place_at places t i a) (named t i a) (Some es) found (holds.at t i a)
+        let found : index_of indices t i a ≡ Some v = names_are (λ t' i' a'. index_of indices t' i' a' ≡ Some v) s j b t i a e is in
+        some_stays v ps (index_of indices t i a) (named t i a) (Some es) found (holds.at t i a)
     there_by t i a false e = sym (or_none (named t i a))
 
-    pub already : Holds others places ps (with_pattern s j b es named)
+    pub already : Holds others indices ps (with_pattern s j b es named)
     already = record {
       within = holds.within;
       at = λ t i a. holds.at t i a ∙ there_by t i a (same_names s j b t i a) refl;
@@ -87,8 +86,8 @@ module _ (others : List Elements) (ps : List Elements) (named : Named) (s : Bool
     }
 
   -- they get one
-  module _ (old new : Places) (holds : Holds others old ps named) (is : place_at old s j b ≡ None) (gets : GetsPlace old new s j b (length ps)) (among : is_pattern_among es others ≡ true) where
-    within_by : (t : Bool) (i : Text) (a : Option Text) (v : ℕ) (c : Bool) → same_names s j b t i a ≡ c → (if c then Some (length ps) else place_at old t i a) ≡ Some v → v < length (ps ++ es ∷ [])
+  module _ (old new : Indices) (holds : Holds others old ps named) (is : index_of old s j b ≡ None) (gets : GetsIndex old new s j b (length ps)) (among : is_pattern_among es others ≡ true) where
+    within_by : (t : Bool) (i : Text) (a : Option Text) (v : ℕ) (c : Bool) → same_names s j b t i a ≡ c → (if c then Some (length ps) else index_of old t i a) ≡ Some v → v < length (ps ++ es ∷ [])
     within_by t i a v true e found = let same : length ps ≡ v = cc in let long = one_longer ps es in omega arith
     within_by t i a v false e found = let inner : v < length ps = holds.within t i a v found in let long = one_longer ps es in omega arith
 
@@ -97,11 +96,11 @@ module _ (others : List Elements) (ps : List Elements) (named : Named) (s : Bool
     old_stay (Some v) inner = ap Some (before_end ps es v (inner v refl))
 
     at_by : (t : Bool) (i : Text) (a : Option Text) (c : Bool) → same_names s j b t i a ≡ c →
-        option_map (pattern_at (ps ++ es ∷ [])) (if c then Some (length ps) else place_at old t i a) ≡ or_else (named t i a) (if c then Some es else None)
+        option_map (pattern_at (ps ++ es ∷ [])) (if c then Some (length ps) else index_of old t i a) ≡ or_else (named t i a) (if c then Some es else None)
     at_by t i a true e =
-        let free : place_at old t i a ≡ None = names_are (λ t' i' a'. place_at old t' i' a' ≡ None) s j b t i a e is in
-        ap Some (at_end ps es) ∙ sym (none_gives ps (place_at old t i a) (named t i a) (Some es) free (holds.at t i a))
-    at_by t i a false e = old_stay (place_at old t i a) (holds.within t i a) ∙ holds.at t i a ∙ sym (or_none (named t i a))
+        let free : index_of old t i a ≡ None = names_are (λ t' i' a'. index_of old t' i' a' ≡ None) s j b t i a e is in
+        ap Some (at_end ps es) ∙ sym (none_gives ps (index_of old t i a) (named t i a) (Some es) free (holds.at t i a))
+    at_by t i a false e = old_stay (index_of old t i a) (holds.within t i a) ∙ holds.at t i a ∙ sym (or_none (named t i a))
 
     pub one_more : Holds others new (ps ++ es ∷ []) (with_pattern s j b es named)
     one_more = record {
@@ -110,8 +109,8 @@ module _ (others : List Elements) (ps : List Elements) (named : Named) (s : Bool
       known = All-append (λ x. is_pattern_among x others ≡ true) ps (es ∷ []) holds.known (All-cons (λ x. is_pattern_among x others ≡ true) es [] among (All-nil (λ x. is_pattern_among x others ≡ true)));
     }
 
-pub pushed : (xs zs : List (Bor (Pattern (Bor Text)))) (p : Bor (Pattern (Bor Text))) → zs ≡ xs ++ p ∷ [] → patterns_of zs ≡ patterns_of xs ++ elements_of p.now ∷ []
-pushed xs zs p is = ap patterns_of is ∙ map-append (λ (q : Bor (Pattern (Bor Text))). elements_of q.now) xs (p ∷ [])
+pub pushed : (xs zs : List EnteredPattern) (p : EnteredPattern) → zs ≡ xs ++ p ∷ [] → patterns_of zs ≡ patterns_of xs ++ elements_of p.pattern.now ∷ []
+pushed xs zs p is = ap patterns_of is ∙ map-append (λ (q : EnteredPattern). elements_of q.pattern.now) xs (p ∷ [])
 
 pub none_from : (o : Option ℕ) → is_some o ≡ false → o ≡ None
 none_from None e = refl

@@ -1,4 +1,4 @@
-pub mod Placed
+pub mod Inserted
 pub mod Held
 pub mod Owned
 pub mod Catalog
@@ -6,3 +6,6 @@ pub mod Declared
 pub mod Circles
 pub mod NodeReferences
 pub mod Whole
+pub mod Edges
+pub mod Marked
+pub mod DeclaredIn

@@ -13,13 +13,13 @@ use Rattle.fluent_grammar.specs.Tree as t
 use Rattle.fluent_grammar.specs.Tree.{Elements}
 use Rattle.fluent_meaning.specs.Ids.{attribute_named}
 use Rattle.fluent_value.specs.Matching.{same_bool}
-use Rattle.fluent_endless.specs.declared.places.Places.{Places}
+use Rattle.fluent_endless.specs.declared.indices.Indices.{Indices}
 use Rattle.fluent_endless.specs.Holding.{Named, Holds, or_else, with_pattern, with_entry}
 use Rattle.fluent_endless.proofs.Held.{or_none}
 
 -- the same names may be given in another way
-pub renamed : (others : List Elements) (places : Places) (ps : List Elements) (named other : Named) → ((t : Bool) (i : Text) (a : Option Text) → named t i a ≡ other t i a) → Holds others places ps named → Holds others places ps other
-renamed others places ps named other same holds = record {
+pub renamed : (others : List Elements) (indices : Indices) (ps : List Elements) (named other : Named) → ((t : Bool) (i : Text) (a : Option Text) → named t i a ≡ other t i a) → Holds others indices ps named → Holds others indices ps other
+renamed others indices ps named other same holds = record {
   within = holds.within;
   at = λ t i a. holds.at t i a ∙ same t i a;
   known = holds.known;
@@ -76,19 +76,19 @@ module _ (s : Bool) (j : Text) (named : Named) where
 
 -- ---- the loop over the attributes
 
-module _ (others : List Elements) (places : Places) (ps : List Elements) (named : Named) (s : Bool) (j : Text) (v : Option Elements) where
-  pub begin_value : (es : Elements) → v ≡ Some es → Holds others places ps (with_pattern s j None es named) → Holds others places ps (with_entry s j v [] named)
-  begin_value es e holds = rw e (renamed others places ps (with_pattern s j None es named) (with_entry s j (Some es) [] named) (value_first s j named es) holds)
+module _ (others : List Elements) (indices : Indices) (ps : List Elements) (named : Named) (s : Bool) (j : Text) (v : Option Elements) where
+  pub begin_value : (es : Elements) → v ≡ Some es → Holds others indices ps (with_pattern s j None es named) → Holds others indices ps (with_entry s j v [] named)
+  begin_value es e holds = rw e (renamed others indices ps (with_pattern s j None es named) (with_entry s j (Some es) [] named) (value_first s j named es) holds)
 
-  pub begin_none : v ≡ None → Holds others places ps named → Holds others places ps (with_entry s j v [] named)
-  begin_none e holds = rw e (renamed others places ps named (with_entry s j None [] named) (no_value s j named) holds)
+  pub begin_none : v ≡ None → Holds others indices ps named → Holds others indices ps (with_entry s j v [] named)
+  begin_none e holds = rw e (renamed others indices ps named (with_entry s j None [] named) (no_value s j named) holds)
 
   pub next : (xs : List (Attribute (Bor Text))) (i : ℕ) (item : Attribute (Bor Text)) → i < length xs → item ≡ get_or xs i item →
-      Holds others places ps (with_pattern s j (Some (attribute_of item).id) (attribute_of item).value (with_entry s j v (attributes_of (take i xs)) named)) →
-      Holds others places ps (with_entry s j v (attributes_of (take (i + 1) xs)) named)
+      Holds others indices ps (with_pattern s j (Some (attribute_of item).id) (attribute_of item).value (with_entry s j v (attributes_of (take i xs)) named)) →
+      Holds others indices ps (with_entry s j v (attributes_of (take (i + 1) xs)) named)
   next xs i item inside is holds =
       let more : attributes_of (take (i + 1) xs) ≡ attributes_of (take i xs) ++ attribute_of item ∷ [] = map_more attribute_of xs i item inside ∙ ap (λ y. attributes_of (take i xs) ++ attribute_of y ∷ []) (sym is) in
-      rw more (renamed others places ps _ (with_entry s j v (attributes_of (take i xs) ++ attribute_of item ∷ []) named) (attribute_more s j named v (attributes_of (take i xs)) (attribute_of item)) holds)
+      rw more (renamed others indices ps _ (with_entry s j v (attributes_of (take i xs) ++ attribute_of item ∷ []) named) (attribute_more s j named v (attributes_of (take i xs)) (attribute_of item)) holds)
 
 pub value_known : (P : Elements → Type 0) (v : Option Elements) (es : Elements) (rest : List Elements) → v ≡ Some es → All P (option_to_list v ++ rest) → P es
 value_known P v es rest e h = All-head P es rest (rw e at h)

@@ -12,7 +12,7 @@ module _ {F : Type 0} (ids : Ids F) (seen : List Text) (others : (t : Bool) (i :
   all_by true t i a e = refl
   all_by false t i a e = sym (others t i a e)
 
-  pub whole : (found : EnteredPatterns) → HasPatternsOf ids found seen → Holds (all_patterns ids) found.places (patterns_of found.patterns.items) (entered ids)
+  pub whole : (found : EnteredPatterns) → HasPatternsOf ids found seen → Holds (all_patterns ids) found.indices (patterns_of found.patterns.items) (entered ids)
   whole found has =
-      renamed (all_patterns ids) found.places (patterns_of found.patterns.items) (entered_among ids seen) (entered ids)
+      renamed (all_patterns ids) found.indices (patterns_of found.patterns.items) (entered_among ids seen) (entered ids)
       (λ t i a. all_by (is_among i seen) t i a refl) has.holds

@@ -16,11 +16,12 @@ use Rattle.fluent_meaning.specs.Substitution.{Target, there, missing, message_ta
 use Rattle.fluent_value.specs.Matching.{same_bool}
 use Rattle.fluent_findings.specs.DuplicateIds.{id_of}
 use Rattle.fluent_findings.specs.Endless.{all_patterns, is_pattern_among}
+use Rattle.fluent_endless.specs.declared.entered.EnteredPattern.{EnteredPattern}
 use Rattle.fluent_endless.specs.declared.entered.EnteredPatterns.{EnteredPatterns}
-use Rattle.fluent_endless.specs.declared.places.Places.{Places}
-use Rattle.fluent_endless.specs.PlacesView.{place_at, same_names}
+use Rattle.fluent_endless.specs.declared.indices.Indices.{Indices}
+use Rattle.fluent_endless.specs.IndicesView.{attribute_text, index_of, same_names}
 
--- the pattern that is listed at a place
+-- the pattern that is listed at an index
 abbrev pub pattern_at : List Elements → ℕ → Elements
 pattern_at ps v = slice_index_or ps v no_elements
 
@@ -29,9 +30,9 @@ abbrev pub Named : Type 0
 Named = Bool → Text → Option Text → Option Elements
 
 -- The patterns of a list, each one of these others, have just these names.
-pub record Holds (others : List Elements) (places : Places) (ps : List Elements) (named : Named) : Type 0 where
-  pub within : (t : Bool) (i : Text) (a : Option Text) (v : ℕ) → place_at places t i a ≡ Some v → v < length ps
-  pub at : (t : Bool) (i : Text) (a : Option Text) → option_map (pattern_at ps) (place_at places t i a) ≡ named t i a
+pub record Holds (others : List Elements) (indices : Indices) (ps : List Elements) (named : Named) : Type 0 where
+  pub within : (t : Bool) (i : Text) (a : Option Text) (v : ℕ) → index_of indices t i a ≡ Some v → v < length ps
+  pub at : (t : Bool) (i : Text) (a : Option Text) → option_map (pattern_at ps) (index_of indices t i a) ≡ named t i a
   pub known : All (λ es. is_pattern_among es others ≡ true) ps
 
 abbrev pub or_else : Option Elements → Option Elements → Option Elements
@@ -71,26 +72,26 @@ abbrev pub declared_ids : List t.Entry → List Text
 declared_ids es = flat_map (λ e. option_to_list (id_of e)) es
 
 -- the plain patterns of a list
-abbrev pub patterns_of : List (Bor (Pattern (Bor Text))) → List Elements
-patterns_of ps = map (λ p. elements_of p.now) ps
+abbrev pub patterns_of : List EnteredPattern → List Elements
+patterns_of ps = map (λ p. elements_of p.pattern.now) ps
 
 -- The patterns of a catalog are listed that references to these ids enter.
 pub record HasPatternsOf {F : Type 0} (ids : Ids F) (found : EnteredPatterns) (seen : List Text) : Type 0 where
   pub seen_ids : (i : Text) → contains_by (λ k. bytes_eq i k.now) found.seen ≡ is_among i seen
-  pub holds : Holds (all_patterns ids) found.places (patterns_of found.patterns.items) (entered_among ids seen)
+  pub holds : Holds (all_patterns ids) found.indices (patterns_of found.patterns.items) (entered_among ids seen)
 
 -- what a list holds once a pattern was added
 abbrev pub GetsPattern : EnteredPatterns → EnteredPatterns → Bool → Text → Option Text → Elements → Type 0
 GetsPattern old new is_term id attribute es = (others : List Elements) (named : Named) →
-    Holds others old.places (patterns_of old.patterns.items) named → is_pattern_among es others ≡ true →
-    Holds others new.places (patterns_of new.patterns.items) (with_pattern is_term id attribute es named)
+    Holds others old.indices (patterns_of old.patterns.items) named → is_pattern_among es others ≡ true →
+    Holds others new.indices (patterns_of new.patterns.items) (with_pattern is_term id attribute es named)
 
 -- what a list holds once an entry was added
 abbrev pub GetsEntry : EnteredPatterns → EnteredPatterns → Bool → Text → Option Elements → List t.Attribute → Type 0
 GetsEntry old new is_term id value attributes = (others : List Elements) (named : Named) →
-    Holds others old.places (patterns_of old.patterns.items) named →
+    Holds others old.indices (patterns_of old.patterns.items) named →
     All (λ es. is_pattern_among es others ≡ true) (option_to_list value ++ map (λ (a : t.Attribute). a.value) attributes) →
-    Holds others new.places (patterns_of new.patterns.items) (with_entry is_term id value attributes named)
+    Holds others new.indices (patterns_of new.patterns.items) (with_entry is_term id value attributes named)
 
 -- ---- what calls add
 
@@ -101,3 +102,7 @@ GetsIds ids old new more = (seen : List Text) → HasPatternsOf ids old seen →
 -- those of an entry with this value and these attributes
 abbrev pub GetsEntryOf : EnteredPatterns → EnteredPatterns → Bool → Text → Option (Bor (Pattern (Bor Text))) → List (Attribute (Bor Text)) → Type 0
 GetsEntryOf old new is_term id value attributes = GetsEntry old new is_term id (elements_found value) (attributes_of attributes)
+
+-- a pattern of an entry
+abbrev pub GetsPatternOf : EnteredPatterns → EnteredPatterns → Bool → Text → Option (Bor Text) → Pattern (Bor Text) → Type 0
+GetsPatternOf old new is_term id attribute pattern = GetsPattern old new is_term id (attribute_text attribute) (elements_of pattern)

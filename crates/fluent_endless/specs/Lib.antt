@@ -1,2 +1,6 @@
-pub mod PlacesView
+pub mod IndicesView
 pub mod Holding
+pub mod Catalog
+pub mod ReferenceGraph
+pub mod Marks
+pub mod EndlessView

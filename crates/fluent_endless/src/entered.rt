@@ -1,33 +1,40 @@
 //! The patterns of a catalog that references enter.
 #![tactic(auto)]
 
-ghost use Rattle.std.specs.Prelude.{◌≡◌, [], ◌∷◌, OnOk, option_map};
-ghost use Rattle.fluent_ast.specs.Borrowed.{elements_of, entries_of};
-ghost use Rattle.fluent_endless.specs.Holding.{GetsEntryOf, GetsIds, GetsPattern, HasPatternsOf, declared_ids};
+ghost use Rattle.std.specs.Prelude.{◌≡◌, [], ◌∷◌, IfOk, OnOk};
+ghost use Rattle.fluent_ast.specs.Borrowed.{entries_of};
+ghost use Rattle.fluent_endless.specs.Catalog.{ids_of_trees};
+ghost use Rattle.fluent_endless.specs.Holding.{GetsEntryOf, GetsIds, GetsPatternOf, HasPatternsOf, declared_ids};
 ghost use Rattle.fluent_ids.specs.IdsView.{ids_view};
 
-use crate::places::Places;
+use crate::indices::Indices;
 use fluent_ast::{Attribute, Pattern, Resource};
 use fluent_duplicates::declared_id;
 use fluent_ids::{Entry, FluentIds};
 use std::alloc::{AllocError, Global};
 use std::collections::HashSet;
 
-/// The patterns of a catalog that references enter, each once, and the place of each.
+/// A pattern that references enter.
+#[derive(Clone, Copy)]
+pub struct EnteredPattern<'r, 's> {
+    pub pattern: &'r Pattern<&'s str>,
+}
+
+/// The patterns of a catalog that references enter, each once, and the index of each.
 ///
 /// ```no_run
 /// let mut entered = EnteredPatterns::new(alloc, &ids);
 /// entered.add_resource(&ids, &resource)?;
-/// if let Some(place) = entered.places.get(true, "brand", None) {
-///     let pattern = entered.patterns[place]; // the value of the term `-brand`
+/// if let Some(index) = entered.indices.get(true, "brand", None) {
+///     let pattern = entered.patterns[index].pattern; // the value of the term `-brand`
 /// }
 /// ```
 #[derive(Drop)]
 pub struct EnteredPatterns<'r, 's> {
-    /// The place of each in the list, by the names of the references that enter it.
-    pub places: Places<'s>,
+    /// The index of each in the list, by the names of the references that enter it.
+    pub indices: Indices<'s>,
     /// The list.
-    pub patterns: Vec<&'r Pattern<&'s str>>,
+    pub patterns: Vec<EnteredPattern<'r, 's>>,
     /// The ids that were looked at.
     seen: HashSet<&'s str>,
 }
@@ -38,14 +45,33 @@ impl<'r, 's> EnteredPatterns<'r, 's> {
         ensures { HasPatternsOf (ids_view F ids.now) result [] }
     {
         EnteredPatterns {
-            places: Places::new(alloc),
+            indices: Indices::new(alloc),
             patterns: Vec::new(alloc),
             seen: HashSet::new(alloc),
         }
     }
 
-    /// Adds those that references to the ids of a resource enter, in a catalog with these ids. So all are there once each
-    /// resource of the catalog was added, in any order.
+    /// The patterns of a catalog with these ids that references to the ids of trees enter.
+    ///
+    /// # Errors
+    /// [`AllocError`] if memory runs out; nothing is left behind.
+    pub fn of<F>(
+        alloc: Global,
+        ids: &FluentIds<'r, 's, F>,
+        trees: &[Resource<&'s str>],
+    ) -> Result<Self, AllocError>
+        ensures { IfOk result (λ entered.
+            HasPatternsOf (ids_view F ids.now) entered (ids_of_trees trees.now)) }
+    {
+        let mut entered = EnteredPatterns::new(alloc, ids);
+        for tree in trees {
+            entered.add_resource(ids, tree)?;
+        }
+        Ok(entered)
+    }
+
+    /// Adds those that references to the ids of a resource enter, in a catalog with these ids. So all are there once
+    /// each resource of the catalog was added, in any order.
     ///
     /// # Errors
     /// [`AllocError`] if memory runs out; some may be added then.
@@ -114,14 +140,13 @@ impl<'r, 's> EnteredPatterns<'r, 's> {
         attribute: Option<&'s str>,
         pattern: &'r Pattern<&'s str>,
     ) -> Result<(), AllocError>
-        ensures pattern { OnOk result (GetsPattern self.old self.new is_term id.now
-            (option_map (λ s. s.now) attribute.entry) (elements_of pattern.now)) }
+        ensures pattern { OnOk result (GetsPatternOf self.old self.new is_term id.now attribute.entry pattern.now) }
         ensures seen { self.new.seen ≡ self.old.seen }
     {
-        if self.places.get(is_term, id, attribute).is_none() {
-            let place = self.patterns.len();
-            self.patterns.push(pattern)?;
-            self.places.insert(is_term, id, attribute, place)?;
+        if self.indices.get(is_term, id, attribute).is_none() {
+            let index = self.patterns.len();
+            self.patterns.push(EnteredPattern { pattern })?;
+            self.indices.insert(is_term, id, attribute, index)?;
         }
         Ok(())
     }

@@ -1,12 +1,16 @@
-//! The patterns of a catalog that references enter, by the names that the references have.
+//! Which references of a catalog enter a pattern whose references never end.
 //!
-//! [`EnteredPatterns`] lists them, each once, in linear time. If the places of the list are the nodes of a graph, with an
-//! edge for each reference, the nodes that lead into a circle are the patterns whose references never end:
-//! `proofs/Circles.antt` proves it of `endless_patterns`, which `specs/Endless.antt` of `fluent_findings` has.
+//! [`EnteredPatterns`] lists the patterns that references enter, each once, with their [`Indices`]. The indices are the
+//! nodes of a graph, with an edge for each reference, and the patterns that lead into a circle of it are those whose
+//! references never end. [`EndlessPatterns`] marks them, in linear time, and looks references up.
+//! `specs/Endless.antt` of `fluent_findings` says which patterns these are.
 #![tactic(auto)]
 
+mod endless;
 mod entered;
-mod places;
+mod graph;
+mod indices;
 
-pub use entered::EnteredPatterns;
-pub use places::Places;
+pub use endless::EndlessPatterns;
+pub use entered::{EnteredPattern, EnteredPatterns};
+pub use indices::Indices;

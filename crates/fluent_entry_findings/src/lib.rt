@@ -8,6 +8,7 @@
 //! What is known of the catalog is a [`Catalog`]: its ids are [`FluentIds`](fluent_ids::FluentIds) with any functions,
 //! since what a function does makes no difference. Which references never end is [`Endless`]. The entry is one of a
 //! tree, and the text is the source from the entry on: how much of the source is left at a finding says where it is.
+//! [`text`] has what follows the words of an entry, for crates that go through one.
 #![tactic(auto)]
 
 mod catalog;
@@ -19,7 +20,7 @@ mod names;
 mod nodes;
 mod pattern;
 mod problem;
-mod text;
+pub mod text;
 
 pub use catalog::{Catalog, Endless};
 pub use entry::{EntryFindings, message_findings, term_findings};

@@ -14,12 +14,14 @@ pub fn skip(text: &[u8], count: usize) -> &[u8]
     &text[count.min(text.len())..]
 }
 
+/// What follows the spaces at the front.
 pub fn skip_spaces(text: &[u8]) -> &[u8]
     ensures { result.now ≡ w.skip_spaces text.now }
 {
     skip(text, words::blank_inline_len(text))
 }
 
+/// What follows the blank lines at the front.
 pub fn skip_blank_block(text: &[u8]) -> &[u8]
     ensures { result.now ≡ w.skip_blank_block text.now }
 {

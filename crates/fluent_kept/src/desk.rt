@@ -2,9 +2,8 @@
 
 ghost use Rattle.std.specs.Prelude.{◌≡◌, IfOk, IfSome, option_copied, string_bytes};
 ghost use Rattle.ftl_report.specs.Report.{report_text};
-ghost use Rattle.fluent_run.specs.DeskView.{arguments_view};
-ghost use Rattle.fluent_kept.specs.Catalogs.{Catalog, IsDeskFor, IsDeskOf, catalog_of, desk_environment};
-ghost use Rattle.fluent_kept.specs.Answers.{Answers, IsAnswer, IsFound, IsMissing, IsReply};
+ghost use Rattle.fluent_kept.specs.Catalogs.{IsDeskFor, catalog_of, desk_environment};
+ghost use Rattle.fluent_kept.specs.Answers.{AnswersAsIts, IsAnswer, IsFound, IsMissing, IsReplyTo};
 
 use crate::loose::Loose;
 use crate::question::{Answer, Question};
@@ -51,8 +50,7 @@ impl<'r, 's> KeptDesk<'r, 's> {
         arguments: &FluentArgs<'_, NoCustom>,
         spare: String,
     ) -> Answer
-        ensures { IsReply (desk_environment self.now) id.now (option_copied attribute.entry)
-            (arguments_view arguments.now) result }
+        ensures { IsReplyTo (desk_environment self.now) id.now attribute.entry arguments.now result }
     {
         match self
             .desk
@@ -155,8 +153,7 @@ pub(crate) fn asked<'r, 's>(
     alloc: Global,
     question: &Question<'_>,
 ) -> Answer
-    ensures { (catalog : Catalog) → IsDeskOf desk.old catalog
-        → Answers catalog question.now result × IsDeskOf desk.new catalog }
+    ensures { AnswersAsIts desk.old desk.new question.now result }
 {
     desk.answer(alloc, question)
 }

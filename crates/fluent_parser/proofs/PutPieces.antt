@@ -4,7 +4,8 @@ use Rattle.std.specs.Prelude.{◌==◌, Ok}
 use Rattle.std.specs.Bool.{then_some}
 use Rattle.std.proofs.lemmas.List.{map-append}
 use Rattle.fluent_grammar.specs.Words.{Text, open_brace, begins_with}
-use Rattle.fluent_grammar.specs.Refusal.{Reading, got}
+use Rattle.fluent_grammar.specs.Refusal.{Reading, got, mapped}
+use Rattle.fluent_grammar.specs.Tree as t
 use Rattle.fluent_grammar.specs.Lines.{Piece, in_line, placed, ends_line, indent_of, lesser}
 use Rattle.fluent_grammar.specs.Reading.{text_run}
 use Rattle.fluent_ast.specs.declared.Expression.{Expression}
@@ -15,8 +16,12 @@ use Rattle.fluent_ast.proofs.Views.{element_view-TextElement, element_view-Place
 use Rattle.fluent_elements.specs.declared.gathered.Gathered.{Gathered}
 use Rattle.fluent_elements.specs.Pieces.{undented}
 use Rattle.fluent_parser.specs.Pieces.{Puts, PutsRead, GivesPiece}
-use Rattle.fluent_parser.specs.Steps.{text_piece, text_step, piece_behind, placeable_by, indent_at}
+use Rattle.fluent_parser.specs.Steps.{text_piece, text_step, piece_behind, placed_piece, placeable_piece_by, indent_at}
 use Rattle.fluent_parser.proofs.Runs.{text_read, undented_text}
+
+-- a placeable is the next piece
+pub placeable_next : (line zero : Bool) (n : ℕ) (u : Text) → (length u == 0) ≡ false → begins_with open_brace u ≡ true → zero ≡ (line && n == 0) → placeable_piece_by zero u ≡ piece_behind line n u
+placeable_next line zero n u some brace z = rw (some, brace, z) refl
 
 module _ (S : Type 0) (text_of : S → Text) where
   -- an element was put behind what was gathered, with what it says of the common indent
@@ -47,14 +52,13 @@ module _ (S : Type 0) (text_of : S → Text) where
   zero_or_none true e = refl
   zero_or_none false e = refl
 
-  pub placeable_put : (old new : Gathered S) (u rest : Text) (e : Expression S) (line zero : Bool) (n : ℕ) (said : Option ℕ) → (length u == 0) ≡ false → begins_with open_brace u ≡ true
-      → placeable_by u ≡ got (expression_view S text_of e) rest → zero ≡ (line && n == 0) → said ≡ then_some zero 0 → Pushes old new (Placeable e) said
-      → PutsRead S text_of old new rest false (piece_behind line n u)
-  placeable_put old new u rest e line zero n said some brace read z h p =
+  pub placeable_put : (old new : Gathered S) (rest : Text) (e : Expression S) (zero : Bool) (said : Option ℕ) (read : Reading t.Expression) → read ≡ got (expression_view S text_of e) rest
+      → said ≡ then_some zero 0 → Pushes old new (Placeable e) said → PutsRead S text_of old new rest false (mapped (placed_piece zero) read)
+  placeable_put old new rest e zero said read r h p =
       let piece = placed zero (expression_view S text_of e) in
       record {
         piece = piece;
-        read_is = rw (some, brace, read, z) refl;
+        read_is = rw r refl;
         puts = put old new (Placeable e) said piece p (element_view-Placeable S text_of e) (h ∙ zero_or_none zero e);
       }
 

@@ -1,5 +1,5 @@
 -- The steps are the readings.
-use Rattle.std.proofs.Common.{◌≡◌, ℕ, Bool, true, false, cond, ◌&&◌, List, [], ◌∷◌, ◌++◌, length, drop, refl, sym, ap, ◌∙◌, arith, Option, Some, None}
+use Rattle.std.proofs.Common.{◌≡◌, ℕ, Bool, true, false, cond, ◌&&◌, List, [], ◌∷◌, ◌++◌, length, drop, refl, sym, ap, ◌∙◌, arith, subst, Option, Some, None}
 use Rattle.std.specs.Prelude.{◌==◌}
 use Rattle.std.proofs.lemmas.Bool.{false≢true}
 use Rattle.fluent_words.proofs.Scanned.{test_of}
@@ -10,9 +10,11 @@ use Rattle.fluent_grammar.specs.Refusal as r
 use Rattle.fluent_grammar.specs.Tree as t
 use Rattle.fluent_grammar.specs.Lines.{Piece, in_line, placed, value_of, ends_line, pattern_ends, ends_behind_spaces}
 use Rattle.fluent_grammar.specs.Reading as g
-use Rattle.fluent_parser.specs.Reads.{whole, byte_at, argument_value_at}
+use Rattle.fluent_parser.specs.declared.fault.Fault.{Fault}
+use Rattle.fluent_parser.specs.Reads.{whole, byte_at, argument_value_at, Fails}
+use Rattle.fluent_parser.proofs.Failing.{fails_bind}
 use Rattle.fluent_ast.specs.View.{Variant, Named}
-use Rattle.fluent_parser.specs.Steps.{expression_by, placeable_by, pattern_by, present, variant_by, variants_behind, positional, named, positional_by, named_or_positional_by, argument_by, names_with, with_argument, inlines_behind, nameds_behind, arguments_behind, text_piece, piece_behind, piece_by, pieces_by, pieces_after, first_place}
+use Rattle.fluent_parser.specs.Steps.{expression_by, placeable_by, closed_by, pattern_by, present, variant_by, variants_behind, positional, named, positional_by, named_or_positional_by, argument_by, names_with, with_argument, inlines_behind, nameds_behind, arguments_behind, text_piece, piece_behind, piece_by, pieces_by, pieces_after, first_place}
 use Rattle.fluent_parser.proofs.Whole.{whole-inline, whole-line, whole-pieces}
 
 bind_assoc : {A B C : Type 0} (x : Reading A) (f : A × Text → Reading B) (h : B × Text → Reading C) → ((x >>= f) >>= h) ≡ (x >>= (λ a. f a >>= h))
@@ -57,6 +59,19 @@ unfolding g.placeable_at placeable_by expression_by
 placeable_is s =
     bind_same (whole.inline (skip_blank (drop 1 s))) _ _ (λ e rest. bind_same (g.select_or_inline_at whole e (skip_blank rest)) _ _ (λ x behind. closing_is x (skip_blank behind)))
     ∙ sym (bind_assoc (whole.inline (skip_blank (drop 1 s))) (λ e. g.select_or_inline_at whole e.0 (skip_blank e.1)) (λ x. byte_at w.close_brace (skip_blank x.1) >>= (λ u. got x.0 u.1)))
+
+-- a placeable by its parts
+pub placeable_read : (s rest behind : Text) (e : t.Inline) (x : t.Expression) → whole.inline (skip_blank (drop 1 s)) ≡ got e rest → g.select_or_inline_at whole e (skip_blank rest) ≡ got x behind → placeable_by s ≡ closed_by x behind
+unfolding placeable_by expression_by
+placeable_read s rest behind e x h k = rw (h, k) refl
+
+pub placeable_fails : (f : Fault) (s at : Text) → Fails f at (whole.inline (skip_blank (drop 1 s))) → Fails f at (placeable_by s)
+unfolding placeable_by expression_by
+placeable_fails f s at h = fails_bind f at (whole.inline (skip_blank (drop 1 s)) >>= (λ e. g.select_or_inline_at whole e.0 (skip_blank e.1))) _ (fails_bind f at (whole.inline (skip_blank (drop 1 s))) _ h)
+
+pub select_fails : (f : Fault) (s rest at : Text) (e : t.Inline) → whole.inline (skip_blank (drop 1 s)) ≡ got e rest → Fails f at (g.select_or_inline_at whole e (skip_blank rest)) → Fails f at (placeable_by s)
+unfolding placeable_by expression_by
+select_fails f s rest at e h k = fails_bind f at (whole.inline (skip_blank (drop 1 s)) >>= (λ e. g.select_or_inline_at whole e.0 (skip_blank e.1))) _ (subst (λ (x : Reading t.Inline). Fails f at (x >>= (λ e. g.select_or_inline_at whole e.0 (skip_blank e.1)))) (sym h) k)
 
 -- variants
 behind_is : (default : Bool) (key : t.VariantKey) (marked : Bool) (es : t.Elements) (s : Text) →

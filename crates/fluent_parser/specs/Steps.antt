@@ -14,9 +14,25 @@ use Rattle.fluent_ast.specs.View.{Variant, Named}
 unfoldable pub expression_by : Text → Reading t.Expression
 expression_by s = whole.inline s >>= (λ e. select_or_inline_at whole e.0 (skip_blank e.1))
 
+-- the closing brace of a placeable, behind blank
+abbrev pub closed_by : t.Expression → Text → Reading t.Expression
+closed_by e s = byte_at close_brace (skip_blank s) >>= (λ u. got e u.1)
+
 -- a placeable, from its opening brace on
 unfoldable pub placeable_by : Text → Reading t.Expression
-placeable_by s = expression_by (skip_blank (drop 1 s)) >>= (λ x. byte_at close_brace (skip_blank x.1) >>= (λ u. got x.0 u.1))
+placeable_by s = expression_by (skip_blank (drop 1 s)) >>= (λ x. closed_by x.0 x.1)
+
+-- a placeable as an inline expression
+abbrev pub nested_by : Text → Reading t.Inline
+nested_by s = mapped t.nested (placeable_by s)
+
+-- a piece of a pattern that is this expression, whether or not at column zero
+abbrev pub placed_piece : Bool → t.Expression → Option (Piece × Bool)
+placed_piece column_zero e = Some (placed column_zero e, false)
+
+-- a placeable as a piece of a pattern
+abbrev pub placeable_piece_by : Bool → Text → Reading (Option (Piece × Bool))
+placeable_piece_by column_zero s = mapped (placed_piece column_zero) (placeable_by s)
 
 -- what may be a pattern
 abbrev pub pattern_by : Text → Reading (Option t.Elements)

@@ -1,7 +1,9 @@
 //! Expressions.
 #![tactic(auto, using(crate::proofs::Failing::handed, fluent_words::proofs::Counted::cuts, crate::proofs::Steps::placeable_is))]
 
-ghost use Rattle.std.specs.Prelude.{◌≡◌, ◌≤◌, ◌<◌, true, length, drop, option_map};
+ghost use Rattle.std.specs.Prelude.{◌≡◌, ℕ, List, ◌≤◌, ◌<◌, true, length, drop, option_map};
+ghost use Rattle.fluent_ast.specs.View.{expression_view};
+ghost use Rattle.fluent_parser.specs.Selects.{expression_with};
 ghost use Rattle.std.specs.List.{list_all};
 ghost use Rattle.fluent_grammar.specs.Words as w;
 ghost use Rattle.fluent_parser.specs.Frame.{Advances};
@@ -13,54 +15,131 @@ use fluent_parsed::ErrorKind;
 use fluent_stack::reading;
 use fluent_text::Texts;
 use fluent_words as words;
+use std::alloc::AllocError;
+
+/// An expression with these variants, or the selector alone.
+fn expression_of<S>(
+    selector: InlineExpression<S>,
+    variants: Option<Vec<Variant<S>>>,
+) -> Expression<S>
+    ensures { (text_of : S → List ℕ) → expression_view S text_of result
+        ≡ expression_with S text_of selector variants }
+{
+    match variants {
+        Some(variants) => Expression::Select { selector, variants },
+        None => Expression::Inline(selector),
+    }
+}
+
+/// Drops an expression, in a frame of its own: where expressions nest, frames are to stay small.
+#[inline(never)]
+pub fn discard<S: Drop>(_expression: InlineExpression<S>) {}
 
 impl<'p, S: Drop, T: Texts<S>> Parser<'p, S, T> {
     ghost use Rattle.fluent_parser.specs.Frame.{Reads};
-    ghost use Rattle.fluent_parser.specs.Selects.{select_by, select_view};
+    ghost use Rattle.fluent_parser.specs.Selects.{select_by, select_view, expression_with, select_or_inline_by, nested_end_by};
     ghost use Rattle.fluent_parser.specs.Reads.{whole, string_or_number_at, inline_by, variable_at};
-    ghost use Rattle.fluent_parser.specs.Steps.{expression_by, placeable_by};
+    ghost use Rattle.fluent_parser.specs.Steps.{closed_by, nested_by};
     ghost use Rattle.fluent_ast.specs.View.{name_of, inline_view, expression_view};
     ghost use Rattle.fluent_grammar.specs.Reading.{accessor_at, term_at, named_at};
 
-    /// A placeable, from its opening brace on. Productions `inline_placeable` and `block_placeable`.
+    /// Passes over the opening brace of a placeable and the blank after it.
     ///
     /// # Errors
-    /// [`Fault::Refused`] if this is no placeable; the parser then stands at the place of the refusal.
-    /// [`Fault::Memory`] if memory runs out.
-    #[cycle(parser)]
-    #[tactic(auto, using(crate::proofs::Failing::handed, fluent_words::proofs::Counted::cuts), unfolding(crate::specs::Steps::placeable_by))]
-    #[inline(always)]
-    pub fn get_placeable(&mut self) -> Result<Expression<S>, Fault>
+    /// [`AllocError`] if a placeable is more than is left of the budget of the stack; nothing is opened.
+    pub fn open_placeable(&mut self) -> Result<(), AllocError>
         requires brace { w.begins_with w.open_brace self.old.rest.now ≡ true }
-        ensures gives { Reads (expression_view S T.text) self.old self.new result placeable_by }
+        ensures rest { self.new.rest.now ≡ w.skip_blank (drop 1 self.old.rest.now) }
         ensures less { length self.new.rest.now < length self.old.rest.now }
         ensures advances { Advances self.old self.new }
     {
         self.advance(1);
-        self.open(reading::PLACEABLE)?;
         self.skip_blank();
-        let expression = self.get_expression()?;
+        self.open(reading::PLACEABLE)
+    }
+
+    /// A placeable in an expression, from its opening brace on. Production `inline_placeable`. Little is kept in its
+    /// frame of the stack: placeables nest.
+    #[cycle(parser)]
+    #[tactic(auto, using(crate::proofs::Failing::handed, crate::proofs::Steps::placeable_read, crate::proofs::Steps::placeable_fails, crate::proofs::Steps::select_fails))]
+    #[inline(always)]
+    fn get_nested_placeable(&mut self) -> Result<InlineExpression<S>, Fault>
+        requires brace { w.begins_with w.open_brace self.old.rest.now ≡ true }
+        ensures gives { Reads (inline_view S T.text) self.old self.new result nested_by }
+        ensures advances { Advances self.old self.new }
+    {
+        self.open_placeable()?;
+        let selector = self.get_inline_expression()?;
+        match self.get_variants_of(&selector) {
+            Ok(variants) => self.close_nested_placeable(selector, variants),
+            Err(fault) => {
+                discard(selector);
+                Err(fault)
+            }
+        }
+    }
+
+    /// The rest of a placeable in an expression, after its selector and its variants.
+    #[inline(never)]
+    fn close_nested_placeable(
+        &mut self,
+        selector: InlineExpression<S>,
+        variants: Option<Vec<Variant<S>>>,
+    ) -> Result<InlineExpression<S>, Fault>
+        ensures gives { Reads (inline_view S T.text) self.old self.new result
+            (nested_end_by S T.text selector variants) }
+        ensures advances { Advances self.old self.new }
+    {
+        let expression = self.close_placeable(selector, variants)?;
+        let expression = Box::new(self.alloc, expression)?;
+        Ok(InlineExpression::Placeable { expression })
+    }
+
+    /// The expression of a placeable, whose closing brace has to stand here.
+    ///
+    /// # Errors
+    /// [`Fault::Refused`] if another byte stands here, after blank; the parser then stands before it.
+    /// [`Fault::Memory`] if memory runs out.
+    #[inline(always)]
+    pub fn close_placeable(
+        &mut self,
+        selector: InlineExpression<S>,
+        variants: Option<Vec<Variant<S>>>,
+    ) -> Result<Expression<S>, Fault>
+        ensures gives { Reads (expression_view S T.text) self.old self.new result
+            (closed_by (expression_with S T.text selector variants)) }
+        ensures advances { Advances self.old self.new }
+    {
+        let expression = expression_of(selector, variants);
         self.skip_blank();
         self.expect_byte(b'}')?;
         self.close(reading::PLACEABLE);
         Ok(expression)
     }
 
-    /// An inline expression, or a select.
+    /// The variants of a select over this selector, or none if no arrow follows.
+    ///
+    /// # Errors
+    /// [`Fault::Refused`] if what follows is no select, or the selector can't stand alone; the parser then stands at the
+    /// place of the refusal.
+    /// [`Fault::Memory`] if memory runs out.
     #[cycle(parser)]
-    #[tactic(auto, using(crate::proofs::Failing::handed, fluent_words::proofs::Counted::cuts), unfolding(crate::specs::Steps::expression_by, fluent_grammar::specs::Reading::select_or_inline_at))]
-    #[inline(always)]
-    fn get_expression(&mut self) -> Result<Expression<S>, Fault>
-        ensures gives { Reads (expression_view S T.text) self.old self.new result expression_by }
+    #[tactic(auto, using(crate::proofs::Failing::handed, fluent_words::proofs::Counted::cuts), unfolding(fluent_grammar::specs::Reading::select_or_inline_at))]
+    #[inline(never)]
+    pub fn get_variants_of(
+        &mut self,
+        selector: &InlineExpression<S>,
+    ) -> Result<Option<Vec<Variant<S>>>, Fault>
+        ensures gives { Reads (expression_with S T.text selector.now) self.old self.new result
+            (select_or_inline_by S T.text selector.now) }
         ensures advances { Advances self.old self.new }
     {
-        let selector = self.get_inline_expression()?;
         self.skip_blank();
         if !words::begins_arrow(self.bytes()) {
-            return self.inline_expression(selector);
+            return self.no_variants(selector);
         }
-        let variants = self.get_select_variants(&selector)?;
-        Ok(Expression::Select { selector, variants })
+        let variants = self.get_select_variants(selector)?;
+        Ok(Some(variants))
     }
 
     /// The variants of a select over this selector, from its arrow on.
@@ -90,20 +169,20 @@ impl<'p, S: Drop, T: Texts<S>> Parser<'p, S, T> {
         Ok(variants)
     }
 
-    /// An expression that no arrow follows.
+    /// None for an expression that no arrow follows.
     #[inline(always)]
-    fn inline_expression(&self, inline: InlineExpression<S>) -> Result<Expression<S>, Fault>
-        ensures { Reads (expression_view S T.text) self.now self.now result
-            (inline_by (inline_view S T.text inline)) }
+    fn no_variants(&self, inline: &InlineExpression<S>) -> Result<Option<Vec<Variant<S>>>, Fault>
+        ensures { Reads (expression_with S T.text inline.now) self.now self.now result
+            (inline_by (inline_view S T.text inline.now)) }
     {
         if let InlineExpression::TermReference {
             attribute: Some(_),
             ..
-        } = &inline
+        } = inline
         {
             return Err(Fault::Refused(ErrorKind::TermAttributeAsPlaceable));
         }
-        Ok(Expression::Inline(inline))
+        Ok(None)
     }
 
     /// An inline expression. Production `InlineExpression`.
@@ -118,25 +197,27 @@ impl<'p, S: Drop, T: Texts<S>> Parser<'p, S, T> {
     {
         let bytes = self.bytes();
         if words::begins_literal(bytes) {
-            self.get_literal()
-        } else if words::begins_with(bytes, b'-') {
-            self.get_term_reference()
-        } else if words::begins_with(bytes, b'$') {
-            self.get_variable_reference()
-        } else if words::begins_with_letter(bytes) {
-            self.get_named_reference()
-        } else if words::begins_with(bytes, b'{') {
-            let expression = self.get_placeable()?;
-            let expression = Box::new(self.alloc, expression)?;
-            Ok(InlineExpression::Placeable { expression })
-        } else {
-            Err(Fault::Refused(ErrorKind::ExpectedInlineExpression))
+            return self.get_literal();
         }
+        if words::begins_with(bytes, b'-') {
+            return self.get_term_reference();
+        }
+        if words::begins_with(bytes, b'$') {
+            return self.get_variable_reference();
+        }
+        if words::begins_with_letter(bytes) {
+            return self.get_named_reference();
+        }
+        if words::begins_with(bytes, b'{') {
+            return self.get_nested_placeable();
+        }
+        Err(Fault::Refused(ErrorKind::ExpectedInlineExpression))
     }
 
     /// A term's reference, from its minus on. Production `TermReference`.
     #[cycle(parser)]
     #[tactic(auto, using(crate::proofs::Failing::handed, fluent_words::proofs::Counted::cuts), unfolding(fluent_grammar::specs::Reading::term_at, fluent_grammar::specs::Reading::term_arguments_at))]
+    #[inline(never)]
     fn get_term_reference(&mut self) -> Result<InlineExpression<S>, Fault>
         requires minus { w.begins_with w.hyphen self.old.rest.now ≡ true }
         ensures gives { Reads (inline_view S T.text) self.old self.new result

@@ -1,16 +1,17 @@
 //! Patterns.
 #![tactic(auto, using(crate::proofs::Failing::handed, fluent_words::proofs::Counted::cuts))]
 
-ghost use Rattle.std.specs.Prelude.{◌≡◌, ◌≤◌, ◌<◌, ◌||◌, IfOk, IfSome, Some, true, false, length, drop, map, option_map};
+ghost use Rattle.std.specs.Prelude.{◌≡◌, ◌≤◌, ◌<◌, ◌||◌, ◌&&◌, ◌==◌, IfOk, IfSome, Some, true, false, length, drop, map, option_map};
 ghost use Rattle.fluent_grammar.specs.Words as w;
 ghost use Rattle.fluent_grammar.specs.Lines.{indent_of};
 ghost use Rattle.fluent_parser.specs.Steps.{text_piece};
 ghost use Rattle.fluent_lines.specs.Lookup.{IsOneLine};
 ghost use Rattle.fluent_parser.specs.Frame.{Advances, StartsLine};
 
+use crate::expression::discard;
 use crate::fault::Fault;
 use crate::parser::Parser;
-use fluent_ast::{Pattern, PatternElement};
+use fluent_ast::{InlineExpression, Pattern, PatternElement, Variant};
 use fluent_elements::{Gathered, is_blank_text};
 use fluent_parsed::ErrorKind;
 use fluent_text::Texts;
@@ -27,11 +28,19 @@ fn said_by(at_line_start: bool, indent: usize, text: &[u8]) -> Option<usize>
     }
 }
 
+/// Whether a piece behind so many spaces, at a line start or within a line, stands at column zero.
+fn is_column_zero(at_line_start: bool, indent: usize) -> bool
+    ensures { result ≡ (at_line_start && indent == 0) }
+{
+    at_line_start && indent == 0
+}
+
 impl<'p, S: Drop, T: Texts<S>> Parser<'p, S, T> {
     ghost use Rattle.fluent_parser.specs.Frame.{Reads};
-    ghost use Rattle.fluent_parser.specs.Steps.{pattern_by, pattern_behind, kept_piece_by, piece_from, indent_at, text_from, first_place, IsTextStart};
+    ghost use Rattle.fluent_parser.specs.Steps.{pattern_by, pattern_behind, kept_piece_by, piece_from, placeable_piece_by, indent_at, text_from, first_place, IsTextStart};
     ghost use Rattle.fluent_ast.specs.View.{pattern_view};
     ghost use Rattle.fluent_parser.specs.Pieces.{ReadsPiece};
+    ghost use Rattle.fluent_parser.specs.Selects.{piece_end_by};
 
     /// A pattern, or none where nothing but blank stands. Production `Pattern`.
     ///
@@ -147,11 +156,7 @@ impl<'p, S: Drop, T: Texts<S>> Parser<'p, S, T> {
             Ok(None)
         } else if words::begins_with(behind, b'{') {
             self.advance(indent);
-            let expression = self.get_placeable()?;
-            let column_zero = at_line_start && indent == 0;
-            let element = PatternElement::Placeable { expression };
-            gathered.push(element, column_zero.then_some(0))?;
-            Ok(Some(false))
+            self.get_placeable_piece(is_column_zero(at_line_start, indent), gathered)
         } else if words::begins_crlf(behind) {
             self.advance(indent + 1);
             let value = self.take(1)?;
@@ -160,6 +165,51 @@ impl<'p, S: Drop, T: Texts<S>> Parser<'p, S, T> {
         } else {
             self.get_text_piece(at_line_start, indent, gathered)
         }
+    }
+
+    /// The same for a placeable, from its opening brace on. Little is kept in its frame of the stack: placeables nest.
+    #[cycle(parser)]
+    #[tactic(auto, using(crate::proofs::Failing::handed, crate::proofs::Steps::placeable_read, crate::proofs::Steps::placeable_fails, crate::proofs::Steps::select_fails))]
+    #[inline(always)]
+    fn get_placeable_piece(
+        &mut self,
+        column_zero: bool,
+        gathered: &mut Gathered<S>,
+    ) -> Result<Option<bool>, Fault>
+        requires brace { w.begins_with w.open_brace self.old.rest.now ≡ true }
+        ensures gives { ReadsPiece T.text gathered.old gathered.new self.old self.new result
+            (placeable_piece_by column_zero) }
+        ensures less { length self.new.rest.now < length self.old.rest.now }
+        ensures advances { Advances self.old self.new }
+    {
+        self.open_placeable()?;
+        let selector = self.get_inline_expression()?;
+        match self.get_variants_of(&selector) {
+            Ok(variants) => self.close_placeable_piece(selector, variants, column_zero, gathered),
+            Err(fault) => {
+                discard(selector);
+                Err(fault)
+            }
+        }
+    }
+
+    /// The rest of a placeable in a pattern, after its selector and its variants.
+    #[inline(never)]
+    fn close_placeable_piece(
+        &mut self,
+        selector: InlineExpression<S>,
+        variants: Option<Vec<Variant<S>>>,
+        column_zero: bool,
+        gathered: &mut Gathered<S>,
+    ) -> Result<Option<bool>, Fault>
+        ensures gives { ReadsPiece T.text gathered.old gathered.new self.old self.new result
+            (piece_end_by S T.text column_zero selector variants) }
+        ensures advances { Advances self.old self.new }
+    {
+        let expression = self.close_placeable(selector, variants)?;
+        let element = PatternElement::Placeable { expression };
+        gathered.push(element, column_zero.then_some(0))?;
+        Ok(Some(false))
     }
 
     /// The same for a text behind so many spaces.

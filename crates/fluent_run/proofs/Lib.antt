@@ -5,3 +5,4 @@ pub mod Lines
 pub mod Replies
 pub mod Valued
 mod OneText
+mod AskedLines

@@ -1,5 +1,5 @@
 -- What lines are answered from, as plain data.
-use Rattle.std.specs.Prelude.{◌≡◌, Bool, List, [], ◌∷◌, Option, None, map, option_copied, option_map}
+use Rattle.std.specs.Prelude.{◌≡◌, Bool, List, [], ◌∷◌, Option, Some, None, map, option_copied, option_map}
 use denote.Ref.{Bor}
 use Rattle.fluent_answers.specs.Answers.{line_from, pattern_asked, told}
 use Rattle.fluent_ast.specs.View.{pattern_view}
@@ -12,16 +12,14 @@ use Rattle.fluent_ids.specs.declared.ids.FluentIds.{FluentIds}
 use Rattle.fluent_meaning.specs.Environment.{Environment}
 use Rattle.fluent_meaning.specs.Ids.{Ids, find, number_pair, with_ids}
 use Rattle.fluent_meaning.specs.Substitution.{answer_written}
-use Rattle.fluent_requests.specs.Frames.{Reply, frame_of, ok}
-use Rattle.fluent_requests.specs.Requests.{Request}
+use Rattle.fluent_requests.specs.Frames.{Answer, Reply, bad, frame_of, ok}
 use Rattle.fluent_resource.specs.declared.resource.FluentResource.{FluentResource}
 use Rattle.fluent_run.specs.declared.desk.Desk.{Desk}
 use Rattle.fluent_run.specs.declared.reply.Reply as code
 use Rattle.fluent_run.specs.ReplyView.{reply_view}
 use Rattle.fluent_run.specs.RunView.{no_text}
-use Rattle.fluent_serve.specs.RequestView.{request_view}
-use Rattle.fluent_serve.specs.declared.request.Request.{Request as Read}
-use Rattle.fluent_value.specs.Args.{all_set}
+use Rattle.fluent_serve.specs.RequestView.{arguments_behind}
+use Rattle.fluent_value.specs.Args.{all_set, with_argument}
 use Rattle.fluent_value.specs.ArgsView.{args_view}
 use Rattle.fluent_value.specs.Matching.{Plurals}
 use Rattle.fluent_value.specs.Value.{Value, error, number_or_text}
@@ -42,10 +40,6 @@ plain_ids ids = ids_view NoFunction ids
 abbrev pub desk_ids : {M : Type 0} → Desk M → Ids NoFunction
 desk_ids desk = plain_ids desk.ids
 
--- the pattern that a request asks for
-abbrev pub asked_of : {M : Type 0} → Desk M → Request Text → Option Elements
-asked_of desk request = pattern_asked request.attribute (find (desk_ids desk) request.id)
-
 -- the elements of a pattern
 abbrev pub elements_of : Pattern (Bor Text) → Elements
 elements_of pattern = pattern_view _ (λ s. s.now) pattern
@@ -61,6 +55,10 @@ arguments_view args = args_view (λ c. tt) args
 -- an argument of a line with its value: the number that its text is, or else the text
 abbrev pub valued : Text × Text → Text × Value (Unit {0})
 valued pair = (pair.0, number_or_text pair.1)
+
+-- an argument was set to the value of a text
+abbrev pub IsSetTo : Text → Text → FluentArgs NoCustom → FluentArgs NoCustom → Type 0
+IsSetTo name text old new = arguments_view new ≡ with_argument name (number_or_text text) (arguments_view old)
 
 -- what a message gives for these arguments: its value, or its first attribute of a name
 abbrev pub message_reply : {S F : Type 0} → Environment S F → Text → Option Text → List (Text × Value S) → Option Reply
@@ -88,17 +86,26 @@ module _ {M : Type 0} (category_of : M → Plurals) (stringified : M → (S : Ty
   abbrev pub IsFormatted : Desk M → Text → Option (Bor Text) → FluentArgs NoCustom → Option code.Reply → Type 0
   IsFormatted desk id attribute args reply = option_map reply_view reply ≡ message_reply (environment_in desk) id (option_copied attribute) (arguments_view args)
 
-  -- and for those of a request, the last of a name counting
-  abbrev pub reply_for : Desk M → Request Text → Elements → Reply
-  reply_for desk request es = reply_by desk (all_set [] (map valued request.arguments)) es
-
 -- what the code's pattern gives for the code's arguments, by what a plural source means
 abbrev pub reply_to : {M : Type 0} → KindGhosts M → Desk M → FluentArgs NoCustom → Pattern (Bor Text) → Reply
 reply_to kind desk args pattern = reply_by kind.category_of kind.stringified desk (arguments_view args) (elements_of pattern)
 
--- what is written for the code's request, which asks for the code's pattern
-abbrev pub reply_frame : {M : Type 0} → KindGhosts M → Desk M → Read → Pattern (Bor Text) → Text
-reply_frame kind desk request pattern = frame_of (ok (reply_for kind.category_of kind.stringified desk (request_view request) (elements_of pattern)))
+-- the answer by a line's arguments, if each of them is one
+abbrev pub answer_asked : (List (Text × Text) → Answer) → Option (List (Text × Text)) → Answer
+answer_asked answer None = bad
+answer_asked answer (Some arguments) = answer arguments
+
+-- what is written for a line with these arguments after its first tab
+abbrev pub frame_asked : (List (Text × Text) → Answer) → Option (Bor Text) → Text
+frame_asked answer rest = frame_of (answer_asked answer (arguments_behind rest))
+
+-- what a pattern gives for arguments of a line, the last of a name counting
+abbrev pub pattern_answer : {M : Type 0} → KindGhosts M → Desk M → Elements → List (Text × Text) → Answer
+pattern_answer kind desk es arguments = ok (reply_by kind.category_of kind.stringified desk (all_set [] (map valued arguments)) es)
+
+-- what is written for a line with these arguments, which asks for the code's pattern
+abbrev pub reply_frame : {M : Type 0} → KindGhosts M → Desk M → Option (Bor Text) → Pattern (Bor Text) → Text
+reply_frame kind desk rest pattern = frame_asked (pattern_answer kind desk (elements_of pattern)) rest
 
 -- what is written for a line
 abbrev pub line_frame : {M : Type 0} → KindGhosts M → Desk M → Text → Text

@@ -1,17 +1,17 @@
 //! Answers request lines from the messages and terms of sources.
 
-ghost use Rattle.std.specs.Prelude.{◌≡◌, IfOk, OnOk, is_some, option_copied};
+ghost use Rattle.std.specs.Prelude.{◌≡◌, [], IfOk, OnOk, is_some, option_copied};
 ghost use Rattle.fluent_answers.specs.Answers.{pattern_asked};
 ghost use Rattle.fluent_meaning.specs.Ids.{attribute_named, find};
 ghost use Rattle.fluent_ids.specs.Found.{message_in};
 ghost use Rattle.fluent_ids.specs.MessageView.{message_of};
-ghost use Rattle.fluent_run.specs.DeskView.{asked_of, desk_ids, elements_found, IsFormatted, ids_added, line_frame, reply_frame, reply_to};
-ghost use Rattle.fluent_run.specs.ReplyView.{reply_view};
+ghost use Rattle.fluent_requests.specs.Frames.{none, ok};
+ghost use Rattle.fluent_run.specs.DeskView.{desk_ids, elements_found, IsFormatted, ids_added, frame_asked, line_frame, reply_frame, reply_to};
+ghost use Rattle.fluent_run.specs.ReplyView.{reply_of, reply_view};
 ghost use Rattle.fluent_serve.specs.AnswerView.{Adds};
 ghost use Rattle.fluent_serve.specs.Exchange.{IsFrontOf};
-ghost use Rattle.fluent_serve.specs.RequestView.{request_view};
 
-use crate::arguments::valued_arguments;
+use crate::arguments::{ValuedArguments, are_arguments};
 use crate::catalog::ids_of;
 use crate::reply::{ErrorLine, Reply, push_text, resolve};
 use crate::settings::Settings;
@@ -22,7 +22,7 @@ use fluent_ids::{FluentIds, FluentMessage};
 use fluent_progress::{Lent, Place};
 use fluent_resource::FluentResource;
 use fluent_serve::answer::Answer;
-use fluent_serve::request::{Request, read_request};
+use fluent_serve::request::{Asked, read_arguments};
 use fluent_serve::serve::Engine;
 use fluent_stack::StackBudget;
 use fluent_value::{FluentArgs, MemoizerKind, NoCustom, NoFormatter, NoFunction, NoTransform};
@@ -80,13 +80,6 @@ impl<'b, 'r, 's, M: MemoizerKind> Desk<'b, 'r, 's, M> {
             isolating: settings.isolating,
             stack,
         })
-    }
-
-    /// The pattern that a request asks for: a message's value, or its first attribute of the name.
-    fn pattern_of(&self, request: &Request<'_>) -> Option<&'r Pattern<&'s str>>
-        ensures { elements_found result ≡ asked_of self.now (request_view request.now) }
-    {
-        self.pattern_named(request.id, request.attribute)
     }
 
     /// The pattern of a message's value, or of its first attribute of a name.
@@ -189,23 +182,27 @@ impl<'b, 'r, 's, M: MemoizerKind> Desk<'b, 'r, 's, M> {
         resolve(&place, pattern, text, self.stack)
     }
 
-    /// Appends the answer to a request that asks for a pattern. After an error `out` may end in a beginning of it.
+    /// Appends the answer to a request that asks for a pattern, with these arguments after its line's first tab. After an
+    /// error `out` may end in a beginning of it.
     fn push_reply(
         &self,
         alloc: Global,
-        request: &Request<'_>,
+        arguments: Option<&str>,
         pattern: &'r Pattern<&'s str>,
         out: &mut Vec<u8>,
     ) -> Result<(), AllocError>
         ensures ok { OnOk result (Adds out.old out.new
-            (reply_frame M.MemoizerKind self.now request.now pattern.now)) }
+            (reply_frame M.MemoizerKind self.now arguments.entry pattern.now)) }
         ensures front { IsFrontOf out.old.items out.new.items }
     {
         if let Some(text) = lone_text(pattern) {
-            return push_text(alloc, text, out);
+            return push_lone(alloc, text, arguments, out);
         }
-        let arguments = valued_arguments(alloc, &request.arguments)?;
-        let reply = self.reply_to(alloc, pattern, &arguments, String::new(alloc))?;
+        let mut valued = ValuedArguments::new(alloc);
+        if !read_arguments(arguments, &mut valued)? {
+            return Answer::<ErrorLine<'_>>::Bad.push_to(alloc, out);
+        }
+        let reply = self.reply_to(alloc, pattern, &valued.values, String::new(alloc))?;
         reply.push_to(out)
     }
 
@@ -215,13 +212,42 @@ impl<'b, 'r, 's, M: MemoizerKind> Desk<'b, 'r, 's, M> {
             (line_frame M.MemoizerKind self.now line.now)) }
         ensures front { IsFrontOf out.old.items out.new.items }
     {
-        let Some(request) = read_request(alloc, line)? else {
+        let Some(asked) = Asked::of(line) else {
             return Answer::<ErrorLine<'_>>::Bad.push_to(alloc, out);
         };
-        match self.pattern_of(&request) {
-            Some(pattern) => self.push_reply(alloc, &request, pattern, out),
-            None => Answer::<ErrorLine<'_>>::Nothing.push_to(alloc, out),
+        match self.pattern_named(asked.id, asked.attribute) {
+            Some(pattern) => self.push_reply(alloc, asked.arguments, pattern, out),
+            None => push_nothing(alloc, asked.arguments, out),
         }
+    }
+}
+
+/// Appends the answer of a text that no argument changes, to a request with these arguments.
+fn push_lone(
+    alloc: Global,
+    text: &str,
+    arguments: Option<&str>,
+    out: &mut Vec<u8>,
+) -> Result<(), AllocError>
+    ensures ok { OnOk result (Adds out.old out.new (frame_asked (λ _. ok (reply_of text.now [])) arguments.entry)) }
+    ensures front { IsFrontOf out.old.items out.new.items }
+{
+    if are_arguments(arguments)? {
+        push_text(alloc, text, out)
+    } else {
+        Answer::<ErrorLine<'_>>::Bad.push_to(alloc, out)
+    }
+}
+
+/// Appends the answer to a request with these arguments that asks for nothing that is there.
+fn push_nothing(alloc: Global, arguments: Option<&str>, out: &mut Vec<u8>) -> Result<(), AllocError>
+    ensures ok { OnOk result (Adds out.old out.new (frame_asked (λ _. none) arguments.entry)) }
+    ensures front { IsFrontOf out.old.items out.new.items }
+{
+    if are_arguments(arguments)? {
+        Answer::<ErrorLine<'_>>::Nothing.push_to(alloc, out)
+    } else {
+        Answer::<ErrorLine<'_>>::Bad.push_to(alloc, out)
     }
 }
 

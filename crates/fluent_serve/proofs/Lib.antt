@@ -1,4 +1,5 @@
 pub mod Requests
+mod ArgumentsRead
 pub mod Answers
 pub mod Exchange
 pub mod Serving

@@ -1,5 +1,5 @@
 -- Lemmas on the arguments of a request line.
-use Rattle.std.proofs.Common.{◌≡◌, ℕ, suc, ◌+◌, ◌<◌, Bool, true, false, cond, List, [], ◌∷◌, ◌++◌, length, drop, take, get_or, Option, Some, None, refl, sym, ap, ◌∙◌, arith, append_assoc, append-nil, option_copied}
+use Rattle.std.proofs.Common.{◌≡◌, ℕ, suc, ◌+◌, ◌<◌, Bool, true, false, cond, List, [], ◌∷◌, ◌++◌, length, drop, take, get_or, Option, Some, None, refl, sym, ap, ◌∙◌, arith, option_copied}
 use Rattle.std.specs.Prelude.{◌==◌, not}
 use Rattle.std.proofs.lemmas.Bool.{eqb-true, eqb-false}
 use Rattle.std.proofs.lemmas.List.{length-drop, take_more, map-append}
@@ -11,12 +11,7 @@ use Rattle.std.proofs.lemmas.Str.{is_utf8-from_IsUtf8, IsUtf8-from_is_utf8}
 use Rattle.fluent_requests.specs.Text.{Text, tab, dot, equals, cut_at}
 use Rattle.fluent_requests.specs.Requests.{value_named, or_later, argument_of, arguments_of, and_argument, request_with, request_of_parts, request_of}
 use denote.Ref.{Bor}
-use Rattle.fluent_serve.specs.RequestView.{parts_behind, argument_view, arguments_view}
-
--- arguments that were read, before those that are left
-abbrev pub behind_arguments : {V : Type 0} → List (Text × V) → Option (List (Text × V)) → Option (List (Text × V))
-behind_arguments front None = None
-behind_arguments front (Some rest) = Some (front ++ rest)
+use Rattle.fluent_serve.specs.RequestView.{parts_behind, argument_view, arguments_view, arguments_behind}
 
 -- how much of a line is left
 abbrev pub text_size : Option Text → ℕ
@@ -62,29 +57,6 @@ behind_shorter separator s rest h = by_test (position_or_len (λ b. b == separat
         let same : drop (n + 1) s ≡ rest = cc in
         omega (arith, ap length same, length-drop (n + 1) s, prefix_len-le-length (λ b. not (b == separator)) s, eqb-false _ _ is)
 
--- one more argument that was read
-behind_argument-some : {V : Type 0} (front : List (Text × V)) (a : Text × V) (o : Option (List (Text × V))) →
-    behind_arguments front (and_argument (Some a) o) ≡ behind_arguments (front ++ a ∷ []) o
-behind_argument-some front a None = refl
-behind_argument-some front a (Some more) = ap Some (sym (append_assoc front (a ∷ []) more))
-
-pub behind_argument : (front : List (Bor Text × Bor Text)) (a : Bor Text × Bor Text) (part : Text) (rest : List Text) →
-    Some (argument_view a) ≡ argument_of (λ s. s) (cut_at equals part) →
-    behind_arguments (arguments_view front) (arguments_of (λ s. s) (part ∷ rest)) ≡ behind_arguments (arguments_view (front ++ a ∷ [])) (arguments_of (λ s. s) rest)
-behind_argument front a part rest is =
-    ap (λ o. behind_arguments (arguments_view front) (and_argument o (arguments_of (λ s. s) rest))) (sym is)
-    ∙ (behind_argument-some (arguments_view front) (argument_view a) (arguments_of (λ s. s) rest)
-    ∙ ap (λ xs. behind_arguments xs (arguments_of (λ s. s) rest)) (sym (map-append argument_view front (a ∷ []))))
-
--- a part without equals sign is no argument, so there are none
-pub behind_no_argument : (front : List (Text × Text)) (part : Text) (rest : List Text) →
-    None ≡ argument_of (λ s. s) (cut_at equals part) → behind_arguments front (arguments_of (λ s. s) (part ∷ rest)) ≡ None
-behind_no_argument front part rest is = ap (λ o. behind_arguments front (and_argument o (arguments_of (λ s. s) rest))) (sym is)
-
--- with no part left, the arguments that were read are all
-pub behind_all : (front : List (Text × Text)) → behind_arguments front (Some []) ≡ Some front
-behind_all front = ap Some (append-nil front)
-
 -- one more argument, looked at from the front
 pub value_named-next : (name : Text) (arguments : List (Bor Text × Bor Text)) (i : ℕ) (d : Bor Text × Bor Text) → i < length arguments →
     value_named name (arguments_view (take (i + 1) arguments))
@@ -95,13 +67,13 @@ value_named-next name arguments i d h =
     ∙ value_named-push name (arguments_view (take i arguments)) ((get_or arguments i d).0.now, (get_or arguments i d).1.now))
 
 -- what is left of a line is its first part and what is after that
-pub read_on : (front : List (Text × Text)) (rest : Option (Bor Text)) (text : Bor Text) (part : Text) (behind : Option Text) →
-    rest ≡ Some text → (part, behind) ≡ cut_at tab text.now →
-    behind_arguments front (arguments_of (λ s. s) (parts_behind tab (option_copied rest))) ≡ behind_arguments front (arguments_of (λ s. s) (part ∷ parts_behind tab behind))
-read_on front rest text part behind is cut =
-    ap (λ o. behind_arguments front (arguments_of (λ s. s) (parts_behind tab (option_copied o)))) is
-    ∙ (ap (λ ps. behind_arguments front (arguments_of (λ s. s) ps)) (split_cut tab text.now)
-    ∙ ap (λ (p : Text × Option Text). behind_arguments front (arguments_of (λ s. s) (p.0 ∷ parts_behind tab p.1))) (sym cut))
+pub read_on : (rest : Option (Bor Text)) (text : Bor Text) (part : Text) (behind : Option (Bor Text)) →
+    rest ≡ Some text → (part, option_copied behind) ≡ cut_at tab text.now →
+    arguments_behind rest ≡ and_argument (argument_of (λ s. s) (cut_at equals part)) (arguments_behind behind)
+read_on rest text part behind is cut =
+    ap arguments_behind is
+    ∙ (ap (arguments_of (λ s. s)) (split_cut tab text.now)
+    ∙ ap (λ (p : Text × Option Text). arguments_of (λ s. s) (p.0 ∷ parts_behind tab p.1)) (sym cut))
 
 -- what a line that is UTF-8 asks for
 pub request_of-text : (line : Text) → IsUtf8 line →

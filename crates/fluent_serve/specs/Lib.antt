@@ -1,5 +1,6 @@
 pub mod Texts
 pub mod RequestView
+pub mod ReadArguments
 pub mod AnswerView
 pub mod Devices
 pub mod Exchange

@@ -1,8 +1,9 @@
 //! Request lines: an id, an optional attribute, and arguments, separated by tabs.
-ghost use Rattle.std.specs.Prelude.{◌≡◌, IfOk, option_map, option_copied};
+ghost use Rattle.std.specs.Prelude.{◌≡◌, ℕ, List, IfOk, OnOk, option_map, option_copied};
 ghost use Rattle.fluent_requests.specs.Text.{equals, cut_at};
 ghost use Rattle.fluent_requests.specs.Requests.{request_of, argument_of, value_named as value_of_name};
-ghost use Rattle.fluent_serve.specs.RequestView.{request_view, argument_view, arguments_view, arguments_behind, read_view};
+ghost use Rattle.fluent_serve.specs.RequestView.{request_view, asked_request, argument_view, arguments_view, arguments_behind};
+ghost use Rattle.fluent_serve.specs.ReadArguments.{AreRead, GetsArgument};
 
 use crate::cut::cut;
 use std::alloc::{AllocError, Global};
@@ -24,6 +25,89 @@ pub struct Request<'line> {
     pub arguments: Vec<(&'line str, &'line str)>,
 }
 
+/// What a line asks for, before its arguments are read.
+///
+/// ```no_run
+/// let asked = Asked::of(b"total.title\tcount=3").context("not UTF-8")?;
+/// println!(rt; "{}", asked.id)?; // total
+/// ```
+#[derive(Clone, Copy, Debug)]
+pub struct Asked<'line> {
+    pub id: &'line str,
+    pub attribute: Option<&'line str>,
+    /// What is after the line's first tab, if it has one.
+    pub arguments: Option<&'line str>,
+}
+
+impl<'line> Asked<'line> {
+    /// What a line asks for, without its line feed. `None` if it is not UTF-8.
+    pub fn of(line: &'line [u8]) -> Option<Asked<'line>>
+        ensures { asked_request result ≡ request_of (λ s. s) line.now }
+    {
+        let Ok(text) = str::from_utf8(line) else {
+            return None;
+        };
+        let (name, arguments) = cut(text, '\t');
+        let (id, attribute) = cut(name, '.');
+        Some(Asked {
+            id,
+            attribute,
+            arguments,
+        })
+    }
+}
+
+/// What the arguments of a line are put into, one after the other.
+///
+/// ```no_run
+/// let mut arguments = Vec::new(alloc); // of a name and a text
+/// if read_arguments(asked.arguments, &mut arguments)? {
+///     println!(rt; "{} arguments", arguments.len())?;
+/// }
+/// ```
+pub trait Arguments<'line> {
+    /// Whether these were put into it, in their order.
+    ghost has: { Self → List (List ℕ × List ℕ) → Type 0 };
+
+    /// Puts an argument into it.
+    ///
+    /// # Errors
+    /// [`AllocError`] if memory runs out.
+    fn put(&mut self, name: &'line str, text: &'line str) -> Result<(), AllocError>
+        ensures { OnOk result (GetsArgument has self.old self.new (name.now, text.now)) };
+}
+
+impl<'line> Arguments<'line> for Vec<(&'line str, &'line str)> {
+    ghost has = { λ pairs arguments. arguments_view pairs.items ≡ arguments };
+
+    fn put(&mut self, name: &'line str, text: &'line str) -> Result<(), AllocError> {
+        self.push((name, text))?;
+        Ok(())
+    }
+}
+
+/// Reads what is after a line's first tab, if there is one, and puts each argument where it belongs. It returns whether
+/// each has an equals sign. If one has none, some of the others may be put there.
+///
+/// # Errors
+/// [`AllocError`] if memory runs out; some of the arguments may be put there then.
+pub fn read_arguments<'line, A: Arguments<'line>>(
+    mut rest: Option<&'line str>,
+    arguments: &mut A,
+) -> Result<bool, AllocError>
+    ensures { IfOk result (AreRead A.has arguments.old arguments.new (arguments_behind rest.entry)) }
+{
+    while let Some(text) = rest {
+        let (part, behind) = cut(text, '\t');
+        let Some((name, text)) = read_argument(part) else {
+            return Ok(false);
+        };
+        arguments.put(name, text)?;
+        rest = behind;
+    }
+    Ok(true)
+}
+
 /// Reads a line, without its line feed. `None` if it is not UTF-8, or an argument has no equals sign.
 ///
 /// # Errors
@@ -32,38 +116,18 @@ pub fn read_request(alloc: Global, line: &[u8]) -> Result<Option<Request<'_>>, A
     ensures { IfOk result (λ request. option_map request_view request
         ≡ request_of (λ s. s) line.now) }
 {
-    let Ok(text) = str::from_utf8(line) else {
+    let Some(asked) = Asked::of(line) else {
         return Ok(None);
     };
-    let (name, rest) = cut(text, '\t');
-    let Some(arguments) = read_arguments(alloc, rest)? else {
+    let mut arguments = Vec::new(alloc);
+    if !read_arguments(asked.arguments, &mut arguments)? {
         return Ok(None);
-    };
-    let (id, attribute) = cut(name, '.');
+    }
     Ok(Some(Request {
-        id,
-        attribute,
+        id: asked.id,
+        attribute: asked.attribute,
         arguments,
     }))
-}
-
-/// The arguments of what follows a line's first tab, if there is one. `None` if one has no equals sign.
-fn read_arguments<'line>(
-    alloc: Global,
-    mut rest: Option<&'line str>,
-) -> Result<Option<Vec<(&'line str, &'line str)>>, AllocError>
-    ensures { IfOk result (λ arguments. read_view arguments ≡ arguments_behind rest.entry) }
-{
-    let mut arguments = Vec::new(alloc);
-    while let Some(text) = rest {
-        let (part, behind) = cut(text, '\t');
-        let Some(argument) = read_argument(part) else {
-            return Ok(None);
-        };
-        arguments.push(argument)?;
-        rest = behind;
-    }
-    Ok(Some(arguments))
 }
 
 /// An argument: its name ends at its first equals sign.

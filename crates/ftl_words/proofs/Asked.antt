@@ -4,7 +4,7 @@ use Rattle.std.proofs.lemmas.List.{drop_all}
 use Rattle.fluent_requests.specs.Requests.{argument_of, arguments_of}
 use Rattle.fluent_requests.specs.Text.{Text, cut_at, equals}
 use Rattle.fluent_serve.specs.RequestView.{argument_view, arguments_view}
-use Rattle.fluent_serve.proofs.Requests.{behind_all, behind_argument, behind_arguments, behind_no_argument}
+use Rattle.ftl_words.proofs.ArgumentsBehind.{behind_all, behind_argument, behind_arguments, behind_no_argument}
 use Rattle.ftl_words.specs.Meaning.{texts}
 
 -- the arguments of words, after those that were read

@@ -1,4 +1,5 @@
 pub mod Found
 pub mod Parsed
 mod Rows
+pub mod ArgumentsBehind
 pub mod Asked

@@ -1,5 +1,6 @@
 -- What the code's commands stand for.
 use Rattle.std.specs.Prelude.{◌≡◌, List, Option, option_copied, option_map, Result, IfErr}
+use Rattle.std.specs.Global.{Vec}
 use denote.Ref.{Bor}
 use Rattle.clap.specs.Words.{Row, Text, found_of, rows_of}
 use Rattle.clap.specs.declared.parser.matches.ArgMatches.{ArgMatches}
@@ -25,6 +26,10 @@ tidy_view (of.Normalize file) = asked.normalize file.now
 tidy_view (of.Join files) = asked.join (texts files.items)
 tidy_view (of.Export file) = asked.export file.now
 tidy_view (of.Import file) = asked.import file.now
+
+-- the arguments that were read, if each has an equals sign
+abbrev pub read_view : Option (Vec (Bor Text × Bor Text)) → Option (List (Text × Text))
+read_view arguments = option_map (λ v. arguments_view v.items) arguments
 
 -- an id and the name of an attribute
 abbrev pub name_view : Bor Text × Option (Bor Text) → Text × Option Text

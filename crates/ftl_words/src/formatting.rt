@@ -2,9 +2,9 @@
 ghost use Rattle.std.specs.Prelude.{◌≡◌, IfOk, IfErr, Some, None, option_map};
 ghost use Rattle.fluent_requests.specs.Requests.{argument_of, arguments_of};
 ghost use Rattle.fluent_requests.specs.Text.{cut_at, dot, equals};
-ghost use Rattle.fluent_serve.specs.RequestView.{argument_view, read_view};
+ghost use Rattle.fluent_serve.specs.RequestView.{argument_view};
 ghost use Rattle.ftl_words.specs.Meaning.{arguments_in, format_in, id_in, texts};
-ghost use Rattle.ftl_words.specs.CommandView.{format_view, found_rows, name_view, IfRefused};
+ghost use Rattle.ftl_words.specs.CommandView.{format_view, found_rows, name_view, read_view, IfRefused};
 
 use crate::commands::Format;
 use crate::reading::{WordsError, files_in, is_given, locale_in};

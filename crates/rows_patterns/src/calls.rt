@@ -18,6 +18,7 @@ use rows_patterns_scopes::page::Page;
 use rows_patterns_scopes::parts::arguments_in;
 use rows_patterns_scopes::shown::begins;
 use rows_patterns_scopes::told::count_in;
+use rows_patterns_scopes::verdict::Verdict;
 use serde_json::Value as Json;
 use std::alloc::{AllocError, Global};
 
@@ -130,16 +131,16 @@ fn are_answered<'r, 's>(
     let is_made = bundle.add_builtins().is_ok() & is_added(bundle.add_resource(resource));
     let list = is_set(row, "listed", true).then_some(errors);
     let mut scope = Scope::new(&bundle, arguments, list);
-    let mut ended = begins(alloc, &scope, row, is_made);
+    let mut verdict = begins(alloc, &scope, row, is_made);
     for call in calls {
         let turn = call.turn(row, full);
         scope.dirty = call.dirty().unwrap_or(scope.dirty);
         let before = count_in(&scope);
         let mut page = Page::new(alloc, turn.is_full);
         let answered = answered!(alloc, scope, call, page);
-        if ended.is_none() {
-            ended = turn.stands(alloc, &scope, before, answered);
+        if matches!(verdict, Verdict::Open) {
+            verdict = turn.stands(alloc, &scope, before, answered);
         }
     }
-    ended.unwrap_or(Ok(!calls.is_empty()))
+    verdict.or(!calls.is_empty())
 }

@@ -11,3 +11,4 @@ pub mod parts;
 pub mod shown;
 pub mod told;
 pub mod turn;
+pub mod verdict;

@@ -5,25 +5,28 @@
 
 use crate::bundle::Called;
 use crate::page::Page;
+use crate::verdict::Verdict;
 use rows_patterns_data::json::{is_set, text_in};
 use rows_patterns_data::own::Value;
 use rows_patterns_data::values::value_of;
 use serde_json::Value as Json;
 use std::alloc::{AllocError, Global};
 
-/// What a row comes to, if that is known before its calls: where its bundle wasn't made since memory ran out, or where it has a
+/// What is known of a row before its calls. It is settled if its bundle wasn't made since memory ran out, or if it has a
 /// value.
 pub fn begins<'r, 's: 'r>(
     alloc: Global,
     scope: &Called<'_, 'r, 's, '_>,
     row: &Json,
     is_made: bool,
-) -> Option<Result<bool, AllocError>> {
+) -> Verdict {
     if !is_made {
-        return Some(Err(AllocError));
+        return Verdict::Settled(Err(AllocError));
     }
-    row.get("value")
-        .map(|value| shows(alloc, scope, row, value))
+    match row.get("value") {
+        Some(value) => Verdict::Settled(shows(alloc, scope, row, value)),
+        None => Verdict::Open,
+    }
 }
 
 /// Whether a row's value gives what it must in a scope. The only error is that memory runs out.

@@ -2,6 +2,7 @@
 
 use crate::bundle::Called;
 use crate::told::Wanted;
+use crate::verdict::Verdict;
 use rows_patterns_data::json::is_set;
 use serde_json::Value as Json;
 use std::alloc::{AllocError, Global};
@@ -19,53 +20,50 @@ pub struct Turn<'row> {
 }
 
 impl Turn<'_> {
-    /// What the row comes to, if that is known now: where the call gives something else than it must or was refused, or where
-    /// the scope counts or tells something else once it was made for the last time.
+    /// What is known of the row now. It is settled if the call gave something else than it must or was refused, or if the
+    /// scope counts or reports something else once it was made for the last time.
     pub fn stands(
         self,
         alloc: Global,
         scope: &Called<'_, '_, '_, '_>,
         before: usize,
         answered: Result<bool, AllocError>,
-    ) -> Option<Result<bool, AllocError>> {
+    ) -> Verdict {
         match self.ends(alloc, scope, before, answered) {
-            None if self.is_last => self.differs(alloc, scope),
+            Verdict::Open if self.is_last => self.differs(alloc, scope),
             ended => ended,
         }
     }
 
-    /// What the row comes to, if that is known now: where the call gives something else than it must, or where it was refused.
-    /// Then the first of its errors must be told.
+    /// What is known of the row by what the call gave. If it was refused, the first of its errors must be reported.
     fn ends(
         self,
         alloc: Global,
         scope: &Called<'_, '_, '_, '_>,
         before: usize,
         answered: Result<bool, AllocError>,
-    ) -> Option<Result<bool, AllocError>> {
+    ) -> Verdict {
         match answered {
-            Ok(true) if self.is_full => Some(self.wanted.are_first(alloc, scope, before)),
-            Ok(true) => None,
-            Ok(false) => Some(Ok(false)),
+            Ok(true) if self.is_full => {
+                Verdict::Settled(self.wanted.are_first(alloc, scope, before))
+            }
+            Ok(true) => Verdict::Open,
+            Ok(false) => Verdict::Settled(Ok(false)),
             Err(AllocError) => match self.wanted.are_first(alloc, scope, before) {
-                Ok(true) => Some(Err(AllocError)),
-                told => Some(told),
+                Ok(true) => Verdict::Settled(Err(AllocError)),
+                reported => Verdict::Settled(reported),
             },
         }
     }
 
-    /// What the row comes to, if that is known now: where the scope counts or tells something else than it must.
-    fn differs(
-        self,
-        alloc: Global,
-        scope: &Called<'_, '_, '_, '_>,
-    ) -> Option<Result<bool, AllocError>> {
+    /// What is known of the row by what the scope counts and reports.
+    fn differs(self, alloc: Global, scope: &Called<'_, '_, '_, '_>) -> Verdict {
         if !self.is_counted(scope) {
-            return Some(Ok(false));
+            return Verdict::Settled(Ok(false));
         }
         match self.wanted.are_all(alloc, scope) {
-            Ok(true) => None,
-            told => Some(told),
+            Ok(true) => Verdict::Open,
+            reported => Verdict::Settled(reported),
         }
     }
 

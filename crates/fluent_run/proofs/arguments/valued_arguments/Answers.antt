@@ -10,7 +10,7 @@ use Rattle.fluent_run.proofs.arguments.valued_arguments.Goals as goal
 pub loop-name-preserved : goal.loop-name-preserved
 loop-name-preserved c =
     let next = set-next (arguments_view c.loop-name.arguments) c.args.pairs.now c.loop-name.name-index _ c.loop-name-test.true c.loop-name.invariant in
-    c.in_ok-set_value.ensures.ok ∙ rw c.try_number.ensures next
+    c.in_ok-set_valued.ensures ∙ next
 
 pub returns : goal.returns
 returns c =

@@ -1,17 +1,27 @@
-use Rattle.std.proofs.Common.{◌∙◌, sym, option_copied}
-use Rattle.fluent_requests.specs.Text.{tab}
-use Rattle.fluent_serve.specs.RequestView.{arguments_view, parts_behind}
-use Rattle.fluent_serve.proofs.Requests.{read_on, behind_argument, behind_no_argument}
+use Rattle.std.proofs.Common.{false, subst, sym, ◌∙◌, ap, refl}
+use Rattle.fluent_requests.specs.Text.{Text}
+use Rattle.fluent_requests.specs.Requests.{and_argument}
+use Rattle.fluent_serve.specs.ReadArguments.{AreRead}
+use Rattle.fluent_serve.specs.RequestView.{arguments_behind}
+use Rattle.fluent_serve.proofs.ArgumentsRead.{one-more}
+use Rattle.fluent_serve.proofs.Requests.{read_on}
 use Rattle.fluent_serve.proofs.request.read_arguments.Goals as goal
 
 pub returns-in_default-read_argument : goal.returns-in_default-read_argument
-returns-in_default-read_argument c =
-    sym (c.loop-rest.invariant
-    ∙ (read_on (arguments_view c.loop-rest.arguments.items) c.loop-rest.rest c.in-Some.text c.cut.result.0.now (option_copied c.cut.result.1) c.in-Some.is c.cut.ensures
-    ∙ behind_no_argument (arguments_view c.loop-rest.arguments.items) c.cut.result.0.now (parts_behind tab (option_copied c.cut.result.1)) c.in_default-read_argument.ensures))
+returns-in_default-read_argument g c =
+    let has = g.A.Arguments.has in
+    let here = c.loop-rest.arguments in
+    let first = read_on c.loop-rest.rest c.in-Some.text c.cut.result.0.now c.cut.result.1 c.in-Some.is c.cut.ensures in
+    let none = first ∙ ap (λ a. and_argument a (arguments_behind c.cut.result.1)) (sym c.in_default-read_argument.ensures) in
+    c.loop-rest.invariant here false (subst (λ left. AreRead has here here left false) (sym none) refl)
 
 pub loop-rest-preserved : goal.loop-rest-preserved
-loop-rest-preserved c =
-    c.loop-rest.invariant
-    ∙ (read_on (arguments_view c.loop-rest.arguments.items) c.loop-rest.rest c.in-Some.text c.cut.result.0.now (option_copied c.cut.result.1) c.in-Some.is c.cut.ensures
-    ∙ rw c.in_ok-push.ensures.items (behind_argument c.loop-rest.arguments.items c.in-Some-read_argument.argument c.cut.result.0.now (parts_behind tab (option_copied c.cut.result.1)) c.in-Some-read_argument.ensures))
+loop-rest-preserved g c = λ new are_read read.
+    let has = g.A.Arguments.has in
+    let here = c.loop-rest.arguments in
+    let argument : Text × Text = (c.in-Some-read_argument.name.now, c.in-Some-read_argument.text.now) in
+    let left = arguments_behind c.cut.result.1 in
+    let first = read_on c.loop-rest.rest c.in-Some.text c.cut.result.0.now c.cut.result.1 c.in-Some.is c.cut.ensures in
+    let some = first ∙ ap (λ a. and_argument a left) (sym c.in-Some-read_argument.ensures) in
+    let more = one-more has here c.put.new.self new argument left are_read c.in_ok-put.ensures read in
+    c.loop-rest.invariant new are_read (subst (λ o. AreRead has here new o are_read) (sym some) more)

@@ -1,15 +1,10 @@
-use Rattle.std.proofs.Common.{◌∙◌, sym, ap, Some, None, option_copied}
+use Rattle.std.proofs.Common.{◌∙◌, ap, option_copied}
 use Rattle.fluent_requests.specs.Requests.{request_with}
-use Rattle.fluent_serve.specs.RequestView.{arguments_view}
-use Rattle.fluent_serve.proofs.Requests.{request_of-no_text, request_at}
+use Rattle.fluent_serve.specs.RequestView.{arguments_behind, arguments_view}
+use Rattle.fluent_serve.proofs.ArgumentsRead.{list-read}
 use Rattle.fluent_serve.proofs.request.read_request.Goals as goal
 
-pub returns-in_default : goal.returns-in_default
-returns-in_default c = sym (request_of-no_text c.args.line.now c.in_default.ensures.cases.0)
-
-pub returns-in_default-2 : goal.returns-in_default-2
-returns-in_default-2 c = sym (request_at c.args.line.now c.in-Ok.text.now c.cut.result.0.now (option_copied c.cut.result.1) None c.in-Ok.ensures.cases c.cut.ensures (rw c.in_default-2.is at c.in_ok-arguments.ensures))
-
 pub returns : goal.returns
-returns c = sym (request_at c.args.line.now c.in-Ok.text.now c.cut.result.0.now (option_copied c.cut.result.1) (Some (arguments_view c.in-Some.arguments.items)) c.in-Ok.ensures.cases c.cut.ensures (rw c.in-Some.is at c.in_ok-arguments.ensures)
-    ∙ ap (λ name. request_with name (Some (arguments_view c.in-Some.arguments.items))) (sym c.cut-2.ensures))
+returns c =
+    let read = list-read c.new-arguments.result c.read_arguments.new.arguments (arguments_behind c.in-Some.asked.arguments) c.in_ok-read_arguments.field-0 (ap arguments_view c.new-arguments.ensures.items) c.if-not-branch.false c.in_ok-read_arguments.ensures in
+    ap (request_with (c.in-Some.asked.id.now, option_copied c.in-Some.asked.attribute)) read ∙ c.in-Some.ensures

@@ -46,13 +46,13 @@ returns-in-Some-Message g c =
     sym c.get.ensures ∙ ap (λ o. option_map (meaning_of g.row.F.Denot) (option_copied o)) c.in-Some-Message.is ∙ ap (λ e. Some (meaning_of g.row.F.Denot e)) c.in-Some-Message.field-0-is in
     let value : elements_found c.as_ref.result ≡ m.value = found_copied c.as_ref.result ∙ ap (option_map elements_of) c.as_ref.ensures.value in
     let attributes : attributes_of c.deref.result.now ≡ m.attributes = ap attributes_of c.deref.ensures.value in
-    let Then : EnteredPatterns → Option Elements → List t.Attribute → Type 0 = λ new v as'. GetsEntry (record { places = old.places; patterns = old.patterns; seen = c.insert.new.self }) new false id v as' in
+    let Then : EnteredPatterns → Option Elements → List t.Attribute → Type 0 = λ new v as'. GetsEntry (record { indices = old.indices; patterns = old.patterns; seen = c.insert.new.self }) new false id v as' in
     on_ok_weaker c.add_entry.result
     (λ (gets : Then c.add_entry.new.self (elements_found c.as_ref.result) (attributes_of c.deref.result.now)) seen has.
     let own : Then c.add_entry.new.self m.value m.attributes = subst (λ as'. Then c.add_entry.new.self m.value as') attributes (subst (λ v. Then c.add_entry.new.self v (attributes_of c.deref.result.now)) value gets) in
     record {
       seen_ids = λ i. ap (λ s. contains_by (λ k. bytes_eq i k.now) s) c.add_entry.ensures.seen ∙ seen_more old.seen c.insert.new.self c.args.id seen c.in_ok-insert.ensures.updates.0 has.seen_ids i;
-      holds = renamed (all_patterns ids) c.add_entry.new.self.places (patterns_of c.add_entry.new.self.patterns.items) (with_entry false id m.value m.attributes (entered_among ids seen)) (entered_among ids (seen ++ id ∷ []))
+      holds = renamed (all_patterns ids) c.add_entry.new.self.indices (patterns_of c.add_entry.new.self.patterns.items) (with_entry false id m.value m.attributes (entered_among ids seen)) (entered_among ids (seen ++ id ∷ []))
           (message_more ids seen id m found) (own (all_patterns ids) (entered_among ids seen) has.holds (found_known ids id meaning found));
     })
     c.add_entry.ensures.patterns
@@ -68,13 +68,13 @@ returns-in-Some-Term g c =
     sym c.get.ensures ∙ ap (λ o. option_map (meaning_of g.row.F.Denot) (option_copied o)) c.in-Some-Term.is ∙ ap (λ e. Some (meaning_of g.row.F.Denot e)) c.in-Some-Term.field-0-is in
     let new = c.add_entry-in-Some-Term.new.self in
     let attributes : attributes_of c.deref-in-Some-Term.result.now ≡ m.attributes = ap attributes_of c.deref-in-Some-Term.ensures.value in
-    let Then : List t.Attribute → Type 0 = λ as'. GetsEntry (record { places = old.places; patterns = old.patterns; seen = c.insert.new.self }) new true id (Some m.value) as' in
+    let Then : List t.Attribute → Type 0 = λ as'. GetsEntry (record { indices = old.indices; patterns = old.patterns; seen = c.insert.new.self }) new true id (Some m.value) as' in
     on_ok_weaker c.add_entry-in-Some-Term.result
     (λ (gets : Then (attributes_of c.deref-in-Some-Term.result.now)) seen has.
     let own : Then m.attributes = subst Then attributes gets in
     record {
       seen_ids = λ i. ap (λ s. contains_by (λ k. bytes_eq i k.now) s) c.add_entry-in-Some-Term.ensures.seen ∙ seen_more old.seen c.insert.new.self c.args.id seen c.in_ok-insert.ensures.updates.0 has.seen_ids i;
-      holds = renamed (all_patterns ids) new.places (patterns_of new.patterns.items) (with_entry true id (Some m.value) m.attributes (entered_among ids seen)) (entered_among ids (seen ++ id ∷ []))
+      holds = renamed (all_patterns ids) new.indices (patterns_of new.patterns.items) (with_entry true id (Some m.value) m.attributes (entered_among ids seen)) (entered_among ids (seen ++ id ∷ []))
           (term_more ids seen id m found) (own (all_patterns ids) (entered_among ids seen) has.holds (found_known ids id meaning found));
     })
     c.add_entry-in-Some-Term.ensures.patterns
@@ -86,7 +86,7 @@ returns-in-None g c = λ seen has.
     let found : find ids c.args.id.now ≡ None = sym c.get.ensures ∙ ap (λ o. option_map (meaning_of g.row.F.Denot) (option_copied o)) c.in-None.is in
     record {
       seen_ids = seen_more old.seen c.insert.new.self c.args.id seen c.in_ok-insert.ensures.updates.0 has.seen_ids;
-      holds = renamed (all_patterns ids) old.places (patterns_of old.patterns.items) (entered_among ids seen) (entered_among ids (seen ++ c.args.id.now ∷ [])) (none_more ids seen c.args.id.now (nothing ids c.args.id.now found)) has.holds;
+      holds = renamed (all_patterns ids) old.indices (patterns_of old.patterns.items) (entered_among ids seen) (entered_among ids (seen ++ c.args.id.now ∷ [])) (none_more ids seen c.args.id.now (nothing ids c.args.id.now found)) has.holds;
     }
 
 pub returns-in-Some-Function : goal.returns-in-Some-Function
@@ -98,7 +98,7 @@ returns-in-Some-Function g c = λ seen has.
     sym c.get.ensures ∙ ap (λ o. option_map (meaning_of g.row.F.Denot) (option_copied o)) c.in-Some-Function.is ∙ ap (λ e. Some (meaning_of g.row.F.Denot e)) c.in-Some-Function.field-0-is in
     record {
       seen_ids = seen_more old.seen c.insert.new.self c.args.id seen c.in_ok-insert.ensures.updates.0 has.seen_ids;
-      holds = renamed (all_patterns ids) old.places (patterns_of old.patterns.items) (entered_among ids seen) (entered_among ids (seen ++ c.args.id.now ∷ [])) (none_more ids seen c.args.id.now (a_function ids c.args.id.now c.in-Some-Function.field-0-0 found)) has.holds;
+      holds = renamed (all_patterns ids) old.indices (patterns_of old.patterns.items) (entered_among ids seen) (entered_among ids (seen ++ c.args.id.now ∷ [])) (none_more ids seen c.args.id.now (a_function ids c.args.id.now c.in-Some-Function.field-0-0 found)) has.holds;
     }
 
 pub returns-in-Some-Number : goal.returns-in-Some-Number
@@ -110,5 +110,5 @@ returns-in-Some-Number g c = λ seen has.
     sym c.get.ensures ∙ ap (λ o. option_map (meaning_of g.row.F.Denot) (option_copied o)) c.in-Some-Number.is ∙ ap (λ e. Some (meaning_of g.row.F.Denot e)) c.in-Some-Number.field-0-is in
     record {
       seen_ids = seen_more old.seen c.insert.new.self c.args.id seen c.in_ok-insert.ensures.updates.0 has.seen_ids;
-      holds = renamed (all_patterns ids) old.places (patterns_of old.patterns.items) (entered_among ids seen) (entered_among ids (seen ++ c.args.id.now ∷ [])) (none_more ids seen c.args.id.now (a_number ids c.args.id.now found)) has.holds;
+      holds = renamed (all_patterns ids) old.indices (patterns_of old.patterns.items) (entered_among ids seen) (entered_among ids (seen ++ c.args.id.now ∷ [])) (none_more ids seen c.args.id.now (a_number ids c.args.id.now found)) has.holds;
     }

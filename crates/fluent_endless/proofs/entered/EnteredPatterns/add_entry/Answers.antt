@@ -15,13 +15,13 @@ loop-attribute-init c =
         held = λ others named holds among.
             let value = ap elements_found w.in-Some.is in
             let es = elements_of w.in-Some.value.now in
-            begin_value others w.add_pattern.new.self.places (patterns_of w.add_pattern.new.self.patterns.items) named c.args.is_term c.args.id.now (elements_found c.args.value) es value
+            begin_value others w.add_pattern.new.self.indices (patterns_of w.add_pattern.new.self.patterns.items) named c.args.is_term c.args.id.now (elements_found c.args.value) es value
             (w.in_ok-add_pattern.ensures.pattern others named holds (value_known (λ x. is_pattern_among x others ≡ true) (elements_found c.args.value) es _ value among));
       })
       | in_default w ↦ rw w.self-is (record {
         seen = search rules;
         held = λ others named holds among.
-            begin_none others c.args.self.now.places (patterns_of c.args.self.now.patterns.items) named c.args.is_term c.args.id.now (elements_found c.args.value) (ap elements_found w.in_default.is) holds;
+            begin_none others c.args.self.now.indices (patterns_of c.args.self.now.patterns.items) named c.args.is_term c.args.id.now (elements_found c.args.value) (ap elements_found w.in_default.is) holds;
       })
     ]
 
@@ -35,7 +35,7 @@ loop-attribute-preserved c = record {
       let i = c.loop-attribute.attribute-index in
       let es_known : is_pattern_among (attribute_of item).value others ≡ true =
       attribute_known (λ x. is_pattern_among x others ≡ true) (elements_found c.args.value) xs i item c.loop-attribute-test.true c.attribute-item.is among in
-      next others c.add_pattern-in-loop-attribute.new.self.places (patterns_of c.add_pattern-in-loop-attribute.new.self.patterns.items) named c.args.is_term c.args.id.now (elements_found c.args.value) xs i item c.loop-attribute-test.true c.attribute-item.is
+      next others c.add_pattern-in-loop-attribute.new.self.indices (patterns_of c.add_pattern-in-loop-attribute.new.self.patterns.items) named c.args.is_term c.args.id.now (elements_found c.args.value) xs i item c.loop-attribute-test.true c.attribute-item.is
       (c.in_ok-add_pattern-2.ensures.pattern others (with_entry c.args.is_term c.args.id.now (elements_found c.args.value) (attributes_of (take i xs)) named) before es_known);
 }
 

@@ -11,14 +11,14 @@ use Rattle.fluent_ast.specs.declared.InlineExpression.{InlineExpression}
 use Rattle.fluent_ast.specs.declared.Variant.{Variant}
 use Rattle.fluent_words.specs.Counted.{begins_literal}
 use Rattle.fluent_parser.specs.Reads.{Gives, whole, string_or_number_at, argument_value_at}
-use Rattle.fluent_parser.specs.Steps.{names_of, variants_behind, Argument, named, arguments_behind, positional_by, argument_by, placeable_by, pattern_behind, kept_piece_by, piece_behind}
+use Rattle.fluent_parser.specs.Steps.{names_of, variants_behind, Argument, named, arguments_behind, positional_by, argument_by, nested_by, placeable_piece_by, pattern_behind, kept_piece_by, piece_behind}
 use Rattle.fluent_ast.specs.View.{Named, inlines_of, nameds_of, name_of, inline_view, expression_view, named_view, variant_view, variants_of, arguments_view, pattern_view, element_view}
 use Rattle.fluent_elements.specs.Elements.{value_by}
 use Rattle.fluent_parser.specs.declared.named_arguments.NamedArguments.{NamedArguments}
 use Rattle.fluent_parser.specs.Arguments.{argument_view, IsNamed}
 use Rattle.fluent_parser.specs.Indexed.{IsIndexed}
 use Rattle.fluent_parser.proofs.Named.{name_begins}
-use Rattle.fluent_ast.proofs.Views.{inline_view-FunctionReference, inline_view-TermReference, inline_view-Placeable, arguments_view-roll, named_view-roll}
+use Rattle.fluent_ast.proofs.Views.{inline_view-FunctionReference, inline_view-TermReference, arguments_view-roll, named_view-roll}
 use Rattle.fluent_parser.proofs.Failing.{handed_on, fails_mapped, fails_same}
 use Rattle.fluent_words.proofs.Scanned.{test_of}
 use Rattle.fluent_parser.proofs.Runs.{cut_indent_at, cut_behind_indent, cut_crlf, cut_line_feed, line_feed_read, begun_shorter, cut_arrow}
@@ -30,10 +30,10 @@ use Rattle.fluent_lines.specs.Lookup.{is_last_feed}
 use Rattle.fluent_parser.specs.Pieces.{GivesPiece}
 use Rattle.fluent_parser.proofs.LinePieces.{kept_in_line, kept_feed, kept_end, kept_at_line}
 use Rattle.fluent_parser.proofs.LineStarts.{first_starts, piece_starts}
-use Rattle.fluent_parser.proofs.PutPieces.{piece_put, no_piece, placeable_put, feed_put}
+use Rattle.fluent_parser.proofs.PutPieces.{piece_put, no_piece, placeable_next, feed_put}
 use Rattle.fluent_parser.proofs.GatheredPieces.{gathers_none, gathers_more, gathers_all}
 use Rattle.fluent_parser.proofs.parser.Parser.+parser.Goals as goal
-use Rattle.fluent_parser.proofs.parser.Parser.+parser.Goals.{get_piece_behind-then-at_line_start, get_piece_behind-else-at_line_start, get_call_arguments-in-Positional+in_ok-push-in-Positional, get_call_arguments-in-Named+in_ok-push-in-Named}
+use Rattle.fluent_parser.proofs.parser.Parser.+parser.Goals.{get_call_arguments-in-Positional+in_ok-push-in-Positional, get_call_arguments-in-Named+in_ok-push-in-Named}
 
 pub get_inline_expression-returns-then-begins_literal-clause-gives : goal.get_inline_expression-returns-then-begins_literal-clause-gives
 get_inline_expression-returns-then-begins_literal-clause-gives g t c =
@@ -50,45 +50,33 @@ pub get_inline_expression-returns-then-begins_with-2-clause-gives : goal.get_inl
 get_inline_expression-returns-then-begins_with-2-clause-gives g t c =
     let lit = ap begins_literal (sym c.bytes-bytes.ensures.value) ∙ sym c.begins_literal.ensures ∙ c.if-begins_literal.false in
     let minus = ap (begins_with w.hyphen) (sym c.bytes-bytes.ensures.value) ∙ sym c.begins_with.ensures ∙ c.if-begins_with.false in
-    let dollar = ap (begins_with w.dollar) (sym c.bytes-bytes.ensures.value) ∙ sym c.begins_with-else-begins_with.ensures ∙ c.if-begins_with-2.true in
+    let dollar = ap (begins_with w.dollar) (sym c.bytes-bytes.ensures.value) ∙ sym c.begins_with-2.ensures ∙ c.if-begins_with-2.true in
     gives_same (inline_view g.row.S.Denot g.T.Texts.text) c.get_variable_reference.new.self.rest.now c.get_variable_reference.result (mapped tree.variable_reference (read.identifier_at (drop 1 c.args.self.now.rest.now))) (whole.inline c.args.self.now.rest.now) (inline_variable c.args.self.now.rest.now lit minus dollar) c.get_variable_reference.ensures.gives
 
 pub get_inline_expression-returns-then-begins_with_letter-clause-gives : goal.get_inline_expression-returns-then-begins_with_letter-clause-gives
 get_inline_expression-returns-then-begins_with_letter-clause-gives g t c =
     let lit = ap begins_literal (sym c.bytes-bytes.ensures.value) ∙ sym c.begins_literal.ensures ∙ c.if-begins_literal.false in
     let minus = ap (begins_with w.hyphen) (sym c.bytes-bytes.ensures.value) ∙ sym c.begins_with.ensures ∙ c.if-begins_with.false in
-    let dollar = ap (begins_with w.dollar) (sym c.bytes-bytes.ensures.value) ∙ sym c.begins_with-else-begins_with.ensures ∙ c.if-begins_with-2.false in
+    let dollar = ap (begins_with w.dollar) (sym c.bytes-bytes.ensures.value) ∙ sym c.begins_with-2.ensures ∙ c.if-begins_with-2.false in
     let letter = ap (w.begins w.is_letter) (sym c.bytes-bytes.ensures.value) ∙ sym c.begins_with_letter.ensures ∙ c.if-begins_with_letter.true in
     gives_same (inline_view g.row.S.Denot g.T.Texts.text) c.get_named_reference.new.self.rest.now c.get_named_reference.result (read.named_at whole c.args.self.now.rest.now) (whole.inline c.args.self.now.rest.now) (inline_named c.args.self.now.rest.now lit minus dollar letter) c.get_named_reference.ensures.gives
 
-pub get_inline_expression-returns-in_ok-expression-2-clause-gives : goal.get_inline_expression-returns-in_ok-expression-2-clause-gives
-get_inline_expression-returns-in_ok-expression-2-clause-gives g t c =
+pub get_inline_expression-returns-then-begins_with-3-clause-gives : goal.get_inline_expression-returns-then-begins_with-3-clause-gives
+get_inline_expression-returns-then-begins_with-3-clause-gives g t c =
     let lit = ap begins_literal (sym c.bytes-bytes.ensures.value) ∙ sym c.begins_literal.ensures ∙ c.if-begins_literal.false in
     let minus = ap (begins_with w.hyphen) (sym c.bytes-bytes.ensures.value) ∙ sym c.begins_with.ensures ∙ c.if-begins_with.false in
-    let dollar = ap (begins_with w.dollar) (sym c.bytes-bytes.ensures.value) ∙ sym c.begins_with-else-begins_with.ensures ∙ c.if-begins_with-2.false in
+    let dollar = ap (begins_with w.dollar) (sym c.bytes-bytes.ensures.value) ∙ sym c.begins_with-2.ensures ∙ c.if-begins_with-2.false in
     let letter = ap (w.begins w.is_letter) (sym c.bytes-bytes.ensures.value) ∙ sym c.begins_with_letter.ensures ∙ c.if-begins_with_letter.false in
-    let brace = ap (begins_with w.open_brace) (sym c.bytes-bytes.ensures.value) ∙ sym c.begins_with-else-begins_with_letter.ensures ∙ c.if-begins_with-3.true in
-    sym (inline_nested c.args.self.now.rest.now lit minus dollar letter brace) ∙ ap (mapped tree.nested) c.in_ok-expression.ensures.gives
-    ∙ ap (λ z. got z c.get_placeable.new.self.rest.now) (ap (λ z. tree.nested (expression_view g.row.S.Denot g.T.Texts.text z)) (sym c.in_ok-expression-2.ensures.ok) ∙ sym (inline_view-Placeable g.row.S.Denot g.T.Texts.text c.in_ok-expression-2.expression))
+    let brace = ap (begins_with w.open_brace) (sym c.bytes-bytes.ensures.value) ∙ sym c.begins_with-3.ensures ∙ c.if-begins_with-3.true in
+    gives_same (inline_view g.row.S.Denot g.T.Texts.text) c.get_nested_placeable.new.self.rest.now c.get_nested_placeable.result (nested_by c.args.self.now.rest.now) (whole.inline c.args.self.now.rest.now) (inline_nested c.args.self.now.rest.now lit minus dollar letter brace) c.get_nested_placeable.ensures.gives
 
-pub get_inline_expression-returns-in_err-expression-clause-gives : goal.get_inline_expression-returns-in_err-expression-clause-gives
-get_inline_expression-returns-in_err-expression-clause-gives g t c =
+pub get_inline_expression-returns-clause-gives : goal.get_inline_expression-returns-clause-gives
+get_inline_expression-returns-clause-gives g t c =
     let lit = ap begins_literal (sym c.bytes-bytes.ensures.value) ∙ sym c.begins_literal.ensures ∙ c.if-begins_literal.false in
     let minus = ap (begins_with w.hyphen) (sym c.bytes-bytes.ensures.value) ∙ sym c.begins_with.ensures ∙ c.if-begins_with.false in
-    let dollar = ap (begins_with w.dollar) (sym c.bytes-bytes.ensures.value) ∙ sym c.begins_with-else-begins_with.ensures ∙ c.if-begins_with-2.false in
+    let dollar = ap (begins_with w.dollar) (sym c.bytes-bytes.ensures.value) ∙ sym c.begins_with-2.ensures ∙ c.if-begins_with-2.false in
     let letter = ap (w.begins w.is_letter) (sym c.bytes-bytes.ensures.value) ∙ sym c.begins_with_letter.ensures ∙ c.if-begins_with_letter.false in
-    let brace = ap (begins_with w.open_brace) (sym c.bytes-bytes.ensures.value) ∙ sym c.begins_with-else-begins_with_letter.ensures ∙ c.if-begins_with-3.true in
-    let nested = inline_nested c.args.self.now.rest.now lit minus dollar letter brace in
-    handed_on (inline_view g.row.S.Denot g.T.Texts.text) c.get_placeable.new.self.rest.now c.from_residual.result c.in_err-expression.field-0.0 (whole.inline c.args.self.now.rest.now) c.from_residual.ensures.1
-    (fails_same c.in_err-expression.field-0.0 c.get_placeable.new.self.rest.now (mapped tree.nested (placeable_by c.args.self.now.rest.now)) (whole.inline c.args.self.now.rest.now) nested (fails_mapped c.in_err-expression.field-0.0 c.get_placeable.new.self.rest.now tree.nested (placeable_by c.args.self.now.rest.now) c.in_err-expression.ensures.gives))
-
-pub get_inline_expression-returns-else-begins_with-3-clause-gives : goal.get_inline_expression-returns-else-begins_with-3-clause-gives
-get_inline_expression-returns-else-begins_with-3-clause-gives g t c =
-    let lit = ap begins_literal (sym c.bytes-bytes.ensures.value) ∙ sym c.begins_literal.ensures ∙ c.if-begins_literal.false in
-    let minus = ap (begins_with w.hyphen) (sym c.bytes-bytes.ensures.value) ∙ sym c.begins_with.ensures ∙ c.if-begins_with.false in
-    let dollar = ap (begins_with w.dollar) (sym c.bytes-bytes.ensures.value) ∙ sym c.begins_with-else-begins_with.ensures ∙ c.if-begins_with-2.false in
-    let letter = ap (w.begins w.is_letter) (sym c.bytes-bytes.ensures.value) ∙ sym c.begins_with_letter.ensures ∙ c.if-begins_with_letter.false in
-    let brace = ap (begins_with w.open_brace) (sym c.bytes-bytes.ensures.value) ∙ sym c.begins_with-else-begins_with_letter.ensures ∙ c.if-begins_with-3.false in
+    let brace = ap (begins_with w.open_brace) (sym c.bytes-bytes.ensures.value) ∙ sym c.begins_with-3.ensures ∙ c.if-begins_with-3.false in
     rw (inline_none c.args.self.now.rest.now lit minus dollar letter brace) (refl, refl)
 
 pub get_select_variants-advance-requires : goal.get_select_variants-advance-requires
@@ -284,26 +272,21 @@ pub get_piece_behind-take-requires : goal.get_piece_behind-take-requires
 get_piece_behind-take-requires g t c =
     cut_line_feed c.args.self.now.rest.now c.from-behind.result.now c.advance-then-begins_crlf.new.self.rest.now c.args.indent (c.from-behind.ensures ∙ ap (drop c.args.indent) c.bytes.ensures.value) (sym c.begins_crlf.ensures ∙ c.if-begins_crlf.true) c.advance-then-begins_crlf.ensures.rest
 
-pub get_piece_behind-returns-in_ok-push-clause-gives : goal.get_piece_behind-returns-in_ok-push-clause-gives
-get_piece_behind-returns-in_ok-push-clause-gives g t c =
+pub get_piece_behind-returns-then-begins_with-clause-gives : goal.get_piece_behind-returns-then-begins_with-clause-gives
+get_piece_behind-returns-then-begins_with-clause-gives g t c =
     let u = drop c.args.indent c.args.self.now.rest.now in
     let behind = c.from-behind.ensures ∙ ap (drop c.args.indent) c.bytes.ensures.value in
-    let zero : c.if-at_line_start.column_zero ≡ (c.args.at_line_start && c.args.indent == 0) = elim c.if-at_line_start.branch [
-      | get_piece_behind-then-at_line_start w ↦ rw w.if-at_line_start.true w.column_zero-is
-      | get_piece_behind-else-at_line_start w ↦ rw w.if-at_line_start.false (w.column_zero-is ∙ w.if-at_line_start.false)
-    ] in
-    placeable_put g.row.S.Denot g.T.Texts.text c.args.gathered.now c.push.new.self u c.get_placeable.new.self.rest.now c.in_ok-expression.expression c.args.at_line_start c.if-at_line_start.column_zero c.args.indent c.then_some.result
-    (ap (λ z. length z == 0) (sym behind) ∙ sym c.is_empty.ensures ∙ c.if-is_empty.false) (ap (begins_with w.open_brace) (sym behind) ∙ sym c.begins_with.ensures ∙ c.if-begins_with.true)
-    (ap placeable_by (sym c.advance-then-begins_with.ensures.rest) ∙ c.in_ok-expression.ensures.gives) zero c.then_some.ensures
-    (record { elements = c.in_ok-push.ensures.elements; begins_line = c.push.ensures.begins_line; common_indent = c.push.ensures.common_indent })
+    let next = ap (placeable_piece_by c.is_column_zero.result) c.advance-then-begins_with.ensures.rest
+    ∙ placeable_next c.args.at_line_start c.is_column_zero.result c.args.indent u (ap (λ z. length z == 0) (sym behind) ∙ sym c.is_empty.ensures ∙ c.if-is_empty.false) (ap (begins_with w.open_brace) (sym behind) ∙ sym c.begins_with.ensures ∙ c.if-begins_with.true) c.is_column_zero.ensures in
+    subst (λ (r : Reading (Option (Piece × Bool))). GivesPiece g.row.S.Denot g.T.Texts.text c.args.gathered.now c.get_placeable_piece.new.gathered c.get_placeable_piece.new.self.rest.now c.get_placeable_piece.result r) next c.get_placeable_piece.ensures.gives
 
-pub get_piece_behind-returns-in_ok-push-2-clause-gives : goal.get_piece_behind-returns-in_ok-push-2-clause-gives
-get_piece_behind-returns-in_ok-push-2-clause-gives g t c =
+pub get_piece_behind-returns-in_ok-push-clause-gives : goal.get_piece_behind-returns-in_ok-push-clause-gives
+get_piece_behind-returns-in_ok-push-clause-gives g t c =
     let behind = c.from-behind.ensures ∙ ap (drop c.args.indent) c.bytes.ensures.value in
-    feed_put g.row.S.Denot g.T.Texts.text c.args.gathered.now c.push-then-begins_crlf.new.self c.take.new.self.rest.now c.in_ok-value.value (piece_behind c.args.at_line_start c.args.indent (drop c.args.indent c.args.self.now.rest.now))
+    feed_put g.row.S.Denot g.T.Texts.text c.args.gathered.now c.push.new.self c.take.new.self.rest.now c.in_ok-value.value (piece_behind c.args.at_line_start c.args.indent (drop c.args.indent c.args.self.now.rest.now))
     (line_feed_read c.args.self.now.rest.now c.from-behind.result.now c.advance-then-begins_crlf.new.self.rest.now c.take.new.self.rest.now (g.T.Texts.text c.in_ok-value.value) c.args.at_line_start c.args.indent behind
     (sym c.is_empty.ensures ∙ c.if-is_empty.false) (sym c.begins_with.ensures ∙ c.if-begins_with.false) (sym c.begins_crlf.ensures ∙ c.if-begins_crlf.true) c.advance-then-begins_crlf.ensures.rest c.in_ok-value.ensures.value c.take.ensures.rest)
-    (record { elements = c.in_ok-push-2.ensures.elements; begins_line = c.push-then-begins_crlf.ensures.begins_line; common_indent = c.push-then-begins_crlf.ensures.common_indent })
+    (record { elements = c.in_ok-push.ensures.elements; begins_line = c.push.ensures.begins_line; common_indent = c.push.ensures.common_indent })
 
 pub get_variants-returns-then-has_default-clause-gives : goal.get_variants-returns-then-has_default-clause-gives
 get_variants-returns-then-has_default-clause-gives g t c =

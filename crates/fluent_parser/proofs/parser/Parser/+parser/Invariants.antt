@@ -17,8 +17,8 @@ decreases-get_argument g l = 6 * length l.self.now.rest.now + 3
 abbrev pub decreases-get_call_arguments : goal.decreases-get_call_arguments
 decreases-get_call_arguments g l = 6 * length l.self.now.rest.now + 0
 
-abbrev pub decreases-get_expression : goal.decreases-get_expression
-decreases-get_expression g l = 6 * length l.self.now.rest.now + 5
+abbrev pub decreases-get_variants_of : goal.decreases-get_variants_of
+decreases-get_variants_of g l = 6 * length l.self.now.rest.now + 5
 
 abbrev pub decreases-get_inline_expression : goal.decreases-get_inline_expression
 decreases-get_inline_expression g l = 6 * length l.self.now.rest.now + 2
@@ -38,8 +38,11 @@ decreases-get_piece g l = 6 * length l.self.now.rest.now + 2
 abbrev pub decreases-get_piece_behind : goal.decreases-get_piece_behind
 decreases-get_piece_behind g l = 6 * length l.self.now.rest.now + 1
 
-abbrev pub decreases-get_placeable : goal.decreases-get_placeable
-decreases-get_placeable g l = 6 * length l.self.now.rest.now + 0
+abbrev pub decreases-get_nested_placeable : goal.decreases-get_nested_placeable
+decreases-get_nested_placeable g l = 6 * length l.self.now.rest.now + 0
+
+abbrev pub decreases-get_placeable_piece : goal.decreases-get_placeable_piece
+decreases-get_placeable_piece g l = 6 * length l.self.now.rest.now + 0
 
 abbrev pub decreases-get_select_variants : goal.decreases-get_select_variants
 decreases-get_select_variants g l = 6 * length l.self.now.rest.now + 4

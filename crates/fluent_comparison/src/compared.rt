@@ -1,0 +1,160 @@
+//! How a message differs from that of the reference.
+#![tactic(auto)]
+
+ghost use Rattle.std.specs.Prelude.{◌≡◌, IfOk, OnOk, map, option_map};
+ghost use Rattle.fluent_ast.specs.Borrowed.{elements_of, message_of};
+ghost use Rattle.fluent_comparison.specs.Compared.{AddsVariablesBy, own_differences, untranslated_if, variable_differences};
+ghost use Rattle.fluent_comparison.specs.Lacks.{Adds};
+ghost use Rattle.fluent_differences.specs.DifferenceView.{difference_view};
+ghost use Rattle.fluent_findings.specs.Comparison as c;
+ghost use Rattle.fluent_ids.specs.IdsView.{ids_view};
+
+use crate::attributes::push_lacking_attributes;
+use crate::lack::Lack;
+use crate::names::Names;
+use crate::same::is_same_message;
+use crate::variables::variables_of;
+use fluent_ast::{Message, Pattern};
+use fluent_differences::Difference;
+use fluent_ids::{FluentIds, GetEntry};
+use std::alloc::{AllocError, Global};
+
+/// How an id of a catalog differs from that of the reference.
+///
+/// # Errors
+/// [`AllocError`] if memory runs out; nothing is left behind.
+pub fn differences<'s, F>(
+    alloc: Global,
+    ids: &FluentIds<'_, 's, F>,
+    reference: &FluentIds<'_, 's, F>,
+    id: &'s str,
+) -> Result<Vec<Difference<'s>>, AllocError>
+    ensures { IfOk result (λ found. map difference_view found.items
+        ≡ c.differences (ids_view F ids.now) (ids_view F reference.now) id.now) }
+{
+    let mut found = Vec::new(alloc);
+    push_differences(alloc, ids, reference, id, &mut found)?;
+    Ok(found)
+}
+
+/// Adds them.
+fn push_differences<'s, F>(
+    alloc: Global,
+    ids: &FluentIds<'_, 's, F>,
+    reference: &FluentIds<'_, 's, F>,
+    id: &'s str,
+    found: &mut Vec<Difference<'s>>,
+) -> Result<(), AllocError>
+    ensures { OnOk result (Adds found.old found.new
+        (c.differences (ids_view F ids.now) (ids_view F reference.now) id.now)) }
+{
+    let message = ids.get_entry_message(id);
+    let other = reference.get_entry_message(id);
+    match (message, other) {
+        (None, None) => Ok(()),
+        (None, Some(_)) => Ok(found.push(Difference::MissingMessage)?),
+        (Some(_), None) => Ok(found.push(Difference::ObsoleteMessage)?),
+        (Some(message), Some(other)) => {
+            push_of_both(alloc, ids, reference, id, message, other, found)
+        }
+    }
+}
+
+/// Adds those of a message that both have.
+fn push_of_both<'s, F>(
+    alloc: Global,
+    ids: &FluentIds<'_, 's, F>,
+    reference: &FluentIds<'_, 's, F>,
+    id: &'s str,
+    message: &Message<&'s str>,
+    other: &Message<&'s str>,
+    found: &mut Vec<Difference<'s>>,
+) -> Result<(), AllocError>
+    ensures { OnOk result (Adds found.old found.new
+        (c.message_differences (ids_view F ids.now) (ids_view F reference.now) id.now (message_of message.now)
+        (message_of other.now))) }
+{
+    push_of_message(alloc, message, other, found)?;
+    push_variables(alloc, ids, reference, id, found)?;
+    push_untranslated(message, other, found)
+}
+
+/// Adds those of the value and of the attributes.
+fn push_of_message<'s>(
+    alloc: Global,
+    message: &Message<&'s str>,
+    other: &Message<&'s str>,
+    found: &mut Vec<Difference<'s>>,
+) -> Result<(), AllocError>
+    ensures { OnOk result (Adds found.old found.new
+        (own_differences (message_of message.now) (message_of other.now))) }
+{
+    push_value(&message.value, &other.value, found)?;
+    let attributes = &message.attributes;
+    let others = &other.attributes;
+    push_lacking_attributes(alloc, Lack::MissingAttribute, others, attributes, found)?;
+    push_lacking_attributes(alloc, Lack::ObsoleteAttribute, attributes, others, found)
+}
+
+fn push_value<'s>(
+    value: &Option<Pattern<&'s str>>,
+    other: &Option<Pattern<&'s str>>,
+    found: &mut Vec<Difference<'s>>,
+) -> Result<(), AllocError>
+    ensures { OnOk result (Adds found.old found.new
+        (c.value_difference (option_map elements_of value.now) (option_map elements_of other.now))) }
+{
+    match (value, other) {
+        (None, Some(_)) => Ok(found.push(Difference::MissingValue)?),
+        (Some(_), None) => Ok(found.push(Difference::ObsoleteValue)?),
+        (None, None) => Ok(()),
+        (Some(_), Some(_)) => Ok(()),
+    }
+}
+
+/// Adds those of the variables.
+fn push_variables<'s, F>(
+    alloc: Global,
+    ids: &FluentIds<'_, 's, F>,
+    reference: &FluentIds<'_, 's, F>,
+    id: &'s str,
+    found: &mut Vec<Difference<'s>>,
+) -> Result<(), AllocError>
+    ensures { OnOk result (Adds found.old found.new
+        (variable_differences (c.variables_of (ids_view F ids.now) id.now)
+        (c.variables_of (ids_view F reference.now) id.now))) }
+{
+    let variables = variables_of(alloc, ids, id)?;
+    push_variables_by(alloc, &variables, reference, id, found)
+}
+
+/// Adds those of these variables of the message of the catalog.
+fn push_variables_by<'s, F>(
+    alloc: Global,
+    variables: &Names<'s>,
+    reference: &FluentIds<'_, 's, F>,
+    id: &'s str,
+    found: &mut Vec<Difference<'s>>,
+) -> Result<(), AllocError>
+    ensures { OnOk result (AddsVariablesBy variables.now (c.variables_of (ids_view F reference.now) id.now)
+        found.old found.new) }
+{
+    let others = variables_of(alloc, reference, id)?;
+    Lack::UnknownVariable.push_new(&variables.list, &others, found)?;
+    Lack::UnusedVariable.push_new(&others.list, variables, found)
+}
+
+/// Adds that a message has the text of the other, if it has.
+fn push_untranslated<'s>(
+    message: &Message<&'s str>,
+    other: &Message<&'s str>,
+    found: &mut Vec<Difference<'s>>,
+) -> Result<(), AllocError>
+    ensures { OnOk result (Adds found.old found.new
+        (untranslated_if (c.same_message (message_of message.now) (message_of other.now)))) }
+{
+    if is_same_message(message, other) {
+        found.push(Difference::Untranslated)?;
+    }
+    Ok(())
+}
