@@ -5,7 +5,7 @@ use Rattle.fluent_finding.specs.View.{file_view}
 use Rattle.fluent_finding.specs.declared.records.File.{File as code}
 use Rattle.fluent_findings.specs.Files.{File}
 use Rattle.fluent_grammar.specs.Words.{Text}
-use Rattle.fluent_lint.specs.Reports.{files_view}
+use Rattle.fluent_lint.specs.FileTiles.{files_view}
 use Rattle.ftl_words.specs.Meaning.{texts}
 use Rattle.ftl_lint.specs.LintReport.{named_files}
 

@@ -3,7 +3,7 @@ use Rattle.std.specs.Prelude.{List, Option, String, map, string_bytes}
 use Rattle.std.specs.Global.{Global}
 use Rattle.fluent_plurals.specs.declared.plurals.LanguagePlurals.{LanguagePlurals}
 use Rattle.fluent_finding.specs.declared.records.File.{File}
-use Rattle.fluent_lint.specs.Reports.{files_view}
+use Rattle.fluent_lint.specs.FileTiles.{files_view}
 use Rattle.fluent_lint.specs.declared.reports.Report.{Report}
 use Rattle.ftl_words.specs.CommandView.{lint_view}
 use Rattle.ftl_words.specs.declared.commands.Lint.{Lint}

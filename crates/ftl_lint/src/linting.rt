@@ -1,6 +1,6 @@
 //! The report on a catalog.
 ghost use Rattle.std.specs.Prelude.{◌≡◌, IfOk, map, string_bytes};
-ghost use Rattle.fluent_lint.specs.Reports.{files_view};
+ghost use Rattle.fluent_lint.specs.FileTiles.{files_view};
 ghost use Rattle.fluent_lint_report.specs.Formats.{format_view};
 ghost use Rattle.ftl_words.specs.CommandView.{report_format_view};
 ghost use Rattle.ftl_words.specs.Meaning.{texts};

@@ -1,7 +1,7 @@
 use Rattle.std.proofs.Common.{◌≡◌, ◌++◌, map, string_bytes}
 use Rattle.std.specs.Iterator.Adapters.{zip_first, zip_second}
 use Rattle.std.specs.Slice.Iter.{iter_rest}
-use Rattle.fluent_lint.specs.Reports.{files_view}
+use Rattle.fluent_lint.specs.FileTiles.{files_view}
 use Rattle.ftl_words.specs.Meaning.{texts}
 use Rattle.ftl_lint.specs.LintReport.{named_files}
 use Rattle.ftl_lint.proofs.linting.named_files.Given as goal
