@@ -11,8 +11,9 @@ use anyhow::{Result, bail};
 use std::env;
 
 /// What there are rows of.
-const GROUPS: [&str; 9] = [
+const GROUPS: [&str; 10] = [
     "syntax", "refused", "values", "bundles", "patterns", "memory", "requests", "tidying", "ftl",
+    "lint",
 ];
 
 fn main(rt: HostRuntime) -> Result<()> {
@@ -50,6 +51,7 @@ fn try_group(rt: &HostRuntime, name: &str) -> Result<()> {
         "requests" => rows_requests::try_all(rt),
         "tidying" => rows_tidying::try_all(rt),
         "ftl" => rows_ftl::try_all(rt),
+        "lint" => rows_ftl::try_lint(rt),
         _ => bail!("there are no rows of this name"),
     }
 }

@@ -5,7 +5,7 @@ use Rattle.ftl_words.specs.Commands.{program_app}
 use Rattle.clap.specs.Words.{IsAmong, subcommand_of}
 use Rattle.clap.specs.declared.error.kind.ErrorKind.{ErrorKind}
 use Rattle.clap.specs.declared.error.kind.ErrorKind.TheVariants.{DisplayHelp, DisplayVersion}
-use Rattle.ftl_words.specs.Meaning.{AskForHelp, AskForVersionAlone, Asked, asked_of, command_of, faults_of, without_faults, run, format, check, tidy}
+use Rattle.ftl_words.specs.Meaning.{AskForHelp, AskForVersionAlone, Asked, asked_of, command_of, faults_of, without_faults, run, format, check, lint, tidy}
 use Rattle.ftl_command.specs.Ends.{seen, IsUntouched}
 use Rattle.ftl_command.specs.Faults.{SaysUnknown, status_of}
 use Rattle.ftl_command.specs.Program.{IsRefused, WithoutInput, locale_named}
@@ -13,7 +13,7 @@ use Rattle.ftl_command.specs.declared.fault.Fault.{Fault}
 use Rattle.ftl_command.specs.declared.fault.Fault.TheVariants.{CarriageReturn, NotNormal, NotTree, NotJson, NoMessage, CommandLine, UnknownLocale, FileUnreadable, FileNotUtf8, Input, Output, Memory}
 use Rattle.ftl_command.specs.declared.plurals.RunPlurals.TheVariants.{Language}
 use Rattle.fluent_plurals.specs.Plurals.{plurals_for}
-use Rattle.ftl_command.specs.Plurals.{plurals_asked}
+use Rattle.ftl_command.specs.Plurals.{language_asked, plurals_asked}
 
 -- a device that is as it was is untouched
 pub untouched : {D : Type 0} (bytes : D → Option Text) (failures : D → ℕ) {before after : D} → after ≡ before → IsUntouched (seen bytes failures before after)
@@ -24,6 +24,7 @@ without_input None f p = f p
 without_input (Some (run r)) f p = tt
 without_input (Some (format x)) f p = f p
 without_input (Some (check files)) f p = f p
+without_input (Some (lint l)) f p = f p
 without_input (Some (tidy t)) f p = f p
 
 -- a locale without plural rules is asked for
@@ -32,6 +33,7 @@ refused_run None tag named unknown = tt
 refused_run (Some (run r)) tag named unknown = ap plurals_asked named ∙ ap (option_map Language) unknown
 refused_run (Some (format f)) tag named unknown = ap plurals_asked named ∙ ap (option_map Language) unknown
 refused_run (Some (check files)) tag named unknown = absurd cc
+refused_run (Some (lint l)) tag named unknown = ap language_asked named ∙ ap (option_map Some) unknown
 refused_run (Some (tidy t)) tag named unknown = absurd cc
 
 -- words with status 2 are refused

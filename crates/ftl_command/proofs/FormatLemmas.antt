@@ -16,7 +16,7 @@ use Rattle.ftl_command.specs.declared.fault.Fault.TheVariants.{NoMessage}
 use Rattle.ftl_command.specs.declared.folder.Folder.{Ghosts as FolderGhosts}
 use Rattle.ftl_command.proofs.Refusals.{of_refusal}
 
-if_some : {X : Type 0} {P Q : X → Type 0} (o : Option X) → ((x : X) → P x → Q x) → IsSomeAnd o P → IsSomeAnd o Q
+pub if_some : {X : Type 0} {P Q : X → Type 0} (o : Option X) → ((x : X) → P x → Q x) → IsSomeAnd o P → IsSomeAnd o Q
 if_some None f p = absurd p
 if_some (Some x) f p = f x p
 

@@ -5,7 +5,7 @@ use Rattle.fluent_requests.specs.Text.{Text}
 use Rattle.fluent_serve.specs.Devices.{HasFailed}
 use Rattle.fluent_serve.specs.declared.stream.Sink.{Ghosts as SinkGhosts}
 use Rattle.fluent_serve.specs.declared.stream.Source.{Ghosts as SourceGhosts}
-use Rattle.ftl_words.specs.Meaning.{Asked, Format, Tidy, run, format, check, tidy}
+use Rattle.ftl_words.specs.Meaning.{Asked, Format, Tidy, run, format, check, lint, tidy}
 use Rattle.fluent_serve.specs.Exchange.{GivesUp}
 use Rattle.fluent_serve.specs.declared.serve.RunError.{RunError}
 use Rattle.fluent_serve.specs.declared.serve.RunError.TheVariants.{Memory as RunMemory, Read as RunRead, Write as RunWrite}
@@ -41,6 +41,7 @@ module _ (contents : Text → Option Text) where
   right_by (Some (run r)) fault nothing = nothing
   right_by (Some (format f)) fault nothing = nothing_of_message f fault nothing
   right_by (Some (check files)) fault nothing = nothing
+  right_by (Some (lint l)) fault nothing = nothing
   right_by (Some (tidy t)) fault nothing = nothing_of_tidying t fault nothing
 
 -- a fault of memory or a device

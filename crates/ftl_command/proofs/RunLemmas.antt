@@ -6,7 +6,7 @@ use Rattle.std.specs.Prelude.{◌≢◌, IfSome, IsErrOf}
 use Rattle.fluent_requests.specs.Text.{Text}
 use Rattle.fluent_serve.specs.Exchange.{Devices, devices_of, AnswersFirst}
 use Rattle.fluent_serve.specs.Texts.{texts}
-use Rattle.ftl_words.specs.Meaning.{Asked, Run, run, format, check, tidy}
+use Rattle.ftl_words.specs.Meaning.{Asked, Run, run, format, check, lint, tidy}
 use Rattle.ftl_command.specs.declared.ended.Ended.{Ended}
 use Rattle.ftl_command.specs.declared.ended.Ended.TheVariants.{Done}
 use Rattle.ftl_command.specs.declared.fault.Fault.{Fault}
@@ -56,7 +56,7 @@ known_alike Fits None P all o fits = tt
 known_alike Fits (Some input) P all o fits = all o fits
 
 -- the outcome holds by plural rules, which are those that are asked for
-pub by_plurals : (asked : Option RunPlurals) (plurals : RunPlurals) (Outcome : RunPlurals → Type 0) → asked ≡ Some plurals → Outcome plurals → IsSomeAnd asked Outcome
+pub by_plurals : {X : Type 0} (asked : Option X) (plurals : X) (Outcome : X → Type 0) → asked ≡ Some plurals → Outcome plurals → IsSomeAnd asked Outcome
 by_plurals asked plurals Outcome known outcome = rw known outcome
 
 -- nothing is read and nothing written: no line is answered
@@ -86,6 +86,7 @@ nothing_done contents left held None = refl
 nothing_done contents left held (Some (run r)) = first_none (plurals_asked r.locale) contents r left held
 nothing_done contents left held (Some (format f)) = refl
 nothing_done contents left held (Some (check files)) = refl
+nothing_done contents left held (Some (lint l)) = refl
 nothing_done contents left held (Some (tidy t)) = refl
 
 pub kept_input : {R : Type 0} (asked : Option Asked) (reader : R) → WithoutInput asked (reader ≡ reader)
@@ -93,6 +94,7 @@ kept_input None reader = refl
 kept_input (Some (run r)) reader = tt
 kept_input (Some (format f)) reader = refl
 kept_input (Some (check files)) reader = refl
+kept_input (Some (lint l)) reader = refl
 kept_input (Some (tidy t)) reader = refl
 
 -- a run that is answered is done

@@ -2,6 +2,7 @@
 use Rattle.std.specs.Prelude.{Option, Some, None, option_map}
 use Rattle.fluent_number.specs.Plurals.{english}
 use Rattle.fluent_plurals.specs.Plurals.{plurals_by, plurals_for}
+use Rattle.fluent_plurals.specs.declared.plurals.LanguagePlurals.{LanguagePlurals}
 use Rattle.fluent_requests.specs.Text.{Text}
 use Rattle.fluent_value.specs.Matching.{Plurals}
 use Rattle.ftl_command.specs.declared.plurals.RunPlurals.{RunPlurals}
@@ -16,3 +17,8 @@ category_in (Language plurals) = plurals_by plurals
 abbrev pub plurals_asked : Option Text → Option RunPlurals
 plurals_asked None = Some English
 plurals_asked (Some tag) = option_map Language (plurals_for tag)
+
+-- those of the locale's language alone, if one is named; and none if it has none
+abbrev pub language_asked : Option Text → Option (Option LanguagePlurals)
+language_asked None = Some None
+language_asked (Some tag) = option_map Some (plurals_for tag)

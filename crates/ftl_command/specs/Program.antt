@@ -1,5 +1,5 @@
 -- What the program does for its words, and how far it came before a fault.
-use Rattle.std.specs.Prelude.{◌≡◌, ℕ, List, [], ◌∷◌, ◌++◌, ⊤, false, Option, Some, None, IfSome, IsSomeAnd, option_map, Result, IfOk, OnOk, IsErrOf, string_bytes}
+use Rattle.std.specs.Prelude.{◌≡◌, ℕ, Bool, if◌then◌else◌, List, [], ◌∷◌, ◌++◌, ⊤, false, Option, Some, None, IfSome, IsSomeAnd, option_map, Result, IfOk, OnOk, IsErrOf, string_bytes}
 use Rattle.std.specs.List.{flat_map, list_any}
 use Rattle.std.specs.Io.KnownBytes.{Appends, IsAtEnd}
 use Rattle.fluent_value.specs.declared.function.NoFunction.{NoFunction}
@@ -28,12 +28,14 @@ use Rattle.fluent_tidy.specs.Trees.{IsImported}
 use Rattle.ftl_format.specs.FormatView.{IsWrittenAs}
 use Rattle.ftl_format.specs.Shown.{error_line, reply_asked}
 use Rattle.ftl_format.specs.declared.formatting.Formatted.{Formatted}
+use Rattle.ftl_lint.specs.LintReport.{LintReport, lint_report_from}
 use Rattle.ftl_report.specs.Report.{report_text}
 use Rattle.ftl_words.specs.Version.{version_line}
-use Rattle.ftl_words.specs.Meaning.{Asked, Run, Format, Tidy, run, format, check, tidy, clean, normalize, join, export, import}
+use Rattle.ftl_words.specs.Linting.{Lint}
+use Rattle.ftl_words.specs.Meaning.{Asked, Run, Format, Tidy, run, format, check, lint, tidy, clean, normalize, join, export, import}
 use Rattle.ftl_command.specs.Files.{OnFile, OnTexts}
 use Rattle.ftl_command.specs.Faults.{end_status}
-use Rattle.ftl_command.specs.Plurals.{category_in, plurals_asked}
+use Rattle.ftl_command.specs.Plurals.{category_in, language_asked, plurals_asked}
 use Rattle.ftl_command.specs.declared.plurals.RunPlurals.{RunPlurals}
 use Rattle.ftl_command.specs.declared.ended.Ended.{Ended}
 use Rattle.ftl_command.specs.declared.ended.Ended.TheVariants.{Done, Found, Incomplete}
@@ -133,6 +135,27 @@ pub record CheckEnds {F W : Type 0} (folders : FolderGhosts F) (folder : F) (fil
   -- a front of the report is written
   pub output : IsErrOf result Output → OnReport (folders.contents folder) files (WritesFront (sink.contents writer) (sink.contents writer'))
 
+-- ---- the report on a catalog
+
+-- The locale that is asked for has plural rules, or none is, and the outcome holds of the report on what the files hold.
+abbrev pub OnLintReport : (Text → Option Text) → Lint → (LintReport → Type 0) → Type 0
+OnLintReport contents l Outcome =
+    IsSomeAnd (language_asked l.locale) (λ plurals. OnTexts contents l.files (λ sources. Outcome (lint_report_from l plurals sources)))
+
+-- this is that report
+abbrev pub IsLintReport : (Text → Option Text) → Lint → LintReport → Type 0
+IsLintReport contents l made = OnLintReport contents l (λ report. made ≡ report)
+
+-- a catalog fails, or it doesn't
+abbrev pub lint_end : Bool → Ended
+lint_end failed = if failed then Found else Done
+
+-- what became of linting, by how it ended
+pub record LintEnds {F W : Type 0} (folders : FolderGhosts F) (folder : F) (l : Lint) (sink : SinkGhosts W) (writer writer' : W) (result : Result Ended Fault) : Type 0 where
+  pub linted : IfOk result (λ end. OnLintReport (folders.contents folder) l (λ report. Appends (sink.contents writer) (sink.contents writer') report.text × (end ≡ lint_end report.has_failed)))
+  -- a front of the report is written
+  pub output : IsErrOf result Output → OnLintReport (folders.contents folder) l (λ report. WritesFront (sink.contents writer) (sink.contents writer') report.text)
+
 -- ---- the text of a message
 
 -- what the sources have for the message, by these plural rules
@@ -230,6 +253,7 @@ IsDone contents d None end = end ≡ Done
 IsDone contents d (Some (run r)) end = (end ≡ Done) × OnRun contents r (Answered d)
 IsDone contents d (Some (format f)) end = OnReply contents f (λ reply. Writes d (ended reply.text) × EndsWith reply.errors end)
 IsDone contents d (Some (check files)) end = OnReport contents files (λ text. Writes d text × (end ≡ end_by text))
+IsDone contents d (Some (lint l)) end = OnLintReport contents l (λ report. Writes d report.text × (end ≡ lint_end report.has_failed))
 IsDone contents d (Some (tidy t)) end = (end ≡ Done) × Tidied contents t (Writes d)
 
 -- a run is answered alike from tidied sources
@@ -238,6 +262,7 @@ IsDoneAlike contents d None = ⊤
 IsDoneAlike contents d (Some (run r)) = OnRunAlike contents d r
 IsDoneAlike contents d (Some (format f)) = ⊤
 IsDoneAlike contents d (Some (check files)) = ⊤
+IsDoneAlike contents d (Some (lint l)) = ⊤
 IsDoneAlike contents d (Some (tidy t)) = ⊤
 
 -- the first lines of a run are answered by these plural rules; if the locale has none, nothing is written
@@ -251,6 +276,7 @@ AfterMemory contents d None = d.held_after ≡ d.held_before
 AfterMemory contents d (Some (run r)) = AnswersFirstBy (plurals_asked r.locale) contents d r
 AfterMemory contents d (Some (format f)) = d.held_after ≡ d.held_before
 AfterMemory contents d (Some (check files)) = d.held_after ≡ d.held_before
+AfterMemory contents d (Some (lint l)) = d.held_after ≡ d.held_before
 AfterMemory contents d (Some (tidy t)) = d.held_after ≡ d.held_before
 
 -- the input failed, or came to no end: all whole lines of a run are answered; another command reads no input
@@ -259,6 +285,7 @@ AfterInput contents d Failed None = ⊥
 AfterInput contents d Failed (Some (run r)) = OnRun contents r (λ line. AnswersWhole d line Failed 4294967296)
 AfterInput contents d Failed (Some (format f)) = ⊥
 AfterInput contents d Failed (Some (check files)) = ⊥
+AfterInput contents d Failed (Some (lint l)) = ⊥
 AfterInput contents d Failed (Some (tidy t)) = ⊥
 
 -- the output failed: a front of what was to be written is
@@ -267,6 +294,7 @@ AfterOutput contents d None = ⊤
 AfterOutput contents d (Some (run r)) = OnRun contents r (AnswersFront d)
 AfterOutput contents d (Some (format f)) = OnReply contents f (λ reply. WritesFront d.held_before d.held_after (ended reply.text))
 AfterOutput contents d (Some (check files)) = OnReport contents files (WritesFront d.held_before d.held_after)
+AfterOutput contents d (Some (lint l)) = OnLintReport contents l (λ report. WritesFront d.held_before d.held_after report.text)
 AfterOutput contents d (Some (tidy t)) = Tidied contents t (WritesFront d.held_before d.held_after)
 
 -- What became of a command, by how it ended. `failed` says that the input failed.
@@ -289,6 +317,7 @@ WithoutInput None Fact = Fact
 WithoutInput (Some (run r)) Fact = ⊤
 WithoutInput (Some (format f)) Fact = Fact
 WithoutInput (Some (check files)) Fact = Fact
+WithoutInput (Some (lint l)) Fact = Fact
 WithoutInput (Some (tidy t)) Fact = Fact
 
 -- ---- the files that the words name
@@ -305,6 +334,7 @@ files_named None = []
 files_named (Some (run r)) = r.files
 files_named (Some (format f)) = f.files
 files_named (Some (check files)) = files
+files_named (Some (lint l)) = l.files
 files_named (Some (tidy t)) = files_of t
 
 -- ---- the locale that they name
@@ -314,12 +344,14 @@ locale_named None = None
 locale_named (Some (run r)) = r.locale
 locale_named (Some (format f)) = f.locale
 locale_named (Some (check files)) = None
+locale_named (Some (lint l)) = l.locale
 locale_named (Some (tidy t)) = None
 
--- nothing is asked for, or a run or a message by a locale without plural rules
+-- nothing is asked for, or a run, a message or a catalog by a locale without plural rules
 abbrev pub IsRefused : Option Asked → Type 0
 IsRefused None = ⊤
 IsRefused (Some (run r)) = plurals_asked r.locale ≡ None
 IsRefused (Some (format f)) = plurals_asked f.locale ≡ None
 IsRefused (Some (check files)) = ⊥
+IsRefused (Some (lint l)) = language_asked l.locale ≡ None
 IsRefused (Some (tidy t)) = ⊥

@@ -11,7 +11,7 @@ use Rattle.fluent_tidy_laws.specs.Normal.{HasNoNormalText}
 use Rattle.fluent_json.specs.Json.{HasNoTree}
 use Rattle.fluent_tidy.specs.Sources.{holds_return}
 use Rattle.fluent_tidy.specs.Trees.{IsNotImported}
-use Rattle.ftl_words.specs.Meaning.{Asked, Format, Tidy, run, format, check, tidy, clean, normalize, join, export, import}
+use Rattle.ftl_words.specs.Meaning.{Asked, Format, Tidy, run, format, check, lint, tidy, clean, normalize, join, export, import}
 use Rattle.ftl_command.specs.Files.{OnFile, OnTexts}
 use Rattle.ftl_command.specs.Faults.{IsBeforeInput, IsOfLocale, SaysOfFiles, SaysUnknown}
 use Rattle.ftl_command.specs.Program.{OnFound, OnValue, files_named, locale_named}
@@ -102,6 +102,7 @@ IsRight contents None fault = RefusesNothing fault
 IsRight contents (Some (run r)) fault = RefusesNothing fault
 IsRight contents (Some (format f)) fault = SaysNoMessage contents f fault
 IsRight contents (Some (check files)) fault = RefusesNothing fault
+IsRight contents (Some (lint l)) fault = RefusesNothing fault
 IsRight contents (Some (tidy t)) fault = IsRightOf contents t fault
 
 -- ---- a fault, by what the words ask for, and by what is known of the devices before and after

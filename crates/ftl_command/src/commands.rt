@@ -10,6 +10,7 @@ use crate::ended::Ended;
 use crate::fault::Fault;
 use crate::folder::{Folder, FromFiles};
 use crate::formatting::write_formatted;
+use crate::linting::lint_files;
 use crate::output::write_asked;
 use crate::running::run_files;
 use crate::telling::{tell_errors_on, tell_on};
@@ -129,6 +130,7 @@ pub fn run_command<'words, F: Folder, I: Source, O: Sink>(
         }
         Ok(Command::Format(format)) => write_formatted(folder, alloc, &format, writer),
         Ok(Command::Check { files }) => check_files(folder, alloc, &files, writer),
+        Ok(Command::Lint(lint)) => lint_files(folder, alloc, &lint, writer),
         Ok(Command::Tidy(tidy)) => write_tidied(folder, alloc, &tidy, writer),
         Err(WordsError::Help(text)) => write_asked(writer, text.as_str()),
         Err(WordsError::Version(line)) => write_asked(writer, line.as_str()),

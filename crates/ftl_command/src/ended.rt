@@ -7,7 +7,7 @@ ghost use Rattle.ftl_command.specs.Faults.{end_status};
 pub enum Ended {
     /// What was asked for is done.
     Done,
-    /// It is done, and something was found in the sources.
+    /// It is done, and what was found in the sources makes the status 1.
     Found,
     /// The text of a message is written, and these are the lines of what went wrong in it.
     Incomplete { errors: String },

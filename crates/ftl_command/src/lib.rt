@@ -13,6 +13,7 @@ pub mod fault;
 pub mod files;
 pub mod folder;
 pub mod formatting;
+pub mod linting;
 pub mod output;
 pub mod plurals;
 pub mod running;
@@ -20,4 +21,4 @@ pub mod telling;
 pub mod tidying;
 
 pub use commands::program;
-pub use ftl_words::{Command, Format, Tidy, VERSION, WordsError, command};
+pub use ftl_words::{Command, Format, Lint, ReportFormat, Tidy, VERSION, WordsError, command};

@@ -1,7 +1,7 @@
 //! The plural rules that choose the variants of a run.
 ghost use Rattle.std.specs.Prelude.{◌≡◌, IfOk, IfErr, Some, option_map};
 ghost use Rattle.ftl_command.specs.Faults.{IsOfLocale, SaysUnknown};
-ghost use Rattle.ftl_command.specs.Plurals.{category_in, plurals_asked};
+ghost use Rattle.ftl_command.specs.Plurals.{category_in, language_asked, plurals_asked};
 
 use crate::fault::Fault;
 use fluent_number::{PluralCategory, PluralOperands, PluralRuleType};
@@ -37,6 +37,27 @@ impl RunPlurals {
             Some(plurals) => Ok(RunPlurals::Language(plurals)),
             None => Err(Fault::UnknownLocale { tag }),
         }
+    }
+}
+
+/// The rules of the locale with this tag, if there is one.
+///
+/// # Errors
+/// [`Fault::UnknownLocale`] if the locale has no plural rules.
+pub fn language_plurals<'words>(
+    locale: Option<&'words str>,
+) -> Result<Option<LanguagePlurals>, Fault<'words>>
+    ensures known { IfOk result (λ plurals.
+        language_asked (option_map (λ tag. tag.now) locale.entry) ≡ Some plurals) }
+    ensures unknown { IfErr result (SaysUnknown (option_map (λ tag. tag.now) locale.entry)) }
+    ensures fault { IfErr result IsOfLocale }
+{
+    let Some(tag) = locale else {
+        return Ok(None);
+    };
+    match LanguagePlurals::for_tag(tag) {
+        Some(plurals) => Ok(Some(plurals)),
+        None => Err(Fault::UnknownLocale { tag }),
     }
 }
 

@@ -1,6 +1,7 @@
 //! Runs the command `ftl`, and the call behind its `run`, on the rows of `runs.jsonl` and `rows.jsonl`, and over devices that fail
 //! or move little at a time, and prints of each kind how many runs there were and how many were wrong. The rows stand in
-//! `crates/all_rows/data/ftl`, and the files that they name beside that folder.
+//! `crates/all_rows/data/ftl`, and the files that they name beside that folder. The rows of `ftl lint` are in
+//! `crates/all_rows/data/lint`, with the texts of their files.
 //!
 //! A run that is refused memory has to tell so behind whole answers, and is made once more. So the same counts are printed with
 //! any one allocation refused: see `docs/inside/validation.md`.
@@ -9,6 +10,7 @@
 mod devices;
 mod failing;
 mod faults;
+mod lint;
 mod memory;
 mod rows;
 mod runs;
@@ -16,7 +18,13 @@ mod runs;
 use anyhow::Result;
 use rows_common::tell;
 
-/// Makes all runs, and prints how many of them were wrong.
+/// Makes the runs of `ftl lint`, and prints how many of them were wrong.
+pub fn try_lint(rt: &HostRuntime) -> Result<()> {
+    tell(rt, "rows", "runs", lint::try_lint(rt)?)?;
+    Ok(())
+}
+
+/// Makes all other runs, and prints how many of them were wrong.
 pub fn try_all(rt: &HostRuntime) -> Result<()> {
     let alloc = rt.alloc();
     tell(rt, "memory", "runs", memory::try_memory(alloc))?;

@@ -12,15 +12,15 @@ const OUT_OF_MEMORY: &str = "ftl: out of memory\n";
 
 /// How a run of the program must end: its status, its output and what it tells of a fault.
 #[derive(Clone, Copy)]
-struct End<'row> {
+pub struct End<'row> {
     status: u64,
-    answers: &'row str,
+    pub answers: &'row str,
     fault: &'row str,
 }
 
 impl<'row> End<'row> {
     /// How a row says that its run must end.
-    fn of(row: &'row Value) -> Option<End<'row>> {
+    pub fn of(row: &'row Value) -> Option<End<'row>> {
         Some(End {
             status: row.get("status").and_then(Value::as_u64)?,
             answers: text_in(row, "answers")?,
@@ -28,9 +28,14 @@ impl<'row> End<'row> {
         })
     }
 
+    /// Room for what is told of a fault, or of memory that ran out, in bytes.
+    pub fn room(self) -> usize {
+        self.fault.len().max(OUT_OF_MEMORY.len())
+    }
+
     /// Whether a run ended so. The only error is that it told that memory ran out, with nothing but whole lines of its
     /// answers written.
-    fn is_met(self, status: u8, given: &[u8], told: &[u8]) -> Result<bool, AllocError> {
+    pub fn is_met(self, status: u8, given: &[u8], told: &[u8]) -> Result<bool, AllocError> {
         let (answers, fault) = (self.answers.as_bytes(), self.fault.as_bytes());
         if u64::from(status) == self.status && given == answers && told == fault {
             return Ok(true);
@@ -59,9 +64,8 @@ struct Words<'a, I> {
 impl<I: io::Read + Copy> Trial for Words<'_, I> {
     fn is_right(self, alloc: Global) -> Result<bool, AllocError> {
         let wanted = self.wanted;
-        let room = wanted.fault.len().max(OUT_OF_MEMORY.len());
         let mut given = Vec::with_capacity(alloc, wanted.answers.len())?;
-        let mut told = Vec::with_capacity(alloc, room)?;
+        let mut told = Vec::with_capacity(alloc, wanted.room())?;
         let output = Writer(&mut given, self.writing);
         let status = program(self.rt, alloc, self.words, self.input, output, &mut told);
         wanted.is_met(status, &given, &told)

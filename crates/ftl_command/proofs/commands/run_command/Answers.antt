@@ -167,3 +167,29 @@ returns-in-Ok-Format-clause-opens g c = on_ok_weaker c.write_formatted.result (�
 
 pub returns-in-Ok-Format-clause-writes : goal.returns-in-Ok-Format-clause-writes
 returns-in-Ok-Format-clause-writes g c = on_ok_weaker c.write_formatted.result (λ works. works.writes) c.write_formatted.ensures.works
+
+pub returns-in-Ok-Lint-clause-version : goal.returns-in-Ok-Lint-clause-version
+returns-in-Ok-Lint-clause-version g c = λ alone. absurd (no_command_asked _ _ alone c.in-Ok-Lint.ensures.command)
+
+pub returns-in-Ok-Lint-clause-ended : goal.returns-in-Ok-Lint-clause-ended
+returns-in-Ok-Lint-clause-ended g c =
+    rw (c.in-Ok-Lint.ensures.command, c.in-Ok-Lint.field-0-is) (record {
+      done = c.lint_files.ensures.ended.linted;
+      tidied = on_ok_always c.lint_files.result tt;
+      memory = λ memory. ap g.O.Sink.contents (kept_by c.lint_files.result Memory memory (λ same. absurd cc) (IfErr-weaker c.lint_files.result _ _ (λ fault f. f.unwritten) c.lint_files.ensures.stops));
+      input = λ input. never_by c.lint_files.result Input input (IfErr-weaker c.lint_files.result _ _ (λ fault f. f.not_input) c.lint_files.ensures.stops);
+      output = λ output. c.lint_files.ensures.ended.output output;
+    })
+
+pub returns-in-Ok-Lint-clause-fault : goal.returns-in-Ok-Lint-clause-fault
+returns-in-Ok-Lint-clause-fault g c = rw (c.in-Ok-Lint.ensures.command, c.in-Ok-Lint.field-0-is) c.lint_files.ensures.fault
+
+pub returns-in-Ok-Lint-clause-stops : goal.returns-in-Ok-Lint-clause-stops
+returns-in-Ok-Lint-clause-stops g c =
+    IfErr-weaker c.lint_files.result _ _ (unread_device g.I.Source g.O.Sink c.args.reader.now c.args.writer.now c.lint_files.new.writer) c.lint_files.ensures.stops
+
+pub returns-in-Ok-Lint-clause-opens : goal.returns-in-Ok-Lint-clause-opens
+returns-in-Ok-Lint-clause-opens g c = on_ok_weaker c.lint_files.result (λ works. works.opens) c.lint_files.ensures.works
+
+pub returns-in-Ok-Lint-clause-writes : goal.returns-in-Ok-Lint-clause-writes
+returns-in-Ok-Lint-clause-writes g c = on_ok_weaker c.lint_files.result (λ works. works.writes) c.lint_files.ensures.works

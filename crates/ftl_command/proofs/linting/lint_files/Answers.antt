@@ -1,0 +1,31 @@
+use Rattle.std.proofs.Common.{rules}
+use Rattle.ftl_lint.specs.LintView.{report_view}
+use Rattle.ftl_words.specs.CommandView.{lint_view}
+use Rattle.ftl_command.proofs.LintLemmas.{lint_cut, linted_so}
+use Rattle.ftl_command.proofs.Refusals.{of_output, text_cut, text_unwritten}
+use Rattle.ftl_command.proofs.linting.lint_files.Goals as goal
+
+pub returns-in_err-report-clause-stops : goal.returns-in_err-report-clause-stops
+returns-in_err-report-clause-stops g c = search (rules, text_unwritten)
+
+pub returns-in_err-write_to_stream-clause-fault : goal.returns-in_err-write_to_stream-clause-fault
+returns-in_err-write_to_stream-clause-fault g c = search (rules, of_output)
+
+pub returns-in_err-write_to_stream-clause-stops : goal.returns-in_err-write_to_stream-clause-stops
+returns-in_err-write_to_stream-clause-stops g c = search (rules, text_cut)
+
+pub returns-in_err-write_to_stream-clause-ended : goal.returns-in_err-write_to_stream-clause-ended
+returns-in_err-write_to_stream-clause-ended g c = record {
+  linted = search rules;
+  output = λ is.
+      lint_cut (g.F.Folder.contents c.args.folder.now) (lint_view c.args.lint.now) (report_view c.in_ok-report.report) _ _ _
+      c.in_ok-report.ensures.report c.as_str.ensures.value c.in_err-write_to_stream.ensures.front;
+}
+
+pub returns-clause-ended : goal.returns-clause-ended
+returns-clause-ended g c = record {
+  linted =
+      linted_so (g.F.Folder.contents c.args.folder.now) (lint_view c.args.lint.now) (report_view c.in_ok-report.report) _ _ _
+      c.in_ok-report.ensures.report c.as_str.ensures.value _ c.in_ok-write_to_stream.ensures.written c.end_of.ensures;
+  output = λ is. absurd cc;
+}

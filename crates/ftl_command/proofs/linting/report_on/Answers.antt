@@ -1,0 +1,29 @@
+use Rattle.std.proofs.Common.{map, rules, string_bytes}
+use Rattle.ftl_words.specs.CommandView.{lint_view}
+use Rattle.ftl_words.specs.Meaning.{lint}
+use Rattle.ftl_command.specs.Refusals.{IsEarlyFault}
+use Rattle.ftl_command.proofs.Refusals.{of_files, of_locale, of_memory}
+use Rattle.ftl_command.proofs.RunLemmas.{by_plurals}
+use Rattle.ftl_command.proofs.linting.report_on.Goals as goal
+
+pub returns-clause-report : goal.returns-clause-report
+returns-clause-report g c =
+    by_plurals _ c.in_ok-plurals.plurals _ c.in_ok-plurals.ensures.known (record {
+      sources = map string_bytes c.in_ok-sources.sources.items;
+      held = rw c.deref.ensures.value at c.in_ok-sources.ensures.held;
+      outcome = rw c.deref-2.ensures.value at c.in_ok-lint_sources.ensures;
+    })
+
+pub returns-in_err-plurals-clause-fault : goal.returns-in_err-plurals-clause-fault
+returns-in_err-plurals-clause-fault g c = search (rules, of_locale)
+
+pub returns-in_err-sources-clause-fault : goal.returns-in_err-sources-clause-fault
+returns-in_err-sources-clause-fault g c =
+    let asked = lint (lint_view c.args.lint.now) in
+    let fault : IsEarlyFault g.F.Folder c.args.folder.now c.read_text_files.new.folder asked c.in_err-sources.field-0.0 =
+    of_files g.F.Folder c.args.folder.now c.read_text_files.new.folder asked c.in_err-sources.field-0.0
+    (rw c.deref.ensures.value at c.in_err-sources.ensures.fault) in
+    search rules
+
+pub returns-in_err-lint_sources-clause-fault : goal.returns-in_err-lint_sources-clause-fault
+returns-in_err-lint_sources-clause-fault g c = search (rules, of_memory)

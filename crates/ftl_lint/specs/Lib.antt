@@ -1,0 +1,2 @@
+pub mod LintReport
+pub mod LintView

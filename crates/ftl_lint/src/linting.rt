@@ -1,0 +1,84 @@
+//! The report on a catalog.
+ghost use Rattle.std.specs.Prelude.{◌≡◌, IfOk, map, string_bytes};
+ghost use Rattle.fluent_lint.specs.FileTiles.{files_view};
+ghost use Rattle.fluent_lint_report.specs.Formats.{format_view};
+ghost use Rattle.ftl_words.specs.CommandView.{report_format_view};
+ghost use Rattle.ftl_words.specs.Meaning.{texts};
+ghost use Rattle.ftl_lint.specs.LintReport.{named_files, output_format};
+ghost use Rattle.ftl_lint.specs.LintView.{report_asked, report_on_files, report_view};
+
+use fluent_finding::File;
+use fluent_lint::{Options, Output, Report, report_findings};
+use fluent_lint_report::Format;
+use fluent_plurals::LanguagePlurals;
+use ftl_words::{Lint, ReportFormat};
+use std::alloc::{AllocError, Global};
+
+/// The report on the files of a catalog, which have the texts `sources`. Plural categories are looked for by the rules
+/// `plurals`.
+///
+/// # Errors
+/// [`AllocError`] if memory runs out; nothing is left behind.
+pub fn lint_sources(
+    alloc: Global,
+    lint: &Lint,
+    plurals: Option<LanguagePlurals>,
+    sources: &[String],
+) -> Result<Report, AllocError>
+    ensures { IfOk result (λ report. report_view report
+        ≡ report_asked lint.now plurals sources.now) }
+{
+    let files = named_files(alloc, &lint.files, sources)?;
+    report_on(alloc, lint, plurals, &files)
+}
+
+/// Files of these names, with these texts.
+fn named_files<'a>(
+    alloc: Global,
+    names: &'a [&'a str],
+    sources: &'a [String],
+) -> Result<Vec<File<'a>>, AllocError>
+    ensures { IfOk result (λ files.
+        files_view files.items ≡ named_files (texts names.now) (map string_bytes sources.now)) }
+{
+    let mut files = Vec::with_capacity(alloc, names.len())?;
+    for (&name, source) in names.iter().zip(sources) {
+        let source = source.as_str();
+        files.push(File { name, source })?;
+    }
+    Ok(files)
+}
+
+/// The report on these files.
+fn report_on(
+    alloc: Global,
+    lint: &Lint,
+    plurals: Option<LanguagePlurals>,
+    files: &[File],
+) -> Result<Report, AllocError>
+    ensures { IfOk result (λ report. report_view report
+        ≡ report_on_files lint.now plurals files.now) }
+{
+    let options = Options {
+        functions: &lint.functions,
+        plurals,
+    };
+    let output = Output {
+        format: format_of(lint.format),
+        notes: lint.notes,
+        strict: lint.strict,
+    };
+    report_findings(alloc, &options, output, files)
+}
+
+/// The format of a report.
+fn format_of(format: ReportFormat) -> Format
+    ensures { format_view result ≡ output_format (report_format_view format) }
+{
+    match format {
+        ReportFormat::Text => Format::Text,
+        ReportFormat::Line => Format::Line,
+        ReportFormat::Json => Format::Json,
+        ReportFormat::Github => Format::Github,
+    }
+}
