@@ -16,12 +16,12 @@ use std::alloc::{AllocError, Global};
 ///
 /// # Errors
 /// [`AllocError`] if memory runs out; some may be added then.
-pub fn push_lacking_attributes<'s>(
+pub fn push_lacking_attributes<'i, 's: 'i>(
     alloc: Global,
     lack: Lack,
     attributes: &[Attribute<&'s str>],
     others: &[Attribute<&'s str>],
-    found: &mut Vec<Difference<'s>>,
+    found: &mut Vec<Difference<'i>>,
 ) -> Result<(), AllocError>
     ensures { OnOk result (AddsLackingAttributes lack (attributes_of attributes.now) (attributes_of others.now)
         found.old found.new) }
@@ -31,11 +31,11 @@ pub fn push_lacking_attributes<'s>(
 }
 
 /// Adds those whose names aren't among these.
-fn push_lacking<'s>(
+fn push_lacking<'i, 's: 'i>(
     lack: Lack,
     attributes: &[Attribute<&'s str>],
     names: &Names<'s>,
-    found: &mut Vec<Difference<'s>>,
+    found: &mut Vec<Difference<'i>>,
 ) -> Result<(), AllocError>
     ensures { OnOk result (AddsLackingNames lack (attributes_of attributes.now) names.now found.old found.new) }
 {

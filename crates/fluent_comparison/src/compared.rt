@@ -23,12 +23,12 @@ use std::alloc::{AllocError, Global};
 ///
 /// # Errors
 /// [`AllocError`] if memory runs out; nothing is left behind.
-pub fn differences<'s, F>(
+pub fn differences<'i, 's: 'i, F>(
     alloc: Global,
     ids: &FluentIds<'_, 's, F>,
     reference: &FluentIds<'_, 's, F>,
-    id: &'s str,
-) -> Result<Vec<Difference<'s>>, AllocError>
+    id: &'i str,
+) -> Result<Vec<Difference<'i>>, AllocError>
     ensures { IfOk result (λ found. map difference_view found.items
         ≡ c.differences (ids_view F ids.now) (ids_view F reference.now) id.now) }
 {
@@ -38,12 +38,12 @@ pub fn differences<'s, F>(
 }
 
 /// Adds them.
-fn push_differences<'s, F>(
+fn push_differences<'i, 's: 'i, F>(
     alloc: Global,
     ids: &FluentIds<'_, 's, F>,
     reference: &FluentIds<'_, 's, F>,
-    id: &'s str,
-    found: &mut Vec<Difference<'s>>,
+    id: &'i str,
+    found: &mut Vec<Difference<'i>>,
 ) -> Result<(), AllocError>
     ensures { OnOk result (Adds found.old found.new
         (c.differences (ids_view F ids.now) (ids_view F reference.now) id.now)) }
@@ -61,14 +61,14 @@ fn push_differences<'s, F>(
 }
 
 /// Adds those of a message that both have.
-fn push_of_both<'s, F>(
+fn push_of_both<'i, 's: 'i, F>(
     alloc: Global,
     ids: &FluentIds<'_, 's, F>,
     reference: &FluentIds<'_, 's, F>,
-    id: &'s str,
+    id: &'i str,
     message: &Message<&'s str>,
     other: &Message<&'s str>,
-    found: &mut Vec<Difference<'s>>,
+    found: &mut Vec<Difference<'i>>,
 ) -> Result<(), AllocError>
     ensures { OnOk result (Adds found.old found.new
         (c.message_differences (ids_view F ids.now) (ids_view F reference.now) id.now (message_of message.now)
@@ -80,11 +80,11 @@ fn push_of_both<'s, F>(
 }
 
 /// Adds those of the value and of the attributes.
-fn push_of_message<'s>(
+fn push_of_message<'i, 's: 'i>(
     alloc: Global,
     message: &Message<&'s str>,
     other: &Message<&'s str>,
-    found: &mut Vec<Difference<'s>>,
+    found: &mut Vec<Difference<'i>>,
 ) -> Result<(), AllocError>
     ensures { OnOk result (Adds found.old found.new
         (own_differences (message_of message.now) (message_of other.now))) }
@@ -96,10 +96,10 @@ fn push_of_message<'s>(
     push_lacking_attributes(alloc, Lack::ObsoleteAttribute, attributes, others, found)
 }
 
-fn push_value<'s>(
-    value: &Option<Pattern<&'s str>>,
-    other: &Option<Pattern<&'s str>>,
-    found: &mut Vec<Difference<'s>>,
+fn push_value(
+    value: &Option<Pattern<&str>>,
+    other: &Option<Pattern<&str>>,
+    found: &mut Vec<Difference<'_>>,
 ) -> Result<(), AllocError>
     ensures { OnOk result (Adds found.old found.new
         (c.value_difference (option_map elements_of value.now) (option_map elements_of other.now))) }
@@ -113,12 +113,12 @@ fn push_value<'s>(
 }
 
 /// Adds those of the variables.
-fn push_variables<'s, F>(
+fn push_variables<'i, 's: 'i, F>(
     alloc: Global,
     ids: &FluentIds<'_, 's, F>,
     reference: &FluentIds<'_, 's, F>,
-    id: &'s str,
-    found: &mut Vec<Difference<'s>>,
+    id: &'i str,
+    found: &mut Vec<Difference<'i>>,
 ) -> Result<(), AllocError>
     ensures { OnOk result (Adds found.old found.new
         (variable_differences (c.variables_of (ids_view F ids.now) id.now)
@@ -129,12 +129,12 @@ fn push_variables<'s, F>(
 }
 
 /// Adds those of these variables of the message of the catalog.
-fn push_variables_by<'s, F>(
+fn push_variables_by<'i, 's: 'i, F>(
     alloc: Global,
-    variables: &Names<'s>,
+    variables: &Names<'i>,
     reference: &FluentIds<'_, 's, F>,
-    id: &'s str,
-    found: &mut Vec<Difference<'s>>,
+    id: &'i str,
+    found: &mut Vec<Difference<'i>>,
 ) -> Result<(), AllocError>
     ensures { OnOk result (AddsVariablesBy variables.now (c.variables_of (ids_view F reference.now) id.now)
         found.old found.new) }
@@ -148,7 +148,7 @@ fn push_variables_by<'s, F>(
 fn push_untranslated<'s>(
     message: &Message<&'s str>,
     other: &Message<&'s str>,
-    found: &mut Vec<Difference<'s>>,
+    found: &mut Vec<Difference<'_>>,
 ) -> Result<(), AllocError>
     ensures { OnOk result (Adds found.old found.new
         (untranslated_if (c.same_message (message_of message.now) (message_of other.now)))) }

@@ -29,7 +29,7 @@ pub fn message_findings<'s, F>(
     ids: &FluentIds<'_, 's, F>,
     reference: &FluentIds<'_, 's, F>,
     source: &str,
-    message: &Message<&'s str>,
+    message: &Message<&str>,
     text: &[u8],
 ) -> Result<Vec<Finding>, AllocError>
     requires { IsEntryAt (t.message (message_of message.now)) text.now }
