@@ -4,7 +4,7 @@
 ghost use Rattle.std.specs.Prelude.{IfOk, OnOk};
 ghost use Rattle.fluent_ast.specs.Borrowed.{attributes_of};
 ghost use Rattle.fluent_comparison.specs.HasNames.{HasNames};
-ghost use Rattle.fluent_comparison.specs.LackingAttributes.{AddsLackingAttributes, AddsLackingNames, known_names};
+ghost use Rattle.fluent_comparison.specs.LackingAttributes.{AddsLackingOf, AddsLackingNames, known_names};
 
 use crate::lack::Lack;
 use crate::names::Names;
@@ -23,8 +23,7 @@ pub fn push_lacking_attributes<'i, 's: 'i>(
     others: &[Attribute<&'s str>],
     found: &mut Vec<Difference<'i>>,
 ) -> Result<(), AllocError>
-    ensures { OnOk result (AddsLackingAttributes lack (attributes_of attributes.now) (attributes_of others.now)
-        found.old found.new) }
+    ensures { OnOk result (AddsLackingOf lack attributes.now others.now found.old found.new) }
 {
     let names = names_of(alloc, others)?;
     push_lacking(lack, attributes, &names, found)
