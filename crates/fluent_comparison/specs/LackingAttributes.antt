@@ -1,4 +1,7 @@
 -- The attributes that one of two messages lacks.
+use denote.Ref.{Bor}
+use Rattle.fluent_ast.specs.Borrowed.{attributes_of}
+use Rattle.fluent_ast.specs.declared.Attribute.{Attribute}
 use Rattle.std.specs.Prelude.{List, [], map, Vec}
 use Rattle.std.specs.Global.{Global}
 use Rattle.fluent_differences.specs.declared.difference.Difference.{Difference}
@@ -23,3 +26,7 @@ AddsLackingNames lack as' names old new = AddsLacking lack (names_of as') names 
 -- those of attributes whose names none of the others has
 abbrev pub AddsLackingAttributes : Lack → List t.Attribute → List t.Attribute → Vec Difference Global → Vec Difference Global → Type 0
 AddsLackingAttributes lack as' others old new = Adds old new (lacking lack (names_of as') (names_of others))
+
+-- the same of the code's attributes
+abbrev pub AddsLackingOf : Lack → List (Attribute (Bor Text)) → List (Attribute (Bor Text)) → Vec Difference Global → Vec Difference Global → Type 0
+AddsLackingOf lack attributes others old new = AddsLackingAttributes lack (attributes_of attributes) (attributes_of others) old new

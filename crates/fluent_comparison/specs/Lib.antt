@@ -6,3 +6,4 @@ pub mod Compared
 pub mod HasFirstPlaces
 pub mod HasPlaces
 pub mod Found
+pub mod InCode

@@ -4,7 +4,7 @@
 ghost use Rattle.std.specs.Prelude.{IfOk, OnOk};
 ghost use Rattle.fluent_ast.specs.Borrowed.{attributes_of};
 ghost use Rattle.fluent_comparison.specs.HasNames.{HasNames};
-ghost use Rattle.fluent_comparison.specs.LackingAttributes.{AddsLackingAttributes, AddsLackingNames, known_names};
+ghost use Rattle.fluent_comparison.specs.LackingAttributes.{AddsLackingOf, AddsLackingNames, known_names};
 
 use crate::lack::Lack;
 use crate::names::Names;
@@ -16,26 +16,25 @@ use std::alloc::{AllocError, Global};
 ///
 /// # Errors
 /// [`AllocError`] if memory runs out; some may be added then.
-pub fn push_lacking_attributes<'s>(
+pub fn push_lacking_attributes<'i, 's: 'i>(
     alloc: Global,
     lack: Lack,
     attributes: &[Attribute<&'s str>],
     others: &[Attribute<&'s str>],
-    found: &mut Vec<Difference<'s>>,
+    found: &mut Vec<Difference<'i>>,
 ) -> Result<(), AllocError>
-    ensures { OnOk result (AddsLackingAttributes lack (attributes_of attributes.now) (attributes_of others.now)
-        found.old found.new) }
+    ensures { OnOk result (AddsLackingOf lack attributes.now others.now found.old found.new) }
 {
     let names = names_of(alloc, others)?;
     push_lacking(lack, attributes, &names, found)
 }
 
 /// Adds those whose names aren't among these.
-fn push_lacking<'s>(
+fn push_lacking<'i, 's: 'i>(
     lack: Lack,
     attributes: &[Attribute<&'s str>],
     names: &Names<'s>,
-    found: &mut Vec<Difference<'s>>,
+    found: &mut Vec<Difference<'i>>,
 ) -> Result<(), AllocError>
     ensures { OnOk result (AddsLackingNames lack (attributes_of attributes.now) names.now found.old found.new) }
 {

@@ -1,13 +1,12 @@
 //! How a message differs from that of the reference.
 #![tactic(auto)]
 
-ghost use Rattle.std.specs.Prelude.{◌≡◌, IfOk, OnOk, map, option_map};
-ghost use Rattle.fluent_ast.specs.Borrowed.{elements_of, message_of};
-ghost use Rattle.fluent_comparison.specs.Compared.{AddsVariablesBy, own_differences, untranslated_if, variable_differences};
+ghost use Rattle.std.specs.Prelude.{◌≡◌, IfOk, OnOk, map};
+ghost use Rattle.fluent_ast.specs.Borrowed.{message_of};
+ghost use Rattle.fluent_comparison.specs.Compared.{AddsVariablesBy, own_differences};
+ghost use Rattle.fluent_comparison.specs.InCode.{differences_by, message_differences_by, untranslated_by, values_difference, variable_differences_by, variables_by};
 ghost use Rattle.fluent_comparison.specs.Lacks.{Adds};
 ghost use Rattle.fluent_differences.specs.DifferenceView.{difference_view};
-ghost use Rattle.fluent_findings.specs.Comparison as c;
-ghost use Rattle.fluent_ids.specs.IdsView.{ids_view};
 
 use crate::attributes::push_lacking_attributes;
 use crate::lack::Lack;
@@ -23,14 +22,14 @@ use std::alloc::{AllocError, Global};
 ///
 /// # Errors
 /// [`AllocError`] if memory runs out; nothing is left behind.
-pub fn differences<'s, F>(
+pub fn differences<'i, 's: 'i, F>(
     alloc: Global,
     ids: &FluentIds<'_, 's, F>,
     reference: &FluentIds<'_, 's, F>,
-    id: &'s str,
-) -> Result<Vec<Difference<'s>>, AllocError>
+    id: &'i str,
+) -> Result<Vec<Difference<'i>>, AllocError>
     ensures { IfOk result (λ found. map difference_view found.items
-        ≡ c.differences (ids_view F ids.now) (ids_view F reference.now) id.now) }
+        ≡ differences_by F ids.now reference.now id.now) }
 {
     let mut found = Vec::new(alloc);
     push_differences(alloc, ids, reference, id, &mut found)?;
@@ -38,15 +37,14 @@ pub fn differences<'s, F>(
 }
 
 /// Adds them.
-fn push_differences<'s, F>(
+fn push_differences<'i, 's: 'i, F>(
     alloc: Global,
     ids: &FluentIds<'_, 's, F>,
     reference: &FluentIds<'_, 's, F>,
-    id: &'s str,
-    found: &mut Vec<Difference<'s>>,
+    id: &'i str,
+    found: &mut Vec<Difference<'i>>,
 ) -> Result<(), AllocError>
-    ensures { OnOk result (Adds found.old found.new
-        (c.differences (ids_view F ids.now) (ids_view F reference.now) id.now)) }
+    ensures { OnOk result (Adds found.old found.new (differences_by F ids.now reference.now id.now)) }
 {
     let message = ids.get_entry_message(id);
     let other = reference.get_entry_message(id);
@@ -61,18 +59,17 @@ fn push_differences<'s, F>(
 }
 
 /// Adds those of a message that both have.
-fn push_of_both<'s, F>(
+fn push_of_both<'i, 's: 'i, F>(
     alloc: Global,
     ids: &FluentIds<'_, 's, F>,
     reference: &FluentIds<'_, 's, F>,
-    id: &'s str,
+    id: &'i str,
     message: &Message<&'s str>,
     other: &Message<&'s str>,
-    found: &mut Vec<Difference<'s>>,
+    found: &mut Vec<Difference<'i>>,
 ) -> Result<(), AllocError>
     ensures { OnOk result (Adds found.old found.new
-        (c.message_differences (ids_view F ids.now) (ids_view F reference.now) id.now (message_of message.now)
-        (message_of other.now))) }
+        (message_differences_by F ids.now reference.now id.now message.now other.now)) }
 {
     push_of_message(alloc, message, other, found)?;
     push_variables(alloc, ids, reference, id, found)?;
@@ -80,11 +77,11 @@ fn push_of_both<'s, F>(
 }
 
 /// Adds those of the value and of the attributes.
-fn push_of_message<'s>(
+fn push_of_message<'i, 's: 'i>(
     alloc: Global,
     message: &Message<&'s str>,
     other: &Message<&'s str>,
-    found: &mut Vec<Difference<'s>>,
+    found: &mut Vec<Difference<'i>>,
 ) -> Result<(), AllocError>
     ensures { OnOk result (Adds found.old found.new
         (own_differences (message_of message.now) (message_of other.now))) }
@@ -96,13 +93,12 @@ fn push_of_message<'s>(
     push_lacking_attributes(alloc, Lack::ObsoleteAttribute, attributes, others, found)
 }
 
-fn push_value<'s>(
-    value: &Option<Pattern<&'s str>>,
-    other: &Option<Pattern<&'s str>>,
-    found: &mut Vec<Difference<'s>>,
+fn push_value(
+    value: &Option<Pattern<&str>>,
+    other: &Option<Pattern<&str>>,
+    found: &mut Vec<Difference<'_>>,
 ) -> Result<(), AllocError>
-    ensures { OnOk result (Adds found.old found.new
-        (c.value_difference (option_map elements_of value.now) (option_map elements_of other.now))) }
+    ensures { OnOk result (Adds found.old found.new (values_difference value.now other.now)) }
 {
     match (value, other) {
         (None, Some(_)) => Ok(found.push(Difference::MissingValue)?),
@@ -113,30 +109,29 @@ fn push_value<'s>(
 }
 
 /// Adds those of the variables.
-fn push_variables<'s, F>(
+fn push_variables<'i, 's: 'i, F>(
     alloc: Global,
     ids: &FluentIds<'_, 's, F>,
     reference: &FluentIds<'_, 's, F>,
-    id: &'s str,
-    found: &mut Vec<Difference<'s>>,
+    id: &'i str,
+    found: &mut Vec<Difference<'i>>,
 ) -> Result<(), AllocError>
     ensures { OnOk result (Adds found.old found.new
-        (variable_differences (c.variables_of (ids_view F ids.now) id.now)
-        (c.variables_of (ids_view F reference.now) id.now))) }
+        (variable_differences_by F ids.now reference.now id.now)) }
 {
     let variables = variables_of(alloc, ids, id)?;
     push_variables_by(alloc, &variables, reference, id, found)
 }
 
 /// Adds those of these variables of the message of the catalog.
-fn push_variables_by<'s, F>(
+fn push_variables_by<'i, 's: 'i, F>(
     alloc: Global,
-    variables: &Names<'s>,
+    variables: &Names<'i>,
     reference: &FluentIds<'_, 's, F>,
-    id: &'s str,
-    found: &mut Vec<Difference<'s>>,
+    id: &'i str,
+    found: &mut Vec<Difference<'i>>,
 ) -> Result<(), AllocError>
-    ensures { OnOk result (AddsVariablesBy variables.now (c.variables_of (ids_view F reference.now) id.now)
+    ensures { OnOk result (AddsVariablesBy variables.now (variables_by F reference.now id.now)
         found.old found.new) }
 {
     let others = variables_of(alloc, reference, id)?;
@@ -148,10 +143,10 @@ fn push_variables_by<'s, F>(
 fn push_untranslated<'s>(
     message: &Message<&'s str>,
     other: &Message<&'s str>,
-    found: &mut Vec<Difference<'s>>,
+    found: &mut Vec<Difference<'_>>,
 ) -> Result<(), AllocError>
     ensures { OnOk result (Adds found.old found.new
-        (untranslated_if (c.same_message (message_of message.now) (message_of other.now)))) }
+        (untranslated_by message.now other.now)) }
 {
     if is_same_message(message, other) {
         found.push(Difference::Untranslated)?;

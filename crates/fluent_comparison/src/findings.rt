@@ -3,7 +3,8 @@
 
 ghost use Rattle.std.specs.Prelude.{◌≡◌, ◌-◌, IfOk, length, map};
 ghost use Rattle.fluent_ast.specs.Borrowed.{message_of};
-ghost use Rattle.fluent_comparison.specs.Found.{AreFindingsOf, AreFoundIn, IsFindingOf, IsMissingIn};
+ghost use Rattle.fluent_comparison.specs.Found.{AreFindingsOf, IsFindingOf, IsMissingIn};
+ghost use Rattle.fluent_comparison.specs.InCode.{AreFindingsBy, AreFoundOf};
 ghost use Rattle.fluent_comparison.specs.HasPlaces.{HasPlacesOf};
 ghost use Rattle.fluent_differences.specs.DifferenceView.{difference_view};
 ghost use Rattle.fluent_entry_findings.specs.AttributePlaces.{IsEntryAt};
@@ -29,12 +30,11 @@ pub fn message_findings<'s, F>(
     ids: &FluentIds<'_, 's, F>,
     reference: &FluentIds<'_, 's, F>,
     source: &str,
-    message: &Message<&'s str>,
+    message: &Message<&str>,
     text: &[u8],
 ) -> Result<Vec<Finding>, AllocError>
     requires { IsEntryAt (t.message (message_of message.now)) text.now }
-    ensures { IfOk result (AreFoundIn (ids_view F ids.now) (ids_view F reference.now) source.now
-        (t.message (message_of message.now)) text.now) }
+    ensures { IfOk result (AreFoundOf F ids.now reference.now source.now message.now text.now) }
 {
     let found = differences(alloc, ids, reference, message.id.name)?;
     if found.is_empty() {
@@ -75,8 +75,7 @@ fn findings_of(
     differences: &[Difference<'_>],
 ) -> Result<Vec<Finding>, AllocError>
     requires { IsEntryAt (t.message (message_of message.now)) text.now }
-    ensures { IfOk result (AreFindingsOf source.now (message_of message.now).id text.now
-        (map difference_view differences.now)) }
+    ensures { IfOk result (AreFindingsBy source.now message.now text.now differences.now) }
 {
     let places = Places::of_message(alloc, message, text)?;
     findings_at(alloc, source, message.id.name, text, &places, differences)

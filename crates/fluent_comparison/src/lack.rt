@@ -39,7 +39,7 @@ impl Lack {
     pub fn push_if_new<'s>(
         self,
         name: &'s str,
-        others: &Names<'s>,
+        others: &Names<'_>,
         found: &mut Vec<Difference<'s>>,
     ) -> Result<(), AllocError>
         ensures { OnOk result (AddsIfLacking self name.now others.now found.old found.new) }
@@ -57,7 +57,7 @@ impl Lack {
     pub fn push_new<'s>(
         self,
         names: &[&'s str],
-        others: &Names<'s>,
+        others: &Names<'_>,
         found: &mut Vec<Difference<'s>>,
     ) -> Result<(), AllocError>
         ensures { OnOk result (AddsLacking self (texts names.now) others.now found.old found.new) }

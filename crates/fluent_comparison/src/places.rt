@@ -4,6 +4,7 @@
 ghost use Rattle.std.specs.Prelude.{◌≡◌, [], IfOk, OnOk, map, option_map};
 ghost use Rattle.fluent_ast.specs.Borrowed.{attributes_of, elements_of, message_of};
 ghost use Rattle.fluent_comparison.specs.HasPlaces.{GetsOccurrences, GetsPatternPlaces, GetsPlaces, GetsVariables, HasPlacesOf, IsPlaceOf, variable_at};
+ghost use Rattle.fluent_comparison.specs.InCode.{LeavesOfValue};
 ghost use Rattle.fluent_differences.specs.DifferenceView.{difference_view};
 ghost use Rattle.fluent_entry_findings.specs.AttributePlaces.{AreAttributes, IsEntryAt, places_of_attributes, value_elements};
 ghost use Rattle.fluent_findings.specs.Occurrences.{entry_places, pattern_read};
@@ -76,8 +77,7 @@ impl<'s, 't> Places<'s, 't> {
         text: &'t [u8],
     ) -> Result<&'t [u8], AllocError>
         requires { IsPatternAt text.now (value_elements (option_map elements_of value.now)) }
-        ensures rest { IfOk result (λ rest. pattern_read text.now
-            ≡ got (value_elements (option_map elements_of value.now)) rest.now) }
+        ensures rest { IfOk result (λ rest. LeavesOfValue value.now text.now rest.now) }
         ensures added { OnOk result (GetsVariables self.old text.now self.new) }
     {
         match value {

@@ -40,9 +40,9 @@ impl<'s> Reached<'s> {
     ///
     /// # Errors
     /// [`AllocError`] if memory runs out; some may be added then.
-    pub fn add_referred<F>(
+    pub fn add_referred<'r: 's, F>(
         &mut self,
-        ids: &FluentIds<'_, 's, F>,
+        ids: &FluentIds<'_, 'r, F>,
         id: &str,
     ) -> Result<(), AllocError>
         ensures { OnOk result
@@ -54,7 +54,7 @@ impl<'s> Reached<'s> {
         }
     }
 
-    fn add_message(&mut self, message: &Message<&'s str>) -> Result<(), AllocError>
+    fn add_message<'r: 's>(&mut self, message: &Message<&'r str>) -> Result<(), AllocError>
         ensures { OnOk result
             (GetsReferences self.old (message_references (message_of message.now)) self.new) }
     {
@@ -62,7 +62,7 @@ impl<'s> Reached<'s> {
         self.add_attributes(&message.attributes)
     }
 
-    fn add_value(&mut self, value: &Option<Pattern<&'s str>>) -> Result<(), AllocError>
+    fn add_value<'r: 's>(&mut self, value: &Option<Pattern<&'r str>>) -> Result<(), AllocError>
         ensures { OnOk result
             (GetsReferences self.old (value_references (option_map elements_of value.now)) self.new) }
     {
@@ -72,7 +72,10 @@ impl<'s> Reached<'s> {
         }
     }
 
-    fn add_attributes(&mut self, attributes: &[Attribute<&'s str>]) -> Result<(), AllocError>
+    fn add_attributes<'r: 's>(
+        &mut self,
+        attributes: &[Attribute<&'r str>],
+    ) -> Result<(), AllocError>
         ensures { OnOk result
             (GetsReferences self.old (attribute_references (attributes_of attributes.now)) self.new) }
     {
@@ -82,7 +85,7 @@ impl<'s> Reached<'s> {
         Ok(())
     }
 
-    fn add_pattern(&mut self, pattern: &Pattern<&'s str>) -> Result<(), AllocError>
+    fn add_pattern<'r: 's>(&mut self, pattern: &Pattern<&'r str>) -> Result<(), AllocError>
         ensures { OnOk result
             (GetsReferences self.old (elements_references (elements_of pattern.now)) self.new) }
     {
@@ -93,7 +96,7 @@ impl<'s> Reached<'s> {
         Ok(())
     }
 
-    fn add_node(&mut self, node: Node<'_, 's>) -> Result<(), AllocError>
+    fn add_node<'r: 's>(&mut self, node: Node<'_, 'r>) -> Result<(), AllocError>
         ensures { OnOk result
             (GetsReferences self.old (node_references (node_view node.entry)) self.new) }
     {

@@ -1,9 +1,9 @@
 //! Whether two messages have the same text.
 #![tactic(auto)]
 
-ghost use Rattle.std.specs.Prelude.{◌≡◌, ◌&&◌, option_map};
-ghost use Rattle.std.specs.Str.{bytes_eq};
-ghost use Rattle.fluent_ast.specs.Borrowed.{attribute_of, attributes_of, elements_of, message_of};
+ghost use Rattle.std.specs.Prelude.{◌≡◌, option_map};
+ghost use Rattle.fluent_ast.specs.Borrowed.{attributes_of, elements_of, message_of};
+ghost use Rattle.fluent_comparison.specs.InCode.{same_attribute};
 ghost use Rattle.fluent_findings.specs.Comparison as c;
 ghost use Rattle.fluent_meaning.specs.Same.{same_elements};
 ghost use Rattle.fluent_value.specs.Matching.{same_option};
@@ -46,8 +46,7 @@ fn are_same_attributes<'s>(attributes: &[Attribute<&'s str>], others: &[Attribut
 }
 
 fn is_same_attribute<'s>(attribute: &Attribute<&'s str>, other: &Attribute<&'s str>) -> bool
-    ensures { result ≡ (bytes_eq (attribute_of other.now).id (attribute_of attribute.now).id
-        && same_elements (attribute_of attribute.now).value (attribute_of other.now).value) }
+    ensures { result ≡ same_attribute attribute.now other.now }
 {
     other.id.name == attribute.id.name && is_same_pattern(&attribute.value, &other.value)
 }

@@ -15,11 +15,11 @@ use std::alloc::{AllocError, Global};
 ///
 /// # Errors
 /// [`AllocError`] if memory runs out; nothing is left behind.
-pub fn variables_of<'s, F>(
+pub fn variables_of<'i, 's: 'i, F>(
     alloc: Global,
     ids: &FluentIds<'_, 's, F>,
-    id: &'s str,
-) -> Result<Names<'s>, AllocError>
+    id: &'i str,
+) -> Result<Names<'i>, AllocError>
     ensures { IfOk result (λ names. HasNames names (c.variables_of (ids_view F ids.now) id.now)) }
 {
     let mut reached = Reached::new(alloc);

@@ -1,0 +1,41 @@
+//! The comparison of a catalog with its reference.
+#![tactic(auto)]
+
+ghost use Rattle.fluent_findings.specs.ComparisonFindings as f;
+ghost use Rattle.fluent_ids.specs.IdsView.{ids_view};
+
+use fluent_ast::Entry;
+use fluent_catalog_findings::Comparison;
+use fluent_comparison::message_findings;
+use fluent_finding::Finding;
+use fluent_ids::FluentIds;
+use std::alloc::{AllocError, Global};
+
+/// What the ids of a catalog stand for, and what those of its reference do.
+#[derive(Drop)]
+pub struct Reference<'c> {
+    pub ids: &'c FluentIds<'c, 'c, ()>,
+    pub reference: &'c FluentIds<'c, 'c, ()>,
+}
+
+impl Comparison for Reference<'_> {
+    ghost compared = { λ r. f.message_findings (ids_view _ r.ids.now) (ids_view _ r.reference.now) };
+
+    fn compare(
+        &self,
+        alloc: Global,
+        source: &str,
+        entry: &Entry<&str>,
+        text: &[u8],
+        findings: &mut Vec<Finding>,
+    ) -> Result<(), AllocError> {
+        match entry {
+            Entry::Message(message) => {
+                let mut found =
+                    message_findings(alloc, self.ids, self.reference, source, message, text)?;
+                findings.append(&mut found)
+            }
+            _ => Ok(()),
+        }
+    }
+}
