@@ -31,8 +31,14 @@ impl Comparison for Reference<'_, '_, '_> {
     ) -> Result<(), AllocError> {
         match entry {
             Entry::Message(message) => {
-                let mut found =
-                    message_findings(alloc, self.ids, self.reference, source, message, text)?;
+                let mut found = message_findings(
+                    alloc,
+                    self.ids,
+                    self.reference,
+                    source,
+                    message,
+                    text,
+                )?;
                 findings.append(&mut found)
             }
             _ => Ok(()),
