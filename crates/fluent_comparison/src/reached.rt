@@ -72,7 +72,10 @@ impl<'s> Reached<'s> {
         }
     }
 
-    fn add_attributes<'r: 's>(&mut self, attributes: &[Attribute<&'r str>]) -> Result<(), AllocError>
+    fn add_attributes<'r: 's>(
+        &mut self,
+        attributes: &[Attribute<&'r str>],
+    ) -> Result<(), AllocError>
         ensures { OnOk result
             (GetsReferences self.old (attribute_references (attributes_of attributes.now)) self.new) }
     {
