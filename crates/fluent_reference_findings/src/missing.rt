@@ -16,8 +16,8 @@ use fluent_ids::FluentIds;
 use fluent_tiles::Tile;
 use std::alloc::{AllocError, Global};
 
-/// The findings of the messages of a source of the reference that a catalog with these ids hasn't. The tiles are those of
-/// the source.
+/// The findings of the messages of a source of the reference that a catalog with these ids hasn't. The tiles are those
+/// of the source.
 ///
 /// # Errors
 /// [`AllocError`] if memory runs out; nothing is left behind.

@@ -13,12 +13,12 @@ use std::alloc::{AllocError, Global};
 
 /// What the ids of a catalog stand for, and what those of its reference do.
 #[derive(Drop)]
-pub struct Reference<'c> {
-    pub ids: &'c FluentIds<'c, 'c, ()>,
-    pub reference: &'c FluentIds<'c, 'c, ()>,
+pub struct Reference<'c, 'r, 's> {
+    pub ids: &'c FluentIds<'r, 's, ()>,
+    pub reference: &'c FluentIds<'r, 's, ()>,
 }
 
-impl Comparison for Reference<'_> {
+impl Comparison for Reference<'_, '_, '_> {
     ghost compared = { λ r. f.message_findings (ids_view _ r.ids.now) (ids_view _ r.reference.now) };
 
     fn compare(
@@ -31,8 +31,14 @@ impl Comparison for Reference<'_> {
     ) -> Result<(), AllocError> {
         match entry {
             Entry::Message(message) => {
-                let mut found =
-                    message_findings(alloc, self.ids, self.reference, source, message, text)?;
+                let mut found = message_findings(
+                    alloc,
+                    self.ids,
+                    self.reference,
+                    source,
+                    message,
+                    text,
+                )?;
                 findings.append(&mut found)
             }
             _ => Ok(()),
