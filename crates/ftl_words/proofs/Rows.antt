@@ -120,12 +120,13 @@ unfolding clap_on_literals
 no_file_to_format = refl
 
 a_lint : command_of (codes "lint" ∷ codes "a" ∷ [])
-    ≡ Some (lint (record { functions = []; locale = None; notes = false; strict = false; format = text; files = codes "a" ∷ [] }))
+    ≡ Some (lint (record { references = []; functions = []; locale = None; notes = false; strict = false; format = text; files = codes "a" ∷ [] }))
 unfolding clap_on_literals
 a_lint = refl
 
-a_lint_with_options : command_of (codes "lint" ∷ codes "a" ∷ codes "--notes" ∷ codes "--function=F" ∷ codes "--strict" ∷ codes "--locale" ∷ codes "pl_PL.UTF-8" ∷ codes "--function" ∷ codes "G" ∷ codes "--format" ∷ codes "json" ∷ codes "b" ∷ [])
+a_lint_with_options : command_of (codes "lint" ∷ codes "--reference" ∷ codes "r1" ∷ codes "a" ∷ codes "--notes" ∷ codes "--function=F" ∷ codes "--reference=r2" ∷ codes "--strict" ∷ codes "--locale" ∷ codes "pl_PL.UTF-8" ∷ codes "--function" ∷ codes "G" ∷ codes "--format" ∷ codes "json" ∷ codes "b" ∷ [])
     ≡ Some (lint (record {
+      references = codes "r1" ∷ codes "r2" ∷ [];
       functions = codes "F" ∷ codes "G" ∷ [];
       locale = Some (codes "pl_PL.UTF-8");
       notes = true;
@@ -137,7 +138,7 @@ unfolding clap_on_literals
 a_lint_with_options = refl
 
 lint_after_two_hyphens : command_of (codes "lint" ∷ codes "--format=github" ∷ codes "--" ∷ codes "-a" ∷ codes "--notes" ∷ [])
-    ≡ Some (lint (record { functions = []; locale = None; notes = false; strict = false; format = github; files = codes "-a" ∷ codes "--notes" ∷ [] }))
+    ≡ Some (lint (record { references = []; functions = []; locale = None; notes = false; strict = false; format = github; files = codes "-a" ∷ codes "--notes" ∷ [] }))
 unfolding clap_on_literals
 lint_after_two_hyphens = refl
 
@@ -153,17 +154,13 @@ two_formats : faults_of (codes "lint" ∷ codes "--format=json" ∷ codes "--for
 unfolding clap_on_literals
 two_formats = refl
 
-a_function_alone : faults_of (codes "lint" ∷ codes "--function" ∷ codes "a" ∷ []) ≡ MissingRequiredArgument ∷ []
+a_reference_alone : faults_of (codes "lint" ∷ codes "--reference" ∷ codes "a" ∷ []) ≡ MissingRequiredArgument ∷ []
 unfolding clap_on_literals
-a_function_alone = refl
+a_reference_alone = refl
 
-no_function : faults_of (codes "lint" ∷ codes "a" ∷ codes "--function" ∷ []) ≡ InvalidValue ∷ []
+no_reference : faults_of (codes "lint" ∷ codes "a" ∷ codes "--reference" ∷ []) ≡ InvalidValue ∷ []
 unfolding clap_on_literals
-no_function = refl
-
-no_option_reference : faults_of (codes "lint" ∷ codes "--reference=r" ∷ codes "a" ∷ []) ≡ UnknownArgument ∷ []
-unfolding clap_on_literals
-no_option_reference = refl
+no_reference = refl
 
 notes_twice : faults_of (codes "lint" ∷ codes "--notes" ∷ codes "--notes" ∷ codes "a" ∷ []) ≡ ArgumentConflict ∷ []
 unfolding clap_on_literals

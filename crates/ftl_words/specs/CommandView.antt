@@ -52,6 +52,7 @@ report_format_view form.Github = linting.github
 
 abbrev pub lint_view : linted.Lint → Lint
 lint_view l = record {
+  references = texts l.references.items;
   functions = texts l.functions.items;
   locale = option_map (λ l. l.now) l.locale;
   notes = l.notes;

@@ -57,9 +57,9 @@ run_shape = shaped (codes "run") (asking_rules ++ files_rule ∷ [])
 abbrev pub format_shape : Shape
 format_shape = shaped (codes "format") (asking_rules ++ each_rule (codes "argument") ∷ id_rule ∷ files_rule ∷ [])
 
--- what is known of the program and of the language: functions, and the locale
+-- what is known of the program and of the language: the texts that are translated, functions, and the locale
 abbrev pub known_rules : List Rule
-known_rules = each_rule (codes "function") ∷ option_rule (codes "locale") ∷ []
+known_rules = each_rule (codes "reference") ∷ each_rule (codes "function") ∷ option_rule (codes "locale") ∷ []
 
 -- the same, and how findings are reported
 abbrev pub linting_rules : List Rule

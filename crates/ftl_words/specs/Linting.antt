@@ -13,6 +13,8 @@ pub data ReportFormat : Type 0 where
 
 -- report what is found in the catalog that the sources in these files are
 pub record Lint : Type 0 where
+  -- the files of the catalog that is translated from
+  pub references : List Text
   -- the names of functions that the program adds
   pub functions : List Text
   -- the tag of the locale whose plural categories are looked for, if one is given
@@ -39,6 +41,7 @@ report_format_in rows = option_and_then format_named (first_of (codes "format") 
 -- with what else was found
 abbrev pub lint_with : List Row → ReportFormat → Lint
 lint_with rows report_format = record {
+  references = values_in (codes "reference") rows;
   functions = values_in (codes "function") rows;
   locale = locale_in rows;
   notes = is_given (codes "notes") rows;

@@ -46,9 +46,11 @@ pub struct Format<'words> {
     pub files: Vec<&'words str>,
 }
 
-/// Which sources are a catalog, what is known of its program and its language, and how findings are reported.
+/// Which sources are a catalog, what it is compared with, and how findings are reported.
 #[derive(Debug, PartialEq, Eq, Drop)]
 pub struct Lint<'words> {
+    /// The names of the files that are translated from.
+    pub references: Vec<&'words str>,
     /// The names of the functions that the program adds.
     pub functions: Vec<&'words str>,
     /// The tag of the locale whose plural categories are looked for, if one is given.

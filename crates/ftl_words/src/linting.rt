@@ -27,6 +27,7 @@ pub(crate) fn lint_in<'words>(
         return Err(WordsError::Bad);
     };
     Ok(Lint {
+        references: values_in(alloc, found, "reference")?,
         functions: values_in(alloc, found, "function")?,
         locale: locale_in(found),
         notes: is_given(found, "notes"),

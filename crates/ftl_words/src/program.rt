@@ -157,7 +157,7 @@ fn lint<'a>(alloc: Global) -> Result<Command<'a>, AllocError>
     ensures { IfOk result (IsShaped lint_shape) }
 {
     reporting(alloc)?
-        .after_help("Example: ftl lint --locale de de.ftl")
+        .after_help("Example: ftl lint --reference en.ftl de.ftl")
         .arg(files(alloc))
 }
 
@@ -165,18 +165,19 @@ fn lint<'a>(alloc: Global) -> Result<Command<'a>, AllocError>
 fn reporting<'a>(alloc: Global) -> Result<Command<'a>, AllocError>
     ensures { IfOk result (IsShaped (shaped (codes "lint") linting_rules)) }
 {
-    knowing(alloc)?
+    comparing(alloc)?
         .arg(flag(alloc, "notes").help("Reports notes, too"))?
         .arg(flag(alloc, "strict").help("Lets warnings count for the status"))?
         .arg(report_format(alloc))
 }
 
 /// The same with the options alone that say what is known of the program and of the language.
-fn knowing<'a>(alloc: Global) -> Result<Command<'a>, AllocError>
+fn comparing<'a>(alloc: Global) -> Result<Command<'a>, AllocError>
     ensures { IfOk result (IsShaped (shaped (codes "lint") known_rules)) }
 {
     Command::new(alloc, "lint")
         .about("Reports the mistakes of sources that are one catalog, each with its line")
+        .arg(reference(alloc))?
         .arg(function(alloc))?
         .arg(categories(alloc))
 }
@@ -233,6 +234,15 @@ fn each<'a>(alloc: Global, name: &'a str, value: &'a str) -> Arg<'a>
     ensures { IsLocal (each_rule name.entry.now) result }
 {
     option(alloc, name, value).action(ArgAction::Append)
+}
+
+/// A file that `lint` compares with.
+fn reference<'a>(alloc: Global) -> Arg<'a>
+    ensures { IsLocal (each_rule (codes "reference")) result }
+{
+    each(alloc, "reference", "FILE").help(
+        "Compares with a file that is translated from, once for each",
+    )
 }
 
 /// A function that `lint` knows.
