@@ -16,7 +16,11 @@ module _ (contents : Text → Option Text) (l : Lint) where
       if_some (language_asked l.locale) (λ plurals read. record {
         sources = read.sources;
         held = read.held;
-        outcome = each (lint_report_from l plurals read.sources) read.outcome;
+        outcome = record {
+          sources = read.outcome.sources;
+          held = read.outcome.held;
+          outcome = each (lint_report_from l plurals read.sources read.outcome.sources) read.outcome.outcome;
+        };
       }) on
 
   module _ (made : LintReport) (before after : Option Text) (text : Text) (is : IsLintReport contents l made) (same : text ≡ made.text) where

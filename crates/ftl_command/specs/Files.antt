@@ -1,8 +1,11 @@
 -- What files hold. `contents` is what a file of a name holds, if that is known.
-use Rattle.std.specs.Prelude.{◌≡◌, ℕ, List, [], ◌∷◌, ◌++◌, ⊤, Option, IfSome, Result, Ok, Err}
+use Rattle.std.specs.Prelude.{◌≡◌, ℕ, List, [], ◌∷◌, ◌++◌, ⊤, Option, IfSome, Result, Ok, Err, String, map, string_bytes}
+use Rattle.std.specs.Global.{Global}
+use denote.Ref.{Bor}
 use Rattle.fluent_requests.specs.Text.{Text}
 use Rattle.fluent_tidy_laws.specs.Joined.{AreUtf8}
 use Rattle.fluent_serve.specs.Devices.{one_more}
+use Rattle.fluent_serve.specs.Texts.{texts}
 use Rattle.ftl_command.specs.declared.folder.FileError.{FileError}
 use Rattle.ftl_command.specs.declared.folder.FileError.TheVariants.{Memory, Unreadable}
 
@@ -12,6 +15,10 @@ AreHeld contents [] [] = ⊤
 AreHeld contents [] (s ∷ ss) = ⊥
 AreHeld contents (f ∷ fs) [] = ⊥
 AreHeld contents (f ∷ fs) (s ∷ ss) = IfSome (contents f) (λ held. s ≡ held) × AreHeld contents fs ss
+
+-- the same of names and strings as code has them
+abbrev pub AreRead : (Text → Option Text) → List (Bor Text) → List (String Global) → Type 0
+AreRead contents files strings = AreHeld contents (texts files) (map string_bytes strings)
 
 -- the outcome holds of a file's text
 pub record OnFile (contents : Text → Option Text) (file : Text) (Outcome : Text → Type 0) : Type 0 where

@@ -140,7 +140,8 @@ pub record CheckEnds {F W : Type 0} (folders : FolderGhosts F) (folder : F) (fil
 -- The locale that is asked for has plural rules, or none is, and the outcome holds of the report on what the files hold.
 abbrev pub OnLintReport : (Text → Option Text) → Lint → (LintReport → Type 0) → Type 0
 OnLintReport contents l Outcome =
-    IsSomeAnd (language_asked l.locale) (λ plurals. OnTexts contents l.files (λ sources. Outcome (lint_report_from l plurals sources)))
+    IsSomeAnd (language_asked l.locale) (λ plurals. OnTexts contents l.references (λ references. OnTexts contents l.files (λ sources.
+    Outcome (lint_report_from l plurals references sources))))
 
 -- this is that report
 abbrev pub IsLintReport : (Text → Option Text) → Lint → LintReport → Type 0
@@ -334,7 +335,7 @@ files_named None = []
 files_named (Some (run r)) = r.files
 files_named (Some (format f)) = f.files
 files_named (Some (check files)) = files
-files_named (Some (lint l)) = l.files
+files_named (Some (lint l)) = l.references ++ l.files
 files_named (Some (tidy t)) = files_of t
 
 -- ---- the locale that they name

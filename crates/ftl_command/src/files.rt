@@ -3,7 +3,7 @@ ghost use Rattle.std.specs.Prelude.{◌≡◌, map, IfOk, OnOk, IfErr, IfSome, I
 ghost use Rattle.std.specs.Str.{IsUtf8};
 ghost use Rattle.fluent_serve.specs.Texts.{texts};
 ghost use Rattle.ftl_command.specs.Faults.{IsFaultOfFiles};
-ghost use Rattle.ftl_command.specs.Files.{AreHeld};
+ghost use Rattle.ftl_command.specs.Files.{AreRead};
 
 use crate::fault::Fault;
 use crate::folder::{FileError, Folder};
@@ -21,9 +21,10 @@ pub fn read_text_files<'words, F: Folder>(
     files: &[&'words str],
 ) -> Result<Vec<String>, Fault<'words>>
     ensures held { IfOk result (λ read.
-        AreHeld (F.contents folder.old) (texts files.now) (map string_bytes read.items)) }
+        AreRead (F.contents folder.old) files.now read.items) }
     ensures fault { IfErr result (IsFaultOfFiles F.Folder folder.old folder.new (texts files.now)) }
     ensures opens { OnOk result (F.failures folder.new ≡ F.failures folder.old) }
+    ensures kept { F.contents folder.new ≡ F.contents folder.old }
 {
     let mut sources = Vec::new(alloc);
     for file in files {

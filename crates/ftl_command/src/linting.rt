@@ -1,8 +1,11 @@
 //! The report on the catalog in files.
-ghost use Rattle.std.specs.Prelude.{◌≡◌, Some, IfOk, IfErr, OnOk};
+ghost use Rattle.std.specs.Prelude.{◌≡◌, ◌++◌, Some, IfOk, IfErr, OnOk};
+ghost use Rattle.fluent_serve.specs.Texts.{texts};
 ghost use Rattle.ftl_lint.specs.LintView.{report_view};
 ghost use Rattle.ftl_words.specs.CommandView.{lint_view};
 ghost use Rattle.ftl_words.specs.Meaning as asked;
+ghost use Rattle.ftl_command.specs.Faults.{IsFaultOfFiles};
+ghost use Rattle.ftl_command.specs.Files.{AreRead};
 ghost use Rattle.ftl_command.specs.Program.{IsLintReport, LintEnds, lint_end};
 ghost use Rattle.ftl_command.specs.Refusals.{IsEarlyFault, IsFaultOf, IsTextFault, TextWorks};
 
@@ -20,8 +23,8 @@ use std::alloc::Global;
 /// Writes what is found in the catalog in files.
 ///
 /// # Errors
-/// The first fault: an unknown locale is found before any file is read. After [`Fault::Output`] a front of the report
-/// was written, and after another fault nothing.
+/// The first fault: an unknown locale is found before any file is read, and the files of the reference are read before
+/// those of the catalog. After [`Fault::Output`] a front of the report was written, and after another fault nothing.
 pub fn lint_files<'words, F: Folder, O: Sink>(
     folder: &mut F,
     alloc: Global,
@@ -65,6 +68,36 @@ fn report_on<'words, F: Folder>(
     ensures opens { OnOk result (F.failures folder.new ≡ F.failures folder.old) }
 {
     let plurals = language_plurals(lint.locale)?;
-    let sources = read_text_files(folder, alloc, &lint.files)?;
-    Ok(lint_sources(alloc, lint, plurals, &sources)?)
+    let texts = read_catalogs(folder, alloc, &lint.references, &lint.files)?;
+    Ok(lint_sources(alloc, lint, plurals, &texts.references, &texts.sources)?)
+}
+
+/// The texts of a catalog and of its reference.
+#[derive(Drop)]
+struct CatalogTexts {
+    references: Vec<String>,
+    sources: Vec<String>,
+}
+
+/// Reads the files of a reference, and then those of a catalog.
+fn read_catalogs<'words, F: Folder>(
+    folder: &mut F,
+    alloc: Global,
+    references: &[&'words str],
+    files: &[&'words str],
+) -> Result<CatalogTexts, Fault<'words>>
+    ensures references { IfOk result (λ read.
+        AreRead (F.contents folder.old) references.now read.references.items) }
+    ensures sources { IfOk result (λ read.
+        AreRead (F.contents folder.old) files.now read.sources.items) }
+    ensures fault { IfErr result (IsFaultOfFiles F.Folder folder.old folder.new
+        (texts references.now ++ texts files.now)) }
+    ensures opens { OnOk result (F.failures folder.new ≡ F.failures folder.old) }
+{
+    let references = read_text_files(folder, alloc, references)?;
+    let sources = read_text_files(folder, alloc, files)?;
+    Ok(CatalogTexts {
+        references,
+        sources,
+    })
 }

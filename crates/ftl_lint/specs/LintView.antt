@@ -13,9 +13,9 @@ abbrev pub report_view : Report → LintReport
 report_view r = record { text = string_bytes r.text; has_failed = r.has_failed }
 
 -- the report that is asked for, on files with these texts
-abbrev pub report_asked : Lint → Option LanguagePlurals → List (String Global) → LintReport
-report_asked l plurals sources = lint_report_from (lint_view l) plurals (map string_bytes sources)
+abbrev pub report_asked : Lint → Option LanguagePlurals → List (String Global) → List (String Global) → LintReport
+report_asked l plurals references sources = lint_report_from (lint_view l) plurals (map string_bytes references) (map string_bytes sources)
 
 -- and on these files
-abbrev pub report_on_files : Lint → Option LanguagePlurals → List File → LintReport
-report_on_files l plurals files = lint_report (lint_view l) plurals (files_view files)
+abbrev pub report_on_files : Lint → Option LanguagePlurals → List File → List File → LintReport
+report_on_files l plurals references files = lint_report (lint_view l) plurals (files_view references) (files_view files)

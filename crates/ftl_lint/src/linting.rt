@@ -8,14 +8,14 @@ ghost use Rattle.ftl_lint.specs.LintReport.{named_files, output_format};
 ghost use Rattle.ftl_lint.specs.LintView.{report_asked, report_on_files, report_view};
 
 use fluent_finding::File;
-use fluent_lint::{Options, Output, Report, report_findings};
+use fluent_lint::{Options, Output, Report, report_findings, report_findings_with_reference};
 use fluent_lint_report::Format;
 use fluent_plurals::LanguagePlurals;
 use ftl_words::{Lint, ReportFormat};
 use std::alloc::{AllocError, Global};
 
-/// The report on the files of a catalog, which have the texts `sources`. Plural categories are looked for by the rules
-/// `plurals`.
+/// The report on the files of a catalog, which have the texts `sources`. The files of the reference have the texts
+/// `references`, and plural categories are looked for by the rules `plurals`.
 ///
 /// # Errors
 /// [`AllocError`] if memory runs out; nothing is left behind.
@@ -23,13 +23,15 @@ pub fn lint_sources(
     alloc: Global,
     lint: &Lint,
     plurals: Option<LanguagePlurals>,
+    references: &[String],
     sources: &[String],
 ) -> Result<Report, AllocError>
     ensures { IfOk result (λ report. report_view report
-        ≡ report_asked lint.now plurals sources.now) }
+        ≡ report_asked lint.now plurals references.now sources.now) }
 {
+    let references = named_files(alloc, &lint.references, references)?;
     let files = named_files(alloc, &lint.files, sources)?;
-    report_on(alloc, lint, plurals, &files)
+    report_on(alloc, lint, plurals, &references, &files)
 }
 
 /// Files of these names, with these texts.
@@ -49,15 +51,16 @@ fn named_files<'a>(
     Ok(files)
 }
 
-/// The report on these files.
+/// The report on these files, with those of the reference.
 fn report_on(
     alloc: Global,
     lint: &Lint,
     plurals: Option<LanguagePlurals>,
+    references: &[File],
     files: &[File],
 ) -> Result<Report, AllocError>
     ensures { IfOk result (λ report. report_view report
-        ≡ report_on_files lint.now plurals files.now) }
+        ≡ report_on_files lint.now plurals references.now files.now) }
 {
     let options = Options {
         functions: &lint.functions,
@@ -68,7 +71,11 @@ fn report_on(
         notes: lint.notes,
         strict: lint.strict,
     };
-    report_findings(alloc, &options, output, files)
+    if references.is_empty() {
+        report_findings(alloc, &options, output, files)
+    } else {
+        report_findings_with_reference(alloc, &options, output, references, files)
+    }
 }
 
 /// The format of a report.
