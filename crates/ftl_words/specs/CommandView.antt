@@ -8,7 +8,7 @@ use Rattle.fluent_serve.specs.RequestView.{arguments_view}
 use Rattle.ftl_words.specs.Linting as linting
 use Rattle.ftl_words.specs.Linting.{Lint, ReportFormat}
 use Rattle.ftl_words.specs.Meaning as asked
-use Rattle.ftl_words.specs.Meaning.{Asked, Format, asked_by, texts}
+use Rattle.ftl_words.specs.Meaning.{Asked, Format, asked_by, texts, tidying_by}
 use Rattle.ftl_words.specs.declared.commands.Command.{Command}
 use Rattle.ftl_words.specs.declared.commands.Command.TheVariants as command
 use Rattle.ftl_words.specs.declared.commands.Format as code
@@ -76,6 +76,10 @@ found_rows found = rows_of (found_of found)
 -- what the command of a name asks for, with what was found for it
 abbrev pub asked_with : Text → ArgMatches → Option Asked
 asked_with name found = asked_by (name, found_rows found)
+
+-- and one that tidies
+abbrev pub tidying_with : Text → ArgMatches → Option Asked
+tidying_with name found = tidying_by (name, found_rows found)
 
 -- the fact holds if the words were refused, and not for want of memory
 abbrev pub IfRefused : {T : Type 0} → Result T WordsError → Type 0 → Type 0

@@ -80,19 +80,24 @@ format_in rows = option_map (format_with rows) (request_in rows)
 abbrev pub on_file : (Text → Tidy) → List Row → Option Asked
 on_file command rows = option_map (λ file. tidy (command file)) (file_in rows)
 
--- a command by its name, with what was found for it
+-- a command that tidies, by its name, with what was found for it
+abbrev pub tidying_by : Text × List Row → Option Asked
+tidying_by found =
+    if bytes_eq found.0 (codes "clean") then on_file clean found.1
+    else if bytes_eq found.0 (codes "normalize") then on_file normalize found.1
+    else if bytes_eq found.0 (codes "join") then Some (tidy (join (files_in found.1)))
+    else if bytes_eq found.0 (codes "export") then on_file export found.1
+    else if bytes_eq found.0 (codes "import") then on_file import found.1
+    else None
+
+-- any command
 abbrev pub asked_by : Text × List Row → Option Asked
 asked_by found =
     if bytes_eq found.0 (codes "run") then Some (run (run_in found.1))
     else if bytes_eq found.0 (codes "format") then option_map format (format_in found.1)
     else if bytes_eq found.0 (codes "check") then Some (check (files_in found.1))
     else if bytes_eq found.0 (codes "lint") then option_map lint (lint_in found.1)
-    else if bytes_eq found.0 (codes "clean") then on_file clean found.1
-    else if bytes_eq found.0 (codes "normalize") then on_file normalize found.1
-    else if bytes_eq found.0 (codes "join") then Some (tidy (join (files_in found.1)))
-    else if bytes_eq found.0 (codes "export") then on_file export found.1
-    else if bytes_eq found.0 (codes "import") then on_file import found.1
-    else None
+    else tidying_by found
 
 abbrev pub asked_of : Option (Text × List Row) → Option Asked
 asked_of None = None

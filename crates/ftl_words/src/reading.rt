@@ -5,7 +5,7 @@ ghost use Rattle.ftl_words.specs.Meaning.{AskForHelp, AskForHelpAlone, command_o
 ghost use Rattle.ftl_words.specs.Meaning.{AskForVersion, AskForVersionAlone};
 ghost use Rattle.ftl_words.specs.Meaning.{asked_of};
 ghost use Rattle.ftl_words.specs.Found.{file_in, files_in, is_given, locale_in, values_in};
-ghost use Rattle.ftl_words.specs.CommandView.{asked_with, command_view, found_rows, IfRefused};
+ghost use Rattle.ftl_words.specs.CommandView.{asked_with, command_view, found_rows, IfRefused, tidying_with};
 ghost use Rattle.ftl_words.specs.Version.{version_line};
 ghost use Rattle.ftl_words.specs.declared.reading.WordsError.TheVariants.{Memory};
 
@@ -105,8 +105,7 @@ fn command_met<'words>(
         asked_of (subcommand_rows_of matches.now) ≡ Some (command_view command)) }
     ensures nothing { IfRefused result (asked_of (subcommand_rows_of matches.now) ≡ None) }
     ensures no_help { IfErr result (λ error. (text : _) → ¬ (error ≡ WordsError.Help text)) }
-    ensures no_version { IfErr result (λ error.
-        (text : _) → ¬ (error ≡ WordsError.Version text)) }
+    ensures no_version { IfErr result (λ error. (text : _) → ¬ (error ≡ WordsError.Version text)) }
 {
     match matches.subcommand() {
         Some((name, found)) => command_named(alloc, name, found),
@@ -124,8 +123,7 @@ fn command_named<'words>(
         asked_with name.now found.now ≡ Some (command_view command)) }
     ensures nothing { IfRefused result (asked_with name.now found.now ≡ None) }
     ensures no_help { IfErr result (λ error. (text : _) → ¬ (error ≡ WordsError.Help text)) }
-    ensures no_version { IfErr result (λ error.
-        (text : _) → ¬ (error ≡ WordsError.Version text)) }
+    ensures no_version { IfErr result (λ error. (text : _) → ¬ (error ≡ WordsError.Version text)) }
 {
     match name {
         "run" => Ok(Command::Run {
@@ -139,13 +137,31 @@ fn command_named<'words>(
             files: files_in(alloc, found)?,
         }),
         "lint" => Ok(Command::Lint(lint_in(alloc, found)?)),
-        "clean" => Ok(Command::Tidy(Tidy::Clean(file_in(found)?))),
-        "normalize" => Ok(Command::Tidy(Tidy::Normalize(file_in(found)?))),
-        "join" => Ok(Command::Tidy(Tidy::Join(files_in(alloc, found)?))),
-        "export" => Ok(Command::Tidy(Tidy::Export(file_in(found)?))),
-        "import" => Ok(Command::Tidy(Tidy::Import(file_in(found)?))),
-        _ => Err(WordsError::Bad),
+        _ => tidying_named(alloc, name, found),
     }
+}
+
+/// The same for a command that tidies.
+fn tidying_named<'words>(
+    alloc: Global,
+    name: &str,
+    found: &ArgMatches<'words>,
+) -> Result<Command<'words>, WordsError>
+    ensures command { IfOk result (λ command.
+        tidying_with name.now found.now ≡ Some (command_view command)) }
+    ensures nothing { IfRefused result (tidying_with name.now found.now ≡ None) }
+    ensures no_help { IfErr result (λ error. (text : _) → ¬ (error ≡ WordsError.Help text)) }
+    ensures no_version { IfErr result (λ error. (text : _) → ¬ (error ≡ WordsError.Version text)) }
+{
+    let tidy = match name {
+        "clean" => Tidy::Clean(file_in(found)?),
+        "normalize" => Tidy::Normalize(file_in(found)?),
+        "join" => Tidy::Join(files_in(alloc, found)?),
+        "export" => Tidy::Export(file_in(found)?),
+        "import" => Tidy::Import(file_in(found)?),
+        _ => return Err(WordsError::Bad),
+    };
+    Ok(Command::Tidy(tidy))
 }
 
 /// Whether a flag was given.
