@@ -6,7 +6,6 @@
 
 mod rest;
 mod start;
-mod text;
 mod tile;
 mod walk;
 

@@ -8,8 +8,8 @@ ghost use Rattle.fluent_entry_findings.specs.Added.{LeavesAfter};
 ghost use Rattle.fluent_grammar.specs.Tree as t;
 ghost use Rattle.fluent_occurrences.specs.OccurrenceView.{IsPatternAt};
 
-use crate::text::{after_equals, skip, skip_blank_block, skip_spaces};
 use fluent_ast::{Attribute, Message, Pattern, Term};
+use fluent_entry_findings::text::{after_equals, skip, skip_blank_block, skip_spaces};
 use fluent_occurrences::{empty_pattern_rest, pattern_occurrences};
 use std::alloc::{AllocError, Global};
 

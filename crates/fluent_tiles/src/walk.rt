@@ -7,9 +7,9 @@ ghost use Rattle.fluent_tiles.specs.Walks.{IsNext, Passes, SkipsJunk, StartsAt};
 
 use crate::rest::{message_rest, term_rest};
 use crate::start::next_start;
-use crate::text::skip;
 use crate::tile::Tile;
 use fluent_ast::Entry;
+use fluent_entry_findings::text::skip;
 use fluent_parsed::ParserError;
 use std::alloc::{AllocError, Global};
 use std::slice;
