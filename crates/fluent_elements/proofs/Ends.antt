@@ -61,3 +61,8 @@ pub value_there : (line : Bool) (common : Option ℕ) (es : List Element) → 0 
 value_there line common [] h = absurd (omega (arith, h))
 value_there line common (e ∷ []) h = first_there (trimmed (dedented_by line common e)) []
 value_there line common (e ∷ f ∷ es) h = first_there (dedented_by line common e) (last_trimmed (dedented_from (line_behind e) common (f ∷ es)))
+
+pub dedented_there : (es : List Element) → 0 < length es → Some (elements_of (last_trimmed es)) ≡ value_of (elements_of (last_trimmed es))
+dedented_there [] h = absurd (omega (arith, h))
+dedented_there (e ∷ []) h = first_there (trimmed e) []
+dedented_there (e ∷ f ∷ es) h = first_there e (last_trimmed (f ∷ es))

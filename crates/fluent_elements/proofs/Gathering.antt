@@ -11,8 +11,8 @@ use Rattle.fluent_grammar.specs.Lines.{Piece, dedented, kept_spaces, is_blank_te
 use Rattle.fluent_grammar.specs.Tree as t
 use Rattle.fluent_ast.specs.View as v
 use Rattle.fluent_ast.specs.View.{Element}
-use Rattle.fluent_elements.specs.Elements.{cut_len, line_behind, dedented_by, dedented_from, is_blank, kept_of, trimmed, last_trimmed, value_by}
-use Rattle.fluent_elements.specs.Pieces.{undented, line_after, Fits, IsLined, line_behind_all}
+use Rattle.fluent_elements.specs.Elements.{cut_len, line_behind, dedented_by, dedented_from, is_blank, kept_of, trimmed, last_trimmed, value_by, dedented_value}
+use Rattle.fluent_elements.specs.Pieces.{undented, dedented_piece, line_after, Fits, IsLined, line_behind_all}
 use Rattle.fluent_elements.proofs.Dedenting.{cut_le}
 
 -- ---- one more piece
@@ -81,12 +81,6 @@ whole_line common s h = ap (λ (k : ℕ). drop k s) (ap (cut_len common) h ∙ c
 
 -- ---- one piece
 
--- the element of a piece under a common indent
-element_in : Option ℕ → Piece → Element
-element_in common (l.at_line_start n s) = v.text (dedented common n s)
-element_in common (l.in_line s) = v.text s
-element_in common (l.placed z e) = v.placeable e
-
 blank_is : (p : Piece) → is_blank (undented p) ≡ l.is_blank p
 blank_is (l.at_line_start n s) = blank_indented n s
 blank_is (l.in_line s) = refl
@@ -97,8 +91,7 @@ behind_is (l.at_line_start n s) = ends_indented n s
 behind_is (l.in_line s) = refl
 behind_is (l.placed z e) = refl
 
-element_is : (line : Bool) (common : Option ℕ) (p : Piece) → Fits line p → dedented_by line common (undented p) ≡ element_in common p
-unfolding element_in
+element_is : (line : Bool) (common : Option ℕ) (p : Piece) → Fits line p → dedented_by line common (undented p) ≡ dedented_piece common p
 element_is true common (l.at_line_start n s) f = ap v.text (dedent_is common n s f.1)
 element_is false common (l.at_line_start n s) f = absurd (false≢true f.0)
 element_is true common (l.in_line s) f = ap v.text (whole_line common s f)
@@ -128,15 +121,13 @@ lined_front line [] h = tt
 lined_front line (p ∷ ps) h = lined_cond (l.is_blank p && length (l.without_blank_end ps) == 0) line (p ∷ l.without_blank_end ps) (h.0, lined_front (line_after p) ps h.1)
 
 -- the elements of one piece, and of one before others
-one_element : (common : Option ℕ) (p : Piece) → v.elements_of (trimmed (element_in common p) ∷ []) ≡ l.elements_from common (p ∷ [])
-unfolding element_in
+one_element : (common : Option ℕ) (p : Piece) → v.elements_of (trimmed (dedented_piece common p) ∷ []) ≡ l.elements_from common (p ∷ [])
 one_element common (l.at_line_start n s) = refl
 one_element common (l.in_line s) = refl
 one_element common (l.placed z e) = refl
 
 more_elements : (common : Option ℕ) (p q : Piece) (ps : List Piece) (es : List Element) → v.elements_of es ≡ l.elements_from common (q ∷ ps) →
-    v.elements_of (element_in common p ∷ es) ≡ l.elements_from common (p ∷ q ∷ ps)
-unfolding element_in
+    v.elements_of (dedented_piece common p ∷ es) ≡ l.elements_from common (p ∷ q ∷ ps)
 more_elements common (l.at_line_start n s) q ps es h = ap (t.text (dedented common n s)) h
 more_elements common (l.in_line s) q ps es h = ap (t.text s) h
 more_elements common (l.placed z e) q ps es h = ap (t.placeable e) h
@@ -155,3 +146,40 @@ gathered_value line ps h =
     let common = l.common_indent ps in
     ap (λ (es : List Element). l.value_of (v.elements_of (last_trimmed (dedented_from line common es)))) (kept_is_front ps)
     ∙ ap l.value_of (elements_are line common (l.without_blank_end ps) (lined_front line ps h))
+
+-- ---- pieces put as elements without the common indent
+
+blank_kept : (common : Option ℕ) (n : ℕ) (s : Text) → is_blank_text (dedented common n s) ≡ is_blank_text s
+blank_kept None n s = refl
+blank_kept (Some common) n s = blank_indented (n - common) s
+
+blank_dedented : (common : Option ℕ) (p : Piece) → is_blank (dedented_piece common p) ≡ l.is_blank p
+blank_dedented common (l.at_line_start n s) = blank_kept common n s
+blank_dedented common (l.in_line s) = refl
+blank_dedented common (l.placed z e) = refl
+
+cond_dedented : (common : Option ℕ) (b : Bool) (p : Piece) (ps : List Piece) →
+    cond b [] (dedented_piece common p ∷ map (dedented_piece common) ps) ≡ map (dedented_piece common) (cond b [] (p ∷ ps))
+cond_dedented common true p ps = refl
+cond_dedented common false p ps = refl
+
+kept_dedented : (common : Option ℕ) (ps : List Piece) → kept_of (map (dedented_piece common) ps) ≡ map (dedented_piece common) (l.without_blank_end ps)
+kept_dedented common [] = refl
+kept_dedented common (p ∷ ps) =
+    let put = dedented_piece common in
+    let front = l.without_blank_end ps in
+    ap (λ (z : List Element). cond (is_blank (put p) && length z == 0) [] (put p ∷ z)) (kept_dedented common ps)
+    ∙ ap (λ (b : Bool). cond (b && length (map put front) == 0) [] (put p ∷ map put front)) (blank_dedented common p)
+    ∙ ap (λ (k : ℕ). cond (l.is_blank p && k == 0) [] (put p ∷ map put front)) (length-map front put)
+    ∙ cond_dedented common (l.is_blank p && length front == 0) p front
+
+dedented_are : (common : Option ℕ) (ps : List Piece) → v.elements_of (last_trimmed (map (dedented_piece common) ps)) ≡ l.elements_from common ps
+dedented_are common [] = refl
+dedented_are common (p ∷ []) = one_element common p
+dedented_are common (p ∷ q ∷ ps) = more_elements common p q ps (last_trimmed (map (dedented_piece common) (q ∷ ps))) (dedented_are common (q ∷ ps))
+
+pub dedented_pieces : (ps : List Piece) → dedented_value (map (dedented_piece (l.common_indent ps)) ps) ≡ l.value_of (l.elements_of ps)
+dedented_pieces ps =
+    let common = l.common_indent ps in
+    ap (λ (es : List Element). l.value_of (v.elements_of (last_trimmed es))) (kept_dedented common ps)
+    ∙ ap l.value_of (dedented_are common (l.without_blank_end ps))

@@ -54,6 +54,10 @@ last_trimmed (e ∷ f ∷ es) = e ∷ last_trimmed (f ∷ es)
 abbrev pub value_by : Bool → Option ℕ → List Element → Option t.Elements
 value_by line common es = value_of (elements_of (last_trimmed (dedented_from line common (kept_of es))))
 
+-- what elements give that have lost the common indent already
+abbrev pub dedented_value : List Element → Option t.Elements
+dedented_value es = value_of (elements_of (last_trimmed (kept_of es)))
+
 -- The same of the nodes of a tree, by what the bytes of a text are.
 module _ (S : Type 0) (text_of : S → Text) where
   -- the elements of a list as plain data, one by one

@@ -1,7 +1,7 @@
 -- How the pieces of a pattern are gathered as elements that still have their indents.
-use Rattle.std.specs.Prelude.{◌≡◌, Bool, true, false, List, [], ◌∷◌, ◌++◌, replicate}
+use Rattle.std.specs.Prelude.{◌≡◌, ℕ, Bool, true, false, List, [], ◌∷◌, ◌++◌, replicate, Option}
 use Rattle.fluent_grammar.specs.Words.{space, spaces}
-use Rattle.fluent_grammar.specs.Lines.{Piece, at_line_start, in_line, placed, ends_line}
+use Rattle.fluent_grammar.specs.Lines.{Piece, at_line_start, in_line, placed, ends_line, dedented}
 use Rattle.fluent_ast.specs.View.{Element, text, placeable}
 
 -- the element of a piece, a text with its leading spaces
@@ -9,6 +9,12 @@ abbrev pub undented : Piece → Element
 undented (at_line_start n s) = text (replicate n space ++ s)
 undented (in_line s) = text s
 undented (placed z e) = placeable e
+
+-- the element of a piece without this common indent
+abbrev pub dedented_piece : Option ℕ → Piece → Element
+dedented_piece common (at_line_start n s) = text (dedented common n s)
+dedented_piece common (in_line s) = text s
+dedented_piece common (placed z e) = placeable e
 
 -- whether a line begins after a piece
 abbrev pub line_after : Piece → Bool

@@ -89,7 +89,7 @@ impl<S: Drop> Gathered<S> {
 }
 
 /// The smaller of two indents, if they are there.
-fn lesser(a: Option<usize>, b: Option<usize>) -> Option<usize>
+pub(crate) fn lesser(a: Option<usize>, b: Option<usize>) -> Option<usize>
     ensures { result ≡ lesser a b }
 {
     match (a, b) {

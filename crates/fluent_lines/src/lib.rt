@@ -13,6 +13,6 @@ mod lookup;
 mod row;
 mod table;
 
-pub use lookup::Lines;
+pub use lookup::{Lines, PlainLines};
 pub use row::{Row, begins_entry};
 pub use table::line_table;

@@ -22,6 +22,15 @@ pub struct Lines<'a> {
     ghost is_row: { near < length rows.now },
 }
 
+/// What the rows say of a pattern that stands in plain lines.
+#[derive(Clone, Copy, Drop)]
+pub struct PlainLines {
+    /// How many lines it has, with blank ones at its end.
+    pub count: usize,
+    /// The least indent of those that aren't blank.
+    pub common_indent: usize,
+}
+
 impl<'a> Lines<'a> {
     /// The lines of a text, by its table.
     pub fn new(text: &'a [u8], rows: &'a [Row]) -> Self
@@ -147,6 +156,41 @@ impl<'a> Lines<'a> {
         }
         let row = self.find(place);
         feeds_last(&row, self.later(), place)
+    }
+
+    /// What the rows say of the pattern at this place, at the start of a line or within one: `None` unless all of it stands
+    /// in plain lines, each with a line feed, and shares an indent. No text is looked at. It tells a reader what room to
+    /// make and what to cut, and no more: that the pattern is so shows when it is read.
+    pub fn plain_lines(&mut self, place: usize, at_line_start: bool) -> Option<PlainLines>
+        requires { place ≤ length self.old.text.now }
+        ensures text { self.new.text.now ≡ self.old.text.now }
+    {
+        let mut last = self.find(place);
+        let mut common_indent = if at_line_start { last.indent() } else { usize::MAX };
+        if !last.is_plain {
+            return None;
+        }
+        let later = self.later();
+        let mut count = 0_usize;
+        while count < later.len() {
+            let row = later[count];
+            count += 1;
+            if row.ends_pattern {
+                break;
+            }
+            if !(row.is_plain & last.feeds_into(&row)) {
+                return None;
+            }
+            common_indent = common_indent.min(row.indent());
+            last = row;
+        }
+        if common_indent == usize::MAX {
+            return None;
+        }
+        Some(PlainLines {
+            count,
+            common_indent,
+        })
     }
 
     /// The rows after `near`.

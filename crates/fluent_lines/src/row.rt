@@ -67,6 +67,16 @@ impl Row {
         })
     }
 
+    /// How many spaces stand at the front of the line: no end of them, if it is blank.
+    pub(crate) fn indent(&self) -> usize {
+        let spaces = self.spaces as usize;
+        if self.end.saturating_sub(self.start) > spaces {
+            spaces
+        } else {
+            usize::MAX
+        }
+    }
+
     /// Whether one byte stands between the line and the next: its line end is a line feed alone.
     pub(crate) fn feeds_into(&self, next: &Row) -> bool
         ensures { result ≡ feeds_into self.now next.now }

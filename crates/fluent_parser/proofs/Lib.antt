@@ -15,6 +15,8 @@ pub mod GatheredPieces
 pub mod Values
 pub mod Runs
 pub mod PutPieces
+pub mod PlainPieces
+pub mod PlainEnds
 pub mod Comments
 pub mod Entries
 pub mod EntryStarts

@@ -6,6 +6,7 @@ pub mod Frame
 pub mod Reads
 pub mod Steps
 pub mod Pieces
+pub mod PlainLines
 pub mod Arguments
 pub mod Indexed
 pub mod Entries

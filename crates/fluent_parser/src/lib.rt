@@ -15,6 +15,7 @@ mod named_arguments;
 mod parser;
 mod part;
 mod pattern;
+mod plain;
 mod refusals;
 mod resource;
 mod select;

@@ -11,7 +11,7 @@ ghost use Rattle.fluent_grammar.specs.Words as w;
 ghost use Rattle.fluent_grammar.specs.Tiling.{resume};
 ghost use Rattle.fluent_parser.specs.Reads.{past_byte};
 
-use fluent_lines::{Lines, Row};
+use fluent_lines::{Lines, PlainLines, Row};
 use fluent_stack::{Stack, StackBudget};
 use fluent_text::Texts;
 use fluent_words as words;
@@ -179,6 +179,14 @@ impl<'p, S: Drop, T: Texts<S>> Parser<'p, S, T> {
     {
         let place = self.place();
         self.lines.one_line_len(place)
+    }
+
+    /// What the rows say of the pattern here, at the start of a line or within one: see `plain_lines` of `fluent_lines`.
+    pub fn plain_lines(&mut self, at_line_start: bool) -> Option<PlainLines>
+        ensures stays { Stays self.old self.new }
+    {
+        let place = self.place();
+        self.lines.plain_lines(place, at_line_start)
     }
 
     /// Whether a line feed stands here, behind which a pattern ends.

@@ -18,7 +18,7 @@ use fluent_text::Texts;
 use fluent_words as words;
 
 /// What a text says of the common indent, behind so many spaces at a line start or within a line: nothing where it is blank.
-fn said_by(at_line_start: bool, indent: usize, text: &[u8]) -> Option<usize>
+pub fn said_by(at_line_start: bool, indent: usize, text: &[u8]) -> Option<usize>
     ensures { result ≡ indent_of (text_piece at_line_start indent text.now) }
 {
     if at_line_start && !is_blank_text(text) {
@@ -82,6 +82,9 @@ impl<'p, S: Drop, T: Texts<S>> Parser<'p, S, T> {
             pattern_behind }
         ensures advances { Advances self.old self.new }
     {
+        if let Some(pattern) = self.get_plain_lines()? {
+            return Ok(Some(pattern));
+        }
         let mut at_line_start = self.skip_to_line();
         let mut gathered = Gathered::new(self.alloc, at_line_start);
         while let Some(ends_line) = self.get_piece(at_line_start, &mut gathered)? {
@@ -92,7 +95,7 @@ impl<'p, S: Drop, T: Texts<S>> Parser<'p, S, T> {
     }
 
     /// Passes over a line end and the blank lines behind it, and says whether one stood here.
-    fn skip_to_line(&mut self) -> bool
+    pub fn skip_to_line(&mut self) -> bool
         ensures place { (result, self.new.rest.now)
             ≡ first_place self.old.rest.now (w.after_line_end self.old.rest.now) }
         ensures advances { Advances self.old self.new }

@@ -11,7 +11,7 @@ use Rattle.fluent_ast.specs.declared.InlineExpression.{InlineExpression}
 use Rattle.fluent_ast.specs.declared.Variant.{Variant}
 use Rattle.fluent_words.specs.Counted.{begins_literal}
 use Rattle.fluent_parser.specs.Reads.{Gives, whole, string_or_number_at, argument_value_at}
-use Rattle.fluent_parser.specs.Steps.{names_of, variants_behind, Argument, named, arguments_behind, positional_by, argument_by, nested_by, placeable_piece_by, pattern_behind, kept_piece_by, piece_behind}
+use Rattle.fluent_parser.specs.Steps.{names_of, variants_behind, Argument, named, arguments_behind, positional_by, argument_by, nested_by, placeable_piece_by, pattern_behind, kept_piece_by, piece_behind, first_place}
 use Rattle.fluent_ast.specs.View.{Named, inlines_of, nameds_of, name_of, inline_view, expression_view, named_view, variant_view, variants_of, arguments_view, pattern_view, element_view}
 use Rattle.fluent_elements.specs.Elements.{value_by}
 use Rattle.fluent_parser.specs.declared.named_arguments.NamedArguments.{NamedArguments}
@@ -31,6 +31,7 @@ use Rattle.fluent_parser.specs.Pieces.{GivesPiece}
 use Rattle.fluent_parser.proofs.LinePieces.{kept_in_line, kept_feed, kept_end, kept_at_line}
 use Rattle.fluent_parser.proofs.LineStarts.{first_starts, piece_starts}
 use Rattle.fluent_parser.proofs.PutPieces.{piece_put, no_piece, placeable_next, feed_put}
+use Rattle.fluent_parser.proofs.PlainPieces.{nothing_read}
 use Rattle.fluent_parser.proofs.GatheredPieces.{gathers_none, gathers_more, gathers_all}
 use Rattle.fluent_parser.proofs.parser.Parser.+parser.Goals as goal
 use Rattle.fluent_parser.proofs.parser.Parser.+parser.Goals.{get_call_arguments-in-Positional+in_ok-push-in-Positional, get_call_arguments-in-Named+in_ok-push-in-Named}
@@ -179,19 +180,23 @@ get_pattern-returns-clause-gives g t c =
 
 pub get_lines-loop-gathered-init : goal.get_lines-loop-gathered-init
 get_lines-loop-gathered-init g t c =
+    let u = c.args.self.now.rest.now in
+    let same = nothing_read g.row.S.Denot g.T.Texts.text u c.get_plain_lines.new.self.rest.now _ c.in_default.is c.in_ok-pattern.ensures.gives in
+    let text = c.skip_to_line-at_line_start.ensures.advances.text ∙ c.get_plain_lines.ensures.advances.text in
+    let place = c.skip_to_line-at_line_start.ensures.place ∙ ap (λ (z : List ℕ). first_place z (w.after_line_end z)) same in
     record {
-      text = c.skip_to_line-at_line_start.ensures.advances.text;
-      onward = c.skip_to_line-at_line_start.ensures.advances.onward;
-      gathers = gathers_none g.row.S.Denot g.T.Texts.text c.new-gathered.result c.skip_to_line-at_line_start.result c.skip_to_line-at_line_start.new.self.rest.now c.args.self.now.rest.now c.new-gathered.ensures.elements c.new-gathered.ensures.begins_line c.new-gathered.ensures.common_indent c.skip_to_line-at_line_start.ensures.place;
+      text = text;
+      onward = omega (arith, c.skip_to_line-at_line_start.ensures.advances.onward, c.get_plain_lines.ensures.advances.onward);
+      gathers = gathers_none g.row.S.Denot g.T.Texts.text c.new-gathered.result c.skip_to_line-at_line_start.result c.skip_to_line-at_line_start.new.self.rest.now c.args.self.now.rest.now c.new-gathered.ensures.elements c.new-gathered.ensures.begins_line c.new-gathered.ensures.common_indent place;
       line_start = let rest = c.skip_to_line-at_line_start.new.self.rest.now in
-          subst (λ (z : List ℕ). StartsLine c.skip_to_line-at_line_start.result z rest) (sym c.skip_to_line-at_line_start.ensures.advances.text)
-          (first_starts c.skip_to_line-at_line_start.result c.args.self.now.text.now c.args.self.now.rest.now rest c.args.self.now.is_tail c.skip_to_line-at_line_start.ensures.place);
+          subst (λ (z : List ℕ). StartsLine c.skip_to_line-at_line_start.result z rest) (sym text)
+          (first_starts c.skip_to_line-at_line_start.result c.args.self.now.text.now c.args.self.now.rest.now rest c.args.self.now.is_tail place);
     }
 
 pub get_lines-returns-in_err-ends_line-clause-gives : goal.get_lines-returns-in_err-ends_line-clause-gives
 get_lines-returns-in_err-ends_line-clause-gives g t c =
     let gathers = c.loop-gathered.invariant.gathers in
-    handed_on (option_map (pattern_view g.row.S.Denot g.T.Texts.text)) c.get_piece.new.self.rest.now c.from_residual.result c.in_err-ends_line.field-0.0 (pattern_behind c.args.self.now.rest.now) c.from_residual.ensures.1
+    handed_on (option_map (pattern_view g.row.S.Denot g.T.Texts.text)) c.get_piece.new.self.rest.now c.from_residual-in_err-ends_line.result c.in_err-ends_line.field-0.0 (pattern_behind c.args.self.now.rest.now) c.from_residual-in_err-ends_line.ensures.1
     (pattern_fails c.loop-gathered.self.rest.now c.args.self.now.rest.now c.loop-gathered.at_line_start gathers.pieces c.in_err-ends_line.field-0.0 c.get_piece.new.self.rest.now gathers.same
     (kept_fails c.loop-gathered.at_line_start c.loop-gathered.self.rest.now c.in_err-ends_line.field-0.0 c.get_piece.new.self.rest.now c.in_err-ends_line.ensures.gives))
 
@@ -201,13 +206,13 @@ get_lines-loop-gathered-preserved g t c =
     let s = c.loop-gathered.self.rest.now in
     let rest = c.get_piece.new.self.rest.now in
     let gathered = c.loop-gathered.gathered in
-    let put = piece_put g.row.S.Denot g.T.Texts.text gathered c.get_piece.new.gathered rest _ c.in-Some.ends_line (kept_piece_by line s) c.in-Some.is c.in_ok-ends_line.ensures.gives in
+    let put = piece_put g.row.S.Denot g.T.Texts.text gathered c.get_piece.new.gathered rest _ c.in-Some-2.ends_line (kept_piece_by line s) c.in-Some-2.is c.in_ok-ends_line.ensures.gives in
     record {
       text = c.get_piece.ensures.advances.text ∙ c.loop-gathered.invariant.text;
       onward = omega (arith, c.get_piece.ensures.advances.onward, c.loop-gathered.invariant.onward);
-      gathers = gathers_more g.row.S.Denot g.T.Texts.text gathered c.get_piece.new.gathered line c.in-Some.ends_line s rest c.args.self.now.rest.now c.loop-gathered.invariant.gathers put;
-      line_start = subst (λ (z : List ℕ). StartsLine c.in-Some.ends_line z rest) (sym c.get_piece.ensures.advances.text)
-          (piece_starts line c.loop-gathered.self.text.now s rest put.piece c.in-Some.ends_line c.loop-gathered.self.is_tail put.read_is);
+      gathers = gathers_more g.row.S.Denot g.T.Texts.text gathered c.get_piece.new.gathered line c.in-Some-2.ends_line s rest c.args.self.now.rest.now c.loop-gathered.invariant.gathers put;
+      line_start = subst (λ (z : List ℕ). StartsLine c.in-Some-2.ends_line z rest) (sym c.get_piece.ensures.advances.text)
+          (piece_starts line c.loop-gathered.self.text.now s rest put.piece c.in-Some-2.ends_line c.loop-gathered.self.is_tail put.read_is);
     }
 
 pub get_lines-returns-clause-gives : goal.get_lines-returns-clause-gives
@@ -217,10 +222,10 @@ get_lines-returns-clause-gives g t c =
     let rest = c.get_piece.new.self.rest.now in
     let gathered = c.loop-gathered.gathered in
     let view = element_view g.row.S.Denot g.T.Texts.text in
-    let end = no_piece g.row.S.Denot g.T.Texts.text gathered c.get_piece.new.gathered rest _ (kept_piece_by line s) c.in_default.is c.in_ok-ends_line.ensures.gives in
+    let end = no_piece g.row.S.Denot g.T.Texts.text gathered c.get_piece.new.gathered rest _ (kept_piece_by line s) c.in_default-2.is c.in_ok-ends_line.ensures.gives in
     gathers_all g.row.S.Denot g.T.Texts.text gathered line s rest c.args.self.now.rest.now c.loop-gathered.invariant.gathers end.0
     ∙ ap (λ z. got (value_by z.begins_line z.common_indent (map view z.elements.items)) rest) (sym end.1)
-    ∙ ap (λ z. got z rest) (sym c.in_ok-pattern.ensures)
+    ∙ ap (λ z. got z rest) (sym c.in_ok-pattern-2.ensures)
 
 pub get_piece-returns-then-not-at_line_start-clause-gives : goal.get_piece-returns-then-not-at_line_start-clause-gives
 get_piece-returns-then-not-at_line_start-clause-gives g t c =
