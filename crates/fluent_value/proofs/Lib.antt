@@ -1,3 +1,4 @@
+pub mod Digits
 pub mod Placed
 pub mod Map
 pub mod Decided

@@ -1,7 +1,9 @@
 //! The texts that values are shown as.
 
-ghost use Rattle.std.specs.Prelude.{◌≡◌, ◌++◌, false, Ok, IfOk, OnOk, OnErr, IsOkAnd};
+ghost use Rattle.std.specs.Prelude.{◌≡◌, ◌++◌, false, decimal, Ok, IfOk, IfSome, OnOk, OnErr, IsOkAnd};
 ghost use Rattle.std.specs.Cow.{cow_str_bytes, IsBorrowedStr};
+ghost use Rattle.fluent_number.specs.Number.{number_of};
+ghost use Rattle.fluent_number.specs.Text.{number_text};
 ghost use Rattle.fluent_value.specs.Lent.{IsBorrowedText};
 ghost use Rattle.fluent_value.specs.Shown.{text_in, plain_text as text_alone};
 ghost use Rattle.fluent_value.specs.View.{value_view};
@@ -10,9 +12,43 @@ ghost use Rattle.fluent_value.specs.declared.value.FluentValue.TheVariants as of
 use crate::custom::FluentType;
 use crate::scope::ValueScope;
 use crate::value::FluentValue;
+use fluent_number::FluentNumber;
 use fluent_text::{TextWrite, WriteError};
-use std::alloc::AllocError;
+use itoa::Buffer;
+use std::alloc::{AllocError, Global};
 use std::borrow::CowStr;
+
+/// The number whose digits are all of another's text: that of a whole one without a minus and a point.
+fn digits_alone(number: &FluentNumber) -> Option<u64>
+    ensures { IfSome result (λ whole. number_text (number_of number.now) ≡ decimal whole) }
+{
+    let least = number.options.minimum_fraction_digits;
+    if least.is_some() || number.value.fraction() > 0 || number.value.is_negative() {
+        return None;
+    }
+    Some(number.value.whole())
+}
+
+/// Writes the text of a number. Digits alone are written from a buffer, without memory for a text of their own.
+// It isn't inlined, so that the buffer is on the machine's stack only while a number is written.
+#[inline(never)]
+fn write_number<W: TextWrite>(
+    w: &mut W,
+    number: &FluentNumber,
+    alloc: Global,
+) -> Result<(), WriteError>
+    ensures written { OnOk result (W.text w.new ≡ W.text w.old ++ number_text (number_of number.now)) }
+    ensures refused { OnErr result (W.text w.new ≡ W.text w.old) }
+{
+    match digits_alone(number) {
+        Some(whole) => {
+            let mut digits = Buffer::new();
+            w.write_str(digits.format(whole))?;
+        }
+        None => w.write_str(number.as_string(alloc)?.as_str())?,
+    }
+    Ok(())
+}
 
 impl<'a, C: FluentType> FluentValue<'a, C> {
     /// Writes the text that the value is shown as: the formatter's if the scope has one that answers a text; otherwise
@@ -37,7 +73,7 @@ impl<'a, C: FluentType> FluentValue<'a, C> {
         }
         match self {
             FluentValue::String(text) => w.write_str(text.as_str())?,
-            FluentValue::Number(number) => w.write_str(number.as_string(scope.alloc())?.as_str())?,
+            FluentValue::Number(number) => write_number(w, number, scope.alloc())?,
             FluentValue::Custom(custom) => w.write_str(scope.stringify(custom)?.as_str())?,
             FluentValue::None | FluentValue::Error => {}
         }
