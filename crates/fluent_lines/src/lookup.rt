@@ -166,7 +166,11 @@ impl<'a> Lines<'a> {
         ensures text { self.new.text.now ≡ self.old.text.now }
     {
         let mut last = self.find(place);
-        let mut common_indent = if at_line_start { last.indent() } else { usize::MAX };
+        let mut common_indent = if at_line_start {
+            last.indent()
+        } else {
+            usize::MAX
+        };
         if !last.is_plain {
             return None;
         }
