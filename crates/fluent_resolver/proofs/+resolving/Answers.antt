@@ -34,7 +34,6 @@ use Rattle.fluent_progress.proofs.Telling.{on-err, tells-same, within}
 use Rattle.fluent_progress.specs.Results.{function_result}
 use Rattle.fluent_progress.specs.Views.{entered_in, path_of, patterns_on, place_view, resolved_in, state, target_view}
 use Rattle.fluent_progress.specs.declared.path.Path.{Path}
-use Rattle.fluent_progress.specs.declared.progress.Progress.{Progress}
 use Rattle.fluent_resolver.proofs.Calls.{of-three, get_or-view, map-up-to, named-one, named-refused, positional-one, positional-refused}
 use Rattle.fluent_resolver.proofs.Parts.{less-element, less-placeable, opens-left, weight-function, weight-named, weight-positional, weight-select, weight-some, weight-term, entered-tells, entered-writes, found-tells, marked-writes, opened-tells, placeable-refused, referred-first, rest-refused, tells-as, unmarked-tells, written-tells}
 use Rattle.fluent_value.specs.Args.{all_set}

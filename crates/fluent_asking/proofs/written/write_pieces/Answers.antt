@@ -14,7 +14,6 @@ use Rattle.fluent_meaning.specs.Substitution as s
 use Rattle.fluent_meaning.specs.Told.{State, Writes, budget_of}
 use Rattle.fluent_progress.proofs.Telling.{on-err, within}
 use Rattle.fluent_progress.specs.Views.{entered_in, place_view, resolved_in, state}
-use Rattle.fluent_progress.specs.declared.progress.Progress.{Progress}
 use Rattle.fluent_resolver.proofs.Places.{same-place}
 use Rattle.fluent_asking.proofs.Pieces.{placeable-refused, text-refused}
 use Rattle.fluent_resolver.proofs.Elements.{whole-around, whole-elements, whole-split}
