@@ -2,6 +2,7 @@
 
 ghost use Rattle.std.specs.Prelude.{◌≡◌, ◌++◌, OnErr, OnOk, false};
 ghost use Rattle.fluent_asking.specs.Pieces.{StartsPiece, Writes, WritesPiece, WritesSome};
+ghost use Rattle.fluent_progress.specs.Views.{entered_in};
 ghost use Rattle.fluent_resolver.specs.Steps.{pattern_step};
 
 use fluent_ast::{Expression, Pattern, PatternElement};
@@ -72,7 +73,7 @@ where
     requires { progress.now.dirty ≡ false }
     ensures wrote { WritesPiece W.text result w.old w.new progress.old progress.new place.now whole.now expression.now }
     ensures refused { StartsPiece W.text result w.old w.new progress.old progress.new place.now whole.now expression.now }
-    ensures path { OnOk result (progress.new.path.items ≡ progress.old.path.items) }
+    ensures path { OnOk result (entered_in progress.new ≡ entered_in progress.old) }
 {
     let mut piece = String::new(place.context.alloc());
     write_placeable(&mut piece, place, progress, whole, expression)?;

@@ -1,5 +1,5 @@
 -- What the code hands down and on, as plain data.
-use Rattle.std.specs.Prelude.{ℕ, Bool, List, [], Option, Some, None, option_map, map, string_bytes, if◌then◌else◌, length, take, ◌-◌}
+use Rattle.std.specs.Prelude.{ℕ, Bool, List, [], ◌∷◌, Option, Some, None, option_map, map, string_bytes, if◌then◌else◌, length, take, ◌-◌}
 use denote.Ref.{Bor}
 use Rattle.fluent_ast.specs.View.{pattern_view}
 use Rattle.fluent_ast.specs.declared.Pattern.{Pattern}
@@ -13,6 +13,7 @@ use Rattle.fluent_meaning.specs.Ids.{find}
 use Rattle.fluent_meaning.specs.Substitution as s
 use Rattle.fluent_meaning.specs.Told.{State, budget_of, capped, in_byte}
 use Rattle.fluent_progress.specs.declared.context.Context.{Ghosts as Context}
+use Rattle.fluent_progress.specs.declared.path.Path.{Path}
 use Rattle.fluent_progress.specs.declared.place.Place.{Place}
 use Rattle.fluent_progress.specs.declared.progress.Progress.{Progress}
 use Rattle.fluent_progress.specs.declared.target.Target.{Target}
@@ -23,13 +24,26 @@ use Rattle.fluent_value.specs.declared.args.FluentArgs.{FluentArgs}
 use Rattle.fluent_value.specs.declared.custom.FluentType.{Ghosts as Custom}
 use Rattle.fluent_value.specs.declared.scope.ValueScope.{Ghosts as Scope}
 
+-- a list that begins with this, if it is there
+abbrev pub with_first : {A : Type 0} → Option A → List A → List A
+with_first None rest = rest
+with_first (Some first) rest = first ∷ rest
+
+-- the patterns of a path, the last one entered last
+abbrev pub patterns_on : Path → List (Bor (Pattern (Bor (List ℕ))))
+patterns_on p = with_first p.first p.rest.items
+
 -- the patterns that are being written, the last one entered last
+abbrev pub entered_in : Progress → List (Bor (Pattern (Bor (List ℕ))))
+entered_in p = patterns_on p.path
+
+-- the same as plain data
 abbrev pub path_of : Progress → List Elements
-path_of p = map (λ x. pattern_view _ (λ s. s.now) x.now) p.path.items
+path_of p = map (λ x. pattern_view _ (λ s. s.now) x.now) (entered_in p)
 
 -- the path without its last pattern, where that one was put there
 abbrev pub path_left : Bool → Progress → List (Bor (Pattern (Bor (List ℕ))))
-path_left is_root p = if is_root then take (length p.path.items - 1) p.path.items else p.path.items
+path_left is_root p = if is_root then take (length (entered_in p) - 1) (entered_in p) else entered_in p
 
 -- what resolving has come to
 abbrev pub state : Progress → State

@@ -18,7 +18,7 @@ mod context;
 pub mod fallback;
 mod lent;
 pub mod marks;
-pub mod path;
+mod path;
 mod place;
 mod progress;
 pub mod target;
@@ -29,6 +29,7 @@ pub mod variant;
 
 pub use context::Context;
 pub use lent::Lent;
+pub use path::Path;
 pub use place::Place;
 pub use progress::Progress;
 pub use target::Target;

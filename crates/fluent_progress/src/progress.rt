@@ -7,7 +7,7 @@ ghost use Rattle.fluent_meaning.specs.Told.{Finds, after};
 ghost use Rattle.fluent_progress.specs.Telling.{fresh, with_error};
 ghost use Rattle.fluent_progress.specs.Views.{path_of, state};
 
-use fluent_ast::Pattern;
+use crate::path::Path;
 use fluent_errors::{FluentError, ResolverError};
 use fluent_stack::{Stack, StackBudget};
 use std::alloc::{AllocError, Global};
@@ -27,7 +27,7 @@ pub struct Progress<'r, 's> {
     /// How many patterns were entered.
     pub entered: u128,
     /// The patterns that are being written, the last one entered last.
-    pub path: Vec<&'r Pattern<&'s str>>,
+    pub path: Path<'r, 's>,
     /// What is open of the machine's stack, in all patterns that are being written.
     pub stack: Stack,
 }
@@ -52,7 +52,7 @@ impl Progress<'_, '_> {
             placeables: 0,
             dirty: false,
             entered: 0,
-            path: Vec::new(alloc),
+            path: Path::new(alloc, None),
             stack: Stack::new(budget),
         }
     }

@@ -1,11 +1,12 @@
 -- Where resolving is, by the patterns that are being written.
-use Rattle.std.proofs.Common.{◌≡◌, List, Bor, ℕ, Vec, Global, ap, map}
+use Rattle.std.proofs.Common.{◌≡◌, List, Bor, ℕ, ap, map}
 use Rattle.fluent_ast.specs.View.{pattern_view}
 use Rattle.fluent_ast.specs.declared.Pattern.{Pattern}
 use Rattle.fluent_grammar.specs.Tree.{Elements}
 use Rattle.fluent_meaning.specs.Substitution as s
-use Rattle.fluent_progress.specs.Views.{start_of}
+use Rattle.fluent_progress.specs.Views.{patterns_on, start_of}
 use Rattle.fluent_progress.specs.declared.context.Context.{Ghosts as Context}
+use Rattle.fluent_progress.specs.declared.path.Path.{Path}
 use Rattle.fluent_progress.specs.declared.place.Place.{Place}
 use Rattle.fluent_value.specs.declared.custom.FluentType.{Ghosts as Custom}
 use Rattle.fluent_value.specs.declared.scope.ValueScope.{Ghosts as Scope}
@@ -26,5 +27,5 @@ module _ {C F E S : Type 0} {c : Custom C S} {e : Context E C F S} {v : Scope E 
   pub same-place : {ps qs : List (Bor (Pattern (Bor (List ℕ))))} → ps ≡ qs → place_on (map entered ps) ≡ place_on (map entered qs)
   same-place h = place-on (ap (map entered) h)
 
-  pub kept-place : {ps qs : Vec (Bor (Pattern (Bor (List ℕ)))) Global} → ps ≡ qs → place_on (map entered ps.items) ≡ place_on (map entered qs.items)
-  kept-place h = same-place (ap (λ (v : Vec (Bor (Pattern (Bor (List ℕ)))) Global). v.items) h)
+  pub kept-place : {p q : Path} → p ≡ q → place_on (map entered (patterns_on p)) ≡ place_on (map entered (patterns_on q))
+  kept-place h = same-place (ap patterns_on h)

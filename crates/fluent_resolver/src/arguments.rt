@@ -2,6 +2,7 @@
 
 ghost use Rattle.std.specs.Prelude.{◌≡◌, OnOk};
 ghost use Rattle.fluent_progress.specs.Resolves.{TellsOnErr};
+ghost use Rattle.fluent_progress.specs.Views.{entered_in};
 ghost use Rattle.fluent_resolver.specs.Finds.{Calls, FindsNamed, FindsOwn, FindsValues};
 ghost use Rattle.fluent_resolver.specs.Steps.{call_step, named_step, own_step, positional_step};
 
@@ -23,7 +24,7 @@ pub(crate) fn call_result<'b, 'r, 's, 'a, C: FluentType + Drop, F, E: Context<C,
 ) -> Result<Option<FluentValue<'s, C>>, AllocError>
     ensures found { Calls result place.now progress.old progress.new id.now arguments.now }
     ensures refused { TellsOnErr result progress.old progress.new (call_step place.now id.now arguments.now) }
-    ensures path { OnOk result (progress.new.path.items ≡ progress.old.path.items) }
+    ensures path { OnOk result (entered_in progress.new ≡ entered_in progress.old) }
 {
     let positional = positional_values(place, progress, &arguments.positional)?;
     let named = named_values(place, progress, &arguments.named)?;
@@ -40,7 +41,7 @@ pub(crate) fn nested_call<'b, 'r, 's, 'a, C: FluentType + Drop, F, E: Context<C,
 ) -> Result<Option<FluentValue<'s, C>>, AllocError>
     ensures found { Calls result place.now progress.old progress.new id.now arguments.now }
     ensures refused { TellsOnErr result progress.old progress.new (call_step place.now id.now arguments.now) }
-    ensures path { OnOk result (progress.new.path.items ≡ progress.old.path.items) }
+    ensures path { OnOk result (entered_in progress.new ≡ entered_in progress.old) }
 {
     progress.open_frames(resolving::CALL)?;
     let result = call_result(place, progress, id, arguments)?;
@@ -57,7 +58,7 @@ pub(crate) fn own_arguments<'b, 'r, 's, 'a, C: FluentType + Drop, F, E: Context<
 ) -> Result<FluentArgs<'s, C>, AllocError>
     ensures found { FindsOwn result place.now progress.old progress.new arguments.now }
     ensures refused { TellsOnErr result progress.old progress.new (own_step place.now arguments.now) }
-    ensures path { OnOk result (progress.new.path.items ≡ progress.old.path.items) }
+    ensures path { OnOk result (entered_in progress.new ≡ entered_in progress.old) }
 {
     match arguments {
         Some(arguments) => {
@@ -80,7 +81,7 @@ pub fn positional_values<'b, 'r, 's, 'a, C: FluentType + Drop, F, E: Context<C, 
 ) -> Result<Vec<FluentValue<'s, C>>, AllocError>
     ensures found { FindsValues result place.now progress.old progress.new arguments.now }
     ensures refused { TellsOnErr result progress.old progress.new (positional_step place.now arguments.now) }
-    ensures path { OnOk result (progress.new.path.items ≡ progress.old.path.items) }
+    ensures path { OnOk result (entered_in progress.new ≡ entered_in progress.old) }
 {
     let mut values = Vec::with_capacity(place.context.alloc(), arguments.len())?;
     for argument in arguments {
@@ -101,7 +102,7 @@ pub fn named_values<'b, 'r, 's, 'a, C: FluentType + Drop, F, E: Context<C, F>>(
 ) -> Result<FluentArgs<'s, C>, AllocError>
     ensures found { FindsNamed result place.now progress.old progress.new arguments.now }
     ensures refused { TellsOnErr result progress.old progress.new (named_step place.now arguments.now) }
-    ensures path { OnOk result (progress.new.path.items ≡ progress.old.path.items) }
+    ensures path { OnOk result (entered_in progress.new ≡ entered_in progress.old) }
 {
     let mut values = FluentArgs::new(place.context.alloc());
     for argument in arguments {

@@ -3,6 +3,7 @@
 ghost use Rattle.std.specs.Prelude.{◌≡◌, OnOk};
 ghost use Rattle.fluent_ast.specs.Borrowed.{inline_of};
 ghost use Rattle.fluent_progress.specs.Resolves.{TellsOnErr, Writes};
+ghost use Rattle.fluent_progress.specs.Views.{entered_in};
 ghost use Rattle.fluent_resolver.specs.Finds.{Chooses};
 ghost use Rattle.fluent_resolver.specs.Steps.{call_of, choice_step, expression_step, inline_step, select, term_reference_of};
 
@@ -33,7 +34,7 @@ pub fn write_expression<'b, 'r, 's, 'a, C: FluentType + Drop, F, E: Context<C, F
 ) -> Result<(), AllocError>
     ensures wrote { Writes result out.old out.new progress.old progress.new (expression_step place.now expression.now) }
     ensures refused { TellsOnErr result progress.old progress.new (expression_step place.now expression.now) }
-    ensures path { OnOk result (progress.new.path.items ≡ progress.old.path.items) }
+    ensures path { OnOk result (entered_in progress.new ≡ entered_in progress.old) }
 {
     match expression {
         Expression::Select { selector, variants } => {
@@ -55,7 +56,7 @@ fn write_select<'b, 'r, 's, 'a, C: FluentType + Drop, F, E: Context<C, F>>(
     ensures wrote { Writes result out.old out.new progress.old progress.new
         (select place.now selector.now variants.now) }
     ensures refused { TellsOnErr result progress.old progress.new (select place.now selector.now variants.now) }
-    ensures path { OnOk result (progress.new.path.items ≡ progress.old.path.items) }
+    ensures path { OnOk result (entered_in progress.new ≡ entered_in progress.old) }
 {
     match choose(place, progress, selector, variants)? {
         Some(pattern) => {
@@ -76,7 +77,7 @@ fn choose<'b, 'r, 's, 'a, C: FluentType + Drop, F, E: Context<C, F>>(
 ) -> Result<Option<&'r Pattern<&'s str>>, AllocError>
     ensures found { Chooses result place.now progress.old progress.new selector.now variants.now }
     ensures refused { TellsOnErr result progress.old progress.new (choice_step place.now selector.now variants.now) }
-    ensures path { OnOk result (progress.new.path.items ≡ progress.old.path.items) }
+    ensures path { OnOk result (entered_in progress.new ≡ entered_in progress.old) }
 {
     let value = value_of(place, progress, selector)?;
     Ok(chosen(place.context, &value, variants))
@@ -95,7 +96,7 @@ pub fn write_inline<'b, 'r, 's, 'a, C: FluentType + Drop, F, E: Context<C, F>>(
 ) -> Result<(), AllocError>
     ensures wrote { Writes result out.old out.new progress.old progress.new (inline_step place.now inline.now) }
     ensures refused { TellsOnErr result progress.old progress.new (inline_step place.now inline.now) }
-    ensures path { OnOk result (progress.new.path.items ≡ progress.old.path.items) }
+    ensures path { OnOk result (entered_in progress.new ≡ entered_in progress.old) }
 {
     match inline {
         InlineExpression::StringLiteral { value } => write_literal(out, *value),
@@ -132,7 +133,7 @@ fn write_call<'b, 'r, 's, 'a, C: FluentType + Drop, F, E: Context<C, F>>(
     requires { inline_of inline.now ≡ call_of id.now arguments.now }
     ensures wrote { Writes result out.old out.new progress.old progress.new (inline_step place.now inline.now) }
     ensures refused { TellsOnErr result progress.old progress.new (inline_step place.now inline.now) }
-    ensures path { OnOk result (progress.new.path.items ≡ progress.old.path.items) }
+    ensures path { OnOk result (entered_in progress.new ≡ entered_in progress.old) }
 {
     match call_result(place, progress, id, arguments)? {
         Some(result) => write_result(out, place.context, id.name, &result),
@@ -158,7 +159,7 @@ fn write_term<'b, 'r, 's, 'a, C: FluentType + Drop, F, E: Context<C, F>>(
     requires { inline_of inline.now ≡ term_reference_of id.now attribute.now arguments.now }
     ensures wrote { Writes result out.old out.new progress.old progress.new (inline_step place.now inline.now) }
     ensures refused { TellsOnErr result progress.old progress.new (inline_step place.now inline.now) }
-    ensures path { OnOk result (progress.new.path.items ≡ progress.old.path.items) }
+    ensures path { OnOk result (entered_in progress.new ≡ entered_in progress.old) }
 {
     let own = own_arguments(place, progress, arguments)?;
     let target = place.term_target(id, attribute)?;

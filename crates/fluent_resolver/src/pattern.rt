@@ -2,6 +2,7 @@
 
 ghost use Rattle.std.specs.Prelude.{◌≡◌, false, OnOk};
 ghost use Rattle.fluent_progress.specs.Resolves.{TellsOnErr, Writes};
+ghost use Rattle.fluent_progress.specs.Views.{entered_in};
 ghost use Rattle.fluent_resolver.specs.Steps.{inside, pattern_step, placeable, reference, outcome};
 
 use crate::expression::write_expression;
@@ -27,7 +28,7 @@ pub fn write_pattern<'b, 'r, 's, 'a, C: FluentType + Drop, F, E: Context<C, F>>(
 ) -> Result<(), AllocError>
     ensures wrote { Writes result out.old out.new progress.old progress.new (pattern_step place.now pattern.now) }
     ensures refused { TellsOnErr result progress.old progress.new (pattern_step place.now pattern.now) }
-    ensures path { OnOk result (progress.new.path.items ≡ progress.old.path.items) }
+    ensures path { OnOk result (entered_in progress.new ≡ entered_in progress.old) }
 {
     for element in &pattern.elements {
         if progress.dirty {
@@ -59,7 +60,7 @@ pub fn write_placeable<'b, 'r, 's, 'a, C: FluentType + Drop, F, E: Context<C, F>
     ensures wrote { Writes result out.old out.new progress.old progress.new
         (placeable place.now whole.now expression.now) }
     ensures refused { TellsOnErr result progress.old progress.new (placeable place.now whole.now expression.now) }
-    ensures path { OnOk result (progress.new.path.items ≡ progress.old.path.items) }
+    ensures path { OnOk result (entered_in progress.new ≡ entered_in progress.old) }
 {
     if !progress.open_placeable()? {
         return Ok(());
@@ -86,7 +87,7 @@ pub fn write_opened<'b, 'r, 's, 'a, C: FluentType + Drop, F, E: Context<C, F>>(
     ensures wrote { Writes result out.old out.new progress.old progress.new
         (inside place.now whole.now expression.now) }
     ensures refused { TellsOnErr result progress.old progress.new (inside place.now whole.now expression.now) }
-    ensures path { OnOk result (progress.new.path.items ≡ progress.old.path.items) }
+    ensures path { OnOk result (entered_in progress.new ≡ entered_in progress.old) }
 {
     let is_root = progress.enter_root(whole)?;
     write_expression(out, place, progress, expression)?;
@@ -106,7 +107,7 @@ pub(crate) fn write_target<'b, 'r, 's, 'a, C: FluentType + Drop, F, E: Context<C
     ensures wrote { Writes result out.old out.new progress.old progress.new
         (outcome place.now inline.now target.entry) }
     ensures refused { TellsOnErr result progress.old progress.new (outcome place.now inline.now target.entry) }
-    ensures path { OnOk result (progress.new.path.items ≡ progress.old.path.items) }
+    ensures path { OnOk result (entered_in progress.new ≡ entered_in progress.old) }
 {
     match target {
         Target::There(pattern) => write_referred(out, place, progress, inline, pattern),
@@ -132,7 +133,7 @@ pub fn write_referred<'b, 'r, 's, 'a, C: FluentType + Drop, F, E: Context<C, F>>
     ensures wrote { Writes result out.old out.new progress.old progress.new
         (reference place.now inline.now pattern.now) }
     ensures refused { TellsOnErr result progress.old progress.new (reference place.now inline.now pattern.now) }
-    ensures path { OnOk result (progress.new.path.items ≡ progress.old.path.items) }
+    ensures path { OnOk result (entered_in progress.new ≡ entered_in progress.old) }
 {
     if progress.is_entered(pattern) {
         return fall_back(out, progress, inline, ResolverError::Cyclic);

@@ -2,6 +2,7 @@
 
 ghost use Rattle.std.specs.Prelude.{◌≡◌, OnOk};
 ghost use Rattle.fluent_progress.specs.Resolves.{TellsOnErr};
+ghost use Rattle.fluent_progress.specs.Views.{entered_in};
 ghost use Rattle.fluent_resolver.specs.Finds.{FindsText, FindsValue};
 ghost use Rattle.fluent_resolver.specs.Steps.{inline_step, value_step};
 
@@ -27,7 +28,7 @@ pub fn value_of<'b, 'r, 's, 'a, C: FluentType + Drop, F, E: Context<C, F>>(
 ) -> Result<FluentValue<'s, C>, AllocError>
     ensures found { FindsValue result place.now progress.old progress.new inline.now }
     ensures refused { TellsOnErr result progress.old progress.new (value_step place.now inline.now) }
-    ensures path { OnOk result (progress.new.path.items ≡ progress.old.path.items) }
+    ensures path { OnOk result (entered_in progress.new ≡ entered_in progress.old) }
 {
     match inline {
         InlineExpression::StringLiteral { value } => literal_value(place.context.alloc(), *value),
@@ -62,7 +63,7 @@ fn text_value<'b, 'r, 's, 'a, C: FluentType + Drop, F, E: Context<C, F>>(
 ) -> Result<FluentValue<'s, C>, AllocError>
     ensures found { FindsText result place.now progress.old progress.new inline.now }
     ensures refused { TellsOnErr result progress.old progress.new (inline_step place.now inline.now) }
-    ensures path { OnOk result (progress.new.path.items ≡ progress.old.path.items) }
+    ensures path { OnOk result (entered_in progress.new ≡ entered_in progress.old) }
 {
     progress.open_frames(resolving::TEXT)?;
     let mut text = String::new(place.context.alloc());

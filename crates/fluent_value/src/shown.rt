@@ -18,7 +18,7 @@ use itoa::Buffer;
 use std::alloc::{AllocError, Global};
 use std::borrow::CowStr;
 
-/// The number whose digits are all of another's text: that of a whole one without a minus and a point.
+/// The whole number whose digits are all of a number's text, if that has no minus and no point.
 fn digits_alone(number: &FluentNumber) -> Option<u64>
     ensures { IfSome result (λ whole. number_text (number_of number.now) ≡ decimal whole) }
 {
@@ -29,8 +29,8 @@ fn digits_alone(number: &FluentNumber) -> Option<u64>
     Some(number.value.whole())
 }
 
-/// Writes the text of a number. Digits alone are written from a buffer, without memory for a text of their own.
-// It isn't inlined, so that the buffer is on the machine's stack only while a number is written.
+/// Writes the text of a number. Digits alone are written from a buffer, which takes no memory, in a frame of its own:
+/// the frames of what resolves patterns are to stay small.
 #[inline(never)]
 fn write_number<W: TextWrite>(
     w: &mut W,

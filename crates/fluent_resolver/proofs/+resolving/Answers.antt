@@ -1,4 +1,4 @@
-use Rattle.std.proofs.Common.{◌≡◌, ◌++◌, ◌+◌, ◌≤◌, ◌<◌, suc, ◌∷◌, [], true, false, refl, sym, ap, subst, ◌∙◌, ℕ, List, Bor, Option, Some, rules, map, option_map, take, drop, Vec, Global, arith}
+use Rattle.std.proofs.Common.{◌≡◌, ◌++◌, ◌+◌, ◌≤◌, ◌<◌, suc, ◌∷◌, [], true, false, refl, sym, ap, subst, ◌∙◌, ℕ, List, Bor, Option, Some, rules, map, option_map, take, drop, arith}
 use Rattle.std.proofs.lemmas.List.{take_all, map-append}
 use Rattle.std.proofs.lemmas.Result.{on_ok_weaker, on_err_weaker, IfOk-weaker}
 use Rattle.std.proofs.Math.Nat.{le_refl}
@@ -32,8 +32,8 @@ use Rattle.fluent_meaning.specs.Told.{State, Writes, Finds, after, budget_of}
 use Rattle.fluent_meaning.specs.Weight.{arguments_weight, elements_weight, expression_weight, ids_weight, inline_weight, inlines_weight, maybe_arguments_weight, nameds_weight}
 use Rattle.fluent_progress.proofs.Telling.{on-err, tells-same, within}
 use Rattle.fluent_progress.specs.Results.{function_result}
-use Rattle.fluent_progress.specs.Views.{path_of, place_view, resolved_in, state, target_view}
-use Rattle.fluent_progress.specs.declared.progress.Progress.{Progress}
+use Rattle.fluent_progress.specs.Views.{entered_in, path_of, patterns_on, place_view, resolved_in, state, target_view}
+use Rattle.fluent_progress.specs.declared.path.Path.{Path}
 use Rattle.fluent_resolver.proofs.Calls.{of-three, get_or-view, map-up-to, named-one, named-refused, positional-one, positional-refused}
 use Rattle.fluent_resolver.proofs.Parts.{less-element, less-placeable, opens-left, weight-function, weight-named, weight-positional, weight-select, weight-some, weight-term, entered-tells, entered-writes, found-tells, marked-writes, opened-tells, placeable-refused, referred-first, rest-refused, tells-as, unmarked-tells, written-tells}
 use Rattle.fluent_value.specs.Args.{all_set}
@@ -193,7 +193,7 @@ pattern::write_referred-returns-clause-wrote g n c =
     let first : s.is_on_path pat here.path ≡ false = sym c.is_entered.ensures ∙ c.if-is_entered.false in
     let counted : state c.enter_path.new.self ≡ after s0 (entering (done true b)) = c.enter_path.ensures.state ∙ c.count_entry.ensures.counted in
     let of_path : Bor (Pattern (Bor (List ℕ))) → Elements = λ x. pattern_of x.now in
-    let on_path : path_of c.enter_path.new.self ≡ here.path ++ pat ∷ [] = ap (map of_path) (c.in_ok-enter_path.ensures.path ∙ ap (λ (v : Vec (Bor (Pattern (Bor (List ℕ)))) Global). v.items ++ c.args.pattern ∷ []) c.count_entry.ensures.path) ∙ map-append of_path c.args.progress.now.path.items (c.args.pattern ∷ []) in
+    let on_path : path_of c.enter_path.new.self ≡ here.path ++ pat ∷ [] = ap (map of_path) (c.in_ok-enter_path.ensures.path ∙ ap (λ (v : Path). patterns_on v ++ c.args.pattern ∷ []) c.count_entry.ensures.path) ∙ map-append of_path (entered_in c.args.progress.now) (c.args.pattern ∷ []) in
     let at_place : seen c.enter_path.new.self ≡ deeper pat here = place-on c.args.place.now on_path in
     let x = string_bytes c.args.out.now in
     let y = string_bytes c.write_pattern.new.out in
@@ -227,7 +227,7 @@ pattern::write_referred-returns-in_err-write_pattern-clause-refused g n c =
     let first : s.is_on_path pat here.path ≡ false = sym c.is_entered.ensures ∙ c.if-is_entered.false in
     let counted : state c.enter_path.new.self ≡ after s0 (entering (done true b)) = c.enter_path.ensures.state ∙ c.count_entry.ensures.counted in
     let of_path : Bor (Pattern (Bor (List ℕ))) → Elements = λ x. pattern_of x.now in
-    let on_path : path_of c.enter_path.new.self ≡ here.path ++ pat ∷ [] = ap (map of_path) (c.in_ok-enter_path.ensures.path ∙ ap (λ (v : Vec (Bor (Pattern (Bor (List ℕ)))) Global). v.items ++ c.args.pattern ∷ []) c.count_entry.ensures.path) ∙ map-append of_path c.args.progress.now.path.items (c.args.pattern ∷ []) in
+    let on_path : path_of c.enter_path.new.self ≡ here.path ++ pat ∷ [] = ap (map of_path) (c.in_ok-enter_path.ensures.path ∙ ap (λ (v : Path). patterns_on v ++ c.args.pattern ∷ []) c.count_entry.ensures.path) ∙ map-append of_path (entered_in c.args.progress.now) (c.args.pattern ∷ []) in
     let at_place : seen c.enter_path.new.self ≡ deeper pat here = place-on c.args.place.now on_path in
     let u = state c.enter_path.new.self in
     let inner : TellsSome u (state c.write_pattern.new.progress) (enter pat (deeper pat here) u.budget) = subst (λ p. TellsSome u (state c.write_pattern.new.progress) (enter pat p u.budget)) at_place c.in_err-write_pattern.ensures.refused in
@@ -482,7 +482,7 @@ pattern::write_pattern-loop-element-preserved g n c =
           record {
             wrote = subst (λ p. Writes held next s0 (state p) (λ x. s.elements_written env whole (elements_of (map view (take (i + 1) items))) here x)) (sym w.progress-is)
                 (subst (λ es. Writes held next s0 (state c.loop-element.progress) (λ x. s.elements_written env whole es here x)) (ap (λ y. elements_of (xs ++ y ∷ [])) (sym is) ∙ grown) wrote);
-            path = ap (λ (p : Progress). p.path.items) w.progress-is ∙ invariant.path;
+            path = ap entered_in w.progress-is ∙ invariant.path;
           })
       | pattern::write_pattern-in-Placeable+in_ok-write_placeable-in-Placeable w ↦
           (let e = expression_of w.in-Placeable.expression in
@@ -496,7 +496,7 @@ pattern::write_pattern-loop-element-preserved g n c =
           let wrote = placeable-element env write whole here xs e invariant.wrote before in
           record {
             wrote = subst (λ es. Writes held next s0 (state c.match-element.progress) (λ x. s.elements_written env whole es here x)) (ap (λ y. elements_of (xs ++ y ∷ [])) (sym is) ∙ grown) wrote;
-            path = ap (λ (p : Progress). p.path.items) w.progress-is ∙ w.in_ok-write_placeable-in-Placeable.ensures.path ∙ invariant.path;
+            path = ap entered_in w.progress-is ∙ w.in_ok-write_placeable-in-Placeable.ensures.path ∙ invariant.path;
           })
     ]
 

@@ -13,8 +13,7 @@ use Rattle.fluent_meaning.specs.Steps.{is_shut, shut}
 use Rattle.fluent_meaning.specs.Substitution as s
 use Rattle.fluent_meaning.specs.Told.{State, Writes, budget_of}
 use Rattle.fluent_progress.proofs.Telling.{on-err, within}
-use Rattle.fluent_progress.specs.Views.{place_view, resolved_in, state}
-use Rattle.fluent_progress.specs.declared.progress.Progress.{Progress}
+use Rattle.fluent_progress.specs.Views.{entered_in, place_view, resolved_in, state}
 use Rattle.fluent_resolver.proofs.Places.{same-place}
 use Rattle.fluent_asking.proofs.Pieces.{placeable-refused, text-refused}
 use Rattle.fluent_resolver.proofs.Elements.{whole-around, whole-elements, whole-split}
@@ -116,7 +115,7 @@ loop-element-preserved g c =
           record {
             wrote = subst (λ p. Writes held next s0 (state p) (λ x. s.elements_written env whole (elements_of (map view (take (i + 1) items))) here x)) (sym w.progress-is)
                 (subst (λ es. Writes held next s0 (state c.loop-element.progress) (λ x. s.elements_written env whole es here x)) (ap (λ y. elements_of (xs ++ y ∷ [])) (sym is) ∙ grown) wrote);
-            path = ap (λ (p : Progress). p.path.items) w.progress-is ∙ invariant.path;
+            path = ap entered_in w.progress-is ∙ invariant.path;
           })
       | in-Placeable+in_ok-write_piece-in-Placeable w ↦
           (let e = expression_view (Bor (List ℕ)) (λ s. s.now) w.in-Placeable.expression in
@@ -131,6 +130,6 @@ loop-element-preserved g c =
           let wrote = placeable-element env write whole here xs e invariant.wrote before in
           record {
             wrote = subst (λ es. Writes held next s0 (state c.match-element.progress) (λ x. s.elements_written env whole es here x)) (ap (λ y. elements_of (xs ++ y ∷ [])) (sym is) ∙ grown) wrote;
-            path = ap (λ (p : Progress). p.path.items) w.progress-is ∙ w.in_ok-write_piece-in-Placeable.ensures.path ∙ invariant.path;
+            path = ap entered_in w.progress-is ∙ w.in_ok-write_piece-in-Placeable.ensures.path ∙ invariant.path;
           })
     ]

@@ -2,7 +2,7 @@ use Rattle.std.proofs.Common.{◌≡◌, None, map, take}
 use Rattle.fluent_ast.specs.View.{element_view, elements_of, pattern_view}
 use Rattle.fluent_meaning.specs.Substitution as s
 use Rattle.fluent_meaning.specs.Told.{Writes}
-use Rattle.fluent_progress.specs.Views.{place_view, resolved_in, state}
+use Rattle.fluent_progress.specs.Views.{entered_in, place_view, resolved_in, state}
 use Rattle.fluent_asking.proofs.written.write_pieces.Given as goal
 
 -- The elements before this one were written.
@@ -14,5 +14,5 @@ invariant-loop-element g l =
     let here = place_view l.place l.initial.progress in
     record {
       wrote : Writes (g.W.TextWrite.text l.initial.w) (g.W.TextWrite.text l.w) (state l.initial.progress) (state l.progress) (λ b. s.elements_written env whole before here b);
-      path : l.progress.path.items ≡ l.initial.progress.path.items;
+      path : entered_in l.progress ≡ entered_in l.initial.progress;
     }

@@ -1,11 +1,11 @@
 //! What each call of a scope is made of: the scope's own part is handed on, and put back at the end.
 
-ghost use Rattle.std.specs.Prelude.{◌≡◌, IfOk, None, OnErr, Some, is_some, map, option_map};
+ghost use Rattle.std.specs.Prelude.{◌≡◌, None, Some, is_some, option_map};
 ghost use Rattle.fluent_ast.specs.Borrowed.{elements_of};
 ghost use Rattle.fluent_asking.specs.Asked.{told};
 ghost use Rattle.fluent_bundle.specs.ScopeSteps.{FindsArguments, TellsSome, WritesText};
 ghost use Rattle.fluent_bundle.specs.ScopeSteps.{argument_values, fallback, inside, reference, unknown_reference};
-ghost use Rattle.fluent_bundle.specs.ScopeView.{Keeps, path_of, root_of, state_of};
+ghost use Rattle.fluent_bundle.specs.ScopeView.{Keeps, path_of, state_of};
 ghost use Rattle.fluent_meaning.specs.Substitution as s;
 ghost use Rattle.fluent_progress.specs.Views as v;
 ghost use Rattle.fluent_progress.specs.Views.{state};
@@ -15,7 +15,7 @@ use fluent_asking::steps::{opened, referred, values};
 use fluent_ast::{CallArguments, Expression, InlineExpression, Pattern};
 use fluent_errors::{FluentError, ReferenceKind, ResolverError};
 use fluent_progress::fallback::write_inline_braced;
-use fluent_progress::{Place, Progress};
+use fluent_progress::{Path, Place, Progress};
 use fluent_stack::{Stack, StackBudget};
 use fluent_value::{
     FluentArgs, FluentFunction, FluentType, FluentValue, MemoizerKind, TextTransform,
@@ -23,20 +23,6 @@ use fluent_value::{
 };
 use std::alloc::{AllocError, Global};
 use std::mem;
-
-/// The path of a scope between two calls. The only error is that memory runs out.
-fn path<'r, 's>(
-    alloc: Global,
-    root: Option<&'r Pattern<&'s str>>,
-) -> Result<Vec<&'r Pattern<&'s str>>, AllocError>
-    ensures { IfOk result (λ path. map (λ x. elements_of x.now) path.items ≡ root_of root.entry) }
-{
-    let mut path = Vec::new(alloc);
-    if let Some(pattern) = root {
-        path.push(pattern)?;
-    }
-    Ok(path)
-}
 
 /// Takes the errors out of a list.
 fn taken(alloc: Global, list: &mut Option<&mut Vec<FluentError>>) -> Option<Vec<FluentError>>
@@ -56,25 +42,23 @@ where
     F: FluentFunction<C>,
     G: ValueFormatter<C, M>,
 {
-    /// What resolving has come to, taken out of the scope. The only error is that memory runs out; nothing has changed then.
-    fn progress(&mut self) -> Result<Progress<'r, 's>, AllocError>
-        ensures state { IfOk result (λ progress. state progress ≡ state_of self.old) }
-        ensures path { IfOk result (λ progress. v.path_of progress ≡ path_of self.old) }
-        ensures refused { OnErr result (state_of self.new ≡ state_of self.old) }
+    /// What resolving has come to, taken out of the scope.
+    fn progress(&mut self) -> Progress<'r, 's>
+        ensures state { state result ≡ state_of self.old }
+        ensures path { v.path_of result ≡ path_of self.old }
         ensures path_left { path_of self.new ≡ path_of self.old }
         ensures kept { Keeps self.old self.new }
     {
         let alloc = self.bundle.alloc;
-        let path = path(alloc, self.root)?;
         let errors = taken(alloc, &mut self.errors);
-        Ok(Progress {
+        Progress {
             errors,
             placeables: self.placeables,
             dirty: self.dirty,
             entered: self.entered,
-            path,
+            path: Path::new(alloc, self.root),
             stack: Stack::new(StackBudget::PROGRAM),
-        })
+        }
     }
 
     /// Puts back what resolving has come to.
@@ -144,7 +128,7 @@ where
         ensures path { path_of self.new ≡ path_of self.old }
         ensures kept { Keeps self.old self.new }
     {
-        let mut progress = self.progress()?;
+        let mut progress = self.progress();
         let bundle = self.bundle;
         let lent = bundle.lent();
         let locals: Option<&'b FluentArgs<'s, C>> = None;
@@ -172,7 +156,7 @@ where
         ensures path { path_of self.new ≡ path_of self.old }
         ensures kept { Keeps self.old self.new }
     {
-        let mut progress = self.progress()?;
+        let mut progress = self.progress();
         let bundle = self.bundle;
         let lent = bundle.lent();
         let locals: Option<&'b FluentArgs<'s, C>> = None;
@@ -215,7 +199,7 @@ where
         ensures path { path_of self.new ≡ path_of self.old }
         ensures kept { Keeps self.old self.new }
     {
-        let mut progress = self.progress()?;
+        let mut progress = self.progress();
         let bundle = self.bundle;
         let lent = bundle.lent();
         let locals: Option<&'b FluentArgs<'s, C>> = None;

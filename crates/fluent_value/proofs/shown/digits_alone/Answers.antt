@@ -8,7 +8,7 @@ pub returns : goal.returns
 unfolding number_text
 returns c =
     let value = c.args.number.now.value in
-    let positive : is_below_zero value ≡ false = search (c.is_negative.ensures, c.if-is_negative.false, rules) in
-    let whole : fraction_of value ≡ 0 = omega (arith, c.fraction.ensures.value, c.if-fraction-gt0.false) in
+    let positive : is_below_zero value ≡ false = search rules in
+    let whole : fraction_of value ≡ 0 = omega arith in
     let none : c.args.number.now.options.minimum_fraction_digits ≡ None = search rules in
     bare-text value _ positive whole none ∙ sym (ap decimal c.whole.ensures)
