@@ -1,3 +1,5 @@
 pub mod Lists
 pub mod Trees
 pub mod FilesFound
+pub mod Counted
+pub mod Translated

@@ -38,18 +38,25 @@ abbrev start : Ids (Unit {0})
 start = number_pair ∷ []
 
 -- one more function was added
-pub one_function : (names : List (Bor Text)) (i : ℕ) (d : Bor Text) → i < length names → (ids : Ids (Unit {0})) → ids ≡ by_ids (texts (take i names)) [] →
-    with_id false ids ((get_or names i d).now, function tt) ≡ by_ids (texts (take (i + 1) names)) []
-one_function names i d inside ids before =
+pub one_function : (names : List (Bor Text)) (i : ℕ) (d : Bor Text) → i < length names → (first ids : Ids (Unit {0})) → ids ≡ with_ids false first (functions_by_id (texts (take i names))) →
+    with_id false ids ((get_or names i d).now, function tt) ≡ with_ids false first (functions_by_id (texts (take (i + 1) names)))
+one_function names i d inside first ids before =
     let pair : Text × Meaning (Unit {0}) = ((get_or names i d).now, function tt) in
     let old = functions_by_id (texts (take i names)) in
     let more : functions_by_id (texts (take (i + 1) names)) ≡ old ++ pair ∷ [] =
     ap (λ ns. functions_by_id (texts ns)) (take_more names i d inside)
     ∙ ap functions_by_id (map-append (λ (s : Bor Text). s.now) (take i names) (get_or names i d ∷ []))
     ∙ map-append (λ name. (name, function tt)) (texts (take i names)) ((get_or names i d).now ∷ []) in
-    ap (λ x. with_id false x pair) (before ∙ ap (with_ids false start) (append-nil old))
-    ∙ sym (with_ids-++ false start old (pair ∷ []))
-    ∙ ap (with_ids false start) (sym more ∙ sym (append-nil (functions_by_id (texts (take (i + 1) names)))))
+    ap (λ x. with_id false x pair) before ∙ sym (with_ids-++ false first old (pair ∷ [])) ∙ ap (with_ids false first) (sym more)
+
+-- the functions of the program were added, and then those that are called
+pub functions_added : (functions called : List Text) (number own all : Ids (Unit {0})) → number ≡ start → own ≡ with_ids false number (functions_by_id functions) → all ≡ with_ids false own (functions_by_id called) →
+    all ≡ by_ids (functions ++ called) []
+functions_added functions called number own all first second third =
+    let both : functions_by_id functions ++ functions_by_id called ≡ functions_by_id (functions ++ called) = sym (map-append (λ name. (name, function tt)) functions called) in
+    third ∙ ap (λ ids. with_ids false ids (functions_by_id called)) (second ∙ ap (λ ids. with_ids false ids (functions_by_id functions)) first)
+    ∙ sym (with_ids-++ false start (functions_by_id functions) (functions_by_id called))
+    ∙ ap (with_ids false start) (both ∙ sym (append-nil (functions_by_id (functions ++ called))))
 
 -- the entries of one more tree were added
 pub one_tree : (names : List Text) (trees : List (Resource (Bor Text))) (i : ℕ) (tree : Resource (Bor Text)) → i < length trees → tree ≡ get_or trees i tree →

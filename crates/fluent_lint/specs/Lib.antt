@@ -4,3 +4,5 @@ pub mod FileTiles
 pub mod Found
 pub mod Reports
 pub mod KnownRules
+pub mod Missing
+pub mod Translation

@@ -4,10 +4,10 @@ use Rattle.fluent_catalog_findings.specs.PartFindings.{findings_of_files}
 use Rattle.fluent_finding.specs.declared.records.File.{File}
 use Rattle.fluent_finding_text.specs.View.{shown_width}
 use Rattle.fluent_findings.specs.Findings as f
-use Rattle.fluent_findings.specs.Findings.{FileFinding, Rules, findings}
+use Rattle.fluent_findings.specs.Findings.{FileFinding, Rules, findings, findings_with_reference}
 use Rattle.fluent_findings.specs.Output as out
 use Rattle.fluent_findings.specs.Report.{has_failed, shown}
-use Rattle.fluent_findings.specs.Summary.{Summary}
+use Rattle.fluent_findings.specs.Summary.{Summary, summaries}
 use Rattle.fluent_grammar.specs.Words.{Text}
 use Rattle.fluent_lint.specs.FileTiles.{files_view}
 use Rattle.fluent_lint.specs.declared.reports.Options.{Options}
@@ -38,3 +38,19 @@ catalog_report o w fs = out.output (format_view w.format) shown_width (shown w.n
 
 abbrev pub catalog_fails : Options → Output → List File → Bool
 catalog_fails o w fs = has_failed w.strict (catalog_findings o fs)
+
+-- ---- a catalog with its reference
+
+abbrev pub translation_findings : Options → List File → List File → List FileFinding
+translation_findings o rs fs = findings_with_reference (options_view o) (files_view rs) (files_view fs)
+
+-- the counts at its end
+abbrev pub translation_summaries : Options → List File → List File → List Summary
+translation_summaries o rs fs = summaries (files_view rs) (files_view fs) (translation_findings o rs fs)
+
+abbrev pub translation_report : Options → Output → List File → List File → Text
+translation_report o w rs fs =
+    out.output (format_view w.format) shown_width (shown w.notes (translation_findings o rs fs)) (translation_summaries o rs fs)
+
+abbrev pub translation_fails : Options → Output → List File → List File → Bool
+translation_fails o w rs fs = has_failed w.strict (translation_findings o rs fs)

@@ -100,7 +100,7 @@ fn report_of_tiles<'r, 's: 'r>(
     requires read { IsReadOf (files_of tiles.now) read.now }
     ensures { IfOk result (IsReportOf (findings_of_catalog options.now (files_of tiles.now)) [] output) }
 {
-    let functions = catalog_ids(alloc, options.functions, &[])?;
+    let functions = catalog_ids(alloc, options.functions, &[], &[])?;
     report_by_functions(alloc, options, output, &functions, tiles, read)
 }
 
@@ -118,7 +118,7 @@ fn report_by_functions<'r, 's: 'r>(
     requires read { IsReadOf (files_of tiles.now) read.now }
     ensures { IfOk result (IsReportOf (findings_of_catalog options.now (files_of tiles.now)) [] output) }
 {
-    let ids = catalog_ids(alloc, options.functions, &read.trees)?;
+    let ids = catalog_ids(alloc, options.functions, &[], &read.trees)?;
     report_by_ids(alloc, options, output, functions, &ids, tiles, read)
 }
 
@@ -196,7 +196,7 @@ fn report_by_rules<'s, E: Endless<()>, C: Comparison>(
 }
 
 /// The report of findings, with these summaries.
-fn report_of(
+pub(crate) fn report_of(
     alloc: Global,
     output: Output,
     found: &[FileFindings],

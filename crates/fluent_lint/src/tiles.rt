@@ -22,6 +22,13 @@ pub struct FileTiles<'r, 's> {
     pub errors: &'r [ParserError],
 }
 
+/// The tiles of files, and what was read of them.
+#[derive(Clone, Copy)]
+pub struct TiledFiles<'r, 's> {
+    pub tiles: &'r [FileTiles<'r, 's>],
+    pub read: &'r ReadFiles<'s>,
+}
+
 /// The tiles of files, by what was read of them.
 ///
 /// # Errors

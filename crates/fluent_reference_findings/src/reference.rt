@@ -4,7 +4,7 @@
 ghost use Rattle.fluent_findings.specs.ComparisonFindings as f;
 ghost use Rattle.fluent_ids.specs.IdsView.{ids_view};
 
-use fluent_ast::Entry;
+use fluent_ast::{Entry, Resource};
 use fluent_catalog_findings::Comparison;
 use fluent_comparison::message_findings;
 use fluent_finding::Finding;
@@ -16,6 +16,8 @@ use std::alloc::{AllocError, Global};
 pub struct Reference<'c, 'r, 's> {
     pub ids: &'c FluentIds<'r, 's, ()>,
     pub reference: &'c FluentIds<'r, 's, ()>,
+    /// The trees that the ids of the reference refer to.
+    pub trees: &'r [Resource<&'s str>],
 }
 
 impl Comparison for Reference<'_, '_, '_> {

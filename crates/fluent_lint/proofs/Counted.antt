@@ -1,0 +1,28 @@
+-- Files whose messages are counted, and the missing messages of files, one file after the other.
+use Rattle.std.proofs.Common.{◌≡◌, ◌∙◌, ℕ, ◌+◌, ◌<◌, List, [], ◌∷◌, ◌++◌, length, take, get_or, map, refl, sym, ap}
+use Rattle.std.proofs.lemmas.List.{map-append, take_more}
+use Rattle.fluent_finding.specs.View.{file_view}
+use Rattle.fluent_findings.specs.Files.{File}
+use Rattle.fluent_summaries.specs.Counted as counted
+use Rattle.fluent_summaries.specs.declared.files.FileMessages.{FileMessages}
+use Rattle.fluent_lint.specs.FileTiles.{files_of, files_view}
+use Rattle.fluent_lint.specs.declared.tiles.FileTiles.{FileTiles}
+
+-- the file of these tiles
+abbrev pub view_of : FileTiles → File
+view_of tiled = file_view tiled.file
+
+pub all_viewed : (tiled : List FileTiles) → map view_of tiled ≡ files_view (files_of tiled)
+all_viewed [] = refl
+all_viewed (t ∷ ts) = ap (λ files. view_of t ∷ files) (all_viewed ts)
+
+-- one more file is counted
+pub one_counted : (tiled : List FileTiles) (i : ℕ) (item : FileTiles) → i < length tiled → item ≡ get_or tiled i item → (old new : List FileMessages) (one : FileMessages) →
+    new ≡ old ++ one ∷ [] → one.file ≡ item.file → counted.files_of old ≡ map view_of (take i tiled) → counted.files_of new ≡ map view_of (take (i + 1) tiled)
+one_counted tiled i item inside is old new one pushed same before =
+    ap counted.files_of pushed
+    ∙ map-append (λ (m : FileMessages). file_view m.file) old (one ∷ [])
+    ∙ ap (λ files. files ++ file_view one.file ∷ []) before
+    ∙ ap (λ file. map view_of (take i tiled) ++ file_view file ∷ []) same
+    ∙ sym (ap (map view_of) (take_more tiled i item inside ∙ ap (λ t. take i tiled ++ t ∷ []) (sym is))
+    ∙ map-append view_of (take i tiled) (item ∷ []))

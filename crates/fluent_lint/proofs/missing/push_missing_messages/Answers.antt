@@ -1,0 +1,36 @@
+use Rattle.std.proofs.Common.{◌∙◌, ◌++◌, ap, sym, subst, map}
+use Rattle.std.proofs.lemmas.List.{take_all}
+use Rattle.fluent_finding.specs.View.{findings_view}
+use Rattle.fluent_findings.specs.Findings.{findings_in}
+use Rattle.fluent_ids.specs.IdsView.{ids_view}
+use Rattle.fluent_reference_findings.proofs.Lists.{one_more}
+use Rattle.fluent_reference_findings.specs.Missing.{missing_in}
+use Rattle.fluent_tiles.specs.TileView.{tile_view}
+use Rattle.fluent_lint.specs.FileTiles.{AreTilesOf}
+use Rattle.fluent_lint.specs.Missing.{missing_in_files}
+use Rattle.fluent_lint.proofs.Counted.{all_viewed, view_of}
+use Rattle.fluent_lint.proofs.FilesFound.{found_more}
+use Rattle.fluent_lint.proofs.missing.push_missing_messages.Goals as goal
+
+pub missing_findings-requires : goal.missing_findings-requires
+missing_findings-requires c =
+    let tiled = subst AreTilesOf (sym c.file-item.is) (c.requires c.loop-file.file-index c.file-item.result c.loop-file-test.true) in
+    ap (map tile_view) c.deref.ensures.value ∙ tiled.parts
+
+pub loop-file-preserved : goal.loop-file-preserved
+loop-file-preserved c =
+    let ids = ids_view (Unit {0}) c.args.ids.now in
+    let file = view_of c.file-item.result in
+    one_more view_of (λ f. findings_in f (missing_in ids f.source)) c.args.references.now c.loop-file.file-index c.file-item.result c.loop-file-test.true c.file-item.is
+    (findings_view c.args.found.now.items)
+    (ap findings_view c.in_ok-push.ensures.items
+    ∙ found_more c.loop-file.found.items _
+    ∙ ap (λ fs. findings_view c.loop-file.found.items ++ findings_in file fs) c.in_ok-findings.ensures)
+    c.loop-file.invariant
+
+pub returns : goal.returns
+returns c =
+    let ids = ids_view (Unit {0}) c.args.ids.now in
+    let references = c.args.references.now in
+    c.loop-file.invariant
+    ∙ ap (λ fs. findings_view c.args.found.now.items ++ missing_in_files ids fs) (ap (map view_of) (take_all c.loop-file.file-index references c.loop-file-test.false) ∙ all_viewed references)

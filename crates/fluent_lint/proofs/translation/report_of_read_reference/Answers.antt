@@ -1,0 +1,17 @@
+use Rattle.std.proofs.Common.{◌∙◌, ap, subst, sym}
+use Rattle.std.specs.Prelude.{All, IfOk}
+use Rattle.fluent_lint.specs.FileTiles.{AreTilesOf, files_of}
+use Rattle.fluent_lint.specs.Reading.{IsReadOf}
+use Rattle.fluent_lint.specs.Translation.{IsTranslationReport}
+use Rattle.fluent_lint.proofs.translation.report_of_read_reference.Goals as goal
+
+pub report_of_files-requires : goal.report_of_files-requires
+report_of_files-requires c = record {
+  tiles = subst (All AreTilesOf) (sym c.deref.ensures.value) c.in_ok-tiles.ensures.tiles;
+  read = subst (λ fs. IsReadOf fs c.args.read.now) (sym (ap files_of c.deref.ensures.value ∙ c.in_ok-tiles.ensures.files)) c.requires;
+}
+
+pub returns : goal.returns
+returns c =
+    subst (λ fs. IfOk c.report_of_files.result (IsTranslationReport c.args.options.now c.args.output fs c.args.files.now))
+    (ap files_of c.deref.ensures.value ∙ c.in_ok-tiles.ensures.files) c.report_of_files.ensures

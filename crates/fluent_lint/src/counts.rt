@@ -1,0 +1,56 @@
+//! The counts of the files of a catalog and of its reference.
+#![tactic(auto)]
+
+ghost use Rattle.std.specs.Prelude.{◌≡◌, All, IfOk, map};
+ghost use Rattle.fluent_finding.specs.View.{findings_view};
+ghost use Rattle.fluent_findings.specs.Summary as s;
+ghost use Rattle.fluent_lint.specs.FileTiles.{AreTilesOf, files_of, files_view};
+ghost use Rattle.fluent_lint_report.specs.View.{summary_view};
+ghost use Rattle.fluent_summaries.specs.Counted as counted;
+ghost use Rattle.fluent_summaries.specs.Counted.{IsCounted};
+
+use crate::tiles::FileTiles;
+use fluent_finding::FileFindings;
+use fluent_lint_report::Summary;
+use fluent_summaries::{FileMessages, summaries};
+use fluent_tiles::message_count;
+use std::alloc::{AllocError, Global};
+
+/// The counts of the files of a catalog, and then those of its reference, by all findings of the catalog.
+///
+/// # Errors
+/// [`AllocError`] if memory runs out; nothing is left behind.
+pub fn counts_of_files<'s>(
+    alloc: Global,
+    references: &[FileTiles<'_, 's>],
+    files: &[FileTiles<'_, 's>],
+    found: &[FileFindings],
+) -> Result<Vec<Summary<'s>>, AllocError>
+    requires references { All AreTilesOf references.now }
+    requires files { All AreTilesOf files.now }
+    ensures { IfOk result (λ counts. map summary_view counts.items ≡ s.summaries
+        (files_view (files_of references.now)) (files_view (files_of files.now)) (findings_view found.now)) }
+{
+    let references = counted_files(alloc, references)?;
+    let files = counted_files(alloc, files)?;
+    summaries(alloc, &references, &files, found)
+}
+
+/// Files, each with the number of its messages.
+fn counted_files<'s>(
+    alloc: Global,
+    files: &[FileTiles<'_, 's>],
+) -> Result<Vec<FileMessages<'s>>, AllocError>
+    requires { All AreTilesOf files.now }
+    ensures files { IfOk result (λ counts. counted.files_of counts.items ≡ files_view (files_of files.now)) }
+    ensures counts { IfOk result (λ counts. All IsCounted counts.items) }
+{
+    let mut counted = Vec::with_capacity(alloc, files.len())?;
+    for file in files {
+        counted.push(FileMessages {
+            file: file.file,
+            messages: message_count(&file.tiles),
+        })?;
+    }
+    Ok(counted)
+}

@@ -1,0 +1,36 @@
+//! The missing messages of a catalog.
+#![tactic(auto)]
+
+ghost use Rattle.std.specs.Prelude.{All, OnOk};
+ghost use Rattle.fluent_ids.specs.IdsView.{ids_view};
+ghost use Rattle.fluent_lint.specs.FileTiles.{AreTilesOf};
+ghost use Rattle.fluent_lint.specs.Missing.{AddsMissing};
+
+use crate::tiles::FileTiles;
+use fluent_finding::FileFindings;
+use fluent_ids::FluentIds;
+use fluent_reference_findings::missing_findings;
+use std::alloc::{AllocError, Global};
+
+/// Adds the messages of the files of a reference that a catalog with these ids hasn't, file by file.
+///
+/// # Errors
+/// [`AllocError`] if memory runs out; some may be added then.
+pub fn push_missing_messages<'s>(
+    alloc: Global,
+    ids: &FluentIds<'_, '_, ()>,
+    references: &[FileTiles<'_, 's>],
+    found: &mut Vec<FileFindings<'s>>,
+) -> Result<(), AllocError>
+    requires { All AreTilesOf references.now }
+    ensures { OnOk result (AddsMissing (ids_view _ ids.now) references.now found.old found.new) }
+{
+    for file in references {
+        let findings = missing_findings(alloc, ids, file.file.source, &file.tiles)?;
+        found.push(FileFindings {
+            file: file.file,
+            findings,
+        })?;
+    }
+    Ok(())
+}

@@ -1,0 +1,264 @@
+//! Reports of translations: of catalogs that are compared with their reference.
+#![tactic(auto)]
+
+ghost use Rattle.std.specs.Prelude.{◌≡◌, [], All, IfOk, map, string_bytes};
+ghost use Rattle.fluent_catalog_findings.specs.RulesView.{HasSameIds, rules_view};
+ghost use Rattle.fluent_finding.specs.View.{findings_view};
+ghost use Rattle.fluent_findings.specs.Summary.{summaries};
+ghost use Rattle.fluent_lint.specs.FileTiles.{AreTilesOf, files_of, files_view};
+ghost use Rattle.fluent_lint.specs.Reading.{IsReadOf};
+ghost use Rattle.fluent_lint.specs.Reports.{IsReportOf, translation_fails, translation_report};
+ghost use Rattle.fluent_lint.specs.Translation.{AreCalledBy, AreKnownIds, AreTiled, IsReportWith, IsTranslationReport, files_in};
+
+use crate::counts::counts_of_files;
+use crate::findings::catalog_findings;
+use crate::ids::catalog_ids;
+use crate::missing::push_missing_messages;
+use crate::read::{ReadFiles, read_files};
+use crate::reports::{Options, Output, Report, report_of};
+use crate::tiles::{FileTiles, TiledFiles, tiles_of_files};
+use fluent_catalog_findings::{Comparison, Rules};
+use fluent_endless::EndlessPatterns;
+use fluent_entry_findings::{Catalog, Endless};
+use fluent_finding::{File, FileFindings};
+use fluent_ids::FluentIds;
+use fluent_reference_findings::{Reference, called_functions};
+use std::alloc::{AllocError, Global};
+
+/// The report of a catalog and of its reference, the files that it is translated from: all findings of these files, the
+/// messages that they lack, and the counts of all files. Also whether a finding fails. The functions that the reference
+/// calls are known.
+///
+/// # Errors
+/// [`AllocError`] if memory runs out, or a file nests so deep that reading it would take more of the machine's stack
+/// than [`StackBudget::PROGRAM`](fluent_parser::StackBudget::PROGRAM); nothing is left behind.
+pub fn report_findings_with_reference<'s>(
+    alloc: Global,
+    options: &Options,
+    output: Output,
+    references: &[File<'s>],
+    files: &[File<'s>],
+) -> Result<Report, AllocError>
+    ensures text { IfOk result (λ report. string_bytes report.text
+        ≡ translation_report options.now output references.now files.now) }
+    ensures failed { IfOk result (λ report. report.has_failed
+        ≡ translation_fails options.now output references.now files.now) }
+{
+    let read = read_files(alloc, references)?;
+    let report = report_of_read_reference(alloc, options, output, references, &read, files)?;
+    Ok(report)
+}
+
+/// The same, by what was read of the reference.
+fn report_of_read_reference<'s>(
+    alloc: Global,
+    options: &Options,
+    output: Output,
+    references: &[File<'s>],
+    read: &ReadFiles<'s>,
+    files: &[File<'s>],
+) -> Result<Report, AllocError>
+    requires { IsReadOf references.now read.now }
+    ensures { IfOk result (IsTranslationReport options.now output references.now files.now) }
+{
+    let tiles = tiles_of_files(alloc, references, read)?;
+    let references = TiledFiles {
+        tiles: &tiles,
+        read,
+    };
+    report_of_files(alloc, options, output, references, files)
+}
+
+/// The same, by the tiles of the reference.
+fn report_of_files<'s>(
+    alloc: Global,
+    options: &Options,
+    output: Output,
+    references: TiledFiles<'_, 's>,
+    files: &[File<'s>],
+) -> Result<Report, AllocError>
+    requires { AreTiled references }
+    ensures { IfOk result (IsTranslationReport options.now output (files_in references.entry) files.now) }
+{
+    let read = read_files(alloc, files)?;
+    let report = report_of_read_files(alloc, options, output, references, files, &read)?;
+    Ok(report)
+}
+
+/// The same, by what was read of the files.
+fn report_of_read_files<'s>(
+    alloc: Global,
+    options: &Options,
+    output: Output,
+    references: TiledFiles<'_, 's>,
+    files: &[File<'s>],
+    read: &ReadFiles<'s>,
+) -> Result<Report, AllocError>
+    requires references { AreTiled references }
+    requires read { IsReadOf files.now read.now }
+    ensures { IfOk result (IsTranslationReport options.now output (files_in references.entry) files.now) }
+{
+    let tiles = tiles_of_files(alloc, files, read)?;
+    let files = TiledFiles {
+        tiles: &tiles,
+        read,
+    };
+    report_of_tiled_files(alloc, options, output, references, files)
+}
+
+/// The same, by the tiles of all files.
+fn report_of_tiled_files<'r, 's: 'r>(
+    alloc: Global,
+    options: &Options,
+    output: Output,
+    references: TiledFiles<'r, 's>,
+    files: TiledFiles<'r, 's>,
+) -> Result<Report, AllocError>
+    requires references { AreTiled references }
+    requires files { AreTiled files }
+    ensures { IfOk result (IsTranslationReport options.now output (files_in references.entry) (files_in files.entry)) }
+{
+    let called = called_functions(alloc, &references.read.trees)?;
+    report_by_called(alloc, options, output, &called, references, files)
+}
+
+/// The same, with the functions that the reference calls.
+fn report_by_called<'r, 's: 'r>(
+    alloc: Global,
+    options: &Options,
+    output: Output,
+    called: &[&str],
+    references: TiledFiles<'r, 's>,
+    files: TiledFiles<'r, 's>,
+) -> Result<Report, AllocError>
+    requires called { AreCalledBy references called.now }
+    requires references { AreTiled references }
+    requires files { AreTiled files }
+    ensures { IfOk result (IsTranslationReport options.now output (files_in references.entry) (files_in files.entry)) }
+{
+    let functions = catalog_ids(alloc, options.functions, called, &[])?;
+    report_by_functions(
+        alloc, options, output, called, &functions, references, files,
+    )
+}
+
+/// The same, with the ids of functions.
+fn report_by_functions<'r, 's: 'r>(
+    alloc: Global,
+    options: &Options,
+    output: Output,
+    called: &[&str],
+    functions: &FluentIds<'r, 's, ()>,
+    references: TiledFiles<'r, 's>,
+    files: TiledFiles<'r, 's>,
+) -> Result<Report, AllocError>
+    requires called { AreCalledBy references called.now }
+    requires functions { AreKnownIds options.now references [] functions.now }
+    requires references { AreTiled references }
+    requires files { AreTiled files }
+    ensures { IfOk result (IsTranslationReport options.now output (files_in references.entry) (files_in files.entry)) }
+{
+    let ids = catalog_ids(alloc, options.functions, called, &files.read.trees)?;
+    report_by_ids(
+        alloc, options, output, called, functions, &ids, references, files,
+    )
+}
+
+/// The same, with the ids of the files.
+fn report_by_ids<'r, 's: 'r>(
+    alloc: Global,
+    options: &Options,
+    output: Output,
+    called: &[&str],
+    functions: &FluentIds<'r, 's, ()>,
+    ids: &FluentIds<'r, 's, ()>,
+    references: TiledFiles<'r, 's>,
+    files: TiledFiles<'r, 's>,
+) -> Result<Report, AllocError>
+    requires called { AreCalledBy references called.now }
+    requires functions { AreKnownIds options.now references [] functions.now }
+    requires ids { AreKnownIds options.now references (files_in files) ids.now }
+    requires references { AreTiled references }
+    requires files { AreTiled files }
+    ensures { IfOk result (IsTranslationReport options.now output (files_in references.entry) (files_in files.entry)) }
+{
+    let reference = catalog_ids(alloc, options.functions, called, &references.read.trees)?;
+    report_by_all_ids(
+        alloc, options, output, functions, ids, &reference, references, files,
+    )
+}
+
+/// The same, with all ids.
+fn report_by_all_ids<'r, 's: 'r>(
+    alloc: Global,
+    options: &Options,
+    output: Output,
+    functions: &FluentIds<'r, 's, ()>,
+    ids: &FluentIds<'r, 's, ()>,
+    reference: &FluentIds<'r, 's, ()>,
+    references: TiledFiles<'r, 's>,
+    files: TiledFiles<'r, 's>,
+) -> Result<Report, AllocError>
+    requires functions { AreKnownIds options.now references [] functions.now }
+    requires ids { AreKnownIds options.now references (files_in files) ids.now }
+    requires reference { AreKnownIds options.now references (files_in references) reference.now }
+    requires references { AreTiled references }
+    requires files { AreTiled files }
+    ensures { IfOk result (IsTranslationReport options.now output (files_in references.entry) (files_in files.entry)) }
+{
+    let endless = EndlessPatterns::new(alloc, ids, &files.read.trees)?;
+    let comparison = Reference {
+        ids,
+        reference,
+        trees: &references.read.trees,
+    };
+    let catalog = Catalog {
+        ids,
+        plurals: options.plurals,
+    };
+    let rules = Rules {
+        functions,
+        catalog: &catalog,
+        endless: &endless,
+        comparison: &comparison,
+    };
+    let report = report_by_rules(alloc, output, &rules, references.tiles, files.tiles);
+    let Catalog { ids: _, plurals: _ } = catalog;
+    report
+}
+
+/// The same, by the rules for findings.
+fn report_by_rules<'s, E: Endless<()>, C: Comparison>(
+    alloc: Global,
+    output: Output,
+    rules: &Rules<'_, '_, 's, E, C>,
+    references: &[FileTiles<'_, 's>],
+    files: &[FileTiles<'_, 's>],
+) -> Result<Report, AllocError>
+    requires same_ids { HasSameIds E.ids rules.now }
+    requires references { All AreTilesOf references.now }
+    requires files { All AreTilesOf files.now }
+    ensures { IfOk result (IsReportWith (rules_view C.compared rules.now) (files_of references.now)
+        (files_of files.now) output) }
+{
+    let mut found = catalog_findings(alloc, rules, files)?;
+    push_missing_messages(alloc, rules.catalog.ids, references, &mut found)?;
+    report_with_counts(alloc, output, references, files, &found)
+}
+
+/// The report of all findings, with the counts of the files.
+fn report_with_counts<'s>(
+    alloc: Global,
+    output: Output,
+    references: &[FileTiles<'_, 's>],
+    files: &[FileTiles<'_, 's>],
+    found: &[FileFindings],
+) -> Result<Report, AllocError>
+    requires references { All AreTilesOf references.now }
+    requires files { All AreTilesOf files.now }
+    ensures { IfOk result (IsReportOf (findings_view found.now) (summaries (files_view (files_of references.now))
+        (files_view (files_of files.now)) (findings_view found.now)) output) }
+{
+    let counts = counts_of_files(alloc, references, files, found)?;
+    report_of(alloc, output, found, &counts)
+}
