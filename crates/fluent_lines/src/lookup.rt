@@ -158,43 +158,21 @@ impl<'a> Lines<'a> {
         feeds_last(&row, self.later(), place)
     }
 
-    /// What the rows say of the pattern at this place, at the start of a line or within one: `None` unless all of it stands
-    /// in plain lines, each with a line feed, and shares an indent. No text is looked at. It tells a reader what room to
+    /// What the rows say of the pattern at this place, after the spaces before it: `None` unless all of it stands in plain
+    /// lines, each with a line feed, of which some share an indent. No text is looked at. It tells a reader what room to
     /// make and what to cut, and no more: that the pattern is so shows when it is read.
-    pub fn plain_lines(&mut self, place: usize, at_line_start: bool) -> Option<PlainLines>
+    #[inline(always)]
+    pub fn plain_lines(&mut self, place: usize) -> Option<PlainLines>
         requires { place ≤ length self.old.text.now }
         ensures text { self.new.text.now ≡ self.old.text.now }
     {
-        let mut last = self.find(place);
-        let mut common_indent = if at_line_start {
-            last.indent()
-        } else {
-            usize::MAX
-        };
-        if !last.is_plain {
-            return None;
-        }
+        let row = self.find(place);
         let later = self.later();
-        let mut count = 0_usize;
-        while count < later.len() {
-            let row = later[count];
-            count += 1;
-            if row.ends_pattern {
-                break;
-            }
-            if !(row.is_plain & last.feeds_into(&row)) {
-                return None;
-            }
-            common_indent = common_indent.min(row.indent());
-            last = row;
-        }
-        if common_indent == usize::MAX {
+        // Mostly a brace stands in the line, or nothing but attributes follows it.
+        if !row.is_plain || later.is_empty() || later[0].ends_pattern {
             return None;
         }
-        Some(PlainLines {
-            count,
-            common_indent,
-        })
+        plain_lines_after(&row, later, row.end > place)
     }
 
     /// The rows after `near`.
@@ -262,4 +240,29 @@ fn feeds_last(row: &Row, later: &[Row], place: usize) -> bool
                 && next.ends_pattern
         }
     }
+}
+
+/// What the rows after that of a line say of the pattern in it, which has a text in this line or begins after it.
+fn plain_lines_after(row: &Row, later: &[Row], has_text: bool) -> Option<PlainLines> {
+    let mut last = *row;
+    let mut count = usize::from(has_text);
+    let mut common_indent = usize::MAX;
+    for next in later.iter() {
+        if next.ends_pattern {
+            break;
+        }
+        if !(next.is_plain & last.feeds_into(next)) {
+            return None;
+        }
+        common_indent = common_indent.min(next.indent());
+        count = count.saturating_add(1);
+        last = *next;
+    }
+    if common_indent == usize::MAX {
+        return None;
+    }
+    Some(PlainLines {
+        count,
+        common_indent,
+    })
 }

@@ -1,5 +1,5 @@
 -- Where a pattern in plain lines ends, and where it goes on.
-use Rattle.std.proofs.Common.{◌≡◌, ℕ, Bool, true, false, List, [], ◌∷◌, length, drop, refl, sym, ap, ◌∙◌, arith, subst, None}
+use Rattle.std.proofs.Common.{◌≡◌, ℕ, Bool, true, false, [], ◌∷◌, length, drop, refl, sym, ap, ◌∙◌, arith, subst, None}
 use Rattle.std.specs.Prelude.{◌==◌}
 use Rattle.fluent_grammar.specs.Words.{Text, spaces}
 use Rattle.fluent_grammar.specs.Refusal.{got}
@@ -7,7 +7,7 @@ use Rattle.fluent_grammar.specs.Lines.{pattern_ends}
 use Rattle.fluent_lines.specs.Lookup.{is_last_feed}
 use Rattle.fluent_words.proofs.Scanned.{test_of}
 use Rattle.fluent_parser.specs.PlainLines.{EndsPattern, GoesOn}
-use Rattle.fluent_parser.specs.Steps.{kept_piece_by, piece_by, piece_behind, indent_at}
+use Rattle.fluent_parser.specs.Steps.{kept_piece_by, piece_behind}
 use Rattle.fluent_parser.proofs.LinePieces.{kept_in_line, kept_feed, kept_end, kept_at_line}
 
 at_end : (s : Text) → length s ≡ 0 → kept_piece_by false s ≡ got None s

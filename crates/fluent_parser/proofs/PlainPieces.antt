@@ -1,9 +1,9 @@
 -- The pieces of a pattern in plain lines.
-use Rattle.std.proofs.Common.{◌≡◌, ℕ, zero, suc, ◌+◌, ◌-◌, ◌≤◌, Bool, true, false, cond, List, [], ◌∷◌, ◌++◌, length, take, drop, map, min, replicate, refl, sym, ap, ◌∙◌, arith, subst, Option, Some, None}
+use Rattle.std.proofs.Common.{◌≡◌, ℕ, zero, suc, ◌+◌, ◌-◌, ◌≤◌, Bool, true, false, List, [], ◌∷◌, ◌++◌, take, drop, map, min, refl, sym, ap, ◌∙◌, arith, subst, Option, Some, None}
 use Rattle.std.specs.Prelude.{◌==◌, Ok}
 use Rattle.std.proofs.lemmas.List.{drop-drop, map-append}
 use Rattle.fluent_grammar.specs.Words.{Text, space, spaces, after_line_end}
-use Rattle.fluent_grammar.specs.Refusal.{Reading, got, mapped}
+use Rattle.fluent_grammar.specs.Refusal.{got, mapped}
 use Rattle.fluent_grammar.specs.Lines as l
 use Rattle.fluent_grammar.specs.Lines.{Piece, dedented}
 use Rattle.fluent_grammar.specs.Reading as g
@@ -11,7 +11,7 @@ use Rattle.fluent_grammar.specs.Tree as t
 use Rattle.fluent_words.specs.Counted.{Cuts}
 use Rattle.fluent_words.proofs.Counted.{cut_none}
 use Rattle.fluent_ast.specs.declared.Pattern.{Pattern}
-use Rattle.fluent_ast.specs.View.{Element, text, element_view}
+use Rattle.fluent_ast.specs.View.{text, element_view}
 use Rattle.fluent_elements.specs.declared.dedented.Dedented.{Dedented}
 use Rattle.fluent_elements.specs.Elements.{dedented_value, plain_elements}
 use Rattle.fluent_elements.specs.Pieces.{undented, dedented_piece}

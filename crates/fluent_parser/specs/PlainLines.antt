@@ -1,5 +1,5 @@
 -- What readers of patterns in plain lines give.
-use Rattle.std.specs.Prelude.{◌≡◌, ℕ, Bool, true, false, List, ◌++◌, ◌∷◌, [], take, drop, map, Option, Some, None, Result, Ok, Err}
+use Rattle.std.specs.Prelude.{◌≡◌, ℕ, Bool, true, false, ◌++◌, ◌∷◌, [], drop, map, Option, Some, None, Result, Ok, Err}
 use Rattle.fluent_grammar.specs.Words.{Text}
 use Rattle.fluent_grammar.specs.Refusal.{got}
 use Rattle.fluent_grammar.specs.Lines.{Piece, indent_of, lesser}

@@ -181,12 +181,12 @@ impl<'p, S: Drop, T: Texts<S>> Parser<'p, S, T> {
         self.lines.one_line_len(place)
     }
 
-    /// What the rows say of the pattern here, at the start of a line or within one: see `plain_lines` of `fluent_lines`.
-    pub fn plain_lines(&mut self, at_line_start: bool) -> Option<PlainLines>
+    /// What the rows say of the pattern here, after the spaces before it: see `plain_lines` of `fluent_lines`.
+    pub fn plain_lines(&mut self) -> Option<PlainLines>
         ensures stays { Stays self.old self.new }
     {
         let place = self.place();
-        self.lines.plain_lines(place, at_line_start)
+        self.lines.plain_lines(place)
     }
 
     /// Whether a line feed stands here, behind which a pattern ends.

@@ -95,6 +95,7 @@ impl<'p, S: Drop, T: Texts<S>> Parser<'p, S, T> {
     }
 
     /// Passes over a line end and the blank lines behind it, and says whether one stood here.
+    #[inline(always)]
     pub fn skip_to_line(&mut self) -> bool
         ensures place { (result, self.new.rest.now)
             ≡ first_place self.old.rest.now (w.after_line_end self.old.rest.now) }

@@ -37,17 +37,18 @@ impl<'p, S: Drop, T: Texts<S>> Parser<'p, S, T> {
         ensures gives { GivesPlain S T.text self.old.rest.now self.new.rest.now result }
         ensures advances { Advances self.old self.new }
     {
+        let Some(told) = self.plain_lines() else {
+            return Ok(None);
+        };
         let before = self.rest();
         let mut at_line_start = self.skip_to_line();
-        if let Some(told) = self.plain_lines(at_line_start) {
-            let mut dedented = Dedented::new(self.alloc, told.count, told.common_indent)?;
-            while let Some(ends_line) = self.get_plain_line(at_line_start, &mut dedented)? {
-                at_line_start = ends_line;
-            }
-            if self.skip_pattern_end(at_line_start) {
-                if let Some(pattern) = dedented.finish(self.texts) {
-                    return Ok(Some(pattern));
-                }
+        let mut dedented = Dedented::new(self.alloc, told.count, told.common_indent)?;
+        while let Some(ends_line) = self.get_plain_line(at_line_start, &mut dedented)? {
+            at_line_start = ends_line;
+        }
+        if self.skip_pattern_end(at_line_start) {
+            if let Some(pattern) = dedented.finish(self.texts) {
+                return Ok(Some(pattern));
             }
         }
         self.set_rest(before);

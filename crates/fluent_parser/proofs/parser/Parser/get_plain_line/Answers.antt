@@ -1,4 +1,4 @@
-use Rattle.std.proofs.Common.{◌∙◌, ◌-◌, ◌+◌, ◌≤◌, ◌≡◌, ℕ, List, drop, take, map, sym, ap, subst, arith, refl, ◌++◌, ◌∷◌, []}
+use Rattle.std.proofs.Common.{◌∙◌, ◌-◌, ◌+◌, ◌≤◌, ℕ, List, drop, take, map, sym, ap, subst, arith, refl, ◌++◌, ◌∷◌, []}
 use Rattle.std.proofs.lemmas.List.{map-append}
 use Rattle.fluent_grammar.specs.Lines.{ends_line, indent_of, lesser}
 use Rattle.fluent_words.specs.Counted.{Cuts}

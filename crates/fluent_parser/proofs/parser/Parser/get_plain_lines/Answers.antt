@@ -1,6 +1,8 @@
-use Rattle.std.proofs.Common.{◌≡◌, ◌∙◌, ℕ, List, length, sym, ap, subst, arith}
+use Rattle.std.proofs.Common.{◌∙◌, ℕ, List, length, sym, ap, subst, arith}
 use Rattle.fluent_ast.specs.View.{pattern_view}
+use Rattle.fluent_grammar.specs.Words.{after_line_end}
 use Rattle.fluent_parser.specs.Frame.{StartsLine}
+use Rattle.fluent_parser.specs.Steps.{first_place}
 use Rattle.fluent_parser.proofs.LineStarts.{first_starts, piece_starts}
 use Rattle.fluent_parser.proofs.PlainPieces.{plain_none, plain_more, plain_end, piece_put}
 use Rattle.fluent_parser.proofs.parser.Parser.get_plain_lines.Goals as goal
@@ -9,10 +11,10 @@ pub loop-dedented-init : goal.loop-dedented-init
 loop-dedented-init g c =
     let u = c.args.self.now.rest.now in
     let line = c.skip_to_line-at_line_start.result in
-    let rest = c.plain_lines.new.self.rest.now in
-    let stays = c.plain_lines.ensures.stays in
-    let text = stays.text ∙ c.skip_to_line-at_line_start.ensures.advances.text in
-    let place = ap (λ (z : List ℕ). (line, z)) stays.rest ∙ c.skip_to_line-at_line_start.ensures.place in
+    let rest = c.skip_to_line-at_line_start.new.self.rest.now in
+    let stays = c.in-Some.ensures.stays in
+    let text = c.skip_to_line-at_line_start.ensures.advances.text ∙ stays.text in
+    let place = c.skip_to_line-at_line_start.ensures.place ∙ ap (λ (z : List ℕ). first_place z (after_line_end z)) stays.rest in
     record {
       text = text;
       onward = omega (arith, ap length stays.rest, c.skip_to_line-at_line_start.ensures.advances.onward);

@@ -1,7 +1,6 @@
-use Rattle.std.proofs.Common.{◌≡◌, ◌∙◌, ℕ, List, length, drop, true, false, sym, ap, subst}
+use Rattle.std.proofs.Common.{◌∙◌, ℕ, List, length, drop, sym, ap}
 use Rattle.std.specs.Prelude.{◌==◌}
 use Rattle.fluent_grammar.specs.Lines.{pattern_ends}
-use Rattle.fluent_parser.specs.PlainLines.{EndsPattern}
 use Rattle.fluent_parser.proofs.PlainEnds.{end_in_line, end_at_feed, end_at_line}
 use Rattle.fluent_parser.proofs.parser.Parser.skip_pattern_end.Goals as goal
 
