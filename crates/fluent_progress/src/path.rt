@@ -1,6 +1,6 @@
 //! The patterns that are being written.
 
-ghost use Rattle.std.specs.Prelude.{◌≡◌, ◌==◌, ◌++◌, ◌∷◌, [], ◌-◌, IfOk, OnOk, length, map, take};
+ghost use Rattle.std.specs.Prelude.{◌≡◌, ◌==◌, ◌++◌, ◌∷◌, [], ◌-◌, OnOk, length, map, take};
 ghost use Rattle.fluent_ast.specs.Borrowed.{elements_of};
 ghost use Rattle.fluent_meaning.specs.Substitution.{is_on_path, rooted_path};
 ghost use Rattle.fluent_progress.specs.Views.{entered_in, path_left, path_of, patterns_on, state, with_first};
@@ -87,20 +87,16 @@ impl<'r, 's> Progress<'r, 's> {
     }
 
     /// Puts a pattern on the path if it is empty, and answers whether it was.
-    ///
-    /// # Errors
-    /// [`AllocError`] if memory runs out; the progress is unchanged.
-    pub fn enter_root(&mut self, whole: &'r Pattern<&'s str>) -> Result<bool, AllocError>
-        ensures path { OnOk result (path_of self.new
-            ≡ rooted_path (elements_of whole.now) (path_of self.old)) }
-        ensures before { IfOk result (λ is_root. path_left is_root self.new ≡ entered_in self.old) }
+    pub fn enter_root(&mut self, whole: &'r Pattern<&'s str>) -> bool
+        ensures path { path_of self.new ≡ rooted_path (elements_of whole.now) (path_of self.old) }
+        ensures before { path_left result self.new ≡ entered_in self.old }
         ensures state { state self.new ≡ state self.old }
     {
         let is_root = self.is_outside();
         if is_root {
-            self.enter_path(whole)?;
+            self.path.first = Some(whole);
         }
-        Ok(is_root)
+        is_root
     }
 
     /// Takes the last pattern off the path where [`enter_root`](Progress::enter_root) put it there.

@@ -89,7 +89,7 @@ pub fn write_opened<'b, 'r, 's, 'a, C: FluentType + Drop, F, E: Context<C, F>>(
     ensures refused { TellsOnErr result progress.old progress.new (inside place.now whole.now expression.now) }
     ensures path { OnOk result (entered_in progress.new ≡ entered_in progress.old) }
 {
-    let is_root = progress.enter_root(whole)?;
+    let is_root = progress.enter_root(whole);
     write_expression(out, place, progress, expression)?;
     progress.leave_root(is_root);
     close(out, progress, expression)

@@ -308,10 +308,6 @@ pattern::write_placeable-write_opened-requires g n c κs inside0 =
     let less = less-placeable (left u.budget) (left b) (suc (ids_weight (ids_view _ c.args.place.now.ids.now))) (expression_weight (expression_of c.args.expression.now)) opened in
     let measure = c.decreases in search rules
 
-pub pattern::write_opened-returns-in_err-is_root-clause-refused : goal.pattern::write_opened-returns-in_err-is_root-clause-refused
-pattern::write_opened-returns-in_err-is_root-clause-refused g n c =
-    on-err _ (tells-same _ c.enter_root.ensures.state)
-
 pub pattern::write_opened-returns-in_err-write_expression-clause-refused : goal.pattern::write_opened-returns-in_err-write_expression-clause-refused
 pattern::write_opened-returns-in_err-write_expression-clause-refused g n c =
     let env = resolved_in c.args.place.now in
@@ -322,11 +318,11 @@ pattern::write_opened-returns-in_err-write_expression-clause-refused g n c =
     let whole = pattern_of c.args.whole.now in
     let e = expression_of c.args.expression.now in
     let write = s.expression_written env in
-    let u = state c.enter_root.new.self in
-    let at_place : seen c.enter_root.new.self ≡ rooted whole here = place-on c.args.place.now c.in_ok-is_root.ensures.path in
+    let u = state c.enter_root-is_root.new.self in
+    let at_place : seen c.enter_root-is_root.new.self ≡ rooted whole here = place-on c.args.place.now c.enter_root-is_root.ensures.path in
     let v = state c.write_expression.new.progress in
     let inner : TellsSome s0 v (write e (rooted whole here) b) =
-    subst (λ (r : State). TellsSome r v (write e (rooted whole here) r.budget)) c.enter_root.ensures.state
+    subst (λ (r : State). TellsSome r v (write e (rooted whole here) r.budget)) c.enter_root-is_root.ensures.state
     (subst (λ p. TellsSome u v (write e p u.budget)) at_place c.in_err-write_expression.ensures.refused) in
     on-err _ (unmarked-tells env write whole e here s0 v inner)
 
@@ -339,13 +335,13 @@ pattern::write_opened-returns-clause-wrote g n c =
     let whole = pattern_of c.args.whole.now in
     let e = expression_of c.args.expression.now in
     let write = s.expression_written env in
-    let u = state c.enter_root.new.self in
-    let at_place : seen c.enter_root.new.self ≡ rooted whole here = place-on c.args.place.now c.in_ok-is_root.ensures.path in
+    let u = state c.enter_root-is_root.new.self in
+    let at_place : seen c.enter_root-is_root.new.self ≡ rooted whole here = place-on c.args.place.now c.enter_root-is_root.ensures.path in
     let w0 = string_bytes c.args.out.now in
     let w1 = string_bytes c.write_expression.new.out in
     let v = state c.leave_root.new.self in
     let inner : Writes w0 w1 s0 v (write e (rooted whole here)) =
-    subst (λ r. Writes w0 w1 r v (write e (rooted whole here))) c.enter_root.ensures.state
+    subst (λ r. Writes w0 w1 r v (write e (rooted whole here))) c.enter_root-is_root.ensures.state
     (subst (λ r. Writes w0 w1 u r (write e (rooted whole here))) (sym c.leave_root.ensures.state)
     (subst (λ p. Writes w0 w1 u (state c.write_expression.new.progress) (write e p)) at_place c.in_ok-write_expression.ensures.wrote)) in
     on_ok_weaker c.close.result (unmarked-writes env write whole e here s0 v w0 w1 (string_bytes c.close.new.out) inner) c.close.ensures
@@ -359,13 +355,13 @@ pattern::write_opened-returns-clause-refused g n c =
     let whole = pattern_of c.args.whole.now in
     let e = expression_of c.args.expression.now in
     let write = s.expression_written env in
-    let u = state c.enter_root.new.self in
-    let at_place : seen c.enter_root.new.self ≡ rooted whole here = place-on c.args.place.now c.in_ok-is_root.ensures.path in
+    let u = state c.enter_root-is_root.new.self in
+    let at_place : seen c.enter_root-is_root.new.self ≡ rooted whole here = place-on c.args.place.now c.enter_root-is_root.ensures.path in
     let w0 = string_bytes c.args.out.now in
     let w1 = string_bytes c.write_expression.new.out in
     let v = state c.leave_root.new.self in
     let inner : Writes w0 w1 s0 v (write e (rooted whole here)) =
-    subst (λ r. Writes w0 w1 r v (write e (rooted whole here))) c.enter_root.ensures.state
+    subst (λ r. Writes w0 w1 r v (write e (rooted whole here))) c.enter_root-is_root.ensures.state
     (subst (λ r. Writes w0 w1 u r (write e (rooted whole here))) (sym c.leave_root.ensures.state)
     (subst (λ p. Writes w0 w1 u (state c.write_expression.new.progress) (write e p)) at_place c.in_ok-write_expression.ensures.wrote)) in
     on-err c.close.result (unmarked-tells env write whole e here s0 v (written-tells (write e (rooted whole here)) inner))
