@@ -163,6 +163,7 @@ impl<'p, S: Drop, T: Texts<S>> Parser<'p, S, T> {
     ///
     /// # Errors
     /// The offset of a closing brace from here, if one comes first: no text may have it.
+    #[inline(always)]
     pub fn text_len(&mut self, indent: usize) -> Result<usize, usize>
         requires { indent ≤ length self.old.rest.now }
         ensures value { IsText (drop indent self.old.rest.now) result }
