@@ -5,7 +5,7 @@ use Rattle.fluent_catalog_findings.specs.PartFindings.{findings_of_files}
 use Rattle.fluent_finding.specs.declared.records.File.{File}
 use Rattle.fluent_findings.specs.Files as f
 use Rattle.fluent_findings.specs.Findings.{FileFinding, Rules, called_functions, known_ids, sources}
-use Rattle.fluent_findings.specs.Summary.{summaries}
+use Rattle.fluent_findings.specs.Summary.{Summary, summaries}
 use Rattle.fluent_grammar.specs.Words.{Text}
 use Rattle.fluent_ids.specs.IdsView.{ids_view}
 use Rattle.fluent_ids.specs.declared.ids.FluentIds.{FluentIds}
@@ -16,6 +16,7 @@ use Rattle.fluent_lint.specs.Reports.{IsReportOf, options_view, translation_find
 use Rattle.fluent_lint.specs.declared.reports.Options.{Options}
 use Rattle.fluent_lint.specs.declared.reports.Output.{Output}
 use Rattle.fluent_lint.specs.declared.reports.Report.{Report}
+use Rattle.fluent_lint.specs.declared.tiles.FileTiles.{FileTiles}
 use Rattle.fluent_lint.specs.declared.tiles.TiledFiles.{TiledFiles}
 use Rattle.fluent_resource.specs.Sources.{texts}
 
@@ -48,8 +49,15 @@ IsTranslationReport o w rs fs report = IsReportOf (translation_findings o rs fs)
 abbrev pub found_with_reference : Rules → List f.File → List f.File → List FileFinding
 found_with_reference rules references files = findings_of_files rules [] files ++ missing_in_files rules.ids references
 
--- the report of these files, by these rules
-abbrev pub IsReportWith : Rules → List File → List File → Output → Report → Type 0
+-- the counts of these files, by all findings
+abbrev pub counts_of : List FileFinding → List FileTiles → List FileTiles → List Summary
+counts_of all rs fs = summaries (files_view (files_of rs)) (files_view (files_of fs)) all
+
+-- the report of all findings, with the counts of these files
+abbrev pub IsReportWithCounts : List FileFinding → List FileTiles → List FileTiles → Output → Report → Type 0
+IsReportWithCounts all rs fs output report = IsReportOf all (counts_of all rs fs) output report
+
+-- the same, of the findings by these rules
+abbrev pub IsReportWith : Rules → List FileTiles → List FileTiles → Output → Report → Type 0
 IsReportWith rules rs fs output report =
-    let all = found_with_reference rules (files_view rs) (files_view fs) in
-    IsReportOf all (summaries (files_view rs) (files_view fs) all) output report
+    IsReportWithCounts (found_with_reference rules (files_view (files_of rs)) (files_view (files_of fs))) rs fs output report

@@ -3,8 +3,8 @@
 
 ghost use Rattle.std.specs.Prelude.{◌≡◌, All, IfOk, map};
 ghost use Rattle.fluent_finding.specs.View.{findings_view};
-ghost use Rattle.fluent_findings.specs.Summary as s;
 ghost use Rattle.fluent_lint.specs.FileTiles.{AreTilesOf, files_of, files_view};
+ghost use Rattle.fluent_lint.specs.Translation.{counts_of};
 ghost use Rattle.fluent_lint_report.specs.View.{summary_view};
 ghost use Rattle.fluent_summaries.specs.Counted as counted;
 ghost use Rattle.fluent_summaries.specs.Counted.{IsCounted};
@@ -28,8 +28,8 @@ pub fn counts_of_files<'s>(
 ) -> Result<Vec<Summary<'s>>, AllocError>
     requires references { All AreTilesOf references.now }
     requires files { All AreTilesOf files.now }
-    ensures { IfOk result (λ counts. map summary_view counts.items ≡ s.summaries
-        (files_view (files_of references.now)) (files_view (files_of files.now)) (findings_view found.now)) }
+    ensures { IfOk result (λ cs. map summary_view cs.items
+        ≡ counts_of (findings_view found.now) references.now files.now) }
 {
     let references = counted_files(alloc, references)?;
     let files = counted_files(alloc, files)?;

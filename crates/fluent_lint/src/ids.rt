@@ -3,7 +3,7 @@
 
 ghost use Rattle.std.specs.Prelude.{◌≡◌, ◌++◌, [], ◌∷◌, false, IfOk, OnOk};
 ghost use Rattle.fluent_ids.specs.IdsView.{ids_view};
-ghost use Rattle.fluent_lint.specs.Known.{AddsFunctions, by_ids, trees_by_id};
+ghost use Rattle.fluent_lint.specs.Known.{AddsFunctions, IsIdsOf, trees_by_id};
 ghost use Rattle.fluent_meaning.specs.Ids.{function, number_pair, with_id};
 ghost use Rattle.fluent_resource.specs.Sources.{texts};
 
@@ -22,8 +22,7 @@ pub fn catalog_ids<'r, 's>(
     called: &[&str],
     trees: &'r [Resource<&'s str>],
 ) -> Result<FluentIds<'r, 's, ()>, AllocError>
-    ensures { IfOk result (λ ids. ids_view _ ids
-        ≡ by_ids (texts functions.now ++ texts called.now) (trees_by_id trees.now)) }
+    ensures { IfOk result (λ ids. IsIdsOf ids (texts functions.now ++ texts called.now) (trees_by_id trees.now)) }
 {
     let mut ids = FluentIds::new(alloc);
     add_number(&mut ids)?;

@@ -1,14 +1,13 @@
 //! Reports of translations: of catalogs that are compared with their reference.
 #![tactic(auto)]
 
-ghost use Rattle.std.specs.Prelude.{◌≡◌, [], All, IfOk, map, string_bytes};
+ghost use Rattle.std.specs.Prelude.{◌≡◌, [], All, IfOk, string_bytes};
 ghost use Rattle.fluent_catalog_findings.specs.RulesView.{HasSameIds, rules_view};
 ghost use Rattle.fluent_finding.specs.View.{findings_view};
-ghost use Rattle.fluent_findings.specs.Summary.{summaries};
-ghost use Rattle.fluent_lint.specs.FileTiles.{AreTilesOf, files_of, files_view};
+ghost use Rattle.fluent_lint.specs.FileTiles.{AreTilesOf};
 ghost use Rattle.fluent_lint.specs.Reading.{IsReadOf};
-ghost use Rattle.fluent_lint.specs.Reports.{IsReportOf, translation_fails, translation_report};
-ghost use Rattle.fluent_lint.specs.Translation.{AreCalledBy, AreKnownIds, AreTiled, IsReportWith, IsTranslationReport, files_in};
+ghost use Rattle.fluent_lint.specs.Reports.{translation_fails, translation_report};
+ghost use Rattle.fluent_lint.specs.Translation.{AreCalledBy, AreKnownIds, AreTiled, IsReportWith, IsReportWithCounts, IsTranslationReport, files_in};
 
 use crate::counts::counts_of_files;
 use crate::findings::catalog_findings;
@@ -39,9 +38,9 @@ pub fn report_findings_with_reference<'s>(
     references: &[File<'s>],
     files: &[File<'s>],
 ) -> Result<Report, AllocError>
-    ensures text { IfOk result (λ report. string_bytes report.text
+    ensures text { IfOk result (λ r. string_bytes r.text
         ≡ translation_report options.now output references.now files.now) }
-    ensures failed { IfOk result (λ report. report.has_failed
+    ensures failed { IfOk result (λ r. r.has_failed
         ≡ translation_fails options.now output references.now files.now) }
 {
     let read = read_files(alloc, references)?;
@@ -238,8 +237,7 @@ fn report_by_rules<'s, E: Endless<()>, C: Comparison>(
     requires same_ids { HasSameIds E.ids rules.now }
     requires references { All AreTilesOf references.now }
     requires files { All AreTilesOf files.now }
-    ensures { IfOk result (IsReportWith (rules_view C.compared rules.now) (files_of references.now)
-        (files_of files.now) output) }
+    ensures { IfOk result (IsReportWith (rules_view C.compared rules.now) references.now files.now output) }
 {
     let mut found = catalog_findings(alloc, rules, files)?;
     push_missing_messages(alloc, rules.catalog.ids, references, &mut found)?;
@@ -256,8 +254,7 @@ fn report_with_counts<'s>(
 ) -> Result<Report, AllocError>
     requires references { All AreTilesOf references.now }
     requires files { All AreTilesOf files.now }
-    ensures { IfOk result (IsReportOf (findings_view found.now) (summaries (files_view (files_of references.now))
-        (files_view (files_of files.now)) (findings_view found.now)) output) }
+    ensures { IfOk result (IsReportWithCounts (findings_view found.now) references.now files.now output) }
 {
     let counts = counts_of_files(alloc, references, files, found)?;
     report_of(alloc, output, found, &counts)
