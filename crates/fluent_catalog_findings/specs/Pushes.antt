@@ -2,7 +2,9 @@
 use Rattle.std.specs.Prelude.{◌≡◌, ◌-◌, Bool, List, [], ◌∷◌, ◌++◌, if◌then◌else◌, length, map, Vec}
 use Rattle.std.specs.Global.{Global}
 use Rattle.std.specs.Vec.Iter.{into_iter_items}
+use denote.Ref.{Bor}
 use Rattle.fluent_ast.specs.Borrowed.{entry_of}
+use Rattle.fluent_ast.specs.declared.Entry.{Entry}
 use Rattle.fluent_catalog_findings.specs.PartFindings.{declared_by, declared_by_parts, entry_findings_at, findings_of_parts}
 use Rattle.fluent_catalog_findings.specs.declared.cursor.Cursor.{Cursor}
 use Rattle.fluent_catalog_findings.specs.declared.entry.Placed.{Placed}
@@ -17,6 +19,7 @@ use Rattle.fluent_findings.specs.DuplicateIds.{Declaration}
 use Rattle.fluent_findings.specs.EntryFindings.{entry_findings}
 use Rattle.fluent_findings.specs.Finding as f
 use Rattle.fluent_findings.specs.Findings.{Rules}
+use Rattle.fluent_grammar.specs.Tree as t
 use Rattle.fluent_grammar.specs.Words.{Text}
 use Rattle.fluent_position.specs.PlaceView.{IsPlaceIn}
 use Rattle.fluent_tiles.specs.Kept.{Part, entry_part}
@@ -25,15 +28,19 @@ use Rattle.fluent_tiles.specs.declared.tile.Tile.{Tile}
 
 -- ---- an entry
 
+-- without the comment above it
+abbrev pub bare_entry : Entry (Bor Text) → t.Entry
+bare_entry e = uncommented (entry_of e)
+
 -- The entry is read at its place.
 pub record IsPlaced (placed : Placed) : Type 0 where
   pub place : IsPlaceIn placed.file.source.now placed.place
   pub offset : placed.place.offset ≡ length placed.file.source.now - length placed.text.now
-  pub read : IsEntryAt (uncommented (entry_of placed.entry.now)) placed.text.now
+  pub read : IsEntryAt (bare_entry placed.entry.now) placed.text.now
 
 -- as a part of its source
 abbrev pub placed_part : Placed → Part
-placed_part placed = entry_part placed.text.now (uncommented (entry_of placed.entry.now))
+placed_part placed = entry_part placed.text.now (bare_entry placed.entry.now)
 
 -- The declarations of a part come after those that are known.
 abbrev pub Declares : Declarations → Declarations → File → Part → Type 0
@@ -45,14 +52,14 @@ DeclaresPlaced old new placed = Declares old new placed.file (placed_part placed
 -- The findings of an entry are added, after the declarations that are known.
 abbrev pub AddsPlaced : Rules → Placed → Declarations → Vec Finding Global → Vec Finding Global → Type 0
 AddsPlaced rules placed known old new = (before : List Declaration) → AreFirst known before →
-    Adds old new (entry_findings_at rules (file_view placed.file) before placed.text.now (uncommented (entry_of placed.entry.now)))
+    Adds old new (entry_findings_at rules (file_view placed.file) before placed.text.now (bare_entry placed.entry.now))
 
 abbrev pub own_findings : Rules → Placed → List f.Finding
 own_findings rules placed =
-    entry_findings rules.ids rules.plurals placed.file.source.now (uncommented (entry_of placed.entry.now)) placed.text.now
+    entry_findings rules.ids rules.plurals placed.file.source.now (bare_entry placed.entry.now) placed.text.now
 
 abbrev pub compared_findings : Rules → Placed → List f.Finding
-compared_findings rules placed = rules.compare placed.file.source.now (uncommented (entry_of placed.entry.now)) placed.text.now
+compared_findings rules placed = rules.compare placed.file.source.now (bare_entry placed.entry.now) placed.text.now
 
 abbrev pub AddsOwn : Rules → Placed → Vec Finding Global → Vec Finding Global → Type 0
 AddsOwn rules placed old new = Adds old new (own_findings rules placed)

@@ -2,8 +2,8 @@
 #![tactic(auto)]
 
 ghost use Rattle.std.specs.Prelude.{List, OnOk, []};
-ghost use Rattle.fluent_ast.specs.Borrowed.{entry_of};
-ghost use Rattle.fluent_entry_findings.specs.AttributePlaces.{IsEntryAt, uncommented};
+ghost use Rattle.fluent_catalog_findings.specs.Pushes.{bare_entry};
+ghost use Rattle.fluent_entry_findings.specs.AttributePlaces.{IsEntryAt};
 ghost use Rattle.fluent_entry_findings.specs.Made.{Adds};
 ghost use Rattle.fluent_findings.specs.Finding as f;
 ghost use Rattle.fluent_grammar.specs.Tree as t;
@@ -30,9 +30,9 @@ pub trait Comparison {
         text: &[u8],
         findings: &mut Vec<Finding>,
     ) -> Result<(), AllocError>
-        requires { IsEntryAt (uncommented (entry_of entry.now)) text.now }
+        requires { IsEntryAt (bare_entry entry.now) text.now }
         ensures { OnOk result (Adds findings.old findings.new
-            (compared self.now source.now (uncommented (entry_of entry.now)) text.now)) };
+            (compared self.now source.now (bare_entry entry.now) text.now)) };
 }
 
 /// There is no reference.

@@ -25,3 +25,7 @@ IsFoundInFile rules known file found = (before : List Declaration) → AreFirst 
 -- the findings of files are added
 abbrev pub AddsFiles : Rules → List FileTiles → Vec FileFindings Global → Vec FileFindings Global → Type 0
 AddsFiles rules files old new = findings_view new.items ≡ findings_view old.items ++ findings_of_files rules [] (files_view (files_of files))
+
+-- these are the findings of files
+abbrev pub AreFoundIn : Rules → List FileTiles → Vec FileFindings Global → Type 0
+AreFoundIn rules files found = findings_view found.items ≡ findings_of_files rules [] (files_view (files_of files))

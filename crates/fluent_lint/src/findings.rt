@@ -1,13 +1,11 @@
 //! The findings of a catalog.
 #![tactic(auto)]
 
-ghost use Rattle.std.specs.Prelude.{◌≡◌, ◌++◌, [], All, IfOk, OnOk};
-ghost use Rattle.fluent_catalog_findings.specs.PartFindings.{findings_of_files};
+ghost use Rattle.std.specs.Prelude.{[], All, IfOk, OnOk};
 ghost use Rattle.fluent_catalog_findings.specs.RulesView.{HasSameIds, rules_view};
 ghost use Rattle.fluent_duplicates.specs.First.{AreFirst};
-ghost use Rattle.fluent_finding.specs.View.{findings_view};
-ghost use Rattle.fluent_lint.specs.FileTiles.{AreTilesOf, files_of, files_view};
-ghost use Rattle.fluent_lint.specs.Found.{AddsFiles, DeclaresFile, IsFoundInFile};
+ghost use Rattle.fluent_lint.specs.FileTiles.{AreTilesOf};
+ghost use Rattle.fluent_lint.specs.Found.{AddsFiles, AreFoundIn, DeclaresFile, IsFoundInFile};
 
 use crate::tiles::FileTiles;
 use fluent_catalog_findings::{Comparison, Rules, file_findings};
@@ -28,8 +26,7 @@ pub fn catalog_findings<'s, E: Endless<()>, C: Comparison>(
 ) -> Result<Vec<FileFindings<'s>>, AllocError>
     requires same_ids { HasSameIds E.ids rules.now }
     requires tiles { All AreTilesOf files.now }
-    ensures { IfOk result (λ found. findings_view found.items
-        ≡ findings_of_files (rules_view C.compared rules.now) [] (files_view (files_of files.now))) }
+    ensures { IfOk result (AreFoundIn (rules_view C.compared rules.now) files.now) }
 {
     let mut found = Vec::new(alloc);
     let declarations = Declarations::new(alloc);
