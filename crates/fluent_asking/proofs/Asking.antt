@@ -1,5 +1,5 @@
 -- A pattern that is written from the start is what is asked for.
-use Rattle.std.proofs.Common.{◌≡◌, ℕ, suc, ◌+◌, Bool, true, false, List, [], ◌∷◌, ◌++◌, map, Option, None, Some, option_map, refl, ap, sym, ◌∙◌, append-nil, append_assoc}
+use Rattle.std.proofs.Common.{◌≡◌, ℕ, ◌+◌, true, false, List, [], ◌∷◌, ◌++◌, map, Option, None, Some, option_map, refl, ap, sym, ◌∙◌, append-nil}
 use Rattle.std.specs.Prelude.{◌==◌, length, IfOk, Result, Ok, Err, is_some}
 use Rattle.std.proofs.lemmas.Bool.{false≢true}
 use Rattle.fluent_ast.specs.View.{Element, text, placeable, elements_of}
@@ -10,13 +10,13 @@ use Rattle.fluent_grammar.specs.Tree as t
 use Rattle.fluent_grammar.specs.Tree.{Elements, Expression}
 use Rattle.fluent_grammar.specs.Words.{Text}
 use Rattle.fluent_meaning.proofs.Fixpoint.{pattern-is}
-use Rattle.fluent_meaning.proofs.Refusals.{begins-as, begins-none}
+use Rattle.fluent_meaning.proofs.Refusals.{begins-as}
 use Rattle.fluent_meaning.specs.Environment.{Environment}
-use Rattle.fluent_meaning.specs.Refused.{Begins, TellsSome, WritesSome}
-use Rattle.fluent_meaning.specs.Steps.{Budget, may_open, Done, done}
+use Rattle.fluent_meaning.specs.Refused.{Begins, TellsSome}
+use Rattle.fluent_meaning.specs.Steps.{may_open, Done}
 use Rattle.fluent_meaning.specs.Substitution as s
 use Rattle.fluent_meaning.specs.Substitution.{Place, outset, answer_written}
-use Rattle.fluent_meaning.specs.Told.{State, Writes, after}
+use Rattle.fluent_meaning.specs.Told.{State, Writes}
 use Rattle.fluent_progress.specs.Telling.{fresh}
 use Rattle.fluent_value.specs.Value.{Value}
 use Rattle.fluent_asking.specs.Asked.{TellsAll, lone_text, told}

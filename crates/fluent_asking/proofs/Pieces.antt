@@ -1,13 +1,13 @@
 -- Pieces that are written to a program's own writer.
-use Rattle.std.proofs.Common.{◌≡◌, List, [], ◌∷◌, ◌++◌, map, drop, take, refl, ap, sym, subst, ◌∙◌, append-nil}
+use Rattle.std.proofs.Common.{◌≡◌, List, [], ◌∷◌, ◌++◌, refl, ap, sym, subst, ◌∙◌, append-nil}
 use Rattle.fluent_ast.specs.View.{Element, text, placeable, elements_of}
 use Rattle.fluent_grammar.specs.Tree.{Elements, Expression}
 use Rattle.fluent_grammar.specs.Words.{Text}
-use Rattle.fluent_meaning.proofs.Refusals.{begins-all, begins-none, tells-all, tells-none, some-as, some-first, some-none, some-then}
+use Rattle.fluent_meaning.proofs.Refusals.{begins-none, tells-all, some-as, some-first, some-none, some-then}
 use Rattle.fluent_meaning.proofs.Writing.{elements-append}
 use Rattle.fluent_meaning.specs.Environment.{Environment}
 use Rattle.fluent_meaning.specs.Refused.{TellsSome, WritesSome}
-use Rattle.fluent_meaning.specs.Steps.{Budget, Done, beside}
+use Rattle.fluent_meaning.specs.Steps.{Budget, Done}
 use Rattle.fluent_meaning.specs.Substitution as s
 use Rattle.fluent_meaning.specs.Substitution.{Place, Writer}
 use Rattle.fluent_meaning.specs.Told.{State, Writes}

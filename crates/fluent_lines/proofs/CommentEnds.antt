@@ -1,7 +1,7 @@
 -- Where comment lines end.
-use Rattle.std.proofs.Common.{◌≡◌, ℕ, suc, ◌+◌, ◌≤◌, Bool, true, false, List, [], ◌∷◌, map, length, drop, get_or, cond, refl, ap, ◌∙◌, arith, subst, sym}
+use Rattle.std.proofs.Common.{◌≡◌, ℕ, suc, ◌+◌, ◌≤◌, Bool, true, false, not, List, [], ◌∷◌, map, length, drop, get_or, cond, refl, ap, ◌∙◌, arith, subst, sym}
 use Rattle.std.specs.Prelude.{◌<◌, ◌==◌}
-use Rattle.std.proofs.lemmas.List.{length-drop, drop-drop, drop_more}
+use Rattle.std.proofs.lemmas.List.{length-drop, drop_more}
 use Rattle.std.proofs.Math.ListN.{drop_of_length-le}
 use Rattle.fluent_grammar.specs.Words.{Text, line_feed, number_sign, begins_with}
 use Rattle.fluent_lines.specs.declared.row.Row.{Row}
@@ -9,10 +9,10 @@ use Rattle.fluent_lines.specs.Table.{Line, line_at, later_lines, row_view}
 use Rattle.fluent_lines.specs.Lookup.{past_comments}
 use Rattle.fluent_lines.proofs.Stops.{Stop, stop_end, stop_feed, one_more}
 
--- where the first of some lines of a text does that begins with no sign, otherwise the end of the text
+-- where the first of some lines does that begins no comment, otherwise the end of the text
 abbrev pub next_other : Text → List Line → ℕ
 next_other text [] = length text
-next_other text (l ∷ ls) = cond (begins_with number_sign (drop l.start text)) (next_other text ls) l.start
+next_other text (l ∷ ls) = cond l.begins_comment (next_other text ls) l.start
 
 goes_on : (cs : Text) → begins_with number_sign cs ≡ true → past_comments true cs ≡ past_comments false cs
 goes_on [] h = refl
@@ -36,35 +36,35 @@ past_feed : (b : Bool) (at c : ℕ) (cs : Text) (next : ℕ) → begins_with num
 past_feed true at c cs next h e more = one_more at c cs _ _ _ (after_feed c cs e ∙ goes_on cs h) more
 past_feed false at c cs next h e more = stop_feed at c cs _ (stops cs h ∙ sym (after_feed c cs e)) e
 
-past_by : (b : Bool) (text : Text) (at c : ℕ) (cs : Text) → (c == line_feed) ≡ b → cs ≡ drop (suc at) text → Comments (suc at) cs (next_other text (later_lines (suc at) cs))
+past_by : (b : Bool) (text : Text) (at c : ℕ) (cs : Text) → (c == line_feed) ≡ b → Comments (suc at) cs (next_other text (later_lines (suc at) cs))
     → Comments at (c ∷ cs) (next_other text (later_lines at (c ∷ cs)))
-past_by true text at c cs e f more =
+past_by true text at c cs e more =
     let n : later_lines at (c ∷ cs) ≡ line_at (suc at) cs ∷ later_lines (suc at) cs = rw e refl in
     let next = next_other text (later_lines (suc at) cs) in
-    let there : next_other text (later_lines at (c ∷ cs)) ≡ cond (begins_with number_sign cs) next (suc at) =
-    ap (next_other text) n ∙ ap (λ (s : Text). cond (begins_with number_sign s) next (suc at)) (sym f) in
+    let there : next_other text (later_lines at (c ∷ cs)) ≡ cond (begins_with number_sign cs) next (suc at) = ap (next_other text) n in
     subst (Comments at (c ∷ cs)) (sym there) (past_feed (begins_with number_sign cs) at c cs next refl e more)
-past_by false text at c cs e f more =
+past_by false text at c cs e more =
     let n : later_lines at (c ∷ cs) ≡ later_lines (suc at) cs = rw e refl in
     subst (λ (ls : List Line). Comments at (c ∷ cs) (next_other text ls)) (sym n) (one_more at c cs _ _ _ (after_other c cs e) more)
 
-past_is : (text : Text) (at : ℕ) (s : Text) → s ≡ drop at text → at + length s ≡ length text → Comments at s (next_other text (later_lines at s))
-past_is text at [] e n = stop_end at [] (length text) refl (omega (arith, n))
-past_is text at (c ∷ cs) e n =
-    let one : at + 1 ≡ suc at = omega arith in
-    let next : cs ≡ drop (suc at) text = ap (drop 1) e ∙ drop-drop 1 at text ∙ ap (λ (k : ℕ). drop k text) one in
-    past_by (c == line_feed) text at c cs refl next (past_is text (suc at) cs next (omega (arith, n)))
+past_is : (text : Text) (at : ℕ) (s : Text) → at + length s ≡ length text → Comments at s (next_other text (later_lines at s))
+past_is text at [] n = stop_end at [] (length text) refl (omega (arith, n))
+past_is text at (c ∷ cs) n = past_by (c == line_feed) text at c cs refl (past_is text (suc at) cs (omega (arith, n)))
 
 -- after a place in a text
 pub comments_after : (text : Text) (place n : ℕ) → place ≤ length text → n ≡ next_other text (later_lines place (drop place text)) → Stop place (drop place text) (past_comments false (drop place text)) n
 comments_after text place n h e =
-    subst (Comments place (drop place text)) (sym e) (past_is text place (drop place text) refl (omega (arith, h, length-drop place text)))
+    subst (Comments place (drop place text)) (sym e) (past_is text place (drop place text) (omega (arith, h, length-drop place text)))
 
--- so far the search over rows passed over no line that begins with another byte
+-- so far the search over rows passed over comment lines alone
 abbrev pub PassedComments : Text → ℕ → List Row → Type 0
 PassedComments text place rows = next_other text (map row_view rows) ≡ next_other text (later_lines place (drop place text))
 
-pub at_row : (text : Text) (place : ℕ) (rows : List Row) (i : ℕ) (d : Row) (b : Bool) → PassedComments text place (drop i rows) → i < length rows → begins_with number_sign (drop (get_or rows i d).start text) ≡ b
+pub of_not : (a b : Bool) → not a ≡ b → a ≡ not b
+of_not true b h = ap not h
+of_not false b h = ap not h
+
+pub at_row : (text : Text) (place : ℕ) (rows : List Row) (i : ℕ) (d : Row) (b : Bool) → PassedComments text place (drop i rows) → i < length rows → (get_or rows i d).begins_comment ≡ b
     → cond b (next_other text (map row_view (drop (i + 1) rows))) (get_or rows i d).start ≡ next_other text (later_lines place (drop place text))
 at_row text place rows i d b passed h e =
     let row = get_or rows i d in

@@ -7,3 +7,4 @@ pub mod EntryStarts
 pub mod CommentEnds
 pub mod PlainTexts
 pub mod OneLines
+pub mod IndentedTexts

@@ -117,7 +117,7 @@ some_line (c ∷ cs) h =
     let m : (c == carriage_return && begins_with line_feed cs) ≡ false = ap (λ (b : Bool). b && begins_with line_feed cs) n.1 in
     omega (arith, at_other c cs n.0 m)
 
-ends_at_feed : (s : Text) (n : ℕ) → begins_with line_feed (drop n s) ≡ true → ends_line (take (suc n) s) ≡ true
+pub ends_at_feed : (s : Text) (n : ℕ) → begins_with line_feed (drop n s) ≡ true → ends_line (take (suc n) s) ≡ true
 ends_at_feed [] zero h = absurd cc
 ends_at_feed [] (suc n) h = absurd cc
 ends_at_feed (c ∷ cs) zero h = h

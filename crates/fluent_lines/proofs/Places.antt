@@ -23,7 +23,7 @@ IsAhead place [] = Unit {0}
 IsAhead place (row ∷ rows) = place < row.start
 
 -- ---- a text with no line feed among its first bytes
-abbrev NoFeed : Text → ℕ → Type 0
+abbrev pub NoFeed : Text → ℕ → Type 0
 NoFeed s k = (j : ℕ) → j < k → get_or s j 0 ≢ 10
 
 -- what is after a front is as plain as all of it
@@ -31,7 +31,7 @@ none_plain : (m : ℕ) → is_plain (take m []) ≡ true
 none_plain zero = refl
 none_plain (suc m) = refl
 
-plain_past : (s : Text) (n k : ℕ) → is_plain (take n s) ≡ true → is_plain (take (n - k) (drop k s)) ≡ true
+pub plain_past : (s : Text) (n k : ℕ) → is_plain (take n s) ≡ true → is_plain (take (n - k) (drop k s)) ≡ true
 plain_past s n zero h = let e : n - 0 ≡ n = omega arith in ap (λ (m : ℕ). is_plain (take m s)) e ∙ h
 plain_past [] n (suc k) h = none_plain (n - suc k)
 plain_past (c ∷ cs) zero (suc k) h = let e : 0 - suc k ≡ 0 = omega arith in ap (λ (m : ℕ). is_plain (take m (drop k cs))) e
@@ -58,7 +58,7 @@ later_none at c cs e = rw e refl
 later_feed : (at c : ℕ) (cs : Text) → (c == line_feed) ≡ true → later_lines at (c ∷ cs) ≡ line_at (suc at) cs ∷ later_lines (suc at) cs
 later_feed at c cs e = rw e refl
 
-one_clear : (c : ℕ) (cs : Text) (k : ℕ) → (c == line_feed) ≡ false → NoFeed cs k → NoFeed (c ∷ cs) (suc k)
+pub one_clear : (c : ℕ) (cs : Text) (k : ℕ) → (c == line_feed) ≡ false → NoFeed cs k → NoFeed (c ∷ cs) (suc k)
 one_clear c cs k e f zero h = not_feed c e
 one_clear c cs k e f (suc j) h = f j (omega (arith, h))
 
@@ -103,7 +103,7 @@ end_by false c cs k e f more =
     let one : suc (length (rest_of_line cs).0) - suc k ≡ length (rest_of_line cs).0 - k = omega arith in
     ap (λ (m : ℕ). m - suc k) n ∙ one ∙ more
 
-end_past : (s : Text) (k : ℕ) → k ≤ length s → NoFeed s k → length (rest_of_line s).0 - k ≡ length (rest_of_line (drop k s)).0
+pub end_past : (s : Text) (k : ℕ) → k ≤ length s → NoFeed s k → length (rest_of_line s).0 - k ≡ length (rest_of_line (drop k s)).0
 end_past s zero h f = omega arith
 end_past [] (suc k) h f = absurd (omega (arith, h))
 end_past (c ∷ cs) (suc k) h f =

@@ -16,7 +16,7 @@ use Rattle.fluent_lines.proofs.OneByOne.{both}
 abbrev Runs : Text → ℕ → Type 0
 Runs s n = text_run s ≡ got (take n s) (drop n s)
 
-neither : (a b : Bool) → not (a || b) ≡ true → (a ≡ false) × (b ≡ false)
+pub neither : (a b : Bool) → not (a || b) ≡ true → (a ≡ false) × (b ≡ false)
 neither false false h = (refl, refl)
 neither false true h = absurd cc
 neither true b h = absurd cc

@@ -5,13 +5,29 @@ use Rattle.fluent_lines.specs.declared.row.Row.{Row}
 use Rattle.fluent_lines.specs.Table.{Line, lines}
 use Rattle.fluent_lines.specs.Lookup.{is_last_line, past_comments}
 
+-- a line that begins no comment and is plain or not
+abbrev line_by : Bool → ℕ → ℕ → ℕ → Bool → Bool → Line
+line_by is_plain start end spaces begins_entry ends_pattern = record {
+  start = start;
+  end = end;
+  spaces = spaces;
+  begins_entry = begins_entry;
+  begins_comment = false;
+  ends_pattern = ends_pattern;
+  is_plain = is_plain;
+}
+
 -- a line with no brace
 abbrev line : ℕ → ℕ → ℕ → Bool → Bool → Line
-line start end spaces begins_entry ends_pattern = record { start = start; end = end; spaces = spaces; begins_entry = begins_entry; ends_pattern = ends_pattern; is_plain = true }
+line = line_by true
 
 -- a line with one
 abbrev braced : ℕ → ℕ → ℕ → Bool → Bool → Line
-braced start end spaces begins_entry ends_pattern = record { start = start; end = end; spaces = spaces; begins_entry = begins_entry; ends_pattern = ends_pattern; is_plain = false }
+braced = line_by false
+
+-- a comment line
+abbrev comment_line : ℕ → ℕ → Line
+comment_line start end = record { start = start; end = end; spaces = 0; begins_entry = true; begins_comment = true; ends_pattern = true; is_plain = true }
 
 no_byte : lines [] ≡ line 0 0 0 false true ∷ []
 no_byte = refl
@@ -23,7 +39,7 @@ message = refl
 term_without_line_feed : lines (codes "-t = x") ≡ line 0 6 0 true true ∷ []
 term_without_line_feed = refl
 
-comment : lines (codes "# c\n\n") ≡ line 0 3 0 true true ∷ line 4 4 0 false false ∷ line 5 5 0 false true ∷ []
+comment : lines (codes "# c\n\n") ≡ comment_line 0 3 ∷ line 4 4 0 false false ∷ line 5 5 0 false true ∷ []
 comment = refl
 
 indented_lines : lines (codes "    b\n  }") ≡ line 0 5 4 false false ∷ braced 6 9 2 false true ∷ []
@@ -37,6 +53,10 @@ brace_at_column_zero = refl
 
 only_spaces : lines (codes " \n") ≡ line 0 1 1 false false ∷ line 2 2 0 false true ∷ []
 only_spaces = refl
+
+-- a sign after spaces begins none
+indented_sign : lines (codes " # c") ≡ line 0 4 1 false false ∷ []
+indented_sign = refl
 
 -- CR LF is a line end of two bytes
 crlf : lines (codes "a" ++ 13 ∷ 10 ∷ codes "b") ≡ line 0 1 0 true true ∷ line 3 4 0 true true ∷ []
@@ -60,7 +80,7 @@ closing_brace = refl
 
 -- a row of a plain line that begins no entry
 abbrev plain_row : ℕ → ℕ → Bool → Row
-plain_row start end ends_pattern = record { start = start; end = end; spaces = 0; begins_entry = false; ends_pattern = ends_pattern; is_plain = true }
+plain_row start end ends_pattern = record { start = start; end = end; spaces = 0; begins_entry = false; begins_comment = false; ends_pattern = ends_pattern; is_plain = true }
 
 -- a, LF, b
 ended : is_last_line (plain_row 0 1 true) (plain_row 2 3 true ∷ []) ≡ true

@@ -1,23 +1,32 @@
 -- The lines of a text.
 use Rattle.std.specs.Prelude.{ℕ, suc, ◌+◌, Bool, List, [], ◌∷◌, ◌==◌, length, take, if◌then◌else◌}
-use Rattle.fluent_grammar.specs.Words.{Text, line_feed, begins, begins_entry, spaces, rest_of_line}
+use Rattle.fluent_grammar.specs.Words.{Text, line_feed, number_sign, begins, begins_with, begins_entry, spaces, rest_of_line}
 use Rattle.fluent_grammar.specs.Lines.{pattern_ends}
 use Rattle.fluent_words.specs.Counted.{is_plain}
 use Rattle.fluent_lines.specs.declared.row.Row.{Row}
 
 -- A line: where it begins, where it ends without its line end, how many spaces stand at its front, whether an entry can begin
--- here, whether a pattern ends before it, and whether it is plain: no brace stands in it.
+-- here, whether a comment line does, whether a pattern ends before it, and whether it is plain: no brace stands in it.
 pub record Line : Type 0 where
   pub start : ℕ
   pub end : ℕ
   pub spaces : ℕ
   pub begins_entry : Bool
+  pub begins_comment : Bool
   pub ends_pattern : Bool
   pub is_plain : Bool
 
 -- the line at the front of a text, of this many bytes, if the text begins at this offset
 abbrev pub cut_line_at : ℕ → ℕ → Text → Line
-cut_line_at at count s = record { start = at; end = at + count; spaces = spaces s; begins_entry = begins begins_entry s; ends_pattern = pattern_ends s; is_plain = is_plain (take count s) }
+cut_line_at at count s = record {
+  start = at;
+  end = at + count;
+  spaces = spaces s;
+  begins_entry = begins begins_entry s;
+  begins_comment = begins_with number_sign s;
+  ends_pattern = pattern_ends s;
+  is_plain = is_plain (take count s);
+}
 
 -- the same, up to its line end
 abbrev pub line_at : ℕ → Text → Line
@@ -34,4 +43,12 @@ lines s = line_at 0 s ∷ later_lines 0 s
 
 -- what a row says
 abbrev pub row_view : Row → Line
-row_view r = record { start = r.start; end = r.end; spaces = r.spaces; begins_entry = r.begins_entry; ends_pattern = r.ends_pattern; is_plain = r.is_plain }
+row_view r = record {
+  start = r.start;
+  end = r.end;
+  spaces = r.spaces;
+  begins_entry = r.begins_entry;
+  begins_comment = r.begins_comment;
+  ends_pattern = r.ends_pattern;
+  is_plain = r.is_plain;
+}

@@ -10,9 +10,11 @@
 #![tactic(auto)]
 
 mod lookup;
+mod plain;
 mod row;
 mod table;
 
-pub use lookup::{Lines, PlainLines};
+pub use lookup::Lines;
+pub use plain::{PlainLine, PlainLines};
 pub use row::{Row, begins_entry};
 pub use table::line_table;

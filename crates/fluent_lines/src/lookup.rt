@@ -14,21 +14,12 @@ use fluent_words as words;
 /// The lines of a text, looked up by place in their table. A place is an offset in bytes, up to the end of the text.
 #[derive(Drop)]
 pub struct Lines<'a> {
-    text: &'a [u8],
+    pub(crate) text: &'a [u8],
     rows: &'a [Row],
     /// Where the next search begins: a row's number. Reading goes on mostly from the line where it was.
     near: usize,
     ghost are_lines: { map row_view rows.now ≡ lines text.now },
     ghost is_row: { near < length rows.now },
-}
-
-/// What the rows say of a pattern that stands in plain lines.
-#[derive(Clone, Copy, Drop)]
-pub struct PlainLines {
-    /// How many lines it has, with blank ones at its end.
-    pub count: usize,
-    /// The least indent of those that aren't blank.
-    pub common_indent: usize,
 }
 
 impl<'a> Lines<'a> {
@@ -74,7 +65,8 @@ impl<'a> Lines<'a> {
         self.text.len() - place
     }
 
-    /// How many bytes stand at this place up to the end of its line and of the lines after it that begin with `#`.
+    /// How many bytes stand at this place up to the end of its line and of the lines after it that begin with `#`. No text
+    /// is looked at.
     pub fn comments_len(&mut self, place: usize) -> usize
         requires { place ≤ length self.old.text.now }
         ensures value { drop result (drop place self.old.text.now)
@@ -85,9 +77,9 @@ impl<'a> Lines<'a> {
         self.find(place);
         while self.near + 1 < self.rows.len() {
             self.near += 1;
-            let start = self.rows[self.near].start;
-            if !words::begins_with(words::from(self.text, start), b'#') {
-                return start - place;
+            let row = self.rows[self.near];
+            if !row.begins_comment {
+                return row.start - place;
             }
         }
         self.text.len() - place
@@ -158,25 +150,8 @@ impl<'a> Lines<'a> {
         feeds_last(&row, self.later(), place)
     }
 
-    /// What the rows say of the pattern at this place, after the spaces before it: `None` unless all of it stands in plain
-    /// lines, each with a line feed, of which some share an indent. No text is looked at. It tells a reader what room to
-    /// make and what to cut, and no more: that the pattern is so shows when it is read.
-    #[inline(always)]
-    pub fn plain_lines(&mut self, place: usize) -> Option<PlainLines>
-        requires { place ≤ length self.old.text.now }
-        ensures text { self.new.text.now ≡ self.old.text.now }
-    {
-        let row = self.find(place);
-        let later = self.later();
-        // Mostly a brace stands in the line, or nothing but attributes follows it.
-        if !row.is_plain || later.is_empty() || later[0].ends_pattern {
-            return None;
-        }
-        plain_lines_after(&row, later, row.end > place)
-    }
-
     /// The rows after `near`.
-    fn later(&self) -> &'a [Row]
+    pub(crate) fn later(&self) -> &'a [Row]
         ensures { result.now ≡ drop (self.now.near + 1) self.now.rows.now }
     {
         &self.rows[self.near + 1..]
@@ -184,7 +159,7 @@ impl<'a> Lines<'a> {
 
     /// The row of the line that holds this place. It is `near` from now on.
     #[inline(always)]
-    fn find(&mut self, place: usize) -> Row
+    pub(crate) fn find(&mut self, place: usize) -> Row
         requires { place ≤ length self.old.text.now }
         ensures holds { Holds self.old.text.now result
             (drop (self.new.near + 1) self.new.rows.now) place }
@@ -202,7 +177,7 @@ impl<'a> Lines<'a> {
 
 /// How many bytes the plain line at the front has with its line feed, if its length is this: its text, as that of a
 /// pattern.
-fn plain_text_len(text: &[u8], len: usize) -> usize
+pub(crate) fn plain_text_len(text: &[u8], len: usize) -> usize
     requires line { len ≡ length (rest_of_line text.now).0 }
     requires plain { is_plain (take len text.now) ≡ true }
     ensures len { result ≡ with_line_feed len text.now }
@@ -229,7 +204,7 @@ fn is_last_line(row: &Row, later: &[Row]) -> bool
 
 /// Whether the last byte of a line stands at this place, and a pattern ends after it. The rows after that of the line
 /// say so.
-fn feeds_last(row: &Row, later: &[Row], place: usize) -> bool
+pub(crate) fn feeds_last(row: &Row, later: &[Row], place: usize) -> bool
     ensures { result ≡ feeds_last row.now later.now place }
 {
     match later {
@@ -240,29 +215,4 @@ fn feeds_last(row: &Row, later: &[Row], place: usize) -> bool
                 && next.ends_pattern
         }
     }
-}
-
-/// What the rows after that of a line say of the pattern in it, which has a text in this line or begins after it.
-fn plain_lines_after(row: &Row, later: &[Row], has_text: bool) -> Option<PlainLines> {
-    let mut last = *row;
-    let mut count = usize::from(has_text);
-    let mut common_indent = usize::MAX;
-    for next in later.iter() {
-        if next.ends_pattern {
-            break;
-        }
-        if !(next.is_plain & last.feeds_into(next)) {
-            return None;
-        }
-        common_indent = common_indent.min(next.indent());
-        count = count.saturating_add(1);
-        last = *next;
-    }
-    if common_indent == usize::MAX {
-        return None;
-    }
-    Some(PlainLines {
-        count,
-        common_indent,
-    })
 }

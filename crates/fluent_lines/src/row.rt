@@ -22,6 +22,8 @@ pub struct Row {
     pub spaces: u32,
     /// Whether an entry can begin here: an ASCII letter, `-` or `#` stands at column 0.
     pub begins_entry: bool,
+    /// Whether a comment line begins here: `#` stands at column 0.
+    pub begins_comment: bool,
     /// Whether a pattern ends before this line, by the byte that is after its spaces.
     pub ends_pattern: bool,
     /// Whether the line is plain: no brace stands in it.
@@ -49,6 +51,7 @@ impl Row {
                 end,
                 spaces: 0,
                 begins_entry: begins_entry(line),
+                begins_comment: words::begins_with(line, b'#'),
                 ends_pattern: words::pattern_ends(line, 0),
                 is_plain,
             });
@@ -62,6 +65,7 @@ impl Row {
             end,
             spaces,
             begins_entry: false,
+            begins_comment: false,
             ends_pattern: words::pattern_ends(line, indent),
             is_plain,
         })

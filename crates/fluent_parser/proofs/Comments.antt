@@ -4,7 +4,7 @@ use Rattle.std.specs.Prelude.{◌==◌, is_some, nat_le, unwrap_or}
 use Rattle.std.specs.List.{prefix_len}
 use Rattle.std.proofs.lemmas.Bool.Decides.{nat_tests}
 use Rattle.fluent_grammar.specs.Words.{Text, line_feed, carriage_return, space, number_sign, begins_with, after_line_end, rest_of_line, comment_level}
-use Rattle.fluent_grammar.specs.Refusal.{Kind, Reading, got, refused, refuse, mapped, ◌>>=◌}
+use Rattle.fluent_grammar.specs.Refusal.{Reading, got, refused, refuse, mapped, ◌>>=◌}
 use Rattle.fluent_grammar.specs.Refusal as r
 use Rattle.fluent_grammar.specs.Reading.{comment_line_at, comment_lines, more_lines, comment_of, comment_at}
 use Rattle.fluent_grammar.proofs.Within.{Fair, end-same, end-le, end-drop, comment_line-fair}

@@ -19,15 +19,12 @@ use Rattle.fluent_elements.proofs.Dedenting.{cut_among_spaces}
 use Rattle.fluent_elements.proofs.Gathering.{common_more, dedented_pieces}
 use Rattle.fluent_parser.specs.PlainLines.{PutsPiece, PutsPlain, GivesPlain}
 use Rattle.fluent_parser.specs.Reads.{whole}
-use Rattle.fluent_parser.specs.Steps.{pattern_behind, pieces_by, kept_piece_by, piece_behind, text_step, text_piece, indent_at, first_place, IsTextStart}
+use Rattle.fluent_parser.specs.Steps.{pattern_behind, pieces_by, kept_piece_by, text_piece, indent_at, first_place}
 use Rattle.fluent_parser.proofs.Cycle.{pieces_start, piece_read}
 use Rattle.fluent_parser.proofs.LastFeeds.{kept_some, kept_end}
 use Rattle.fluent_parser.proofs.Runs.{cut_behind_indent, undented_text}
 
 -- ---- a text, cut
-
-pub text_next : (line : Bool) (n : ℕ) (u : Text) → IsTextStart u → piece_behind line n u ≡ text_step line n u
-text_next line n u b = rw (b.some, b.brace, b.crlf) refl
 
 spaces_case : (b : Bool) (c : ℕ) (cs : Text) (k : ℕ) → (c == space) ≡ b → suc k ≤ spaces (c ∷ cs) → (k ≤ spaces cs → spaces cs - k ≡ spaces (drop k cs)) → spaces (c ∷ cs) - suc k ≡ spaces (drop k cs)
 spaces_case true c cs k e h more =

@@ -14,7 +14,8 @@ use Rattle.fluent_grammar.proofs.Taken.{Leaves, text_run-leaves}
 use Rattle.fluent_words.specs.Counted.{Cuts}
 use Rattle.fluent_ast.specs.View.{text}
 use Rattle.fluent_elements.specs.Pieces.{undented}
-use Rattle.fluent_parser.specs.Steps.{text_piece, text_step, piece_behind, indent_at, IsTextStart}
+use Rattle.fluent_lines.specs.IndentedTexts.{IsTextStart}
+use Rattle.fluent_parser.specs.Steps.{text_piece, text_step, piece_behind, indent_at}
 use Rattle.fluent_words.proofs.Counted.{cut_none, cut_spaces, cut_begun}
 use Rattle.fluent_words.proofs.Scanned.{cut_more, test_of}
 

@@ -4,8 +4,8 @@ use Rattle.std.specs.Prelude.{◌==◌}
 use Rattle.std.proofs.lemmas.Bool.{false≢true}
 use Rattle.fluent_words.proofs.Scanned.{test_of}
 use Rattle.fluent_grammar.specs.Words as w
-use Rattle.fluent_grammar.specs.Words.{Text, skip_blank, skip_separator, begins_with, begins_crlf, after_line_end, skip_blank_block, skip_spaces}
-use Rattle.fluent_grammar.specs.Refusal.{Kind, Reading, got, refused, refuse, mapped, ◌>>=◌}
+use Rattle.fluent_grammar.specs.Words.{Text, skip_blank, skip_separator, begins_with, begins_crlf, skip_blank_block, skip_spaces}
+use Rattle.fluent_grammar.specs.Refusal.{Reading, got, refused, refuse, mapped, ◌>>=◌}
 use Rattle.fluent_grammar.specs.Refusal as r
 use Rattle.fluent_grammar.specs.Tree as t
 use Rattle.fluent_grammar.specs.Lines.{Piece, in_line, placed, value_of, ends_line, pattern_ends, ends_behind_spaces}

@@ -2,7 +2,7 @@
 use Rattle.std.proofs.Common.{◌≡◌, Bool, true, false, cond, ◌||◌, List, drop, refl, sym, ap, ◌∙◌}
 use Rattle.fluent_grammar.specs.Words as w
 use Rattle.fluent_grammar.specs.Words.{Text, skip_blank, begins_with}
-use Rattle.fluent_grammar.specs.Refusal.{Reading, refuse}
+use Rattle.fluent_grammar.specs.Refusal.{refuse}
 use Rattle.fluent_grammar.specs.Refusal as r
 use Rattle.fluent_grammar.specs.Reading as g
 use Rattle.fluent_words.specs.Counted.{begins_value}

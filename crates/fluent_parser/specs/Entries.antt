@@ -1,7 +1,7 @@
 -- The readings of comments and entries, cut into the steps that the parser takes.
 use Rattle.std.specs.Prelude.{ℕ, List, [], ◌∷◌, ◌++◌, length, drop, Option, Some, None, if◌then◌else◌}
 use Rattle.fluent_grammar.specs.Words.{Text, begins_with, dot, equals, skip_spaces, skip_blank_block}
-use Rattle.fluent_grammar.specs.Refusal.{Kind, Reading, got, refused, refuse, mapped, ◌>>=◌}
+use Rattle.fluent_grammar.specs.Refusal.{Reading, got, refused, refuse, mapped, ◌>>=◌}
 use Rattle.fluent_grammar.specs.Refusal as r
 use Rattle.fluent_grammar.specs.Tree as t
 use Rattle.fluent_grammar.specs.Reading.{identifier_at, attributes_at, message_of, term_of, comment_line_at, comment_lines}

@@ -1,29 +1,27 @@
 -- What readers of patterns in plain lines give.
-use Rattle.std.specs.Prelude.{◌≡◌, ℕ, Bool, true, false, ◌++◌, ◌∷◌, [], drop, map, Option, Some, None, Result, Ok, Err}
+use Rattle.std.specs.Prelude.{◌≡◌, ℕ, Bool, true, false, not, ◌&&◌, if◌then◌else◌, ◌++◌, ◌∷◌, [], drop, map, Option, Some, None, Result, Ok, Err}
 use Rattle.fluent_grammar.specs.Words.{Text}
 use Rattle.fluent_grammar.specs.Refusal.{got}
 use Rattle.fluent_grammar.specs.Lines.{Piece, indent_of, lesser}
-use Rattle.fluent_words.specs.Counted.{IsText}
 use Rattle.fluent_ast.specs.declared.Pattern.{Pattern}
 use Rattle.fluent_ast.specs.View.{element_view, pattern_view}
 use Rattle.fluent_elements.specs.declared.dedented.Dedented.{Dedented}
 use Rattle.fluent_elements.specs.Pieces.{dedented_piece}
 use Rattle.fluent_parser.specs.Reads.{Fails}
-use Rattle.fluent_parser.specs.Steps.{pattern_behind, kept_piece_by, piece_from, text_from, indent_at, IsTextStart}
+use Rattle.fluent_lines.specs.IndentedTexts.{IsTextOf}
+use Rattle.fluent_lines.specs.declared.plain.PlainLine.{PlainLine}
+use Rattle.fluent_parser.specs.Steps.{pattern_behind, kept_piece_by, text_from, indent_at}
 use Rattle.fluent_parser.specs.declared.fault.Fault.{Fault}
-use Rattle.fluent_parser.specs.declared.plain.PlainLine.{PlainLine}
-
--- A pattern goes on here, after so many spaces.
-pub record GoesOn (at_line_start : Bool) (s : Text) (indent : ℕ) : Type 0 where
-  pub indent_is : indent ≡ indent_at at_line_start s
-  pub next : kept_piece_by at_line_start s ≡ piece_from at_line_start indent s
 
 -- A text after its indent is the next piece of a pattern.
-pub record IsPlainLine (at_line_start : Bool) (s : Text) (line : PlainLine) : Type 0 where
+pub record IsNextText (at_line_start : Bool) (s : Text) (line : PlainLine) : Type 0 where
   pub indent_is : line.indent ≡ indent_at at_line_start s
-  pub text : IsText (drop line.indent s) (Ok line.count)
-  pub some : IsTextStart (drop line.indent s)
+  pub text : IsTextOf line (drop line.indent s)
   pub next : kept_piece_by at_line_start s ≡ text_from at_line_start line.indent s
+
+-- what a text says of the common indent: nothing within a line or if it is blank
+abbrev pub said : Bool → PlainLine → Option ℕ
+said at_line_start line = if at_line_start && not line.is_blank then Some line.indent else None
 
 -- whether a pattern ends here, and what follows it
 abbrev pub EndsPattern : Bool → Bool → Text → Text → Type 0

@@ -1,7 +1,7 @@
 -- The grammar's readers of what nests or repeats, cut into the steps that the parser takes.
-use Rattle.std.specs.Prelude.{◌≡◌, ℕ, Bool, true, false, ◌&&◌, ◌==◌, List, [], ◌∷◌, length, drop, Option, Some, None, map, reverse, if◌then◌else◌}
+use Rattle.std.specs.Prelude.{ℕ, Bool, true, false, ◌&&◌, ◌==◌, List, [], ◌∷◌, length, drop, Option, Some, None, map, reverse, if◌then◌else◌}
 use Rattle.fluent_grammar.specs.Words.{Text, asterisk, begins_with, begins_crlf, after_line_end, open_brace, close_brace, colon, line_feed, spaces, skip_blank, skip_blank_block}
-use Rattle.fluent_grammar.specs.Refusal.{Kind, Reading, got, refused, refuse, mapped, ◌>>=◌}
+use Rattle.fluent_grammar.specs.Refusal.{Reading, got, refuse, mapped, ◌>>=◌}
 use Rattle.fluent_grammar.specs.Refusal as r
 use Rattle.fluent_grammar.specs.Tree as t
 use Rattle.fluent_grammar.specs.Lines.{Piece, at_line_start, in_line, placed, elements_of, value_of, ends_line, pattern_ends}
@@ -165,9 +165,3 @@ abbrev pub default_mark_at : Bool → Text → Reading Bool
 default_mark_at marked s =
     if begins_with asterisk s then (if marked then refuse r.multiple_default_variants (drop 1 s) else got true (drop 1 s))
     else got false s
-
--- a text begins here: no brace, no CR LF, not the end
-pub record IsTextStart (s : Text) : Type 0 where
-  pub some : (length s == 0) ≡ false
-  pub brace : begins_with open_brace s ≡ false
-  pub crlf : begins_crlf s ≡ false

@@ -1,17 +1,18 @@
 //! The parser's place in its source.
 #![tactic(auto, using(fluent_words::proofs::Counted::cuts))]
 
-ghost use Rattle.std.specs.Prelude.{◌≡◌, ◌-◌, ◌<◌, ◌≤◌, length, drop, map, take, true, false, IfOk};
+ghost use Rattle.std.specs.Prelude.{◌≡◌, ◌-◌, ◌<◌, ◌≤◌, length, drop, map, take, true, false, IfOk, IfSome};
 ghost use Rattle.std.specs.Str.{IsUtf8};
 ghost use Rattle.fluent_words.specs.Counted.{Cuts, IsLine, IsText};
 ghost use Rattle.fluent_lines.specs.Lookup.{IsOneLine, is_last_feed, past_comments};
 ghost use Rattle.fluent_grammar.specs.Lines.{pattern_ends};
+ghost use Rattle.fluent_lines.specs.IndentedTexts.{IsPlainLine};
 ghost use Rattle.fluent_lines.specs.Table as table;
 ghost use Rattle.fluent_grammar.specs.Words as w;
 ghost use Rattle.fluent_grammar.specs.Tiling.{resume};
 ghost use Rattle.fluent_parser.specs.Reads.{past_byte};
 
-use fluent_lines::{Lines, PlainLines, Row};
+use fluent_lines::{Lines, PlainLine, PlainLines, Row};
 use fluent_stack::{Stack, StackBudget};
 use fluent_text::Texts;
 use fluent_words as words;
@@ -188,6 +189,17 @@ impl<'p, S: Drop, T: Texts<S>> Parser<'p, S, T> {
     {
         let place = self.place();
         self.lines.plain_lines(place)
+    }
+
+    /// The line that starts here, if it is plain and a pattern goes on with a text in it: see `plain_line` of
+    /// `fluent_lines`.
+    pub fn plain_line(&mut self) -> Option<PlainLine>
+        requires { StartsLine true self.old.text.now self.old.rest.now }
+        ensures line { IfSome result (IsPlainLine self.old.rest.now) }
+        ensures stays { Stays self.old self.new }
+    {
+        let place = self.place();
+        self.lines.plain_line(place)
     }
 
     /// Whether a line feed stands here, behind which a pattern ends.

@@ -6,6 +6,7 @@ ghost use Rattle.fluent_grammar.specs.Words as w;
 ghost use Rattle.fluent_grammar.specs.Lines.{indent_of};
 ghost use Rattle.fluent_parser.specs.Steps.{text_piece};
 ghost use Rattle.fluent_lines.specs.Lookup.{IsOneLine};
+ghost use Rattle.fluent_lines.specs.IndentedTexts.{IsTextStart};
 ghost use Rattle.fluent_parser.specs.Frame.{Advances, StartsLine};
 
 use crate::expression::discard;
@@ -37,7 +38,7 @@ fn is_column_zero(at_line_start: bool, indent: usize) -> bool
 
 impl<'p, S: Drop, T: Texts<S>> Parser<'p, S, T> {
     ghost use Rattle.fluent_parser.specs.Frame.{Reads};
-    ghost use Rattle.fluent_parser.specs.Steps.{pattern_by, pattern_behind, kept_piece_by, piece_from, placeable_piece_by, indent_at, text_from, first_place, IsTextStart};
+    ghost use Rattle.fluent_parser.specs.Steps.{pattern_by, pattern_behind, kept_piece_by, piece_from, placeable_piece_by, indent_at, text_from, first_place};
     ghost use Rattle.fluent_ast.specs.View.{pattern_view};
     ghost use Rattle.fluent_parser.specs.Pieces.{ReadsPiece};
     ghost use Rattle.fluent_parser.specs.Selects.{piece_end_by};

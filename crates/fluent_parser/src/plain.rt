@@ -1,26 +1,24 @@
 //! Patterns of plain lines.
 #![tactic(auto, using(fluent_words::proofs::Counted::cuts))]
 
-ghost use Rattle.std.specs.Prelude.{◌≡◌, ◌<◌, IfOk, IfSome, length, drop};
+ghost use Rattle.std.specs.Prelude.{◌≡◌, ◌<◌, IfOk, IfSome, length, drop, false};
 ghost use Rattle.fluent_parser.specs.Frame.{Advances, StartsLine, Stays};
-ghost use Rattle.fluent_parser.specs.PlainLines.{GoesOn, IsPlainLine, GivesPlain, EndsPattern};
+ghost use Rattle.fluent_parser.specs.PlainLines.{IsNextText, GivesPlain, EndsPattern, said};
 
 use crate::fault::Fault;
 use crate::parser::Parser;
-use crate::pattern::said_by;
 use fluent_ast::{Pattern, PatternElement};
-use fluent_elements::Dedented;
+use fluent_elements::{Dedented, is_blank_text};
+use fluent_lines::{PlainLine, PlainLines};
 use fluent_text::Texts;
 use fluent_words as words;
 use std::alloc::AllocError;
 
-/// A text at the front of a line or within one, which goes on to the end of the line.
-#[derive(Clone, Copy, Drop)]
-pub struct PlainLine {
-    /// How many spaces stand before it at the start of a line.
-    pub indent: usize,
-    /// How many bytes it has after them, with its line feed.
-    pub count: usize,
+/// What a text says of the common indent, which begins its line or not: nothing within a line or if it is blank.
+fn said(at_line_start: bool, line: &PlainLine) -> Option<usize>
+    ensures { result ≡ said at_line_start line.now }
+{
+    (at_line_start && !line.is_blank).then_some(line.indent)
 }
 
 impl<'p, S: Drop, T: Texts<S>> Parser<'p, S, T> {
@@ -32,14 +30,23 @@ impl<'p, S: Drop, T: Texts<S>> Parser<'p, S, T> {
     ///
     /// # Errors
     /// [`Fault::Memory`] if memory runs out.
-    #[inline(never)]
+    #[inline(always)]
     pub fn get_plain_lines(&mut self) -> Result<Option<Pattern<S>>, Fault>
         ensures gives { GivesPlain S T.text self.old.rest.now self.new.rest.now result }
         ensures advances { Advances self.old self.new }
     {
-        let Some(told) = self.plain_lines() else {
-            return Ok(None);
-        };
+        match self.plain_lines() {
+            Some(lines) => self.get_lines_as_told(lines),
+            None => Ok(None),
+        }
+    }
+
+    /// The same, of what the rows say.
+    #[inline(never)]
+    fn get_lines_as_told(&mut self, told: PlainLines) -> Result<Option<Pattern<S>>, Fault>
+        ensures gives { GivesPlain S T.text self.old.rest.now self.new.rest.now result }
+        ensures advances { Advances self.old self.new }
+    {
         let before = self.rest();
         let mut at_line_start = self.skip_to_line();
         let mut dedented = Dedented::new(self.alloc, told.count, told.common_indent)?;
@@ -69,52 +76,51 @@ impl<'p, S: Drop, T: Texts<S>> Parser<'p, S, T> {
             (λ ends. length self.new.rest.now < length self.old.rest.now)) }
         ensures advances { Advances self.old self.new }
     {
-        let Some(line) = self.plain_line(at_line_start) else {
+        let Some(line) = self.next_text(at_line_start) else {
             return Ok(None);
         };
-        let text = words::front(words::from(self.bytes(), line.indent), line.count);
-        let said = said_by(at_line_start, line.indent, text);
         let cut = dedented.cut_len(line.indent);
         self.advance(cut);
         let value = self.take(line.indent - cut + line.count)?;
-        dedented.push(PatternElement::TextElement { value }, said)?;
-        Ok(Some(words::ends_line(text)))
+        dedented.push(
+            PatternElement::TextElement { value },
+            said(at_line_start, &line),
+        )?;
+        Ok(Some(line.ends_line))
     }
 
-    /// The plain line that stands here, if a pattern goes on with one.
-    fn plain_line(&mut self, at_line_start: bool) -> Option<PlainLine>
+    /// The text that stands here after the spaces before it, if a pattern goes on with one.
+    fn next_text(&mut self, at_line_start: bool) -> Option<PlainLine>
         requires { StartsLine at_line_start self.old.text.now self.old.rest.now }
-        ensures line { IfSome result (IsPlainLine at_line_start self.old.rest.now) }
+        ensures text { IfSome result (IsNextText at_line_start self.old.rest.now) }
         ensures stays { Stays self.old self.new }
     {
-        let indent = self.indent_here(at_line_start)?;
-        let text = words::from(self.bytes(), indent);
-        if text.is_empty() || words::begins_with(text, b'{') || words::begins_crlf(text) {
-            return None;
-        }
-        match self.text_len(indent) {
-            Ok(count) => Some(PlainLine { indent, count }),
-            Err(_) => None,
+        if at_line_start {
+            self.plain_line()
+        } else {
+            self.text_in_line()
         }
     }
 
-    /// How many spaces stand before the next piece of a pattern, if it goes on here.
-    fn indent_here(&mut self, at_line_start: bool) -> Option<usize>
-        requires { StartsLine at_line_start self.old.text.now self.old.rest.now }
-        ensures goes_on { IfSome result (GoesOn at_line_start self.old.rest.now) }
+    /// The text that stands here within a line, if one does.
+    fn text_in_line(&mut self) -> Option<PlainLine>
+        ensures text { IfSome result (IsNextText false self.old.rest.now) }
         ensures stays { Stays self.old self.new }
     {
-        if !at_line_start {
-            return Some(0);
-        }
-        if self.is_last_feed() {
+        let rest = self.bytes();
+        if rest.is_empty() || words::begins_with(rest, b'{') || words::begins_crlf(rest) {
             return None;
         }
-        let row = self.row();
-        if row.ends_pattern {
+        let Ok(count) = self.text_len(0) else {
             return None;
-        }
-        Some(row.spaces as usize)
+        };
+        let text = words::front(rest, count);
+        Some(PlainLine {
+            indent: 0,
+            count,
+            is_blank: is_blank_text(text),
+            ends_line: words::ends_line(text),
+        })
     }
 
     /// Whether a pattern ends here. A last line feed is passed over.

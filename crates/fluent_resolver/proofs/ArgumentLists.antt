@@ -1,5 +1,5 @@
 -- The arguments of a call, by those of the code.
-use Rattle.std.proofs.Common.{◌≡◌, ◌∙◌, ◌+◌, suc, ℕ, List, [], Bor, ap, map, subst, sym}
+use Rattle.std.proofs.Common.{◌≡◌, ◌∙◌, ◌+◌, suc, List, [], Bor, ap, map, subst, sym}
 use Rattle.fluent_ast.proofs.Views.{arguments_view-out}
 use Rattle.fluent_ast.specs.Borrowed.{arguments_of, inline_of}
 use Rattle.fluent_ast.specs.View.{inlines_of, named_view, nameds_of}

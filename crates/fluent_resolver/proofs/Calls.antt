@@ -1,5 +1,5 @@
 -- Arguments, one after the other.
-use Rattle.std.proofs.Common.{◌≡◌, ℕ, zero, suc, ◌+◌, ◌<◌, Option, Some, None, List, [], ◌∷◌, ◌++◌, map, take, drop, length, get_or, refl, ap, sym, ◌∙◌, arith, append_assoc}
+use Rattle.std.proofs.Common.{◌≡◌, ℕ, zero, suc, ◌+◌, ◌<◌, Option, Some, None, List, [], ◌∷◌, ◌++◌, map, take, length, get_or, refl, ap, sym, ◌∙◌, arith, append_assoc}
 use mathlib.Core.Logic.{◌⊎◌, inl, inr}
 use Rattle.std.proofs.Math.Seq.{take-suc}
 use Rattle.std.proofs.lemmas.List.{map-append}
@@ -7,7 +7,7 @@ use Rattle.fluent_ast.specs.View.{Named, inlines_of, nameds_of}
 use Rattle.fluent_grammar.specs.Tree as t
 use Rattle.fluent_grammar.specs.Words.{Text}
 use Rattle.fluent_meaning.proofs.Equations.{arguments-some}
-use Rattle.fluent_meaning.proofs.Refusals.{tells-first, tells-like, tells-none, tells-then}
+use Rattle.fluent_meaning.proofs.Refusals.{tells-first, tells-like, tells-then}
 use Rattle.fluent_meaning.proofs.States.{finds-as, finds-mapped, finds-then}
 use Rattle.fluent_meaning.specs.Environment.{Environment}
 use Rattle.fluent_meaning.specs.Refused.{TellsSome}

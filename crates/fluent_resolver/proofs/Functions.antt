@@ -1,5 +1,5 @@
 -- Calls of functions, by what their functions give.
-use Rattle.std.proofs.Common.{◌≡◌, ◌++◌, ◌∙◌, List, Option, Some, None, ap, refl, sym}
+use Rattle.std.proofs.Common.{◌≡◌, ◌++◌, ◌∙◌, Option, Some, None, ap, refl, sym}
 use Rattle.fluent_errors.specs.Errors.{unknown, to_function}
 use Rattle.fluent_grammar.specs.Tree as t
 use Rattle.fluent_grammar.specs.Words.{Text}

@@ -1,5 +1,5 @@
 -- Patterns and their parts, by what the code has done so far.
-use Rattle.std.proofs.Common.{◌≡◌, ℕ, zero, suc, ◌+◌, ◌*◌, ◌<◌, ◌≤◌, Option, get_or, length, Bool, true, false, cond, List, [], ◌∷◌, ◌++◌, map, refl, ap, sym, subst, ◌∙◌, arith, append_assoc, append-nil}
+use Rattle.std.proofs.Common.{◌≡◌, ℕ, zero, suc, ◌+◌, ◌*◌, ◌<◌, ◌≤◌, Option, get_or, length, Bool, true, false, cond, List, [], ◌∷◌, ◌++◌, refl, ap, sym, subst, ◌∙◌, arith, append_assoc, append-nil}
 use Rattle.std.specs.Prelude.{encode_utf8}
 use Rattle.std.proofs.lemmas.Bool.{false≢true}
 use Rattle.fluent_ast.specs.View.{Element, Named, text, placeable, elements_of, inlines_of, nameds_of}
@@ -8,10 +8,9 @@ use Rattle.fluent_grammar.specs.Tree as t
 use Rattle.fluent_grammar.specs.Tree.{Arguments, Elements, Expression, Inline, Inlines, MaybeArguments, Nameds, Variants}
 use Rattle.fluent_grammar.specs.Words.{Text}
 use Rattle.fluent_meaning.proofs.Refusals.{TakesNoLess, taken, tells-all, tells-fewer, tells-first, tells-like, tells-none, tells-then}
-use Rattle.fluent_meaning.proofs.States.{IsWithin, after-done}
 use Rattle.fluent_meaning.proofs.Writing.{after-then, elements-append}
 use Rattle.fluent_meaning.specs.Environment.{Environment}
-use Rattle.fluent_meaning.specs.Fallback.{braced, fallback, inline_fallback}
+use Rattle.fluent_meaning.specs.Fallback.{braced, fallback}
 use Rattle.fluent_meaning.specs.Refused.{TellsSome}
 use Rattle.fluent_meaning.specs.Steps.{Budget, may_open, shut, left, is_shut, Done, done, and_then, mapped, opening, entering, opens}
 use Rattle.fluent_meaning.specs.Substitution as s

@@ -1,5 +1,5 @@
 -- Selects, by the variant that is chosen.
-use Rattle.std.proofs.Common.{◌≡◌, ◌∙◌, List, [], Option, Some, None, append-nil, refl, true, subst, sym}
+use Rattle.std.proofs.Common.{◌≡◌, ◌∙◌, [], Option, Some, None, append-nil, refl, true, subst, sym}
 use Rattle.fluent_errors.specs.Errors.{missing_default}
 use Rattle.fluent_grammar.specs.Tree as t
 use Rattle.fluent_grammar.specs.Tree.{Elements}

@@ -1,5 +1,5 @@
 -- What an expression is, by its variant.
-use Rattle.std.proofs.Common.{◌≡◌, ◌∙◌, Bor, List, Option, ap, map, option_map}
+use Rattle.std.proofs.Common.{◌≡◌, ◌∙◌, Bor, Option, ap, option_map}
 use Rattle.fluent_ast.proofs.Views.{expression_view-Inline, inline_view-StringLiteral, inline_view-NumberLiteral, inline_view-FunctionReference, inline_view-MessageReference, inline_view-VariableReference, inline_view-Placeable}
 use Rattle.fluent_ast.specs.Borrowed.{arguments_of, expression_of, inline_of, name_of}
 use Rattle.fluent_ast.specs.declared.CallArguments.{CallArguments}

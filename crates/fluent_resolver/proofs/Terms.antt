@@ -1,9 +1,9 @@
 -- References to terms, by the term's own arguments.
-use Rattle.std.proofs.Common.{◌≡◌, ◌∙◌, List, Option, ap, refl, sym}
+use Rattle.std.proofs.Common.{◌≡◌, ◌∙◌, List, Option, ap, sym}
 use Rattle.fluent_grammar.specs.Tree as t
 use Rattle.fluent_grammar.specs.Words.{Text}
 use Rattle.fluent_meaning.proofs.Equations.{inline-term}
-use Rattle.fluent_meaning.proofs.Refusals.{tells-first, tells-found, tells-like}
+use Rattle.fluent_meaning.proofs.Refusals.{tells-first, tells-found}
 use Rattle.fluent_meaning.proofs.States.{finds-then-writes}
 use Rattle.fluent_meaning.proofs.Writing.{writes-as}
 use Rattle.fluent_meaning.specs.Environment.{Environment}

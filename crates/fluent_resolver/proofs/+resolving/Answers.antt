@@ -55,7 +55,7 @@ use Rattle.fluent_resolver.proofs.Terms.{term-first, term-refused, term-tells, t
 use Rattle.fluent_resolver.proofs.Selects.{none-tells, none-writes, select-first, variant-tells, variant-writes}
 use Rattle.fluent_progress.specs.Braces.{innermost}
 use Rattle.fluent_resolver.proofs.Braces.{innermost-light, innermost-written}
-use Rattle.fluent_resolver.proofs.Frames.{framed-finds, framed-tells, framed-writes, less-framed}
+use Rattle.fluent_resolver.proofs.Frames.{framed-finds, framed-tells, less-framed}
 use Rattle.fluent_resolver.proofs.ArgumentLists.{given-first, given-found, given-second, nameds_in, positional_in, weight-in}
 
 pub expression::write_expression-returns-in-Inline-clause-wrote : goal.expression::write_expression-returns-in-Inline-clause-wrote

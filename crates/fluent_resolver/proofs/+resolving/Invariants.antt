@@ -1,4 +1,4 @@
-use Rattle.std.proofs.Common.{◌≡◌, [], ℕ, suc, ◌+◌, ◌*◌, map, take, Bor, List}
+use Rattle.std.proofs.Common.{◌≡◌, [], suc, ◌+◌, ◌*◌, map, take}
 use Rattle.fluent_ast.specs.View.{arguments_view, element_view, elements_of, expression_view, inline_view, inlines_of, maybe_arguments, named_view, nameds_of, pattern_view, variant_view, variants_of}
 use Rattle.fluent_grammar.specs.Tree as t
 use Rattle.fluent_ids.specs.IdsView.{ids_view}

@@ -1,11 +1,10 @@
-use Rattle.std.proofs.Common.{◌≡◌, [], List, ℕ, Bor, Some, map, option_map, sym, ap, ◌∙◌, append-nil, refl}
+use Rattle.std.proofs.Common.{[], List, ℕ, Bor, Some, sym}
 use Rattle.std.specs.Cow.{cow_str_bytes}
 use Rattle.fluent_ast.specs.View.{pattern_view}
-use Rattle.fluent_errors.specs.Errors.{unresolved}
 use Rattle.fluent_progress.proofs.Telling.{on-ok}
 use Rattle.fluent_progress.specs.Views.{resolved_in, start_of}
 use Rattle.fluent_resolver.specs.Steps.{answer}
-use Rattle.fluent_asking.specs.Asked.{TellsAll, lone_text, told}
+use Rattle.fluent_asking.specs.Asked.{told}
 use Rattle.fluent_asking.proofs.Asking.{if-ok-same, lone-errors, lone-value, tells-none}
 use Rattle.fluent_asking.proofs.answer.answer.Goals as goal
 

@@ -1,4 +1,3 @@
-use Rattle.std.proofs.Common.{◌≡◌, rules}
 use Rattle.fluent_progress.proofs.Telling.{on-err}
 use Rattle.fluent_asking.proofs.Pieces.{piece-refused}
 use Rattle.fluent_asking.proofs.written.write_piece.Goals as goal

@@ -1,5 +1,5 @@
 use Rattle.std.proofs.Common.{◌≡◌, ◌∙◌, ◌||◌, ℕ, List, [], length, take, drop, map, sym, ap, refl, subst, arith, Option, Some, None, Bool, true, ◌++◌, ◌∷◌, Vec, Global}
-use Rattle.std.specs.Prelude.{false, option_map, ◌==◌, ◌&&◌}
+use Rattle.std.specs.Prelude.{false, option_map, ◌==◌}
 use Rattle.std.specs.List.{list_all}
 use Rattle.fluent_grammar.specs.Words as w
 use Rattle.fluent_grammar.specs.Words.{begins_with, skip_blank, skip_separator, spaces}
@@ -12,7 +12,7 @@ use Rattle.fluent_ast.specs.declared.Variant.{Variant}
 use Rattle.fluent_words.specs.Counted.{begins_literal}
 use Rattle.fluent_parser.specs.Reads.{Gives, whole, string_or_number_at, argument_value_at}
 use Rattle.fluent_parser.specs.Steps.{names_of, variants_behind, Argument, named, arguments_behind, positional_by, argument_by, nested_by, placeable_piece_by, pattern_behind, kept_piece_by, piece_behind, first_place}
-use Rattle.fluent_ast.specs.View.{Named, inlines_of, nameds_of, name_of, inline_view, expression_view, named_view, variant_view, variants_of, arguments_view, pattern_view, element_view}
+use Rattle.fluent_ast.specs.View.{Named, inlines_of, nameds_of, name_of, inline_view, named_view, variant_view, variants_of, arguments_view, pattern_view, element_view}
 use Rattle.fluent_elements.specs.Elements.{value_by}
 use Rattle.fluent_parser.specs.declared.named_arguments.NamedArguments.{NamedArguments}
 use Rattle.fluent_parser.specs.Arguments.{argument_view, IsNamed}

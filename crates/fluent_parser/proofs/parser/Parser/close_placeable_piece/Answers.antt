@@ -1,4 +1,3 @@
-use Rattle.std.proofs.Common.{◌≡◌}
 use Rattle.fluent_parser.specs.Selects.{expression_with}
 use Rattle.fluent_parser.specs.Steps.{closed_by}
 use Rattle.fluent_parser.proofs.PutPieces.{placeable_put}

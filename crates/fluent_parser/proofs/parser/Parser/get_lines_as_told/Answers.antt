@@ -1,23 +1,20 @@
-use Rattle.std.proofs.Common.{◌∙◌, ℕ, List, length, sym, ap, subst, arith}
+use Rattle.std.proofs.Common.{◌∙◌, ℕ, List, sym, subst, arith}
 use Rattle.fluent_ast.specs.View.{pattern_view}
-use Rattle.fluent_grammar.specs.Words.{after_line_end}
 use Rattle.fluent_parser.specs.Frame.{StartsLine}
-use Rattle.fluent_parser.specs.Steps.{first_place}
 use Rattle.fluent_parser.proofs.LineStarts.{first_starts, piece_starts}
 use Rattle.fluent_parser.proofs.PlainPieces.{plain_none, plain_more, plain_end, piece_put}
-use Rattle.fluent_parser.proofs.parser.Parser.get_plain_lines.Goals as goal
+use Rattle.fluent_parser.proofs.parser.Parser.get_lines_as_told.Goals as goal
 
 pub loop-dedented-init : goal.loop-dedented-init
 loop-dedented-init g c =
     let u = c.args.self.now.rest.now in
     let line = c.skip_to_line-at_line_start.result in
     let rest = c.skip_to_line-at_line_start.new.self.rest.now in
-    let stays = c.in-Some.ensures.stays in
-    let text = c.skip_to_line-at_line_start.ensures.advances.text ∙ stays.text in
-    let place = c.skip_to_line-at_line_start.ensures.place ∙ ap (λ (z : List ℕ). first_place z (after_line_end z)) stays.rest in
+    let text = c.skip_to_line-at_line_start.ensures.advances.text in
+    let place = c.skip_to_line-at_line_start.ensures.place in
     record {
       text = text;
-      onward = omega (arith, ap length stays.rest, c.skip_to_line-at_line_start.ensures.advances.onward);
+      onward = c.skip_to_line-at_line_start.ensures.advances.onward;
       gathers = plain_none g.row.S.Denot g.T.Texts.text c.in_ok-dedented.dedented line rest u c.in_ok-dedented.ensures.elements c.in_ok-dedented.ensures.common_indent place;
       line_start = subst (λ (z : List ℕ). StartsLine line z rest) (sym text) (first_starts line c.args.self.now.text.now u rest c.args.self.now.is_tail place);
     }
@@ -29,17 +26,17 @@ loop-dedented-preserved g c =
     let rest = c.get_plain_line.new.self.rest.now in
     let old = c.loop-dedented.dedented in
     let new = c.get_plain_line.new.dedented in
-    let put = piece_put g.row.S.Denot g.T.Texts.text old new line s rest _ c.in-Some-2.ends_line c.in-Some-2.is c.in_ok-ends_line.ensures.gives in
+    let put = piece_put g.row.S.Denot g.T.Texts.text old new line s rest _ c.in-Some.ends_line c.in-Some.is c.in_ok-ends_line.ensures.gives in
     record {
       text = c.get_plain_line.ensures.advances.text ∙ c.loop-dedented.invariant.text;
       onward = omega (arith, c.get_plain_line.ensures.advances.onward, c.loop-dedented.invariant.onward);
-      gathers = plain_more g.row.S.Denot g.T.Texts.text old new line c.in-Some-2.ends_line s rest c.args.self.now.rest.now c.loop-dedented.invariant.gathers put;
-      line_start = subst (λ (z : List ℕ). StartsLine c.in-Some-2.ends_line z rest) (sym c.get_plain_line.ensures.advances.text)
-          (piece_starts line c.loop-dedented.self.text.now s rest put.piece c.in-Some-2.ends_line c.loop-dedented.self.is_tail put.read_is);
+      gathers = plain_more g.row.S.Denot g.T.Texts.text old new line c.in-Some.ends_line s rest c.args.self.now.rest.now c.loop-dedented.invariant.gathers put;
+      line_start = subst (λ (z : List ℕ). StartsLine c.in-Some.ends_line z rest) (sym c.get_plain_line.ensures.advances.text)
+          (piece_starts line c.loop-dedented.self.text.now s rest put.piece c.in-Some.ends_line c.loop-dedented.self.is_tail put.read_is);
     }
 
 pub returns-in-Some-finish-clause-gives : goal.returns-in-Some-finish-clause-gives
 returns-in-Some-finish-clause-gives g c =
     plain_end g.row.S.Denot g.T.Texts.text c.loop-dedented.dedented c.get_plain_line.new.dedented c.loop-dedented.at_line_start c.loop-dedented.self.rest.now c.get_plain_line.new.self.rest.now c.skip_pattern_end.new.self.rest.now
-    c.args.self.now.rest.now _ (pattern_view g.row.S.Denot g.T.Texts.text c.in-Some-finish.pattern) c.loop-dedented.invariant.gathers c.in_default-2.is c.in_ok-ends_line.ensures.gives
+    c.args.self.now.rest.now _ (pattern_view g.row.S.Denot g.T.Texts.text c.in-Some-finish.pattern) c.loop-dedented.invariant.gathers c.in_default.is c.in_ok-ends_line.ensures.gives
     c.in-Some-finish.ensures.common_indent c.if-skip_pattern_end.ensures.end c.in-Some-finish.ensures.value

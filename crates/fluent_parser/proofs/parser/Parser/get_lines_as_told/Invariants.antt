@@ -1,7 +1,7 @@
 use Rattle.std.proofs.Common.{◌≡◌, ◌≤◌, length}
 use Rattle.fluent_parser.specs.Frame.{StartsLine}
 use Rattle.fluent_parser.proofs.PlainPieces.{GathersPlain}
-use Rattle.fluent_parser.proofs.parser.Parser.get_plain_lines.Given as goal
+use Rattle.fluent_parser.proofs.parser.Parser.get_lines_as_told.Given as goal
 
 abbrev pub invariant-loop-dedented : goal.invariant-loop-dedented
 invariant-loop-dedented g l = record {
