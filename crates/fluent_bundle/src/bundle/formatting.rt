@@ -1,14 +1,15 @@
 //! What the patterns of a bundle give.
 
-ghost use Rattle.std.specs.Prelude.{IsOkAnd};
+ghost use Rattle.std.specs.Prelude.{◌≡◌, IfSome, IsOkAnd, Some};
 ghost use Rattle.std.specs.Cow.{IsBorrowedStr};
-ghost use Rattle.fluent_asking.specs.Asked.{GivesText, IsText, ReportsAll, ReportsFirst, WritesStart, WritesWhole};
+ghost use Rattle.fluent_asking.specs.Asked.{GivesText, IsText, ReportsAll, ReportsFirst, WritesStart, WritesWhole, lone_text};
+ghost use Rattle.fluent_ast.specs.Borrowed.{elements_of};
 ghost use Rattle.fluent_bundle.specs.Bounds.{TellsTooManyOnce};
 ghost use Rattle.fluent_bundle.specs.BundleView.{IsLent, answer, bundle_of, handout};
 ghost use Rattle.fluent_bundle.specs.Contents.{ShowsAsIs};
 
 use super::FluentBundle;
-use fluent_asking::answer::{answer, hand_out, write_answer};
+use fluent_asking::answer::{answer, hand_out, lone_text, write_answer};
 use fluent_ast::Pattern;
 use fluent_errors::FluentError;
 use fluent_meaning::laws::work_is_bounded;
@@ -103,6 +104,28 @@ where
         ensures borrowed { ShowsAsIs (bundle_of self.now) → IsText pattern.now → IsOkAnd result IsBorrowedStr }
         ensures told_once { TellsTooManyOnce errors.old errors.new }
     {
+        match self.lone_text_as_is(pattern) {
+            Some(text) => Ok(CowStr::Borrowed(text)),
+            None => self.resolve_pattern(pattern, args, errors),
+        }
+    }
+
+    /// The same by resolving the pattern, whatever it is. It is no part of its callers, so that one that asks for a text
+    /// alone needs no room for it.
+    #[inline(never)]
+    fn resolve_pattern<'x>(
+        &'x self,
+        pattern: &'r Pattern<&'s str>,
+        args: Option<&FluentArgs<'_, C>>,
+        errors: &mut Vec<FluentError>,
+    ) -> Result<CowStr<'s>, AllocError>
+        ensures text { GivesText result (handout T.transformed self.now args.entry pattern.now) }
+        ensures told { ReportsAll result errors.old errors.new (handout T.transformed self.now args.entry pattern.now) }
+        ensures refused { ReportsFirst result errors.old errors.new
+            (handout T.transformed self.now args.entry pattern.now) }
+        ensures borrowed { ShowsAsIs (bundle_of self.now) → IsText pattern.now → IsOkAnd result IsBorrowedStr }
+        ensures told_once { TellsTooManyOnce errors.old errors.new }
+    {
         work_is_bounded::<C, F>();
         let lent = self.lent();
         let locals: Option<&'x FluentArgs<'s, C>> = None;
@@ -124,6 +147,18 @@ where
     F: FluentFunction<C>,
     G: ValueFormatter<C, M>,
 {
+    /// The text of a pattern that is one text, if neither a transform nor a formatter is set: it is all that the pattern
+    /// gives.
+    fn lone_text_as_is(&self, pattern: &Pattern<&'s str>) -> Option<&'s str>
+        ensures as_is { IfSome result (λ text. ShowsAsIs (bundle_of self.now)) }
+        ensures text { IfSome result (λ text. lone_text (elements_of pattern.now) ≡ Some text.now) }
+    {
+        if self.transform.is_some() || self.formatter.is_some() {
+            return None;
+        }
+        lone_text(pattern)
+    }
+
     /// What patterns are resolved in, lent.
     pub(crate) fn lent(&self) -> Lent<'_, M, G, T>
         ensures { IsLent (bundle_of self.now) result }
