@@ -1,6 +1,6 @@
 -- What the code's commands stand for.
-use Rattle.std.specs.Prelude.{◌≡◌, List, Option, option_copied, option_map, Result, IfErr}
-use Rattle.std.specs.Global.{Vec}
+use Rattle.std.specs.Prelude.{◌≡◌, List, Option, option_copied, option_map, Result, IfErr, String}
+use Rattle.std.specs.Global.{Global, Vec}
 use denote.Ref.{Bor}
 use Rattle.clap.specs.Words.{Row, Text, found_of, rows_of}
 use Rattle.clap.specs.declared.parser.matches.ArgMatches.{ArgMatches}
@@ -18,7 +18,7 @@ use Rattle.ftl_words.specs.declared.commands.ReportFormat.TheVariants as form
 use Rattle.ftl_words.specs.declared.commands.Tidy.{Tidy}
 use Rattle.ftl_words.specs.declared.commands.Tidy.TheVariants as of
 use Rattle.ftl_words.specs.declared.reading.WordsError.{WordsError}
-use Rattle.ftl_words.specs.declared.reading.WordsError.TheVariants.{Memory}
+use Rattle.ftl_words.specs.declared.reading.WordsError.TheVariants.{Help, Memory, Version}
 
 abbrev pub tidy_view : Tidy → asked.Tidy
 tidy_view (of.Clean file) = asked.clean file.now
@@ -84,3 +84,10 @@ tidying_with name found = tidying_by (name, found_rows found)
 -- the fact holds if the words were refused, and not for want of memory
 abbrev pub IfRefused : {T : Type 0} → Result T WordsError → Type 0 → Type 0
 IfRefused result Fact = IfErr result (λ error. ¬ (error ≡ Memory) → Fact)
+
+-- no help is answered, and no version
+abbrev pub AnswersNoHelp : {T : Type 0} → Result T WordsError → Type 0
+AnswersNoHelp result = IfErr result (λ error. (text : String Global) → ¬ (error ≡ Help text))
+
+abbrev pub AnswersNoVersion : {T : Type 0} → Result T WordsError → Type 0
+AnswersNoVersion result = IfErr result (λ error. (text : String Global) → ¬ (error ≡ Version text))

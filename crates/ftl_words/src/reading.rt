@@ -5,7 +5,8 @@ ghost use Rattle.ftl_words.specs.Meaning.{AskForHelp, AskForHelpAlone, command_o
 ghost use Rattle.ftl_words.specs.Meaning.{AskForVersion, AskForVersionAlone};
 ghost use Rattle.ftl_words.specs.Meaning.{asked_of};
 ghost use Rattle.ftl_words.specs.Found.{file_in, files_in, is_given, locale_in, values_in};
-ghost use Rattle.ftl_words.specs.CommandView.{asked_with, command_view, found_rows, IfRefused, tidying_with};
+ghost use Rattle.ftl_words.specs.CommandView.{AnswersNoHelp, AnswersNoVersion, IfRefused};
+ghost use Rattle.ftl_words.specs.CommandView.{asked_with, command_view, found_rows, tidying_with};
 ghost use Rattle.ftl_words.specs.Version.{version_line};
 ghost use Rattle.ftl_words.specs.declared.reading.WordsError.TheVariants.{Memory};
 
@@ -104,8 +105,8 @@ fn command_met<'words>(
     ensures command { IfOk result (λ command.
         asked_of (subcommand_rows_of matches.now) ≡ Some (command_view command)) }
     ensures nothing { IfRefused result (asked_of (subcommand_rows_of matches.now) ≡ None) }
-    ensures no_help { IfErr result (λ error. (text : _) → ¬ (error ≡ WordsError.Help text)) }
-    ensures no_version { IfErr result (λ error. (text : _) → ¬ (error ≡ WordsError.Version text)) }
+    ensures no_help { AnswersNoHelp result }
+    ensures no_version { AnswersNoVersion result }
 {
     match matches.subcommand() {
         Some((name, found)) => command_named(alloc, name, found),
@@ -122,8 +123,8 @@ fn command_named<'words>(
     ensures command { IfOk result (λ command.
         asked_with name.now found.now ≡ Some (command_view command)) }
     ensures nothing { IfRefused result (asked_with name.now found.now ≡ None) }
-    ensures no_help { IfErr result (λ error. (text : _) → ¬ (error ≡ WordsError.Help text)) }
-    ensures no_version { IfErr result (λ error. (text : _) → ¬ (error ≡ WordsError.Version text)) }
+    ensures no_help { AnswersNoHelp result }
+    ensures no_version { AnswersNoVersion result }
 {
     match name {
         "run" => Ok(Command::Run {
@@ -150,8 +151,8 @@ fn tidying_named<'words>(
     ensures command { IfOk result (λ command.
         tidying_with name.now found.now ≡ Some (command_view command)) }
     ensures nothing { IfRefused result (tidying_with name.now found.now ≡ None) }
-    ensures no_help { IfErr result (λ error. (text : _) → ¬ (error ≡ WordsError.Help text)) }
-    ensures no_version { IfErr result (λ error. (text : _) → ¬ (error ≡ WordsError.Version text)) }
+    ensures no_help { AnswersNoHelp result }
+    ensures no_version { AnswersNoVersion result }
 {
     let tidy = match name {
         "clean" => Tidy::Clean(file_in(found)?),
