@@ -1,0 +1,5 @@
+pub mod Appended
+pub mod Decoded
+pub mod Lists
+mod Rows
+pub mod Trees

@@ -1,0 +1,11 @@
+use Rattle.fluent_ast.specs.View.{entry_view}
+use Rattle.fluent_code.specs.declared.Span.{Span}
+use Rattle.fluent_code.specs.Spans.{span_text}
+use Rattle.fluent_code.proofs.Decoded.{appended-decodes}
+use Rattle.fluent_code.proofs.Trees.{entries-have-spans}
+use Rattle.fluent_code.proofs.entries.append_entry.Goals as goal
+
+pub returns-clause-decodes : goal.returns-clause-decodes
+returns-clause-decodes c =
+    let entry = c.args.entry.now in
+    appended-decodes c.append_entry_words.result c.args.code.now c.append_entry_words.new.code (entry_view Span span_text entry) (entries-have-spans entry) c.append_entry_words.ensures.appended

@@ -1,0 +1,5 @@
+pub mod Code
+pub mod Decoding
+pub mod Spans
+pub mod Appending
+pub mod Laws
