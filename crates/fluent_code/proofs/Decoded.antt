@@ -1,8 +1,7 @@
 -- Code is decoded: the code of a node stands for the node, whatever follows.
-use Rattle.std.proofs.Common.{◌≡◌, ℕ, zero, suc, true, false, List, [], ◌∷◌, ◌++◌, length, drop, Option, Some, None, Result, Ok, Err, OnOk, refl, sym, ap, ◌∙◌, append_assoc, append-nil, Vec, Global}
+use Rattle.std.proofs.Common.{◌≡◌, ℕ, zero, suc, true, false, List, [], ◌∷◌, ◌++◌, length, drop, Option, Some, None, refl, sym, ap, ◌∙◌, append_assoc, append-nil}
 use Rattle.std.proofs.Math.Seq.{drop-append_seam}
 use Rattle.fluent_grammar.specs.Tree as t
-use Rattle.fluent_code.specs.Appending.{Appends}
 use Rattle.fluent_code.specs.Code.{key_code, accessor_code, elements_code, expression_code, variants_code, inline_code, maybe_arguments_code, inlines_code, nameds_code, value_code, attributes_code, entry_code}
 use Rattle.fluent_code.specs.Decoding.{Decoded, after, span_at, key_at, accessor_at, elements_at, expression_at, variants_at, inline_at, maybe_arguments_at, inlines_at, nameds_at, value_at, attributes_at, message_at, term_at, decoded}
 use Rattle.fluent_code.specs.Spans.{IsSpan, IsSpanKey, IsSpanAccessor, HasSpansElements, HasSpansExpression, HasSpansVariants, HasSpansInline, HasSpansMaybe, HasSpansInlines, HasSpansNameds, HasSpansValue, HasSpansAttributes, HasSpans}
@@ -202,9 +201,8 @@ code-decoded (t.resource_comment c) rest never h = absurd never
 code-decoded (t.junk s) rest never h = absurd never
 
 -- what was appended after some code is decoded
-pub appended-decodes : {T E : Type 0} (r : Result T E) (old new : Vec ℕ Global) (e : t.Entry) → HasSpans e → Appends r old new (entry_code e) → OnOk r (IsDecoded e old.items new.items)
-appended-decodes (Ok x) old new e h step = λ c.
-    ap (λ words. decoded (drop (length old.items) words)) step
-    ∙ ap decoded (drop-append_seam old.items (entry_code e) ∙ sym (append-nil (entry_code e)))
+pub appended-decodes : (old new : List ℕ) (e : t.Entry) → HasSpans e → new ≡ old ++ entry_code e → IsDecoded e old new
+appended-decodes old new e h step = λ c.
+    ap (λ words. decoded (drop (length old) words)) step
+    ∙ ap decoded (drop-append_seam old (entry_code e) ∙ sym (append-nil (entry_code e)))
     ∙ code-decoded e [] c h
-appended-decodes (Err x) old new e h step = tt

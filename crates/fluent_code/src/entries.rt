@@ -1,9 +1,9 @@
 //! Appending messages and terms.
 
-ghost use Rattle.std.specs.Prelude.{◌≡◌, ◌++◌, OnOk, option_map};
+ghost use Rattle.std.specs.Prelude.{◌≡◌, ◌++◌, OnErr, OnOk, option_map};
 ghost use Rattle.fluent_ast.specs.View.{attribute_view, attributes_view, entry_view, message_view, pattern_view, term_view};
 ghost use Rattle.fluent_code.specs.declared.Span.{Span};
-ghost use Rattle.fluent_code.specs.Appending.{Appends, Extends};
+ghost use Rattle.fluent_code.specs.Appending.{Appends};
 ghost use Rattle.fluent_code.specs.Code.{attribute_code, attributes_code, entry_code, message_code, term_code, value_code};
 ghost use Rattle.fluent_code.specs.Laws.{IsDecoded};
 ghost use Rattle.fluent_code.specs.Spans.{span_text};
@@ -76,18 +76,25 @@ fn append_term(code: &mut Vec<u32>, term: &Term<Span>) -> Result<(), AllocError>
 /// ```
 ///
 /// # Errors
-/// [`AllocError`] if memory runs out. The code that was there stays, and other words may follow it: before you go on
-/// with the code, shorten it to the length that it had.
+/// [`AllocError`] if memory runs out; the code is unchanged.
 pub fn append_entry(code: &mut Vec<u32>, entry: &Entry<Span>) -> Result<(), AllocError>
     ensures appended { OnOk result (code.new.items
         ≡ code.old.items ++ entry_code (entry_view Span span_text entry.now)) }
-    ensures kept { Extends code.old.items code.new.items }
     ensures decodes { OnOk result (IsDecoded (entry_view Span span_text entry.now)
         code.old.items code.new.items) }
+    ensures unchanged { OnErr result (code.new.items ≡ code.old.items) }
 {
-    append_entry_words(code, entry)
+    let len = code.len();
+    match append_entry_words(code, entry) {
+        Ok(()) => Ok(()),
+        Err(error) => {
+            code.truncate(len);
+            Err(error)
+        }
+    }
 }
 
+/// The same, but if memory runs out, some words of the entry may be left.
 fn append_entry_words(code: &mut Vec<u32>, entry: &Entry<Span>) -> Result<(), AllocError>
     ensures appended { Appends result code.old code.new
         (entry_code (entry_view Span span_text entry.now)) }

@@ -5,7 +5,7 @@ use Rattle.fluent_code.proofs.Decoded.{appended-decodes}
 use Rattle.fluent_code.proofs.Trees.{entries-have-spans}
 use Rattle.fluent_code.proofs.entries.append_entry.Goals as goal
 
-pub returns-clause-decodes : goal.returns-clause-decodes
-returns-clause-decodes c =
+pub returns-in-Ok-clause-decodes : goal.returns-in-Ok-clause-decodes
+returns-in-Ok-clause-decodes c =
     let entry = c.args.entry.now in
-    appended-decodes c.append_entry_words.result c.args.code.now c.append_entry_words.new.code (entry_view Span span_text entry) (entries-have-spans entry) c.append_entry_words.ensures.appended
+    appended-decodes c.args.code.now.items c.append_entry_words.new.code.items (entry_view Span span_text entry) (entries-have-spans entry) c.in-Ok.ensures.appended
