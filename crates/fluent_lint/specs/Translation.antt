@@ -18,6 +18,7 @@ use Rattle.fluent_lint.specs.declared.reports.Output.{Output}
 use Rattle.fluent_lint.specs.declared.reports.Report.{Report}
 use Rattle.fluent_lint.specs.declared.tiles.FileTiles.{FileTiles}
 use Rattle.fluent_lint.specs.declared.tiles.TiledFiles.{TiledFiles}
+use Rattle.fluent_lint.specs.declared.translation.Translation.{Translation}
 use Rattle.fluent_resource.specs.Sources.{texts}
 
 -- ---- files with their tiles
@@ -30,6 +31,11 @@ pub record AreTiled (files : TiledFiles) : Type 0 where
   pub tiles : All AreTilesOf files.tiles.now
   pub read : IsReadOf (files_in files) files.read.now
 
+-- so are those of a catalog and its reference
+pub record AreBothTiled (t : Translation) : Type 0 where
+  pub references : AreTiled t.references
+  pub files : AreTiled t.files
+
 -- ---- what is known, by a reference
 
 -- these are the functions that the files of a reference call
@@ -40,10 +46,18 @@ AreCalledBy rs called = texts called ≡ called_functions (sources (files_view (
 abbrev pub AreKnownIds : Options → TiledFiles → List File → FluentIds (Unit {0}) → Type 0
 AreKnownIds o rs fs ids = ids_view (Unit {0}) ids ≡ known_ids (options_view o) (files_view (files_in rs)) (files_view fs)
 
+-- these are the ids of some files, with what is known of a catalog and its reference
+abbrev pub AreIdsWith : Translation → List File → FluentIds (Unit {0}) → Type 0
+AreIdsWith t fs ids = AreKnownIds t.options t.references fs ids
+
 -- ---- reports
 
 abbrev pub IsTranslationReport : Options → Output → List File → List File → Report → Type 0
 IsTranslationReport o w rs fs report = IsReportOf (translation_findings o rs fs) (translation_summaries o rs fs) w report
+
+-- that of a catalog and its reference
+abbrev pub IsReportOn : Translation → Report → Type 0
+IsReportOn t report = IsTranslationReport t.options t.output (files_in t.references) (files_in t.files) report
 
 -- the findings of files by these rules, and then the missing messages
 abbrev pub found_with_reference : Rules → List f.File → List f.File → List FileFinding

@@ -7,7 +7,7 @@ ghost use Rattle.fluent_finding.specs.View.{findings_view};
 ghost use Rattle.fluent_lint.specs.FileTiles.{AreTilesOf};
 ghost use Rattle.fluent_lint.specs.Reading.{IsReadOf};
 ghost use Rattle.fluent_lint.specs.Reports.{translation_fails, translation_report};
-ghost use Rattle.fluent_lint.specs.Translation.{AreCalledBy, AreKnownIds, AreTiled, IsReportWith, IsReportWithCounts, IsTranslationReport, files_in};
+ghost use Rattle.fluent_lint.specs.Translation.{AreBothTiled, AreCalledBy, AreIdsWith, AreTiled, IsReportOn, IsReportWith, IsReportWithCounts, IsTranslationReport, files_in};
 
 use crate::counts::counts_of_files;
 use crate::findings::catalog_findings;
@@ -23,6 +23,16 @@ use fluent_finding::{File, FileFindings};
 use fluent_ids::FluentIds;
 use fluent_reference_findings::{Reference, called_functions};
 use std::alloc::{AllocError, Global};
+
+/// A catalog and its reference, with the tiles of their files, and what is asked of their report.
+#[derive(Clone, Copy)]
+pub struct Translation<'o, 'r, 's> {
+    pub alloc: Global,
+    pub options: Options<'o>,
+    pub output: Output,
+    pub references: TiledFiles<'r, 's>,
+    pub files: TiledFiles<'r, 's>,
+}
 
 /// The report of a catalog and of its reference, the files that it is translated from: all findings of these files, the
 /// messages that they lack, and the counts of all files. Also whether a finding fails. The functions that the reference
@@ -85,13 +95,13 @@ fn report_of_files<'s>(
 }
 
 /// The same, by what was read of the files.
-fn report_of_read_files<'s>(
+fn report_of_read_files<'r, 's>(
     alloc: Global,
     options: &Options,
     output: Output,
-    references: TiledFiles<'_, 's>,
+    references: TiledFiles<'r, 's>,
     files: &[File<'s>],
-    read: &ReadFiles<'s>,
+    read: &'r ReadFiles<'s>,
 ) -> Result<Report, AllocError>
     requires references { AreTiled references }
     requires read { IsReadOf files.now read.now }
@@ -102,131 +112,107 @@ fn report_of_read_files<'s>(
         tiles: &tiles,
         read,
     };
-    report_of_tiled_files(alloc, options, output, references, files)
-}
-
-/// The same, by the tiles of all files.
-fn report_of_tiled_files<'r, 's: 'r>(
-    alloc: Global,
-    options: &Options,
-    output: Output,
-    references: TiledFiles<'r, 's>,
-    files: TiledFiles<'r, 's>,
-) -> Result<Report, AllocError>
-    requires references { AreTiled references }
-    requires files { AreTiled files }
-    ensures { IfOk result (IsTranslationReport options.now output (files_in references.entry) (files_in files.entry)) }
-{
-    let called = called_functions(alloc, &references.read.trees)?;
-    report_by_called(alloc, options, output, &called, references, files)
-}
-
-/// The same, with the functions that the reference calls.
-fn report_by_called<'r, 's: 'r>(
-    alloc: Global,
-    options: &Options,
-    output: Output,
-    called: &[&str],
-    references: TiledFiles<'r, 's>,
-    files: TiledFiles<'r, 's>,
-) -> Result<Report, AllocError>
-    requires called { AreCalledBy references called.now }
-    requires references { AreTiled references }
-    requires files { AreTiled files }
-    ensures { IfOk result (IsTranslationReport options.now output (files_in references.entry) (files_in files.entry)) }
-{
-    let functions = catalog_ids(alloc, options.functions, called, &[])?;
-    report_by_functions(
-        alloc, options, output, called, &functions, references, files,
-    )
-}
-
-/// The same, with the ids of functions.
-fn report_by_functions<'r, 's: 'r>(
-    alloc: Global,
-    options: &Options,
-    output: Output,
-    called: &[&str],
-    functions: &FluentIds<'r, 's, ()>,
-    references: TiledFiles<'r, 's>,
-    files: TiledFiles<'r, 's>,
-) -> Result<Report, AllocError>
-    requires called { AreCalledBy references called.now }
-    requires functions { AreKnownIds options.now references [] functions.now }
-    requires references { AreTiled references }
-    requires files { AreTiled files }
-    ensures { IfOk result (IsTranslationReport options.now output (files_in references.entry) (files_in files.entry)) }
-{
-    let ids = catalog_ids(alloc, options.functions, called, &files.read.trees)?;
-    report_by_ids(
-        alloc, options, output, called, functions, &ids, references, files,
-    )
-}
-
-/// The same, with the ids of the files.
-fn report_by_ids<'r, 's: 'r>(
-    alloc: Global,
-    options: &Options,
-    output: Output,
-    called: &[&str],
-    functions: &FluentIds<'r, 's, ()>,
-    ids: &FluentIds<'r, 's, ()>,
-    references: TiledFiles<'r, 's>,
-    files: TiledFiles<'r, 's>,
-) -> Result<Report, AllocError>
-    requires called { AreCalledBy references called.now }
-    requires functions { AreKnownIds options.now references [] functions.now }
-    requires ids { AreKnownIds options.now references (files_in files) ids.now }
-    requires references { AreTiled references }
-    requires files { AreTiled files }
-    ensures { IfOk result (IsTranslationReport options.now output (files_in references.entry) (files_in files.entry)) }
-{
-    let reference = catalog_ids(alloc, options.functions, called, &references.read.trees)?;
-    report_by_all_ids(
-        alloc, options, output, functions, ids, &reference, references, files,
-    )
-}
-
-/// The same, with all ids.
-fn report_by_all_ids<'r, 's: 'r>(
-    alloc: Global,
-    options: &Options,
-    output: Output,
-    functions: &FluentIds<'r, 's, ()>,
-    ids: &FluentIds<'r, 's, ()>,
-    reference: &FluentIds<'r, 's, ()>,
-    references: TiledFiles<'r, 's>,
-    files: TiledFiles<'r, 's>,
-) -> Result<Report, AllocError>
-    requires functions { AreKnownIds options.now references [] functions.now }
-    requires ids { AreKnownIds options.now references (files_in files) ids.now }
-    requires reference { AreKnownIds options.now references (files_in references) reference.now }
-    requires references { AreTiled references }
-    requires files { AreTiled files }
-    ensures { IfOk result (IsTranslationReport options.now output (files_in references.entry) (files_in files.entry)) }
-{
-    let endless = EndlessPatterns::new(alloc, ids, &files.read.trees)?;
-    let comparison = Reference {
-        ids,
-        reference,
-        trees: &references.read.trees,
+    let translation = Translation {
+        alloc,
+        options: *options,
+        output,
+        references,
+        files,
     };
-    let catalog = Catalog {
-        ids,
-        plurals: options.plurals,
-    };
-    let rules = Rules {
-        functions,
-        catalog: &catalog,
-        endless: &endless,
-        comparison: &comparison,
-    };
-    let report = report_by_rules(alloc, output, &rules, references.tiles, files.tiles);
-    let Catalog { ids: _, plurals: _ } = catalog;
-    report
+    translation.report()
 }
 
-/// The same, by the rules for findings.
+impl<'o, 'r, 's: 'r> Translation<'o, 'r, 's> {
+    /// The report.
+    fn report(&self) -> Result<Report, AllocError>
+        requires { AreBothTiled self.now }
+        ensures { IfOk result (IsReportOn self.now) }
+    {
+        let called = called_functions(self.alloc, &self.references.read.trees)?;
+        self.report_by_called(&called)
+    }
+
+    /// The same, with the functions that the reference calls.
+    fn report_by_called(&self, called: &[&str]) -> Result<Report, AllocError>
+        requires called { AreCalledBy self.now.references called.now }
+        requires tiled { AreBothTiled self.now }
+        ensures { IfOk result (IsReportOn self.now) }
+    {
+        let functions = catalog_ids(self.alloc, self.options.functions, called, &[])?;
+        self.report_by_functions(called, &functions)
+    }
+
+    /// The same, with the ids of functions.
+    fn report_by_functions(
+        &self,
+        called: &[&str],
+        functions: &FluentIds<'r, 's, ()>,
+    ) -> Result<Report, AllocError>
+        requires called { AreCalledBy self.now.references called.now }
+        requires functions { AreIdsWith self.now [] functions.now }
+        requires tiled { AreBothTiled self.now }
+        ensures { IfOk result (IsReportOn self.now) }
+    {
+        let trees = &self.files.read.trees;
+        let ids = catalog_ids(self.alloc, self.options.functions, called, trees)?;
+        self.report_by_ids(called, functions, &ids)
+    }
+
+    /// The same, with the ids of the files.
+    fn report_by_ids(
+        &self,
+        called: &[&str],
+        functions: &FluentIds<'r, 's, ()>,
+        ids: &FluentIds<'r, 's, ()>,
+    ) -> Result<Report, AllocError>
+        requires called { AreCalledBy self.now.references called.now }
+        requires functions { AreIdsWith self.now [] functions.now }
+        requires ids { AreIdsWith self.now (files_in self.now.files) ids.now }
+        requires tiled { AreBothTiled self.now }
+        ensures { IfOk result (IsReportOn self.now) }
+    {
+        let trees = &self.references.read.trees;
+        let reference = catalog_ids(self.alloc, self.options.functions, called, trees)?;
+        self.report_by_all_ids(functions, ids, &reference)
+    }
+
+    /// The same, with all ids.
+    fn report_by_all_ids(
+        &self,
+        functions: &FluentIds<'r, 's, ()>,
+        ids: &FluentIds<'r, 's, ()>,
+        reference: &FluentIds<'r, 's, ()>,
+    ) -> Result<Report, AllocError>
+        requires functions { AreIdsWith self.now [] functions.now }
+        requires ids { AreIdsWith self.now (files_in self.now.files) ids.now }
+        requires reference { AreIdsWith self.now (files_in self.now.references) reference.now }
+        requires tiled { AreBothTiled self.now }
+        ensures { IfOk result (IsReportOn self.now) }
+    {
+        let endless = EndlessPatterns::new(self.alloc, ids, &self.files.read.trees)?;
+        let comparison = Reference {
+            ids,
+            reference,
+            trees: &self.references.read.trees,
+        };
+        let catalog = Catalog {
+            ids,
+            plurals: self.options.plurals,
+        };
+        let rules = Rules {
+            functions,
+            catalog: &catalog,
+            endless: &endless,
+            comparison: &comparison,
+        };
+        let (references, files) = (self.references.tiles, self.files.tiles);
+        let report = report_by_rules(self.alloc, self.output, &rules, references, files);
+        let Catalog { ids: _, plurals: _ } = catalog;
+        report
+    }
+}
+
+/// The report by the rules for findings.
 fn report_by_rules<'s, E: Endless<()>, C: Comparison>(
     alloc: Global,
     output: Output,

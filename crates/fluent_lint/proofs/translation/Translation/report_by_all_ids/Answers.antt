@@ -8,19 +8,19 @@ use Rattle.fluent_lint.specs.FileTiles.{files_view}
 use Rattle.fluent_lint.specs.Reports.{IsReportOf, options_view}
 use Rattle.fluent_lint.specs.Translation.{files_in}
 use Rattle.fluent_lint.proofs.Translated.{known_declared, translation_found}
-use Rattle.fluent_lint.proofs.translation.report_by_all_ids.Goals as goal
+use Rattle.fluent_lint.proofs.translation.Translation.report_by_all_ids.Goals as goal
 
 pub new-requires : goal.new-requires
 new-requires c =
     let ids = ids_view (Unit {0}) c.args.ids.now in
     subst (λ trees. AreDeclaredIn ids trees) (sym c.deref.ensures.value)
-    (known_declared (options_view c.args.options.now) (files_view (files_in c.args.references)) (files_in c.args.files) c.args.files.read.now.trees.items c.requires.files.read.trees ids c.requires.ids)
+    (known_declared (options_view c.args.self.now.options) (files_view (files_in c.args.self.now.references)) (files_in c.args.self.now.files) c.args.self.now.files.read.now.trees.items c.requires.tiled.files.read.trees ids c.requires.ids)
 
 pub returns : goal.returns
 returns c =
-    let references = files_view (files_in c.args.references) in
-    let files = files_view (files_in c.args.files) in
-    subst (λ (found : List FileFinding). IfOk c.report_by_rules-report.result (IsReportOf found (summaries references files found) c.args.output))
-    (translation_found (options_view c.args.options.now) references files (ids_view (Unit {0}) c.args.functions.now) (ids_view (Unit {0}) c.args.ids.now) (ids_view (Unit {0}) c.args.reference.now)
+    let references = files_view (files_in c.args.self.now.references) in
+    let files = files_view (files_in c.args.self.now.files) in
+    subst (λ (found : List FileFinding). IfOk c.report_by_rules-report.result (IsReportOf found (summaries references files found) c.args.self.now.output))
+    (translation_found (options_view c.args.self.now.options) references files (ids_view (Unit {0}) c.args.functions.now) (ids_view (Unit {0}) c.args.ids.now) (ids_view (Unit {0}) c.args.reference.now)
     c.requires.functions c.requires.ids c.requires.reference)
     c.report_by_rules-report.ensures
