@@ -13,9 +13,9 @@ use Rattle.fluent_errors.specs.Errors.{overriding, message, term}
 use Rattle.fluent_tidy_laws.specs.Joined.{joined}
 use Rattle.fluent_meaning.specs.Same.{same_elements}
 use Rattle.fluent_meaning.specs.Substitution.{expression_with, elements_with, pattern_at, pattern_written}
-use Rattle.fluent_requests.specs.Lines.{whole_lines, unfinished, lines_of}
-use Rattle.fluent_requests.specs.Requests.{request_of}
-use Rattle.fluent_requests.specs.Frames.{answer_line}
+use Rattle.fluent_serve.specs.Lines.{whole_lines, unfinished, lines_of}
+use Rattle.fluent_serve.specs.Requests.{request_of}
+use Rattle.fluent_serve.specs.Frames.{answer_line}
 use Rattle.fluent_answers.specs.Sources.{Settings, notices_of}
 use Rattle.fluent_answers.specs.Answers.{answers}
 

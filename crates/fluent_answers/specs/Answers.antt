@@ -10,9 +10,9 @@ use Rattle.fluent_meaning.specs.Environment.{Environment}
 use Rattle.fluent_meaning.specs.Ids.{Meaning, number_function, function, message, term, attribute_named}
 use Rattle.fluent_meaning.specs.Steps.{Done}
 use Rattle.fluent_meaning.specs.Substitution.{answer_written}
-use Rattle.fluent_requests.specs.Requests.{Request}
-use Rattle.fluent_requests.specs.Frames as frames
-use Rattle.fluent_requests.specs.Frames.{Reply, answer_line}
+use Rattle.fluent_serve.specs.Requests.{Request}
+use Rattle.fluent_serve.specs.Frames as frames
+use Rattle.fluent_serve.specs.Frames.{Reply, answer_line}
 use Rattle.fluent_answers.specs.Sources.{Settings, environment_of}
 
 -- the pattern that a request asks for: a message's value, or its first attribute of that name

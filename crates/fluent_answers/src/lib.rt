@@ -2,7 +2,7 @@
 //! over plain data; no code runs here.
 //!
 //! `specs/Answers.antt` joins what the crates below define: `fluent_grammar` says which messages and terms a source has,
-//! `fluent_meaning` what an id stands for and what a pattern gives, and `fluent_requests` what a line asks for and what its
+//! `fluent_meaning` what an id stands for and what a pattern gives, and `fluent_serve` what a line asks for and what its
 //! frame is.
 //!
 //! - Two lists of sources with the same messages and terms, one source after the other, have the same answers

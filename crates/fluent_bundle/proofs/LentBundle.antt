@@ -20,7 +20,7 @@ use Rattle.fluent_value.specs.declared.plurals.MemoizerKind.{Ghosts as PluralSou
 use Rattle.fluent_ast.specs.declared.Pattern.{Pattern}
 use Rattle.fluent_errors.specs.Errors.{unresolved}
 use Rattle.fluent_errors.specs.declared.bundle.FluentError.{FluentError}
-use Rattle.fluent_asking.specs.Asked.{TellsAll, TellsFirst, asked, handed, told as told_of}
+use Rattle.fluent_resolver.specs.Asked.{TellsAll, TellsFirst, asked, handed, told as told_of}
 use Rattle.fluent_bundle.specs.BundleView.{IsLent, answer, bundle_of, environment_of, handout}
 use Rattle.fluent_bundle.specs.declared.bundle.FluentBundle.{FluentBundle}
 

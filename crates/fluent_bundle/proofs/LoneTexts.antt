@@ -3,8 +3,8 @@ use Rattle.std.proofs.Common.{◌≡◌, ◌∙◌, false, Option, None, Some, B
 use Rattle.std.specs.Prelude.{is_some}
 use Rattle.fluent_ast.specs.Borrowed.{elements_of}
 use Rattle.fluent_ast.specs.declared.Pattern.{Pattern}
-use Rattle.fluent_asking.specs.Asked.{lone_text}
-use Rattle.fluent_asking.proofs.Asking.{lone-errors, lone-value}
+use Rattle.fluent_resolver.specs.Asked.{lone_text}
+use Rattle.fluent_resolver.proofs.Asking.{lone-errors, lone-value}
 use Rattle.fluent_grammar.specs.Words.{Text}
 use Rattle.fluent_ids.specs.Settings.{formatted_by, transformed_by}
 use Rattle.fluent_meaning.specs.Environment.{value_text}

@@ -2,7 +2,7 @@
 use Rattle.std.proofs.Common.{◌≡◌, ℕ, suc, ◌+◌, ◌≤◌, List, [], ◌∷◌, ◌++◌, map, refl, ap, subst, arith}
 use Rattle.std.specs.Global.{Vec}
 use Rattle.std.specs.Prelude.{IfOk, OnErr, OnOk, Result, Ok, Err}
-use Rattle.fluent_asking.specs.Asked.{TellsAll, TellsFirst, told}
+use Rattle.fluent_resolver.specs.Asked.{TellsAll, TellsFirst, told}
 use Rattle.fluent_errors.specs.Errors.{Reported, Unresolved, cyclic, damaged, missing_default, no_value, overriding, too_many_placeables, unknown, unresolved}
 use Rattle.fluent_errors.specs.declared.bundle.FluentError.{FluentError}
 use denote.Ref.{Bor}

@@ -1,7 +1,7 @@
 -- What a call of a scope takes at most, and how often an answer reports too many placeables.
 use Rattle.std.specs.Prelude.{ℕ, suc, ◌+◌, ◌*◌, ◌≤◌, List, [], ◌∷◌}
 use Rattle.std.specs.Global.{Vec}
-use Rattle.fluent_asking.specs.Asked.{told}
+use Rattle.fluent_resolver.specs.Asked.{told}
 use Rattle.fluent_errors.specs.Errors.{Reported, overriding, damaged, unresolved}
 use Rattle.fluent_errors.specs.declared.bundle.FluentError.{FluentError}
 use denote.Ref.{Bor}

@@ -13,7 +13,7 @@ use Rattle.fluent_meaning.specs.Ids.{find}
 use Rattle.fluent_meaning.specs.Steps.{Done}
 use Rattle.fluent_ids.specs.IdsView.{ids_view}
 use Rattle.fluent_ids.specs.Settings.{formatted_by, transformed_by}
-use Rattle.fluent_asking.specs.Asked.{asked, handed}
+use Rattle.fluent_resolver.specs.Asked.{asked, handed}
 use Rattle.fluent_progress.specs.declared.lent.Lent.{Lent}
 use Rattle.fluent_bundle.specs.Contents.{Contents}
 use Rattle.fluent_bundle.specs.declared.bundle.FluentBundle.{FluentBundle}

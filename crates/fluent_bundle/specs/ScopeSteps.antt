@@ -2,7 +2,7 @@
 use Rattle.std.specs.Prelude.{IfOk, OnErr, OnOk, Option, Result, String, option_copied, string_bytes}
 use Rattle.std.specs.Global.{Global, Vec}
 use denote.Ref.{Bor}
-use Rattle.fluent_asking.specs.Called.{called_of}
+use Rattle.fluent_resolver.specs.Called.{called_of}
 use Rattle.fluent_ast.specs.Borrowed.{elements_of, expression_of, inline_of, maybe_arguments_of}
 use Rattle.fluent_ast.specs.declared.CallArguments.{CallArguments}
 use Rattle.fluent_ast.specs.declared.Expression.{Expression}

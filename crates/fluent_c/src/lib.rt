@@ -15,7 +15,7 @@ ghost use Rattle.serde_json.specs.Written.{compact_text};
 ghost use Rattle.fluent_syntax.specs.Tiling.{tree, errors, runtime_tree, runtime_errors};
 ghost use Rattle.fluent_syntax.specs.Written.{written_with};
 ghost use Rattle.fluent_json.specs.Json.{json};
-ghost use Rattle.ftl_report.specs.Report.{report_text};
+ghost use Rattle.fluent_check.specs.Report.{report_text};
 ghost use Rattle.fluent_c_calls.specs.Answering.{AreUtf8, HoldsOther, IsAnswer, plurals_in};
 ghost use Rattle.fluent_c_calls.specs.Arguments.{AreTaken, HoldsBad};
 ghost use Rattle.fluent_c_calls.specs.Bundles.{AreNames, HasNoMessage, HasNoPattern, HasOther, HoldReply, KeepsNone, KeepsSame, KeepsSources, pattern_in, reply_in};

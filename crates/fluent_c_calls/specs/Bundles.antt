@@ -8,7 +8,7 @@ use Rattle.fluent_grammar.specs.Words.{Text}
 use Rattle.fluent_ids.specs.Found.{message_in}
 use Rattle.fluent_kept.specs.Catalogs.{Catalog, catalog_environment}
 use Rattle.fluent_kept.specs.declared.handle.FluentBundle.{FluentBundle}
-use Rattle.fluent_requests.specs.Frames.{Reply, ended}
+use Rattle.fluent_serve.specs.Frames.{Reply, ended}
 use Rattle.fluent_c_calls.specs.Answering.{plurals_in, texts_of}
 use Rattle.fluent_c_calls.specs.Arguments.{AreRefusedFor, pair_of}
 use Rattle.fluent_c_calls.specs.Made.{Holds, HoldsNone}

@@ -10,7 +10,7 @@ use crate::text::FluentText;
 use crate::{FLUENT_NO_MEMORY, FLUENT_NOT_UTF8, FLUENT_READ, FLUENT_UNKNOWN_LOCALE};
 use fluent_plurals::LanguagePlurals;
 use fluent_run::{Settings, answers_within};
-use fluent_stack::StackBudget;
+use fluent_text::stack::StackBudget;
 use simdutf8::basic::from_utf8;
 use std::alloc::{AllocError, Global};
 

@@ -2,7 +2,7 @@
 
 ghost use Rattle.std.specs.Prelude.{◌≡◌, ◌≢◌, ◌∷◌, [], true, IfErr, IfOk, IsSome, None, map, string_bytes};
 ghost use Rattle.fluent_serve.specs.Texts.{texts};
-ghost use Rattle.ftl_report.specs.Report.{report_text};
+ghost use Rattle.fluent_check.specs.Report.{report_text};
 ghost use Rattle.fluent_c_calls.specs.Answering.{AreUtf8, HoldsOther, plurals_in};
 ghost use Rattle.fluent_c_calls.specs.Bundles.{AreNames, HasNoMessage, HasNoPattern, KeepsNone, KeepsSame, KeepsSources, pattern_in};
 ghost use Rattle.fluent_c_calls.specs.Made.{Holds, HoldsSame};
@@ -19,7 +19,7 @@ use crate::{
 };
 use fluent_kept::{Answer, FluentBundle, Question, Sources};
 use fluent_run::Settings;
-use fluent_stack::StackBudget;
+use fluent_text::stack::StackBudget;
 use std::alloc::{AllocError, Global};
 
 /// Copies of texts, in their order.

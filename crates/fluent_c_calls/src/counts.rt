@@ -6,9 +6,9 @@ ghost use Rattle.fluent_c_calls.specs.Counts.{Counted, HasEntries, IsCountOf, Te
 ghost use Rattle.fluent_c_calls.specs.Results.{IsOneOf};
 
 use crate::{FLUENT_NO_MEMORY, FLUENT_NOT_UTF8, FLUENT_READ};
-use fluent_stack::StackBudget;
 use fluent_syntax::ast::{Entry, Resource};
 use fluent_syntax::parser::{self, Error, parse_runtime_within, parse_within};
+use fluent_text::stack::StackBudget;
 use simdutf8::basic::from_utf8;
 use std::alloc::{AllocError, Global};
 

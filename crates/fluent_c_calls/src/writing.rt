@@ -14,10 +14,10 @@ ghost use Rattle.fluent_c_calls.specs.Results.{IsOneOf};
 use crate::text::FluentText;
 use crate::{FLUENT_NO_MEMORY, FLUENT_NOT_UTF8, FLUENT_READ};
 use fluent_json::to_value;
-use fluent_stack::StackBudget;
 use fluent_syntax::ast::Resource;
 use fluent_syntax::parser::{Error, parse_within};
 use fluent_syntax::serializer::{Options, serialize_with_options};
+use fluent_text::stack::StackBudget;
 use simdutf8::basic::from_utf8;
 use std::alloc::{AllocError, Global};
 

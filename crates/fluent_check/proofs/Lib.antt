@@ -1,1 +1,2 @@
 mod SameKinds
+pub mod Lines

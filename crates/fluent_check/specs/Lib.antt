@@ -1,3 +1,4 @@
 pub mod ReportView
 pub mod Added
 pub mod WholeView
+pub mod Report

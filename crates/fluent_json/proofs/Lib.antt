@@ -1,1 +1,4 @@
-pub use Rattle.fluent_json_values.proofs.NoFloats
+mod NoTree
+mod OneTree
+mod Selected
+pub use Rattle.fluent_json_write.proofs.NoFloats

@@ -5,8 +5,8 @@ use Rattle.serde_json.specs.Data.{Members, string, array}
 use Rattle.fluent_ast.specs.declared.Attribute.{Attribute}
 use Rattle.fluent_ast.specs.declared.Comment.{Comment}
 use Rattle.fluent_ast.specs.declared.Identifier.{Identifier}
-use Rattle.fluent_json_values.specs.Objects.{members}
-use Rattle.fluent_json_values.specs.Parts.{accessor_json, attributes_json, identifier_json, maybe_comment_json}
+use Rattle.fluent_json_write.specs.Objects.{members}
+use Rattle.fluent_json_write.specs.Parts.{accessor_json, attributes_json, identifier_json, maybe_comment_json}
 
 abbrev Text : Type 0
 Text = String Global

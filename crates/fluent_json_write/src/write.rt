@@ -2,17 +2,17 @@
 
 ghost use Rattle.std.specs.Prelude.{◌≡◌, IfOk};
 ghost use Rattle.serde_json.specs.View.{view, items_view};
-ghost use Rattle.fluent_json_values.specs.Objects.{placeable, message_reference};
-ghost use Rattle.fluent_json_values.specs.Json.{json};
-ghost use Rattle.fluent_json_values.specs.Given.{given};
+ghost use Rattle.fluent_json_write.specs.Objects.{placeable, message_reference};
+ghost use Rattle.fluent_json_write.specs.Json.{json};
+ghost use Rattle.fluent_json_write.specs.Given.{given};
 ghost use Rattle.fluent_json_write.specs.Unfinished.{entry_members, identified_members, term_reference_members};
-ghost use Rattle.fluent_json_values.specs.Parts.{plain, accessor_json, text_json, variable_json, maybe_comment_json, commented_json, lines_json, identifier_json, key_json, pattern_json, maybe_pattern_json, element_json, elements_json, expression_json, inline_json, variant_json, variants_json, arguments_json, positional_json, named_json, nameds_json, attribute_json, attributes_json, message_json, term_json, entry_json, entries_json};
+ghost use Rattle.fluent_json_write.specs.Parts.{plain, accessor_json, text_json, variable_json, maybe_comment_json, commented_json, lines_json, identifier_json, key_json, pattern_json, maybe_pattern_json, element_json, elements_json, expression_json, inline_json, variant_json, variants_json, arguments_json, positional_json, named_json, nameds_json, attribute_json, attributes_json, message_json, term_json, entry_json, entries_json};
 
+use crate::Object;
 use fluent_ast::{
     Attribute, CallArguments, Comment, Entry, Expression, Identifier, InlineExpression, Message,
     NamedArgument, Pattern, PatternElement, Resource, Term, Variant, VariantKey,
 };
-use fluent_json_values::Object;
 use serde_json::Value;
 use std::alloc::{AllocError, Global};
 

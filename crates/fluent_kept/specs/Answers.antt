@@ -11,7 +11,7 @@ use Rattle.fluent_value.specs.Value.{Value}
 use Rattle.fluent_value.specs.declared.args.FluentArgs.{FluentArgs}
 use Rattle.fluent_value.specs.declared.custom.NoCustom.{NoCustom}
 use Rattle.fluent_value.specs.declared.function.NoFunction.{NoFunction}
-use Rattle.ftl_report.specs.Report.{report_text}
+use Rattle.fluent_check.specs.Report.{report_text}
 use Rattle.fluent_kept.specs.Catalogs.{Catalog, IsDeskOf, catalog_environment}
 use Rattle.fluent_kept.specs.declared.desk.KeptDesk.{KeptDesk}
 use Rattle.fluent_kept.specs.declared.question.Answer.{Answer}

@@ -1,7 +1,7 @@
 //! What answers questions, from what is read of sources.
 
 ghost use Rattle.std.specs.Prelude.{◌≡◌, IfOk, IfSome, option_copied, string_bytes};
-ghost use Rattle.ftl_report.specs.Report.{report_text};
+ghost use Rattle.fluent_check.specs.Report.{report_text};
 ghost use Rattle.fluent_kept.specs.Catalogs.{IsDeskFor, catalog_of, desk_environment};
 ghost use Rattle.fluent_kept.specs.Answers.{AnswersAsIts, IsAnswer, IsFound, IsMissing, IsReplyTo};
 
@@ -9,10 +9,10 @@ use crate::loose::Loose;
 use crate::question::{Answer, Question};
 use crate::resources::Resources;
 use crate::sources::{Sources, borrow_texts};
+use fluent_check::check_text_within;
 use fluent_plurals::LanguagePlurals;
 use fluent_run::Desk;
 use fluent_value::{FluentArgs, NoCustom};
-use ftl_report::check_text_within;
 use std::alloc::{AllocError, Global};
 
 /// What answers questions. It refers to what was read, and to the sources.

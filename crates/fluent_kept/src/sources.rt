@@ -5,7 +5,7 @@ ghost use Rattle.fluent_serve.specs.Texts.{texts};
 
 use fluent_plurals::LanguagePlurals;
 use fluent_run::Settings;
-use fluent_stack::StackBudget;
+use fluent_text::stack::StackBudget;
 use std::alloc::{AllocError, Global};
 
 /// The texts of sources, in their order, and how they are read and asked.

@@ -1,10 +1,10 @@
 -- Files whose messages are counted, and the missing messages of files, one file after the other.
 use Rattle.std.proofs.Common.{◌≡◌, ◌∙◌, ℕ, ◌+◌, ◌<◌, List, [], ◌∷◌, ◌++◌, length, take, get_or, map, refl, sym, ap}
 use Rattle.std.proofs.lemmas.List.{map-append, take_more}
-use Rattle.fluent_finding.specs.View.{file_view}
-use Rattle.fluent_findings.specs.Files.{File}
-use Rattle.fluent_summaries.specs.Counted as counted
-use Rattle.fluent_summaries.specs.declared.files.FileMessages.{FileMessages}
+use Rattle.lint_finding.specs.View.{file_view}
+use Rattle.lint_findings.specs.Files.{File}
+use Rattle.lint_report.specs.Counted as counted
+use Rattle.lint_report.specs.declared.files.FileMessages.{FileMessages}
 use Rattle.fluent_lint.specs.FileTiles.{files_of, files_view}
 use Rattle.fluent_lint.specs.declared.tiles.FileTiles.{FileTiles}
 

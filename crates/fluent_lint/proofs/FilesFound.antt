@@ -2,12 +2,12 @@
 use Rattle.std.proofs.Common.{◌≡◌, ◌∙◌, ℕ, ◌+◌, ◌<◌, List, [], ◌∷◌, ◌++◌, length, drop, take, get_or, map, refl, sym, ap, append-nil, append_assoc, add-one, drop-cons}
 use Rattle.std.proofs.lemmas.List.{map-append, take_more}
 use Rattle.std.proofs.lemmas.List.Concat.{flat_map-append}
-use Rattle.fluent_catalog_findings.specs.PartFindings.{declared_in, findings_of_file, findings_of_files}
-use Rattle.fluent_finding.specs.View.{file_findings_view, file_view, finding_view, findings_view}
-use Rattle.fluent_finding.specs.declared.records.File.{File}
-use Rattle.fluent_finding.specs.declared.records.FileFindings.{FileFindings}
-use Rattle.fluent_findings.specs.DuplicateIds.{Declaration}
-use Rattle.fluent_findings.specs.Findings.{FileFinding, Rules, findings_in}
+use Rattle.lint_files.specs.PartFindings.{declared_in, findings_of_file, findings_of_files}
+use Rattle.lint_finding.specs.View.{file_findings_view, file_view, finding_view, findings_view}
+use Rattle.lint_finding.specs.declared.records.File.{File}
+use Rattle.lint_finding.specs.declared.records.FileFindings.{FileFindings}
+use Rattle.lint_findings.specs.DuplicateIds.{Declaration}
+use Rattle.lint_findings.specs.Findings.{FileFinding, Rules, findings_in}
 use Rattle.fluent_lint.specs.FileTiles.{files_of, files_view}
 use Rattle.fluent_lint.specs.declared.tiles.FileTiles.{FileTiles}
 

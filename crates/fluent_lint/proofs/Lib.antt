@@ -3,3 +3,4 @@ pub mod Trees
 pub mod FilesFound
 pub mod Counted
 pub mod Translated
+mod NamedFiles

@@ -3,16 +3,16 @@ use Rattle.std.proofs.Common.{◌≡◌, ◌∙◌, List, [], ◌++◌, map, sym
 use Rattle.std.specs.List.{flat_map}
 use Rattle.fluent_ast.specs.Borrowed.{entries_of}
 use Rattle.fluent_ast.specs.declared.Resource.{Resource}
-use Rattle.fluent_catalog_findings.proofs.TilesFound.{tiles_found}
-use Rattle.fluent_endless.specs.Catalog.{AreDeclaredIn}
-use Rattle.fluent_finding.specs.declared.records.File as code
-use Rattle.fluent_findings.specs.ComparisonFindings.{message_findings}
-use Rattle.fluent_findings.specs.Files.{File}
-use Rattle.fluent_findings.specs.Findings.{FileFinding, Options, Rules, called_functions, findings_of_tiles, findings_with_reference, known_functions, known_ids, sources, tiles_in, translation_rules}
-use Rattle.fluent_findings.specs.Flaws.{catalog_ids}
+use Rattle.lint_files.proofs.TilesFound.{tiles_found}
+use Rattle.lint_endless.specs.Catalog.{AreDeclaredIn}
+use Rattle.lint_finding.specs.declared.records.File as code
+use Rattle.lint_findings.specs.ComparisonFindings.{message_findings}
+use Rattle.lint_findings.specs.Files.{File}
+use Rattle.lint_findings.specs.Findings.{FileFinding, Options, Rules, called_functions, findings_of_tiles, findings_with_reference, known_functions, known_ids, sources, tiles_in, translation_rules}
+use Rattle.lint_findings.specs.Flaws.{catalog_ids}
 use Rattle.fluent_grammar.specs.Words.{Text}
 use Rattle.fluent_meaning.specs.Ids.{Ids}
-use Rattle.fluent_reference_findings.proofs.MissingParts.{missing_found}
+use Rattle.lint_comparison.proofs.MissingParts.{missing_found}
 use Rattle.fluent_lint.specs.FileTiles.{files_view}
 use Rattle.fluent_lint.specs.Known.{by_ids, trees_by_id}
 use Rattle.fluent_lint.specs.Missing.{missing_in_files}

@@ -4,19 +4,19 @@ use Rattle.std.proofs.lemmas.List.Elements.{All-cons, All-map}
 use denote.Ref.{Bor}
 use Rattle.fluent_ast.specs.Borrowed.{entries_of}
 use Rattle.fluent_ast.specs.declared.Resource.{Resource}
-use Rattle.fluent_endless.proofs.DeclaredIn.{declared_in_trees}
-use Rattle.fluent_endless.specs.Catalog.{AreDeclaredIn, AreFunctions, is_entry}
-use Rattle.fluent_entry_findings.specs.AttributePlaces.{uncommented}
-use Rattle.fluent_finding.specs.declared.records.File.{File}
-use Rattle.fluent_findings.specs.Findings.{sources}
-use Rattle.fluent_findings.specs.Flaws.{catalog_ids}
+use Rattle.lint_endless.proofs.DeclaredIn.{declared_in_trees}
+use Rattle.lint_endless.specs.Catalog.{AreDeclaredIn, AreFunctions, is_entry}
+use Rattle.lint_entries.specs.AttributePlaces.{uncommented}
+use Rattle.lint_finding.specs.declared.records.File.{File}
+use Rattle.lint_findings.specs.Findings.{sources}
+use Rattle.lint_findings.specs.Flaws.{catalog_ids}
 use Rattle.fluent_grammar.specs.Tiling.{list, listed, tree}
 use Rattle.fluent_grammar.specs.Tree as t
 use Rattle.fluent_grammar.specs.Words.{Text}
 use Rattle.fluent_meaning.proofs.Stays.{first_stays}
 use Rattle.fluent_meaning.specs.Ids.{Ids, Meaning, entries_by_id, function, message, number_pair, term}
 use Rattle.fluent_tidy_laws.specs.Joined.{lists}
-use Rattle.fluent_tiles.specs.Kept.{kept_entries}
+use Rattle.lint_entries.specs.Kept.{kept_entries}
 use Rattle.fluent_lint.specs.FileTiles.{files_view}
 use Rattle.fluent_lint.specs.Known.{by_ids, functions_by_id, trees_by_id}
 use Rattle.fluent_lint.specs.Reading.{bare_tree, sources_of}

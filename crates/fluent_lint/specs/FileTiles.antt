@@ -1,10 +1,10 @@
 -- Files with their tiles.
 use Rattle.std.specs.Prelude.{◌≡◌, All, List, map}
-use Rattle.fluent_finding.specs.View.{file_view}
-use Rattle.fluent_finding.specs.declared.records.File.{File}
-use Rattle.fluent_findings.specs.Files as f
-use Rattle.fluent_tiles.specs.Kept.{parts}
-use Rattle.fluent_tiles.specs.TileView.{AreErrorsOf, IsReadPart, tile_view}
+use Rattle.lint_finding.specs.View.{file_view}
+use Rattle.lint_finding.specs.declared.records.File.{File}
+use Rattle.lint_findings.specs.Files as f
+use Rattle.lint_entries.specs.Kept.{parts}
+use Rattle.lint_entries.specs.TileView.{AreErrorsOf, IsReadPart, tile_view}
 use Rattle.fluent_lint.specs.declared.tiles.FileTiles.{FileTiles}
 
 -- the tiles and the errors of a file are those of its source

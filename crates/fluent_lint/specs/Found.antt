@@ -1,15 +1,15 @@
 -- What is found in files.
 use Rattle.std.specs.Prelude.{◌≡◌, List, [], ◌++◌, Vec, map}
 use Rattle.std.specs.Global.{Global}
-use Rattle.fluent_catalog_findings.specs.PartFindings.{declared_in, findings_of_file, findings_of_files}
-use Rattle.fluent_duplicates.specs.First.{AreFirst}
-use Rattle.fluent_duplicates.specs.declared.declarations.Declarations.{Declarations}
-use Rattle.fluent_finding.specs.View.{file_view, finding_view, findings_view}
-use Rattle.fluent_finding.specs.declared.records.File.{File}
-use Rattle.fluent_finding.specs.declared.records.FileFindings.{FileFindings}
-use Rattle.fluent_finding.specs.declared.records.Finding.{Finding}
-use Rattle.fluent_findings.specs.DuplicateIds.{Declaration}
-use Rattle.fluent_findings.specs.Findings.{Rules}
+use Rattle.lint_files.specs.PartFindings.{declared_in, findings_of_file, findings_of_files}
+use Rattle.lint_entries.specs.First.{AreFirst}
+use Rattle.lint_entries.specs.declared.declarations.Declarations.{Declarations}
+use Rattle.lint_finding.specs.View.{file_view, finding_view, findings_view}
+use Rattle.lint_finding.specs.declared.records.File.{File}
+use Rattle.lint_finding.specs.declared.records.FileFindings.{FileFindings}
+use Rattle.lint_finding.specs.declared.records.Finding.{Finding}
+use Rattle.lint_findings.specs.DuplicateIds.{Declaration}
+use Rattle.lint_findings.specs.Findings.{Rules}
 use Rattle.fluent_lint.specs.FileTiles.{files_of, files_view}
 use Rattle.fluent_lint.specs.declared.tiles.FileTiles.{FileTiles}
 

@@ -1,7 +1,7 @@
 -- The rules that what is known gives.
 use Rattle.std.specs.Prelude.{List, Option}
-use Rattle.fluent_findings.specs.Finding.{Finding}
-use Rattle.fluent_findings.specs.Findings.{Rules}
+use Rattle.lint_findings.specs.Finding.{Finding}
+use Rattle.lint_findings.specs.Findings.{Rules}
 use Rattle.fluent_grammar.specs.Tree as t
 use Rattle.fluent_grammar.specs.Words.{Text}
 use Rattle.fluent_ids.specs.IdsView.{ids_view}

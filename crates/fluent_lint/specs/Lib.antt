@@ -6,3 +6,5 @@ pub mod Reports
 pub mod KnownRules
 pub mod Missing
 pub mod Translation
+pub mod LintReport
+pub mod LintView

@@ -2,14 +2,14 @@
 use Rattle.std.specs.Prelude.{◌≡◌, List, ◌++◌, Vec}
 use Rattle.std.specs.Global.{Global}
 use Rattle.std.specs.List.{flat_map}
-use Rattle.fluent_finding.specs.View.{findings_view}
-use Rattle.fluent_finding.specs.declared.records.FileFindings.{FileFindings}
-use Rattle.fluent_findings.specs.Files.{File}
-use Rattle.fluent_findings.specs.Findings.{FileFinding, findings_in}
+use Rattle.lint_finding.specs.View.{findings_view}
+use Rattle.lint_finding.specs.declared.records.FileFindings.{FileFindings}
+use Rattle.lint_findings.specs.Files.{File}
+use Rattle.lint_findings.specs.Findings.{FileFinding, findings_in}
 use Rattle.fluent_lint.specs.FileTiles.{files_of, files_view}
 use Rattle.fluent_lint.specs.declared.tiles.FileTiles.{FileTiles}
 use Rattle.fluent_meaning.specs.Ids.{Ids}
-use Rattle.fluent_reference_findings.specs.Missing.{missing_in}
+use Rattle.lint_comparison.specs.Missing.{missing_in}
 
 -- those of the files of a reference, by the ids of the catalog
 abbrev pub missing_in_files : Ids (Unit {0}) → List File → List FileFinding

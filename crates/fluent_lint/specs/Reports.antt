@@ -1,19 +1,19 @@
 -- Reports of files.
 use Rattle.std.specs.Prelude.{◌≡◌, Bool, List, [], string_bytes}
-use Rattle.fluent_catalog_findings.specs.PartFindings.{findings_of_files}
-use Rattle.fluent_finding.specs.declared.records.File.{File}
-use Rattle.fluent_finding_text.specs.View.{shown_width}
-use Rattle.fluent_findings.specs.Findings as f
-use Rattle.fluent_findings.specs.Findings.{FileFinding, Rules, findings, findings_with_reference}
-use Rattle.fluent_findings.specs.Output as out
-use Rattle.fluent_findings.specs.Report.{has_failed, shown}
-use Rattle.fluent_findings.specs.Summary.{Summary, summaries}
+use Rattle.lint_files.specs.PartFindings.{findings_of_files}
+use Rattle.lint_finding.specs.declared.records.File.{File}
+use Rattle.lint_report.specs.View.{shown_width}
+use Rattle.lint_findings.specs.Findings as f
+use Rattle.lint_findings.specs.Findings.{FileFinding, Rules, findings, findings_with_reference}
+use Rattle.lint_findings.specs.Output as out
+use Rattle.lint_findings.specs.Report.{has_failed, shown}
+use Rattle.lint_findings.specs.Summary.{Summary, summaries}
 use Rattle.fluent_grammar.specs.Words.{Text}
 use Rattle.fluent_lint.specs.FileTiles.{files_view}
 use Rattle.fluent_lint.specs.declared.reports.Options.{Options}
 use Rattle.fluent_lint.specs.declared.reports.Output.{Output}
 use Rattle.fluent_lint.specs.declared.reports.Report.{Report}
-use Rattle.fluent_lint_report.specs.Formats.{format_view}
+use Rattle.lint_report.specs.Formats.{format_view}
 use Rattle.fluent_resource.specs.Sources.{texts}
 
 abbrev pub options_view : Options → f.Options

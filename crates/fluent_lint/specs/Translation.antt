@@ -1,11 +1,11 @@
 -- The report of a catalog with its reference.
 use Rattle.std.specs.Prelude.{◌≡◌, All, List, [], ◌++◌}
 use denote.Ref.{Bor}
-use Rattle.fluent_catalog_findings.specs.PartFindings.{findings_of_files}
-use Rattle.fluent_finding.specs.declared.records.File.{File}
-use Rattle.fluent_findings.specs.Files as f
-use Rattle.fluent_findings.specs.Findings.{FileFinding, Rules, called_functions, known_ids, sources}
-use Rattle.fluent_findings.specs.Summary.{Summary, summaries}
+use Rattle.lint_files.specs.PartFindings.{findings_of_files}
+use Rattle.lint_finding.specs.declared.records.File.{File}
+use Rattle.lint_findings.specs.Files as f
+use Rattle.lint_findings.specs.Findings.{FileFinding, Rules, called_functions, known_ids, sources}
+use Rattle.lint_findings.specs.Summary.{Summary, summaries}
 use Rattle.fluent_grammar.specs.Words.{Text}
 use Rattle.fluent_ids.specs.IdsView.{ids_view}
 use Rattle.fluent_ids.specs.declared.ids.FluentIds.{FluentIds}

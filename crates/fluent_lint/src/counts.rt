@@ -2,18 +2,17 @@
 #![tactic(auto)]
 
 ghost use Rattle.std.specs.Prelude.{◌≡◌, All, IfOk, map};
-ghost use Rattle.fluent_finding.specs.View.{findings_view};
+ghost use Rattle.lint_finding.specs.View.{findings_view};
 ghost use Rattle.fluent_lint.specs.FileTiles.{AreTilesOf, files_of, files_view};
 ghost use Rattle.fluent_lint.specs.Translation.{counts_of};
-ghost use Rattle.fluent_lint_report.specs.View.{summary_view};
-ghost use Rattle.fluent_summaries.specs.Counted as counted;
-ghost use Rattle.fluent_summaries.specs.Counted.{IsCounted};
+ghost use Rattle.lint_report.specs.ReportView.{summary_view};
+ghost use Rattle.lint_report.specs.Counted as counted;
+ghost use Rattle.lint_report.specs.Counted.{IsCounted};
 
 use crate::tiles::FileTiles;
-use fluent_finding::FileFindings;
-use fluent_lint_report::Summary;
-use fluent_summaries::{FileMessages, summaries};
-use fluent_tiles::message_count;
+use lint_entries::message_count;
+use lint_finding::FileFindings;
+use lint_report::{FileMessages, Summary, summaries};
 use std::alloc::{AllocError, Global};
 
 /// The counts of the files of a catalog, and then those of its reference, by all findings of the catalog.

@@ -2,17 +2,15 @@
 #![tactic(auto)]
 
 ghost use Rattle.std.specs.Prelude.{[], All, IfOk, OnOk};
-ghost use Rattle.fluent_catalog_findings.specs.RulesView.{HasSameIds, rules_view};
-ghost use Rattle.fluent_duplicates.specs.First.{AreFirst};
+ghost use Rattle.lint_files.specs.RulesView.{HasSameIds, rules_view};
+ghost use Rattle.lint_entries.specs.First.{AreFirst};
 ghost use Rattle.fluent_lint.specs.FileTiles.{AreTilesOf};
 ghost use Rattle.fluent_lint.specs.Found.{AddsFiles, AreFoundIn, DeclaresFile, IsFoundInFile};
 
 use crate::tiles::FileTiles;
-use fluent_catalog_findings::{Comparison, Rules, file_findings};
-use fluent_duplicates::Declarations;
-use fluent_entry_findings::Endless;
-use fluent_finding::{FileFindings, Finding};
-use fluent_syntax_findings::syntax_findings;
+use lint_entries::{Declarations, Endless};
+use lint_files::{Comparison, Rules, file_findings, syntax_findings};
+use lint_finding::{FileFindings, Finding};
 use std::alloc::{AllocError, Global};
 
 /// The findings of the files of a catalog, by these rules.

@@ -7,9 +7,9 @@ ghost use Rattle.fluent_lint.specs.FileTiles.{AreTilesOf};
 ghost use Rattle.fluent_lint.specs.Missing.{AddsMissing};
 
 use crate::tiles::FileTiles;
-use fluent_finding::FileFindings;
 use fluent_ids::FluentIds;
-use fluent_reference_findings::missing_findings;
+use lint_comparison::missing_findings;
+use lint_finding::FileFindings;
 use std::alloc::{AllocError, Global};
 
 /// Adds the messages of the files of a reference that a catalog with these ids hasn't, file by file.

@@ -3,13 +3,13 @@
 
 ghost use Rattle.std.specs.Prelude.{◌≡◌, ◌++◌, [], ◌∷◌, IfOk, OnOk, map};
 ghost use Rattle.fluent_ast.specs.Borrowed.{entries_of, entry_of};
-ghost use Rattle.fluent_entry_findings.specs.AttributePlaces.{uncommented};
+ghost use Rattle.lint_entries.specs.AttributePlaces.{uncommented};
 ghost use Rattle.fluent_lint.specs.Reading.{bare_tree, IsReadOf, errors_in, errors_told, errors_view, trees_in};
 ghost use Rattle.fluent_parsed.specs.ErrorView.{error_view};
 
 use fluent_ast::{Entry, Resource};
-use fluent_finding::File;
 use fluent_parser::{Error, ParserError, parse};
+use lint_finding::File;
 use std::alloc::{AllocError, Global};
 
 /// The trees of files, without the comments above messages and terms, and the errors of each file.

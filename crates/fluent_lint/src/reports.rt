@@ -2,28 +2,28 @@
 #![tactic(auto)]
 
 ghost use Rattle.std.specs.Prelude.{◌≡◌, [], All, IfOk, map, string_bytes};
-ghost use Rattle.fluent_catalog_findings.specs.RulesView.{HasSameIds, rules_view};
-ghost use Rattle.fluent_finding.specs.View.{findings_view};
+ghost use Rattle.lint_files.specs.RulesView.{HasSameIds, rules_view};
+ghost use Rattle.lint_finding.specs.View.{findings_view};
 ghost use Rattle.fluent_ids.specs.IdsView.{ids_view};
 ghost use Rattle.fluent_lint.specs.FileTiles.{AreTilesOf, files_of};
 ghost use Rattle.fluent_lint.specs.Known.{IsIdsOf, trees_by_id};
 ghost use Rattle.fluent_lint.specs.KnownRules.{rules_by};
 ghost use Rattle.fluent_lint.specs.Reading.{IsReadOf};
 ghost use Rattle.fluent_lint.specs.Reports.{IsReportBy, IsReportOf, catalog_fails, catalog_findings as findings_of_catalog, catalog_report};
-ghost use Rattle.fluent_lint_report.specs.View.{summary_view};
+ghost use Rattle.lint_report.specs.ReportView.{summary_view};
 ghost use Rattle.fluent_resource.specs.Sources.{texts};
 
 use crate::findings::catalog_findings;
 use crate::ids::catalog_ids;
 use crate::read::{ReadFiles, read_files};
 use crate::tiles::{FileTiles, tiles_of_files};
-use fluent_catalog_findings::{Comparison, NoReference, Rules};
-use fluent_endless::EndlessPatterns;
-use fluent_entry_findings::{Catalog, Endless};
-use fluent_finding::{File, FileFindings};
 use fluent_ids::FluentIds;
-use fluent_lint_report::{Format, Summary, has_failed, report};
 use fluent_plurals::LanguagePlurals;
+use lint_endless::EndlessPatterns;
+use lint_entries::{Catalog, Endless};
+use lint_files::{Comparison, NoReference, Rules};
+use lint_finding::{File, FileFindings};
+use lint_report::{Format, Summary, has_failed, report};
 use std::alloc::{AllocError, Global};
 
 /// What is known of the program and of the language.

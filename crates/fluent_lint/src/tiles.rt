@@ -5,13 +5,13 @@ ghost use Rattle.std.specs.Prelude.{◌≡◌, All, IfOk, map};
 ghost use Rattle.fluent_ast.specs.Borrowed.{entries_of};
 ghost use Rattle.fluent_lint.specs.FileTiles.{AreTilesOf, files_of};
 ghost use Rattle.fluent_lint.specs.Reading.{IsReadOf, bare_tree};
-ghost use Rattle.fluent_tiles.specs.TileView.{AreErrorsOf};
+ghost use Rattle.lint_entries.specs.TileView.{AreErrorsOf};
 
 use crate::read::ReadFiles;
 use fluent_ast::Resource;
-use fluent_finding::File;
 use fluent_parser::ParserError;
-use fluent_tiles::{Tile, source_tiles};
+use lint_entries::{Tile, source_tiles};
+use lint_finding::File;
 use std::alloc::{AllocError, Global};
 
 /// A file with its tiles and the errors of its junk.

@@ -2,8 +2,8 @@
 #![tactic(auto)]
 
 ghost use Rattle.std.specs.Prelude.{◌≡◌, [], All, IfOk, string_bytes};
-ghost use Rattle.fluent_catalog_findings.specs.RulesView.{HasSameIds, rules_view};
-ghost use Rattle.fluent_finding.specs.View.{findings_view};
+ghost use Rattle.lint_files.specs.RulesView.{HasSameIds, rules_view};
+ghost use Rattle.lint_finding.specs.View.{findings_view};
 ghost use Rattle.fluent_lint.specs.FileTiles.{AreTilesOf};
 ghost use Rattle.fluent_lint.specs.Reading.{IsReadOf};
 ghost use Rattle.fluent_lint.specs.Reports.{translation_fails, translation_report};
@@ -16,12 +16,12 @@ use crate::missing::push_missing_messages;
 use crate::read::{ReadFiles, read_files};
 use crate::reports::{Options, Output, Report, report_of};
 use crate::tiles::{FileTiles, TiledFiles, tiles_of_files};
-use fluent_catalog_findings::{Comparison, Rules};
-use fluent_endless::EndlessPatterns;
-use fluent_entry_findings::{Catalog, Endless};
-use fluent_finding::{File, FileFindings};
 use fluent_ids::FluentIds;
-use fluent_reference_findings::{Reference, called_functions};
+use lint_comparison::{Reference, called_functions};
+use lint_endless::EndlessPatterns;
+use lint_entries::{Catalog, Endless};
+use lint_files::{Comparison, Rules};
+use lint_finding::{File, FileFindings};
 use std::alloc::{AllocError, Global};
 
 /// A catalog and its reference, with the tiles of their files, and what is asked of their report.

@@ -9,14 +9,14 @@ use Rattle.fluent_grammar.specs.Refusal as r
 use Rattle.fluent_grammar.specs.Reading.{comment_line_at, comment_lines, more_lines, comment_of, comment_at}
 use Rattle.fluent_grammar.proofs.Within.{Fair, end-same, end-le, end-drop, comment_line-fair}
 use Rattle.fluent_grammar.proofs.Repeated.{comments_need_no_more_steps}
-use Rattle.fluent_words.specs.Counted.{Cuts, IsLine, is_comment_line}
+use Rattle.fluent_tokens.specs.Counted.{Cuts, IsLine, is_comment_line}
 use Rattle.fluent_parser.specs.Entries.{lines_with, lines_left, comment_content_by}
 use Rattle.fluent_parser.specs.Reads.{Refuses, Fails}
 use Rattle.fluent_parser.specs.declared.fault.Fault.{Fault}
 use Rattle.fluent_parser.specs.declared.fault.Fault.TheVariants as fault
 use Rattle.fluent_parser.proofs.Failing.{fails_bind}
 use Rattle.fluent_parsed.specs.declared.errors.ErrorKind.{ErrorKind}
-use Rattle.fluent_words.proofs.Scanned.{cut_level, test_of}
+use Rattle.fluent_tokens.proofs.Scanned.{cut_level, test_of}
 
 -- a line that doesn't end is the text
 stops : (p q : Bool) (x y b n : Text) (c : ℕ) (a : Text) → [] ≡ (cond {A = Text × Text} p ([], x) (cond {A = Text × Text} q ([], y) (c ∷ a, b))).0 → unwrap_or (cond p (Some x) (cond q (Some y) None)) [] ≡ unwrap_or (cond p (Some x) (cond q (Some y) None)) n

@@ -14,14 +14,14 @@ use Rattle.fluent_grammar.specs.Ends.{Took}
 use Rattle.fluent_grammar.proofs.LawsOfDepth.{inline-took}
 use Rattle.fluent_grammar.proofs.Within.{readers-fair}
 use Rattle.fluent_parser.specs.declared.fault.Fault.{Fault}
-use Rattle.fluent_words.specs.Counted.{begins_literal}
+use Rattle.fluent_tokens.specs.Counted.{begins_literal}
 use Rattle.fluent_parser.specs.Reads.{whole, Fails, Gives, string_or_number_at, argument_value_at}
 use Rattle.fluent_ast.specs.View.{Variant, Named, variants_of, inlines_of, nameds_of}
 use Rattle.fluent_parser.specs.Steps.{placeable_by, pattern_by, pattern_behind, variant_by, variants_behind, Argument, positional, named, positional_by, named_or_positional_by, argument_by, names_with, with_argument, inlines_behind, nameds_behind, arguments_behind, names_of, pieces_by, pieces_after, piece_by, first_place, default_mark_at}
 use Rattle.fluent_parser.proofs.Failing.{fails_bind, fails_mapped, fails_same}
 use Rattle.fluent_parser.proofs.Whole.{whole-inline, whole-arguments, whole-variants}
 use Rattle.fluent_parser.proofs.Steps.{placeable_is, variant_read, variant_is, argument_first, positional_more, named_more, pieces_is, first_is}
-use Rattle.fluent_words.proofs.Scanned.{test_ne}
+use Rattle.fluent_tokens.proofs.Scanned.{test_ne}
 
 pub gives_same : {X Y : Type 0} (view : X → Y) (rest : Text) (result : Result X Fault) (x y : Reading Y) → x ≡ y → Gives view rest result x → Gives view rest result y
 gives_same view rest result x y e h = subst (Gives view rest result) e h

@@ -3,7 +3,7 @@ use Rattle.std.proofs.Common.{◌≡◌, ℕ, suc, ◌+◌, ◌-◌, ◌++◌, t
 use Rattle.std.specs.Prelude.{IsErrAnd}
 use Rattle.std.specs.List.{prefix_len}
 use Rattle.std.proofs.lemmas.List.{drop-drop}
-use Rattle.fluent_words.specs.Counted.{character_or_space}
+use Rattle.fluent_tokens.specs.Counted.{character_or_space}
 use Rattle.fluent_grammar.specs.Words.{Text, is_hex_digit}
 use Rattle.fluent_grammar.specs.Refusal.{Kind, Reading, got, refused, refuse, mapped, ◌>>=◌}
 use Rattle.fluent_grammar.specs.Refusal as r

@@ -8,7 +8,7 @@ use Rattle.fluent_grammar.specs.Tree as t
 use Rattle.fluent_grammar.specs.Lines.{Piece, in_line, placed, ends_line, pattern_ends}
 use Rattle.fluent_grammar.specs.Reading as g
 use Rattle.fluent_grammar.specs.Reading.{before}
-use Rattle.fluent_elements.specs.Pieces.{line_after, Fits}
+use Rattle.fluent_parsed.specs.Pieces.{line_after, Fits}
 use Rattle.fluent_parser.specs.Steps.{piece_by, piece_behind, text_piece, indent_at, placeable_by}
 
 -- ---- leading spaces

@@ -7,10 +7,10 @@ use Rattle.fluent_grammar.specs.Lines as l
 use Rattle.fluent_grammar.specs.Lines.{Piece}
 use Rattle.fluent_grammar.specs.Reading as g
 use Rattle.fluent_ast.specs.View.{element_view}
-use Rattle.fluent_elements.specs.declared.gathered.Gathered.{Gathered}
-use Rattle.fluent_elements.specs.Elements.{value_by}
-use Rattle.fluent_elements.specs.Pieces.{undented, IsLined, Fits, line_behind_all}
-use Rattle.fluent_elements.proofs.Gathering.{common_more, lined_more, behind_more, gathered_value}
+use Rattle.fluent_parsed.specs.declared.gathered.Gathered.{Gathered}
+use Rattle.fluent_parsed.specs.Elements.{value_by}
+use Rattle.fluent_parsed.specs.Pieces.{undented, IsLined, Fits, line_behind_all}
+use Rattle.fluent_parsed.proofs.Gathering.{common_more, lined_more, behind_more, gathered_value}
 use Rattle.fluent_parser.specs.Pieces.{PutsRead}
 use Rattle.fluent_parser.specs.Reads.{whole}
 use Rattle.fluent_parser.specs.Steps.{pattern_behind, pieces_by, kept_piece_by, first_place}

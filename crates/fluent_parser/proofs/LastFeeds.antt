@@ -6,12 +6,12 @@ use Rattle.fluent_grammar.specs.Refusal.{Reading, got, mapped, ◌>>=◌}
 use Rattle.fluent_grammar.specs.Lines as l
 use Rattle.fluent_grammar.specs.Lines.{Piece, at_line_start, pattern_ends, elements_of, value_of}
 use Rattle.fluent_grammar.specs.Reading as g
-use Rattle.fluent_words.proofs.Scanned.{test_of, test_ne}
+use Rattle.fluent_tokens.proofs.Scanned.{test_of, test_ne}
 use Rattle.fluent_parser.specs.declared.fault.Fault.{Fault}
 use Rattle.fluent_parser.specs.declared.fault.Fault.TheVariants as fault
 use Rattle.fluent_parser.specs.Reads.{whole, Fails}
 use Rattle.fluent_parser.specs.Steps.{pattern_behind, pieces_by, pieces_after, piece_by, kept_piece_by}
-use Rattle.fluent_lines.specs.Lookup.{is_last_feed}
+use Rattle.fluent_tokens.specs.Lookup.{is_last_feed}
 use Rattle.fluent_parser.proofs.PatternPieces.{wbe_blank}
 use Rattle.fluent_parser.proofs.Steps.{pieces_is}
 use Rattle.fluent_parser.proofs.Cycle.{pattern_end}

@@ -11,8 +11,8 @@ use Rattle.fluent_grammar.specs.Tiling.{Piece, pieces_from, runtime_pieces_from,
 use Rattle.fluent_grammar.proofs.Within.{end-same, end-le, end-blank_block}
 use Rattle.fluent_grammar.proofs.Repeated.{rest_of_line-tail}
 use Rattle.fluent_grammar.proofs.TilesPieces.{pieces_need_no_more_steps}
-use Rattle.fluent_words.proofs.Scanned.{test_of}
-use Rattle.fluent_lines.specs.Lookup.{past_comments}
+use Rattle.fluent_tokens.proofs.Scanned.{test_of}
+use Rattle.fluent_tokens.specs.Lookup.{past_comments}
 use Rattle.fluent_parser.specs.Parts.{piece_of, behind_piece}
 use Rattle.fluent_parser.specs.Left.{pieces_left, runtime_left}
 

@@ -3,7 +3,7 @@ use Rattle.std.proofs.Common.{◌≡◌, true, false, drop, refl, None}
 use Rattle.fluent_grammar.specs.Words.{Text, spaces}
 use Rattle.fluent_grammar.specs.Refusal.{got}
 use Rattle.fluent_grammar.specs.Lines.{pattern_ends}
-use Rattle.fluent_lines.specs.Lookup.{is_last_feed}
+use Rattle.fluent_tokens.specs.Lookup.{is_last_feed}
 use Rattle.fluent_parser.specs.Steps.{piece_by, kept_piece_by, piece_behind}
 
 pub kept_in_line : (s : Text) → kept_piece_by false s ≡ piece_behind false 0 (drop 0 s)

@@ -11,7 +11,7 @@ use Rattle.fluent_grammar.specs.Tiling.{at_column_zero}
 use Rattle.fluent_grammar.specs.Reading as g
 use Rattle.fluent_grammar.proofs.Strings.{text_sound}
 use Rattle.fluent_grammar.proofs.TilesRecovery.{column-snoc}
-use Rattle.fluent_words.proofs.Scanned.{test_of}
+use Rattle.fluent_tokens.proofs.Scanned.{test_of}
 use Rattle.fluent_parser.specs.Frame.{StartsLine}
 use Rattle.fluent_parser.specs.Steps.{piece_by, piece_behind, kept_piece_by, text_piece, indent_at, placeable_by, first_place}
 use Rattle.fluent_parser.proofs.FittingPieces.{found, same_piece}

@@ -7,14 +7,14 @@ use Rattle.fluent_grammar.specs.Refusal.{Reading, got, ◌>>=◌}
 use Rattle.fluent_grammar.specs.Tree as t
 use Rattle.fluent_grammar.specs.Lines.{Piece, in_line, ends_line, pattern_ends, is_blank_text}
 use Rattle.fluent_grammar.specs.Reading as g
-use Rattle.fluent_words.specs.Counted.{starts_text}
+use Rattle.fluent_tokens.specs.Counted.{starts_text}
 use Rattle.fluent_ast.specs.View.{text}
-use Rattle.fluent_elements.specs.Elements.{value_by}
-use Rattle.fluent_words.proofs.Scanned.{test_of, test_ne}
+use Rattle.fluent_parsed.specs.Elements.{value_by}
+use Rattle.fluent_tokens.proofs.Scanned.{test_of, test_ne}
 use Rattle.fluent_parser.specs.Reads.{whole}
 use Rattle.fluent_parser.specs.Steps.{pattern_behind, piece_by, kept_piece_by, first_place}
-use Rattle.fluent_lines.specs.Lookup.{is_last_feed, IsOneLine}
-use Rattle.fluent_elements.proofs.Gathering.{gathered_value}
+use Rattle.fluent_tokens.specs.Lookup.{is_last_feed, IsOneLine}
+use Rattle.fluent_parsed.proofs.Gathering.{gathered_value}
 use Rattle.fluent_parser.proofs.Cycle.{pieces_start, piece_read}
 use Rattle.fluent_parser.proofs.LastFeeds.{end_piece, kept_end}
 

@@ -14,11 +14,11 @@ use Rattle.fluent_grammar.proofs.TilesJunk.{junk-end}
 use Rattle.fluent_grammar.proofs.LawsOfDepth.{entry-took}
 use Rattle.fluent_parsed.specs.ErrorView.{Told, told, ErrorView, error_told, kind_view}
 use Rattle.fluent_parser.specs.Places.{shows_entry, shown_span, error_by}
-use Rattle.fluent_words.specs.Counted.{Cuts}
+use Rattle.fluent_tokens.specs.Counted.{Cuts}
 use Rattle.fluent_parser.specs.Reads.{Refuses}
 use Rattle.fluent_parser.specs.Parts.{piece_of, behind_piece}
 use Rattle.fluent_parsed.specs.declared.errors.ErrorKind.{ErrorKind}
-use Rattle.fluent_words.proofs.Counted.{place_of_tail}
+use Rattle.fluent_tokens.proofs.Counted.{place_of_tail}
 
 same_kinds : (k : Kind) → shows_entry (told k) ≡ is_field_kind k
 same_kinds (r.expected_token c) = refl

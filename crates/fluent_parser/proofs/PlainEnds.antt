@@ -4,10 +4,10 @@ use Rattle.std.specs.Prelude.{◌==◌, IfSome}
 use Rattle.fluent_grammar.specs.Words.{Text}
 use Rattle.fluent_grammar.specs.Refusal.{got}
 use Rattle.fluent_grammar.specs.Lines.{indent_of, is_blank_text, pattern_ends}
-use Rattle.fluent_lines.specs.IndentedTexts.{IsPlainLine, IsTextOf, IsTextStart}
-use Rattle.fluent_lines.specs.Lookup.{is_last_feed}
-use Rattle.fluent_lines.specs.declared.plain.PlainLine.{PlainLine}
-use Rattle.fluent_words.proofs.Scanned.{test_of}
+use Rattle.fluent_tokens.specs.IndentedTexts.{IsPlainLine, IsTextOf, IsTextStart}
+use Rattle.fluent_tokens.specs.Lookup.{is_last_feed}
+use Rattle.fluent_tokens.specs.declared.plain.PlainLine.{PlainLine}
+use Rattle.fluent_tokens.proofs.Scanned.{test_of}
 use Rattle.fluent_parser.specs.PlainLines.{EndsPattern, IsNextText, said}
 use Rattle.fluent_parser.specs.Steps.{kept_piece_by, piece_behind, text_from, text_piece, text_step}
 use Rattle.fluent_parser.proofs.LinePieces.{kept_in_line, kept_feed, kept_end, kept_at_line}

@@ -8,15 +8,15 @@ use Rattle.fluent_grammar.specs.Lines as l
 use Rattle.fluent_grammar.specs.Lines.{Piece, dedented}
 use Rattle.fluent_grammar.specs.Reading as g
 use Rattle.fluent_grammar.specs.Tree as t
-use Rattle.fluent_words.specs.Counted.{Cuts}
-use Rattle.fluent_words.proofs.Counted.{cut_none}
+use Rattle.fluent_tokens.specs.Counted.{Cuts}
+use Rattle.fluent_tokens.proofs.Counted.{cut_none}
 use Rattle.fluent_ast.specs.declared.Pattern.{Pattern}
 use Rattle.fluent_ast.specs.View.{text, element_view}
-use Rattle.fluent_elements.specs.declared.dedented.Dedented.{Dedented}
-use Rattle.fluent_elements.specs.Elements.{dedented_value, plain_elements}
-use Rattle.fluent_elements.specs.Pieces.{undented, dedented_piece}
-use Rattle.fluent_elements.proofs.Dedenting.{cut_among_spaces}
-use Rattle.fluent_elements.proofs.Gathering.{common_more, dedented_pieces}
+use Rattle.fluent_parsed.specs.declared.dedented.Dedented.{Dedented}
+use Rattle.fluent_parsed.specs.Elements.{dedented_value, plain_elements}
+use Rattle.fluent_parsed.specs.Pieces.{undented, dedented_piece}
+use Rattle.fluent_parsed.proofs.Dedenting.{cut_among_spaces}
+use Rattle.fluent_parsed.proofs.Gathering.{common_more, dedented_pieces}
 use Rattle.fluent_parser.specs.PlainLines.{PutsPiece, PutsPlain, GivesPlain}
 use Rattle.fluent_parser.specs.Reads.{whole}
 use Rattle.fluent_parser.specs.Steps.{pattern_behind, pieces_by, kept_piece_by, text_piece, indent_at, first_place}

@@ -13,8 +13,8 @@ use Rattle.fluent_ast.specs.declared.PatternElement.{PatternElement}
 use Rattle.fluent_ast.specs.declared.PatternElement.TheVariants.{TextElement, Placeable}
 use Rattle.fluent_ast.specs.View.{element_view, expression_view}
 use Rattle.fluent_ast.proofs.Views.{element_view-TextElement, element_view-Placeable}
-use Rattle.fluent_elements.specs.declared.gathered.Gathered.{Gathered}
-use Rattle.fluent_elements.specs.Pieces.{undented}
+use Rattle.fluent_parsed.specs.declared.gathered.Gathered.{Gathered}
+use Rattle.fluent_parsed.specs.Pieces.{undented}
 use Rattle.fluent_parser.specs.Pieces.{Puts, PutsRead, GivesPiece}
 use Rattle.fluent_parser.specs.Steps.{text_piece, text_step, piece_behind, placed_piece, placeable_piece_by, indent_at}
 use Rattle.fluent_parser.proofs.Runs.{text_read, undented_text}

@@ -11,13 +11,13 @@ use Rattle.fluent_grammar.specs.Reading.{text_run}
 use Rattle.fluent_grammar.specs.Ends.{EndsIn}
 use Rattle.fluent_grammar.proofs.Within.{end-same, end-le}
 use Rattle.fluent_grammar.proofs.Taken.{Leaves, text_run-leaves}
-use Rattle.fluent_words.specs.Counted.{Cuts}
+use Rattle.fluent_tokens.specs.Counted.{Cuts}
 use Rattle.fluent_ast.specs.View.{text}
-use Rattle.fluent_elements.specs.Pieces.{undented}
-use Rattle.fluent_lines.specs.IndentedTexts.{IsTextStart}
+use Rattle.fluent_parsed.specs.Pieces.{undented}
+use Rattle.fluent_tokens.specs.IndentedTexts.{IsTextStart}
 use Rattle.fluent_parser.specs.Steps.{text_piece, text_step, piece_behind, indent_at}
-use Rattle.fluent_words.proofs.Counted.{cut_none, cut_spaces, cut_begun}
-use Rattle.fluent_words.proofs.Scanned.{cut_more, test_of}
+use Rattle.fluent_tokens.proofs.Counted.{cut_none, cut_spaces, cut_begun}
+use Rattle.fluent_tokens.proofs.Scanned.{cut_more, test_of}
 
 pub cut_indent_at : (line : Bool) (s : Text) (n : ℕ) → n ≡ indent_at line s → Cuts s n
 cut_indent_at true s n e = cut_spaces s n e

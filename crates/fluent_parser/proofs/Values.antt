@@ -5,7 +5,7 @@ use Rattle.fluent_grammar.specs.Words.{Text, skip_blank, begins_with}
 use Rattle.fluent_grammar.specs.Refusal.{refuse}
 use Rattle.fluent_grammar.specs.Refusal as r
 use Rattle.fluent_grammar.specs.Reading as g
-use Rattle.fluent_words.specs.Counted.{begins_value}
+use Rattle.fluent_tokens.specs.Counted.{begins_value}
 use Rattle.fluent_parser.specs.Reads.{string_or_number_at, argument_value_at}
 
 value_choice : {A : Type 0} (q d : Bool) (a b x : A) → (q || d) ≡ true → cond q a (cond d b x) ≡ cond q a b

@@ -4,8 +4,8 @@ use Rattle.fluent_grammar.specs.Words.{Text}
 use Rattle.fluent_grammar.specs.Refusal.{Reading, got}
 use Rattle.fluent_grammar.specs.Lines.{Piece, indent_of, lesser}
 use Rattle.fluent_ast.specs.View.{element_view}
-use Rattle.fluent_elements.specs.declared.gathered.Gathered.{Gathered}
-use Rattle.fluent_elements.specs.Pieces.{undented}
+use Rattle.fluent_parsed.specs.declared.gathered.Gathered.{Gathered}
+use Rattle.fluent_parsed.specs.Pieces.{undented}
 use Rattle.fluent_text.specs.declared.slice.Texts.{Ghosts}
 use Rattle.fluent_parser.specs.Reads.{Fails}
 use Rattle.fluent_parser.specs.declared.fault.Fault.{Fault}

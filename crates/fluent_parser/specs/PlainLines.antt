@@ -5,11 +5,11 @@ use Rattle.fluent_grammar.specs.Refusal.{got}
 use Rattle.fluent_grammar.specs.Lines.{Piece, indent_of, lesser}
 use Rattle.fluent_ast.specs.declared.Pattern.{Pattern}
 use Rattle.fluent_ast.specs.View.{element_view, pattern_view}
-use Rattle.fluent_elements.specs.declared.dedented.Dedented.{Dedented}
-use Rattle.fluent_elements.specs.Pieces.{dedented_piece}
+use Rattle.fluent_parsed.specs.declared.dedented.Dedented.{Dedented}
+use Rattle.fluent_parsed.specs.Pieces.{dedented_piece}
 use Rattle.fluent_parser.specs.Reads.{Fails}
-use Rattle.fluent_lines.specs.IndentedTexts.{IsTextOf}
-use Rattle.fluent_lines.specs.declared.plain.PlainLine.{PlainLine}
+use Rattle.fluent_tokens.specs.IndentedTexts.{IsTextOf}
+use Rattle.fluent_tokens.specs.declared.plain.PlainLine.{PlainLine}
 use Rattle.fluent_parser.specs.Steps.{pattern_behind, kept_piece_by, text_from, indent_at}
 use Rattle.fluent_parser.specs.declared.fault.Fault.{Fault}
 

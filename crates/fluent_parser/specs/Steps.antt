@@ -7,7 +7,7 @@ use Rattle.fluent_grammar.specs.Tree as t
 use Rattle.fluent_grammar.specs.Lines.{Piece, at_line_start, in_line, placed, elements_of, value_of, ends_line, pattern_ends}
 use Rattle.fluent_grammar.specs.Reading.{select_or_inline_at, pattern_at, first_pieces_at, name_of_argument, text_run}
 use Rattle.fluent_parser.specs.Reads.{whole, byte_at, key_in_brackets_at, argument_value_at}
-use Rattle.fluent_lines.specs.Lookup.{is_last_feed}
+use Rattle.fluent_tokens.specs.Lookup.{is_last_feed}
 use Rattle.fluent_ast.specs.View.{Variant, Named}
 
 -- an inline expression or a select

@@ -1,5 +1,5 @@
 //! The arguments of calls.
-#![tactic(auto, using(crate::proofs::Failing::handed, fluent_words::proofs::Counted::cuts, crate::proofs::Steps::placeable_is))]
+#![tactic(auto, using(crate::proofs::Failing::handed, fluent_tokens::proofs::Counted::cuts, crate::proofs::Steps::placeable_is))]
 
 ghost use Rattle.std.specs.Prelude.{◌≡◌, ◌≤◌, ◌<◌, [], true, IfOk, OnOk, length, drop, take};
 ghost use Rattle.fluent_grammar.specs.Words as w;
@@ -11,7 +11,7 @@ use crate::parser::Parser;
 use fluent_ast::{CallArguments, Identifier, InlineExpression, NamedArgument};
 use fluent_parsed::ErrorKind;
 use fluent_text::Texts;
-use fluent_words as words;
+use fluent_tokens as words;
 
 /// An argument of a call.
 #[derive(Drop)]

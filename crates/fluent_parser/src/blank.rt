@@ -1,5 +1,5 @@
 //! Passing over blanks and line ends.
-#![tactic(auto, using(fluent_words::proofs::Counted::cuts))]
+#![tactic(auto, using(fluent_tokens::proofs::Counted::cuts))]
 
 ghost use Rattle.std.specs.Prelude.{◌≡◌, ◌≤◌, not, ◌==◌, is_some, unwrap_or, length};
 ghost use Rattle.fluent_grammar.specs.Words as w;
@@ -7,7 +7,7 @@ ghost use Rattle.fluent_parser.specs.Frame.{Advances};
 
 use crate::parser::Parser;
 use fluent_text::Texts;
-use fluent_words as words;
+use fluent_tokens as words;
 
 impl<'p, S: Drop, T: Texts<S>> Parser<'p, S, T> {
     /// Passes over spaces.

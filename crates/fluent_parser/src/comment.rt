@@ -1,9 +1,9 @@
 //! Comments.
-#![tactic(auto, using(crate::proofs::Failing::handed, fluent_words::proofs::Counted::cuts))]
+#![tactic(auto, using(crate::proofs::Failing::handed, fluent_tokens::proofs::Counted::cuts))]
 
 ghost use Rattle.std.specs.Prelude.{◌≡◌, ℕ, List, ◌<◌, ◌≤◌, ◌-◌, ◌&&◌, ◌==◌, true, length, drop, map};
 ghost use Rattle.fluent_grammar.specs.Words as w;
-ghost use Rattle.fluent_words.specs.Counted.{is_comment_line};
+ghost use Rattle.fluent_tokens.specs.Counted.{is_comment_line};
 ghost use Rattle.fluent_grammar.specs.Reading.{comment_of};
 ghost use Rattle.fluent_ast.specs.View.{entry_view};
 ghost use Rattle.fluent_parser.specs.Frame.{Advances};
@@ -13,7 +13,7 @@ use crate::parser::Parser;
 use fluent_ast::{Comment, Entry};
 use fluent_parsed::ErrorKind;
 use fluent_text::Texts;
-use fluent_words as words;
+use fluent_tokens as words;
 
 /// The comment of so many signs: one, two or three.
 fn comment_of<S>(level: usize, content: Vec<S>) -> Entry<S>

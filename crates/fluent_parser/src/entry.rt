@@ -1,5 +1,5 @@
 //! Messages, terms and their attributes.
-#![tactic(auto, using(crate::proofs::Failing::handed, fluent_words::proofs::Counted::cuts))]
+#![tactic(auto, using(crate::proofs::Failing::handed, fluent_tokens::proofs::Counted::cuts))]
 
 ghost use Rattle.std.specs.Prelude.{◌≡◌, ◌≤◌, true, length, option_map};
 ghost use Rattle.fluent_grammar.specs.Words as w;
@@ -9,10 +9,9 @@ ghost use Rattle.fluent_parser.specs.Frame.{Advances};
 use crate::fault::Fault;
 use crate::parser::Parser;
 use fluent_ast::{Attribute, Entry, Identifier, Message, Pattern, Term};
-use fluent_elements::push_tight;
-use fluent_parsed::ErrorKind;
+use fluent_parsed::{ErrorKind, push_tight};
 use fluent_text::Texts;
-use fluent_words as words;
+use fluent_tokens as words;
 
 /// How many attributes messages mostly have that have any: one or two.
 const FEW: usize = 2;
@@ -48,7 +47,7 @@ impl<'p, S: Drop, T: Texts<S>> Parser<'p, S, T> {
     }
 
     /// Production `Message`.
-    #[tactic(auto, using(crate::proofs::Failing::handed, fluent_words::proofs::Counted::cuts), unfolding(crate::specs::Entries::message_by))]
+    #[tactic(auto, using(crate::proofs::Failing::handed, fluent_tokens::proofs::Counted::cuts), unfolding(crate::specs::Entries::message_by))]
     fn get_message(&mut self) -> Result<Message<S>, Fault>
         ensures gives { Reads (λ m. t.message (message_view S T.text m)) self.old self.new result
             message_by }
@@ -70,7 +69,7 @@ impl<'p, S: Drop, T: Texts<S>> Parser<'p, S, T> {
     }
 
     /// Production `Term`, from its minus sign on.
-    #[tactic(auto, using(crate::proofs::Failing::handed, fluent_words::proofs::Counted::cuts), unfolding(crate::specs::Entries::term_by))]
+    #[tactic(auto, using(crate::proofs::Failing::handed, fluent_tokens::proofs::Counted::cuts), unfolding(crate::specs::Entries::term_by))]
     fn get_term(&mut self) -> Result<Term<S>, Fault>
         requires minus { w.begins_with w.hyphen self.old.rest.now ≡ true }
         ensures gives { Reads (λ m. t.term (term_view S T.text m)) self.old self.new result
@@ -114,7 +113,7 @@ impl<'p, S: Drop, T: Texts<S>> Parser<'p, S, T> {
     }
 
     /// What a message or a term begins with: its name, an equals sign and its value, if it has one.
-    #[tactic(auto, using(crate::proofs::Failing::handed, fluent_words::proofs::Counted::cuts), unfolding(crate::specs::Entries::head_by))]
+    #[tactic(auto, using(crate::proofs::Failing::handed, fluent_tokens::proofs::Counted::cuts), unfolding(crate::specs::Entries::head_by))]
     #[inline(always)]
     fn get_head(&mut self) -> Result<Head<S>, Fault>
         ensures gives { Reads (head_view S T.text) self.old self.new result head_by }
@@ -141,7 +140,7 @@ impl<'p, S: Drop, T: Texts<S>> Parser<'p, S, T> {
     }
 
     /// The attribute of this line. None where none can be read: the parser then stands where it stood.
-    #[tactic(auto, using(crate::proofs::Failing::handed, fluent_words::proofs::Counted::cuts), unfolding(crate::specs::Entries::next_attribute_by))]
+    #[tactic(auto, using(crate::proofs::Failing::handed, fluent_tokens::proofs::Counted::cuts), unfolding(crate::specs::Entries::next_attribute_by))]
     fn next_attribute(&mut self) -> Result<Option<Attribute<S>>, Fault>
         ensures gives { Reads (option_map (attribute_view S T.text)) self.old self.new result
             next_attribute_by }
@@ -174,7 +173,7 @@ impl<'p, S: Drop, T: Texts<S>> Parser<'p, S, T> {
     ///
     /// # Errors
     /// [`Fault`] if no attribute is there, or memory runs out; the parser then stands where reading stopped.
-    #[tactic(auto, using(crate::proofs::Failing::handed, fluent_words::proofs::Counted::cuts), unfolding(crate::specs::Entries::attribute_by))]
+    #[tactic(auto, using(crate::proofs::Failing::handed, fluent_tokens::proofs::Counted::cuts), unfolding(crate::specs::Entries::attribute_by))]
     pub fn get_attribute(&mut self) -> Result<Attribute<S>, Fault>
         requires dot { w.begins_with w.dot (w.skip_spaces self.old.rest.now) ≡ true }
         ensures gives { Reads (attribute_view S T.text) self.old self.new result attribute_by }

@@ -1,5 +1,5 @@
 //! What has to stand at the place, and the refusals where it is missing.
-#![tactic(auto, using(fluent_words::proofs::Counted::cuts))]
+#![tactic(auto, using(fluent_tokens::proofs::Counted::cuts))]
 
 ghost use Rattle.std.specs.Prelude.{◌≡◌, ◌<◌, ◌≤◌, length};
 ghost use Rattle.fluent_grammar.specs.Refusal as r;

@@ -1,5 +1,5 @@
 //! Expressions.
-#![tactic(auto, using(crate::proofs::Failing::handed, fluent_words::proofs::Counted::cuts, crate::proofs::Steps::placeable_is))]
+#![tactic(auto, using(crate::proofs::Failing::handed, fluent_tokens::proofs::Counted::cuts, crate::proofs::Steps::placeable_is))]
 
 ghost use Rattle.std.specs.Prelude.{◌≡◌, ℕ, List, ◌≤◌, ◌<◌, true, length, drop, option_map};
 ghost use Rattle.fluent_ast.specs.View.{expression_view};
@@ -12,9 +12,9 @@ use crate::fault::Fault;
 use crate::parser::Parser;
 use fluent_ast::{Expression, Identifier, InlineExpression, Variant};
 use fluent_parsed::ErrorKind;
-use fluent_stack::reading;
 use fluent_text::Texts;
-use fluent_words as words;
+use fluent_text::stack::reading;
+use fluent_tokens as words;
 use std::alloc::AllocError;
 
 /// An expression with these variants, or the selector alone.
@@ -124,7 +124,7 @@ impl<'p, S: Drop, T: Texts<S>> Parser<'p, S, T> {
     /// place of the refusal.
     /// [`Fault::Memory`] if memory runs out.
     #[cycle(parser)]
-    #[tactic(auto, using(crate::proofs::Failing::handed, fluent_words::proofs::Counted::cuts), unfolding(fluent_grammar::specs::Reading::select_or_inline_at))]
+    #[tactic(auto, using(crate::proofs::Failing::handed, fluent_tokens::proofs::Counted::cuts), unfolding(fluent_grammar::specs::Reading::select_or_inline_at))]
     #[inline(never)]
     pub fn get_variants_of(
         &mut self,
@@ -144,7 +144,7 @@ impl<'p, S: Drop, T: Texts<S>> Parser<'p, S, T> {
 
     /// The variants of a select over this selector, from its arrow on.
     #[cycle(parser)]
-    #[tactic(auto, using(crate::proofs::Failing::handed, fluent_words::proofs::Counted::cuts), unfolding(fluent_grammar::specs::Reading::select_at, fluent_grammar::specs::Reading::variants_after))]
+    #[tactic(auto, using(crate::proofs::Failing::handed, fluent_tokens::proofs::Counted::cuts), unfolding(fluent_grammar::specs::Reading::select_at, fluent_grammar::specs::Reading::variants_after))]
     fn get_select_variants(
         &mut self,
         selector: &InlineExpression<S>,
@@ -216,7 +216,7 @@ impl<'p, S: Drop, T: Texts<S>> Parser<'p, S, T> {
 
     /// A term's reference, from its minus on. Production `TermReference`.
     #[cycle(parser)]
-    #[tactic(auto, using(crate::proofs::Failing::handed, fluent_words::proofs::Counted::cuts), unfolding(fluent_grammar::specs::Reading::term_at, fluent_grammar::specs::Reading::term_arguments_at))]
+    #[tactic(auto, using(crate::proofs::Failing::handed, fluent_tokens::proofs::Counted::cuts), unfolding(fluent_grammar::specs::Reading::term_at, fluent_grammar::specs::Reading::term_arguments_at))]
     #[inline(never)]
     fn get_term_reference(&mut self) -> Result<InlineExpression<S>, Fault>
         requires minus { w.begins_with w.hyphen self.old.rest.now ≡ true }
@@ -247,7 +247,7 @@ impl<'p, S: Drop, T: Texts<S>> Parser<'p, S, T> {
 
     /// A call, or a message's reference. Productions `FunctionReference` and `MessageReference`.
     #[cycle(parser)]
-    #[tactic(auto, using(crate::proofs::Failing::handed, fluent_words::proofs::Counted::cuts), unfolding(fluent_grammar::specs::Reading::named_at, fluent_grammar::specs::Reading::called_at, fluent_grammar::specs::Reading::function_of))]
+    #[tactic(auto, using(crate::proofs::Failing::handed, fluent_tokens::proofs::Counted::cuts), unfolding(fluent_grammar::specs::Reading::named_at, fluent_grammar::specs::Reading::called_at, fluent_grammar::specs::Reading::function_of))]
     fn get_named_reference(&mut self) -> Result<InlineExpression<S>, Fault>
         ensures gives { Reads (inline_view S T.text) self.old self.new result (named_at whole) }
         ensures advances { Advances self.old self.new }

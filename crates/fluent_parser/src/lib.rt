@@ -27,9 +27,9 @@ ghost use Rattle.fluent_parsed.specs.ErrorView.{error_told};
 ghost use Rattle.fluent_parsed.specs.Collected.{HasTree, HasErrors};
 
 pub use fluent_parsed::{Error, ErrorKind, ParserError, Result, laws};
-pub use fluent_stack::StackBudget;
 pub use fluent_text::Slice;
 use fluent_text::Slices;
+pub use fluent_text::stack::StackBudget;
 pub use refusals::{Refusal, refusals_at};
 use resource::{parts_of, runtime_parts_of};
 use std::alloc::Global;

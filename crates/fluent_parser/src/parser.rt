@@ -1,21 +1,21 @@
 //! The parser's place in its source.
-#![tactic(auto, using(fluent_words::proofs::Counted::cuts))]
+#![tactic(auto, using(fluent_tokens::proofs::Counted::cuts))]
 
 ghost use Rattle.std.specs.Prelude.{◌≡◌, ◌-◌, ◌<◌, ◌≤◌, length, drop, map, take, true, false, IfOk, IfSome};
 ghost use Rattle.std.specs.Str.{IsUtf8};
-ghost use Rattle.fluent_words.specs.Counted.{Cuts, IsLine, IsText};
-ghost use Rattle.fluent_lines.specs.Lookup.{IsOneLine, is_last_feed, past_comments};
+ghost use Rattle.fluent_tokens.specs.Counted.{Cuts, IsLine, IsText};
+ghost use Rattle.fluent_tokens.specs.Lookup.{IsOneLine, is_last_feed, past_comments};
 ghost use Rattle.fluent_grammar.specs.Lines.{pattern_ends};
-ghost use Rattle.fluent_lines.specs.IndentedTexts.{IsPlainLine};
-ghost use Rattle.fluent_lines.specs.Table as table;
+ghost use Rattle.fluent_tokens.specs.IndentedTexts.{IsPlainLine};
+ghost use Rattle.fluent_tokens.specs.Table as table;
 ghost use Rattle.fluent_grammar.specs.Words as w;
 ghost use Rattle.fluent_grammar.specs.Tiling.{resume};
 ghost use Rattle.fluent_parser.specs.Reads.{past_byte};
 
-use fluent_lines::{Lines, PlainLine, PlainLines, Row};
-use fluent_stack::{Stack, StackBudget};
 use fluent_text::Texts;
-use fluent_words as words;
+use fluent_text::stack::{Stack, StackBudget};
+use fluent_tokens as words;
+use fluent_tokens::{Lines, PlainLine, PlainLines, Row};
 use std::alloc::{AllocError, Global};
 
 /// A parser of a source, which stands before `rest`.
@@ -160,7 +160,7 @@ impl<'p, S: Drop, T: Texts<S>> Parser<'p, S, T> {
         self.lines.comments_len(place)
     }
 
-    /// The text of a pattern that stands behind so many bytes: see `text_len` of `fluent_lines`.
+    /// The text of a pattern that stands behind so many bytes: see `text_len` of `fluent_tokens`.
     ///
     /// # Errors
     /// The offset of a closing brace from here, if one comes first: no text may have it.
@@ -183,7 +183,7 @@ impl<'p, S: Drop, T: Texts<S>> Parser<'p, S, T> {
         self.lines.one_line_len(place)
     }
 
-    /// What the rows say of the pattern here, after the spaces before it: see `plain_lines` of `fluent_lines`.
+    /// What the rows say of the pattern here, after the spaces before it: see `plain_lines` of `fluent_tokens`.
     pub fn plain_lines(&mut self) -> Option<PlainLines>
         ensures stays { Stays self.old self.new }
     {
@@ -192,7 +192,7 @@ impl<'p, S: Drop, T: Texts<S>> Parser<'p, S, T> {
     }
 
     /// The line that starts here, if it is plain and a pattern goes on with a text in it: see `plain_line` of
-    /// `fluent_lines`.
+    /// `fluent_tokens`.
     pub fn plain_line(&mut self) -> Option<PlainLine>
         requires { StartsLine true self.old.text.now self.old.rest.now }
         ensures line { IfSome result (IsPlainLine self.old.rest.now) }

@@ -1,8 +1,8 @@
 //! One part of a source: an entry, or junk with its error.
-#![tactic(auto, using(crate::proofs::Failing::handed, fluent_words::proofs::Counted::cuts))]
+#![tactic(auto, using(crate::proofs::Failing::handed, fluent_tokens::proofs::Counted::cuts))]
 
 ghost use Rattle.std.specs.Prelude.{◌≡◌, ◌<◌, ◌≤◌, ◌-◌, ◌^◌, OnOk, drop, length};
-ghost use Rattle.fluent_words.specs.Counted.{Cuts};
+ghost use Rattle.fluent_tokens.specs.Counted.{Cuts};
 ghost use Rattle.fluent_grammar.specs.Tiling.{behind_junk, resume};
 ghost use Rattle.fluent_parsed.specs.ErrorView.{error_view, kind_view};
 ghost use Rattle.fluent_parser.specs.Places.{error_by};
@@ -10,9 +10,9 @@ ghost use Rattle.fluent_parser.specs.Frame.{Advances, Stays};
 
 use crate::fault::Fault;
 use crate::parser::Parser;
-use fluent_lines::begins_entry;
 use fluent_parsed::{Collected, ErrorKind, ParserError};
 use fluent_text::Texts;
+use fluent_tokens::begins_entry;
 use std::alloc::AllocError;
 
 impl<'p, S: Drop, T: Texts<S>> Parser<'p, S, T> {
@@ -73,7 +73,7 @@ impl<'p, S: Drop, T: Texts<S>> Parser<'p, S, T> {
 
     /// How many bytes stand before the next place at column 0 that may begin an entry: all, where there is none. The parser
     /// stands at column 0 or not.
-    #[tactic(auto, using(crate::proofs::EntryStarts::resume_here, crate::proofs::EntryStarts::resume_later, fluent_words::proofs::Counted::cuts))]
+    #[tactic(auto, using(crate::proofs::EntryStarts::resume_here, crate::proofs::EntryStarts::resume_later, fluent_tokens::proofs::Counted::cuts))]
     fn entry_start(&mut self, at_column_zero: bool) -> usize
         ensures value { drop result self.old.rest.now ≡ resume at_column_zero self.old.rest.now }
         ensures cuts { Cuts self.old.rest.now result }

@@ -1,22 +1,21 @@
 //! Patterns.
-#![tactic(auto, using(crate::proofs::Failing::handed, fluent_words::proofs::Counted::cuts))]
+#![tactic(auto, using(crate::proofs::Failing::handed, fluent_tokens::proofs::Counted::cuts))]
 
 ghost use Rattle.std.specs.Prelude.{◌≡◌, ◌≤◌, ◌<◌, ◌||◌, ◌&&◌, ◌==◌, IfOk, IfSome, Some, true, false, length, drop, map, option_map};
 ghost use Rattle.fluent_grammar.specs.Words as w;
 ghost use Rattle.fluent_grammar.specs.Lines.{indent_of};
 ghost use Rattle.fluent_parser.specs.Steps.{text_piece};
-ghost use Rattle.fluent_lines.specs.Lookup.{IsOneLine};
-ghost use Rattle.fluent_lines.specs.IndentedTexts.{IsTextStart};
+ghost use Rattle.fluent_tokens.specs.Lookup.{IsOneLine};
+ghost use Rattle.fluent_tokens.specs.IndentedTexts.{IsTextStart};
 ghost use Rattle.fluent_parser.specs.Frame.{Advances, StartsLine};
 
 use crate::expression::discard;
 use crate::fault::Fault;
 use crate::parser::Parser;
 use fluent_ast::{InlineExpression, Pattern, PatternElement, Variant};
-use fluent_elements::{Gathered, is_blank_text};
-use fluent_parsed::ErrorKind;
+use fluent_parsed::{ErrorKind, Gathered, is_blank_text};
 use fluent_text::Texts;
-use fluent_words as words;
+use fluent_tokens as words;
 
 /// What a text says of the common indent, behind so many spaces at a line start or within a line: nothing where it is blank.
 pub fn said_by(at_line_start: bool, indent: usize, text: &[u8]) -> Option<usize>

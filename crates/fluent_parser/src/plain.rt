@@ -1,5 +1,5 @@
 //! Patterns of plain lines.
-#![tactic(auto, using(fluent_words::proofs::Counted::cuts))]
+#![tactic(auto, using(fluent_tokens::proofs::Counted::cuts))]
 
 ghost use Rattle.std.specs.Prelude.{◌≡◌, ◌<◌, IfOk, IfSome, length, drop, false};
 ghost use Rattle.fluent_parser.specs.Frame.{Advances, StartsLine, Stays};
@@ -8,10 +8,10 @@ ghost use Rattle.fluent_parser.specs.PlainLines.{IsNextText, GivesPlain, EndsPat
 use crate::fault::Fault;
 use crate::parser::Parser;
 use fluent_ast::{Pattern, PatternElement};
-use fluent_elements::{Dedented, is_blank_text};
-use fluent_lines::{PlainLine, PlainLines};
+use fluent_parsed::{Dedented, is_blank_text};
 use fluent_text::Texts;
-use fluent_words as words;
+use fluent_tokens as words;
+use fluent_tokens::{PlainLine, PlainLines};
 use std::alloc::AllocError;
 
 /// What a text says of the common indent, which begins its line or not: nothing within a line or if it is blank.

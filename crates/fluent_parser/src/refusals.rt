@@ -1,5 +1,5 @@
 //! Why nothing is read at places of a source.
-#![tactic(auto, using(crate::proofs::Failing::handed, fluent_words::proofs::Counted::cuts))]
+#![tactic(auto, using(crate::proofs::Failing::handed, fluent_tokens::proofs::Counted::cuts))]
 
 ghost use Rattle.std.specs.Prelude.{◌≡◌, All, IfOk, None, option_map};
 ghost use Rattle.std.specs.Str.{IsCharBoundary};
@@ -8,10 +8,10 @@ ghost use Rattle.fluent_parser.specs.Frame.{Advances};
 
 use crate::fault::Fault;
 use crate::parser::Parser;
-use fluent_lines::line_table;
 use fluent_parsed::ErrorKind;
-use fluent_stack::StackBudget;
+use fluent_text::stack::StackBudget;
 use fluent_text::{Slice, Slices, Texts};
+use fluent_tokens::line_table;
 use std::alloc::{AllocError, Global};
 
 /// Why nothing is read at an offset of a source. Offsets are bytes of the source.

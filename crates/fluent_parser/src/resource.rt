@@ -5,14 +5,14 @@ ghost use Rattle.std.specs.Prelude.{◌≡◌, ◌-◌, ◌≤◌, [], None, fal
 ghost use Rattle.fluent_grammar.specs.Tiling.{tree, errors, runtime_tree, runtime_errors};
 ghost use Rattle.fluent_parsed.specs.Collected.{entries_with, errors_with};
 ghost use Rattle.fluent_parsed.specs.ErrorView.{error_told};
-ghost use Rattle.fluent_lines.specs.Lookup.{past_comments};
+ghost use Rattle.fluent_tokens.specs.Lookup.{past_comments};
 ghost use Rattle.fluent_parser.specs.Frame.{Advances};
 
 use crate::parser::Parser;
-use fluent_lines::line_table;
 use fluent_parsed::Collected;
-use fluent_stack::StackBudget;
 use fluent_text::Texts;
+use fluent_text::stack::StackBudget;
+use fluent_tokens::line_table;
 use std::alloc::{AllocError, Global};
 
 /// How many bytes a short entry has, about. Room to spare, which there is for longer ones, is never touched.

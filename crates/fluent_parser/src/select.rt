@@ -1,5 +1,5 @@
 //! Selects.
-#![tactic(auto, using(crate::proofs::Failing::handed, fluent_words::proofs::Counted::cuts, crate::proofs::Steps::placeable_is))]
+#![tactic(auto, using(crate::proofs::Failing::handed, fluent_tokens::proofs::Counted::cuts, crate::proofs::Steps::placeable_is))]
 
 ghost use Rattle.std.specs.Prelude.{◌≡◌, ◌≤◌, ◌<◌, true, false, length};
 ghost use Rattle.fluent_grammar.specs.Words as w;
@@ -11,7 +11,7 @@ use crate::parser::Parser;
 use fluent_ast::{Identifier, InlineExpression, Variant, VariantKey};
 use fluent_parsed::ErrorKind;
 use fluent_text::Texts;
-use fluent_words as words;
+use fluent_tokens as words;
 
 impl<'p, S: Drop, T: Texts<S>> Parser<'p, S, T> {
     ghost use Rattle.fluent_parser.specs.Frame.{Reads};
@@ -84,7 +84,7 @@ impl<'p, S: Drop, T: Texts<S>> Parser<'p, S, T> {
 
     /// A variant, from its opening bracket on. Production `Variant`.
     #[cycle(parser)]
-    #[tactic(auto, using(crate::proofs::Failing::handed, fluent_words::proofs::Counted::cuts), unfolding(crate::specs::Steps::variant_by))]
+    #[tactic(auto, using(crate::proofs::Failing::handed, fluent_tokens::proofs::Counted::cuts), unfolding(crate::specs::Steps::variant_by))]
     fn get_variant(&mut self, default: bool) -> Result<Variant<S>, Fault>
         requires bracket { w.begins_with w.open_bracket self.old.rest.now ≡ true }
         ensures gives { Reads (variant_view S T.text) self.old self.new result

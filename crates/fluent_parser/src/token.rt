@@ -1,9 +1,9 @@
 //! Identifiers, numbers and strings.
-#![tactic(auto, using(fluent_words::proofs::Counted::cuts))]
+#![tactic(auto, using(fluent_tokens::proofs::Counted::cuts))]
 
 ghost use Rattle.std.specs.Prelude.{◌≡◌, ◌≤◌, true, length, drop};
 ghost use Rattle.std.specs.List.{prefix_len};
-ghost use Rattle.fluent_words.specs.Counted.{Cuts, character_or_space};
+ghost use Rattle.fluent_tokens.specs.Counted.{Cuts, character_or_space};
 ghost use Rattle.fluent_grammar.specs.Words as w;
 ghost use Rattle.fluent_grammar.specs.Refusal as r;
 ghost use Rattle.fluent_grammar.specs.Reading.{first_char};
@@ -15,8 +15,8 @@ use crate::parser::{Parser, behind};
 use fluent_ast::Identifier;
 use fluent_parsed::ErrorKind;
 use fluent_text::Texts;
-use fluent_words as words;
-use fluent_words::StringEnd;
+use fluent_tokens as words;
+use fluent_tokens::StringEnd;
 
 /// The character at the front of a text.
 fn first_char(text: &str) -> &str
@@ -45,7 +45,7 @@ impl<'p, S: Drop, T: Texts<S>> Parser<'p, S, T> {
     /// # Errors
     /// [`Fault::Refused`] with the range `a-zA-Z` if no letter stands here; the parser stays.
     /// [`Fault::Memory`] if memory runs out.
-    #[tactic(auto, using(fluent_words::proofs::Counted::cuts), unfolding(fluent_grammar::specs::Reading::identifier_at))]
+    #[tactic(auto, using(fluent_tokens::proofs::Counted::cuts), unfolding(fluent_grammar::specs::Reading::identifier_at))]
     #[inline(always)]
     pub fn get_identifier(&mut self) -> Result<Identifier<S>, Fault>
         ensures gives { Reads (name_of S T.text) self.old self.new result identifier_at }

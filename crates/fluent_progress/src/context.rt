@@ -8,7 +8,7 @@ ghost use Rattle.fluent_value.specs.Shown.{shown_text};
 ghost use Rattle.fluent_value.specs.Value.{Value};
 
 use fluent_ids::FunctionRef;
-use fluent_stack::StackBudget;
+use fluent_text::stack::StackBudget;
 use fluent_value::{FluentArgs, FluentType, FluentValue, ValueScope};
 use std::alloc::AllocError;
 use std::borrow::CowStr;

@@ -8,7 +8,7 @@ ghost use Rattle.fluent_progress.specs.LentView.{lent_view};
 use crate::context::Context;
 use fluent_ids::FunctionRef;
 use fluent_number::{PluralCategory, PluralOperands, PluralRuleType};
-use fluent_stack::StackBudget;
+use fluent_text::stack::StackBudget;
 use fluent_value::{
     FluentArgs, FluentFunction, FluentType, FluentValue, MemoizerKind, TextTransform,
     ValueFormatter, ValueScope, builtins,

@@ -9,7 +9,7 @@ ghost use Rattle.fluent_progress.specs.Views.{path_of, state};
 
 use crate::path::Path;
 use fluent_errors::{FluentError, ResolverError};
-use fluent_stack::{Stack, StackBudget};
+use fluent_text::stack::{Stack, StackBudget};
 use std::alloc::{AllocError, Global};
 
 /// How many placeables one answer may open.

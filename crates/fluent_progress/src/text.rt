@@ -7,7 +7,7 @@ ghost use Rattle.fluent_value.specs.Value.{text};
 ghost use Rattle.fluent_value.specs.View.{value_view};
 
 use crate::context::Context;
-use fluent_unicode::{unescape_unicode, unescape_unicode_to_string};
+use fluent_tokens::unicode::{unescape_unicode, unescape_unicode_to_string};
 use fluent_value::{FluentType, FluentValue};
 use std::alloc::{AllocError, Global};
 

@@ -9,3 +9,5 @@ pub mod Selects
 pub mod ArgumentLists
 pub mod Frames
 pub mod Braces
+pub mod Asking
+pub mod Pieces

@@ -1,2 +1,5 @@
 pub mod Steps
 pub mod Finds
+pub mod Asked
+pub mod Called
+pub mod Pieces

@@ -9,7 +9,7 @@ ghost use Rattle.fluent_resolver.specs.Steps.{call_step, named_step, own_step, p
 use crate::value::value_of;
 use fluent_ast::{CallArguments, Identifier, InlineExpression, NamedArgument};
 use fluent_progress::{Context, Place, Progress};
-use fluent_stack::resolving;
+use fluent_text::stack::resolving;
 use fluent_value::{FluentArgs, FluentType, FluentValue};
 use std::alloc::AllocError;
 use std::borrow::CowStr;

@@ -1,17 +1,24 @@
-#![tactic(auto)]
-
-//! Resolving patterns: the functions that call each other.
+//! Resolving patterns, and formatting one pattern for one request.
 //!
-//! [`pattern::write_pattern`] writes a pattern to a text, with the budget, the path and the errors that its [`Progress`] holds.
-//! A [`Place`] lends what it is resolved in for the call alone: ids, settings and the arguments of the request may be the
-//! caller's own local values. Texts of patterns live as long as their sources, and so do the values that expressions give: what
-//! comes from the request's arguments is copied first. What enters no pattern stands in `fluent_progress`. Contracts state what
-//! each function writes or finds by the definitions of `fluent_meaning`, which speak of plain data.
+//! [`answer::answer`] returns the text of a pattern, and [`answer::write_answer`] writes it piece by piece. Both take the
+//! caller's list of errors for the time of the call, and put it back with those that were reported. The module [`steps`] is
+//! for programs that open placeables themselves.
+//!
+//! Below them stand the functions that call each other: [`pattern::write_pattern`] writes a pattern to a text, with the
+//! budget, the path and the errors that its [`Progress`] holds. A [`Place`] lends what it is resolved in for the call alone:
+//! ids, settings and the arguments of the request may be the caller's own local values. Texts of patterns live as long as
+//! their sources, and so do the values that expressions give: what comes from the request's arguments is copied first. What
+//! enters no pattern is in `fluent_progress`. Contracts state what each function writes or finds by the definitions of
+//! `fluent_meaning`, which speak of plain data.
 //!
 //! [`Place`]: fluent_progress::Place
 //! [`Progress`]: fluent_progress::Progress
+#![tactic(auto)]
 
+pub mod answer;
 pub mod arguments;
 pub mod expression;
 pub mod pattern;
+pub mod steps;
 pub mod value;
+mod written;

@@ -11,7 +11,7 @@ use crate::expression::write_inline;
 use fluent_ast::InlineExpression;
 use fluent_progress::text::literal_value;
 use fluent_progress::{Context, Place, Progress};
-use fluent_stack::resolving;
+use fluent_text::stack::resolving;
 use fluent_value::{FluentType, FluentValue};
 use std::alloc::AllocError;
 use std::borrow::CowStr;

@@ -2,7 +2,7 @@
 use Rattle.std.proofs.Common.{◌≡◌, Bool, true, false, List, [], Option, Some, None, map, refl, sym, ap, ◌∙◌}
 use Rattle.std.specs.Prelude.{is_some}
 use Rattle.fluent_grammar.specs.Words.{Text}
-use Rattle.fluent_requests.specs.Frames.{Answer, bad}
+use Rattle.fluent_serve.specs.Frames.{Answer, bad}
 use Rattle.fluent_run.specs.DeskView.{answer_asked, arguments_view, valued}
 use Rattle.fluent_run.specs.declared.arguments.ValuedArguments.{ValuedArguments}
 use Rattle.fluent_serve.specs.ReadArguments.{AreRead}

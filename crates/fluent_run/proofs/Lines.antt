@@ -5,9 +5,9 @@ use Rattle.fluent_grammar.specs.Tree.{Elements}
 use Rattle.fluent_grammar.specs.Words.{Text}
 use Rattle.fluent_meaning.specs.Environment.{Environment}
 use Rattle.fluent_meaning.specs.Substitution.{answer_written}
-use Rattle.fluent_requests.proofs.Values.{values_are_read}
-use Rattle.fluent_requests.specs.Frames.{answer_line, answer_to, bad, found, frame_of}
-use Rattle.fluent_requests.specs.Requests.{Request, request_of, request_with, with_values}
+use Rattle.fluent_serve.proofs.Values.{values_are_read}
+use Rattle.fluent_serve.specs.Frames.{answer_line, answer_to, bad, found, frame_of}
+use Rattle.fluent_serve.specs.Requests.{Request, request_of, request_with, with_values}
 use Rattle.fluent_run.specs.DeskView.{answer_asked, valued}
 use Rattle.fluent_value.specs.Args.{all_set}
 use Rattle.fluent_value.specs.Value.{Value, number_or_text}

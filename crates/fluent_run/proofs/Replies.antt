@@ -14,7 +14,7 @@ use Rattle.fluent_meaning.specs.Environment.{Environment}
 use Rattle.fluent_meaning.specs.Steps.{Done, entering, may_open}
 use Rattle.fluent_meaning.specs.Substitution.{Place, pattern_written, most_placeables}
 use Rattle.fluent_meaning.specs.Told.{State, Writes, after, budget_of}
-use Rattle.fluent_requests.specs.Frames.{Reply, ended, frame_of, ok}
+use Rattle.fluent_serve.specs.Frames.{Reply, ended, frame_of, ok}
 use Rattle.fluent_run.specs.ReplyView.{error_text, error_texts, reply_of}
 use Rattle.fluent_serve.specs.AnswerView.{head_of}
 

@@ -12,7 +12,7 @@ use Rattle.fluent_ids.specs.declared.ids.FluentIds.{FluentIds}
 use Rattle.fluent_meaning.specs.Environment.{Environment}
 use Rattle.fluent_meaning.specs.Ids.{Ids, find, number_pair, with_ids}
 use Rattle.fluent_meaning.specs.Substitution.{answer_written}
-use Rattle.fluent_requests.specs.Frames.{Answer, Reply, bad, frame_of, ok}
+use Rattle.fluent_serve.specs.Frames.{Answer, Reply, bad, frame_of, ok}
 use Rattle.fluent_resource.specs.declared.resource.FluentResource.{FluentResource}
 use Rattle.fluent_run.specs.declared.desk.Desk.{Desk}
 use Rattle.fluent_run.specs.declared.reply.Reply as code

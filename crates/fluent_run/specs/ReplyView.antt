@@ -10,7 +10,7 @@ use Rattle.fluent_errors.specs.declared.bundle.FluentError.{FluentError}
 use Rattle.fluent_grammar.specs.Words.{Text}
 use Rattle.fluent_progress.specs.declared.context.Context.{Ghosts as Context}
 use Rattle.fluent_progress.specs.declared.place.Place.{Place}
-use Rattle.fluent_requests.specs.Frames as frames
+use Rattle.fluent_serve.specs.Frames as frames
 use Rattle.fluent_resolver.specs.Steps.{answer}
 use Rattle.fluent_run.specs.declared.reply.ErrorLine.{ErrorLine}
 use Rattle.fluent_run.specs.declared.reply.Reply.{Reply}

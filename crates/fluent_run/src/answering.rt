@@ -12,7 +12,7 @@ use fluent_answers::laws::tidied_sources_keep_answers;
 use fluent_resource::{parse_sources, parse_sources_within};
 use fluent_serve::serve::{RunError, serve};
 use fluent_serve::stream::{Sink, Source};
-use fluent_stack::StackBudget;
+use fluent_text::stack::StackBudget;
 use fluent_value::{MemoizerKind, NoCustom, NoFunction};
 use std::alloc::Global;
 use std::mem;

@@ -6,7 +6,7 @@ ghost use Rattle.fluent_run.specs.RunView.{answers_in};
 use crate::answering::run_within;
 use crate::settings::Settings;
 use fluent_serve::stream::{FromRead, FromWrite};
-use fluent_stack::StackBudget;
+use fluent_text::stack::StackBudget;
 use fluent_value::MemoizerKind;
 use std::alloc::{AllocError, Global};
 

@@ -2,9 +2,9 @@
 use Rattle.std.proofs.Common.{◌≡◌, ℕ, suc, ◌+◌, ◌<◌, ◌≤◌, List, [], ◌∷◌, ◌++◌, length, drop, get_or, Option, Some, None, IfSome, refl, sym, ap, ◌∙◌, append_assoc, append-nil, drop-cons, add-one, rules, codes, decimal, option_map}
 use Rattle.std.proofs.lemmas.List.{drop_all}
 use Rattle.std.specs.List.{flat_map}
-use Rattle.fluent_requests.specs.Text.{Text}
+use Rattle.fluent_serve.specs.Text.{Text}
 use Rattle.fluent_serve.specs.Exchange.{IsFrontOf}
-use Rattle.fluent_requests.specs.Frames.{ok, ended, frame_of}
+use Rattle.fluent_serve.specs.Frames.{ok, ended, frame_of}
 use Rattle.fluent_serve.specs.AnswerView.{error_texts, and_text}
 
 -- with the lines of the errors that are left, the lines of all errors are after the old bytes

@@ -2,8 +2,8 @@
 use Rattle.std.proofs.Common.{◌≡◌, Bool, true, false, List, [], ◌∷◌, ◌++◌, Option, Some, None, subst, append_assoc, append-nil, ap, sym, refl}
 use Rattle.std.specs.Global.{Vec}
 use denote.Ref.{Bor}
-use Rattle.fluent_requests.specs.Text.{Text}
-use Rattle.fluent_requests.specs.Requests.{and_argument}
+use Rattle.fluent_serve.specs.Text.{Text}
+use Rattle.fluent_serve.specs.Requests.{and_argument}
 use Rattle.fluent_serve.specs.ReadArguments.{AreRead, GetsArgument}
 use Rattle.fluent_serve.specs.RequestView.{arguments_view}
 

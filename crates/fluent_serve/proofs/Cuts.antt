@@ -4,7 +4,7 @@ use Rattle.std.specs.Prelude.{◌==◌, slice_range}
 use Rattle.std.proofs.lemmas.Bool.{eq-eqb, ne_eqb}
 use Rattle.std.proofs.lemmas.List.Sums.{position_or_len_is}
 use Rattle.memchr.specs.Find.{IsFirstByte, is_byte}
-use Rattle.fluent_requests.specs.Text.{Text, cut_at}
+use Rattle.fluent_serve.specs.Text.{Text, cut_at}
 
 -- a byte that doesn't pass
 unless-passes : (b : Bool) → (b ≡ true → ⊥) → b ≡ false

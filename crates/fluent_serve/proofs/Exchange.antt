@@ -5,7 +5,7 @@ use Rattle.fluent_serve.specs.Devices.{one_more}
 use Rattle.std.specs.Io.KnownBytes.{Appends, Keeps, Consumes}
 use Rattle.std.proofs.lemmas.Bool.Decides.{eqb_tells}
 use Rattle.std.proofs.lemmas.List.{take-append-drop}
-use Rattle.fluent_requests.specs.Text.{Text}
+use Rattle.fluent_serve.specs.Text.{Text}
 use Rattle.fluent_serve.specs.Waiting.{Puts, PutsFront}
 
 pub appends_trans : (a b c : Option Text) (x y : Text) → Appends a b x → Appends b c y → Appends a c (x ++ y)

@@ -7,3 +7,6 @@ pub mod Runs
 pub mod Outcomes
 pub mod SameAnswers
 mod Cuts
+pub mod Lines
+pub mod Streams
+pub mod Values

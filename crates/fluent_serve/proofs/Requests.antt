@@ -8,8 +8,8 @@ use Rattle.std.proofs.lemmas.List.Sums.{prefix_len-le-length}
 use Rattle.std.specs.List.{slice_split, position_or_len}
 use Rattle.std.specs.Str.{bytes_eq, is_utf8, IsUtf8}
 use Rattle.std.proofs.lemmas.Str.{is_utf8-from_IsUtf8, IsUtf8-from_is_utf8}
-use Rattle.fluent_requests.specs.Text.{Text, tab, dot, equals, cut_at}
-use Rattle.fluent_requests.specs.Requests.{value_named, or_later, argument_of, arguments_of, and_argument, request_with, request_of_parts, request_of}
+use Rattle.fluent_serve.specs.Text.{Text, tab, dot, equals, cut_at}
+use Rattle.fluent_serve.specs.Requests.{value_named, or_later, argument_of, arguments_of, and_argument, request_with, request_of_parts, request_of}
 use denote.Ref.{Bor}
 use Rattle.fluent_serve.specs.RequestView.{parts_behind, argument_view, arguments_view, arguments_behind}
 

@@ -5,13 +5,13 @@ use Rattle.std.proofs.lemmas.List.{length-append, take-append-drop, take_all}
 use Rattle.std.proofs.lemmas.Grind.{flat_map-append}
 use Rattle.std.proofs.Math.Seq.{take-append-add}
 use Rattle.std.specs.Io.KnownBytes.{Consumes, Appends, Keeps}
-use Rattle.fluent_requests.specs.Text.{Text}
-use Rattle.fluent_requests.specs.Lines.{whole_lines, unfinished, lines_of, unless_empty}
-use Rattle.fluent_requests.specs.Frames.{answers_to, answers}
+use Rattle.fluent_serve.specs.Text.{Text}
+use Rattle.fluent_serve.specs.Lines.{whole_lines, unfinished, lines_of, unless_empty}
+use Rattle.fluent_serve.specs.Frames.{answers_to, answers}
 use Rattle.fluent_serve.specs.Exchange.{IsFrontOf, devices_of, AnswersAll, AnswersFirst, AnswersWhole, AnswersFront}
-use Rattle.fluent_requests.specs.Lines.{IsUnfinished}
+use Rattle.fluent_serve.specs.Lines.{IsUnfinished}
 use Rattle.fluent_serve.specs.Waiting.{Puts, PutsFirst, PutsFront, ServesAll, ServesFirst, ServesWhole, ServesFront}
-use Rattle.fluent_requests.proofs.Lines.{whole_lines-append, unfinished-append, unfinished_open}
+use Rattle.fluent_serve.proofs.Lines.{whole_lines-append, unfinished-append, unfinished_open}
 use Rattle.fluent_serve.proofs.Exchange.{appends_trans, appends_nothing, consumes_trans, consumes_nothing, consumes_kept, puts_then_front}
 
 -- These bytes were read, in at most this many calls, and their whole lines are answered. What is after them is kept.

@@ -1,9 +1,9 @@
 -- Engines that answer each line alike write alike.
 use Rattle.std.proofs.Common.{◌≡◌, ℕ, List, [], ◌∷◌, ◌++◌, take, Option, Some, None, IfSome, refl, sym, ap, subst, ◌∙◌, append-nil}
 use Rattle.std.specs.Io.KnownBytes.{Consumes, Appends, IsAtEnd}
-use Rattle.fluent_requests.specs.Text.{Text}
-use Rattle.fluent_requests.specs.Lines.{whole_lines, lines_of}
-use Rattle.fluent_requests.specs.Frames.{answers_to, answers}
+use Rattle.fluent_serve.specs.Text.{Text}
+use Rattle.fluent_serve.specs.Lines.{whole_lines, lines_of}
+use Rattle.fluent_serve.specs.Frames.{answers_to, answers}
 use Rattle.fluent_serve.specs.Exchange.{Devices, Exchanged, IsFrontOf, AnswersAll, AnswersFirst, AnswersWhole, AnswersFront}
 
 module _ {f g : Text → Text} (same : (line : Text) → f line ≡ g line) where

@@ -2,13 +2,13 @@
 use Rattle.std.proofs.Common.{◌≡◌, List, [], ◌∷◌, ◌++◌, length, take, Option, refl, sym, ap, subst, ◌∙◌, append_assoc, append-nil}
 use Rattle.std.proofs.Math.Seq.{take-append_seam}
 use Rattle.std.proofs.lemmas.Grind.{flat_map-append}
-use Rattle.fluent_requests.specs.Text.{Text, line_feed}
-use Rattle.fluent_requests.specs.Lines.{whole_lines, unfinished}
-use Rattle.fluent_requests.specs.Frames.{answers_to}
-use Rattle.fluent_requests.specs.Lines.{IsUnfinished}
+use Rattle.fluent_serve.specs.Text.{Text, line_feed}
+use Rattle.fluent_serve.specs.Lines.{whole_lines, unfinished}
+use Rattle.fluent_serve.specs.Frames.{answers_to}
+use Rattle.fluent_serve.specs.Lines.{IsUnfinished}
 use Rattle.fluent_serve.specs.Waiting.{Puts, PutsFirst, PutsFront}
 use Rattle.fluent_serve.proofs.Exchange.{puts_nothing, puts_then, puts_then_front, front_longer}
-use Rattle.fluent_requests.proofs.Lines.{whole_lines_first, unfinished_first, whole_lines-unfinished, unfinished-unfinished, unfinished_append}
+use Rattle.fluent_serve.proofs.Lines.{whole_lines_first, unfinished_first, whole_lines-unfinished, unfinished-unfinished, unfinished_append}
 
 -- these lines of a text are answered, and this much of it is left
 pub record Answered (held_before : Option Text) (waiting_before : Text) (held_now : Option Text) (waiting_now : Text) (answer : Text → Text) (all left : Text) : Type 0 where

@@ -2,8 +2,8 @@
 use Rattle.std.specs.Prelude.{◌≡◌, ℕ, List, [], ◌∷◌, ◌++◌, Option, Some, None, option_map, codes, decimal}
 use Rattle.std.specs.Global.{Vec}
 use Rattle.std.specs.List.{flat_map}
-use Rattle.fluent_requests.specs.Text.{Text}
-use Rattle.fluent_requests.specs.Frames as frames
+use Rattle.fluent_serve.specs.Text.{Text}
+use Rattle.fluent_serve.specs.Frames as frames
 use Rattle.fluent_serve.specs.declared.answer.Answer.{Answer}
 use Rattle.fluent_serve.specs.declared.answer.Answer.TheVariants as given
 

@@ -1,9 +1,9 @@
 -- What a run reads and writes.
 use Rattle.std.specs.Prelude.{◌≡◌, ◌⊎◌, ℕ, ◌≤◌, ◌++◌, length, take, Option, Result, OnOk, IsErrOf}
 use Rattle.std.specs.Io.KnownBytes.{Consumes, Appends}
-use Rattle.fluent_requests.specs.Text.{Text}
-use Rattle.fluent_requests.specs.Lines.{whole_lines}
-use Rattle.fluent_requests.specs.Frames.{answers_to, answers}
+use Rattle.fluent_serve.specs.Text.{Text}
+use Rattle.fluent_serve.specs.Lines.{whole_lines}
+use Rattle.fluent_serve.specs.Frames.{answers_to, answers}
 use Rattle.fluent_serve.specs.Devices.{HasFailed, IsGivenUp}
 use Rattle.fluent_serve.specs.declared.serve.RunError.{RunError}
 use Rattle.fluent_serve.specs.declared.serve.RunError.TheVariants.{Memory, Read, Write}

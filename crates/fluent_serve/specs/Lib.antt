@@ -6,3 +6,8 @@ pub mod Devices
 pub mod Exchange
 pub mod Waiting
 pub mod ErrorTexts
+pub mod Text
+pub mod Lines
+pub mod Requests
+pub mod Frames
+pub mod RequestLaws

@@ -1,6 +1,6 @@
 -- Arguments that are put somewhere, one after the other.
 use Rattle.std.specs.Prelude.{◌≡◌, Bool, true, false, List, [], ◌∷◌, ◌++◌, Option, Some, None}
-use Rattle.fluent_requests.specs.Text.{Text}
+use Rattle.fluent_serve.specs.Text.{Text}
 
 -- By what the arguments are put into has of them.
 module _ {A : Type 0} (has : A → List (Text × Text) → Type 0) (old new : A) where

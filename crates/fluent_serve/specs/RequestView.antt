@@ -2,8 +2,8 @@
 use Rattle.std.specs.Prelude.{ℕ, ◌==◌, List, [], Option, Some, None, map, option_copied}
 use Rattle.std.specs.List.{slice_split}
 use denote.Ref.{Bor}
-use Rattle.fluent_requests.specs.Text.{Text, tab}
-use Rattle.fluent_requests.specs.Requests.{Request, arguments_of, request_with}
+use Rattle.fluent_serve.specs.Text.{Text, tab}
+use Rattle.fluent_serve.specs.Requests.{Request, arguments_of, request_with}
 use Rattle.fluent_serve.specs.declared.request.Asked.{Asked}
 use Rattle.fluent_serve.specs.declared.request.Request.{Request as Read}
 

@@ -2,9 +2,9 @@
 use Rattle.std.specs.Prelude.{◌≡◌, ℕ, List, [], ◌∷◌, ◌++◌, take, length, ◌≤◌, ◌⊎◌, Option, Result, OnOk, IsErrOf}
 use denote.Ref.{Bor}
 use Rattle.std.specs.Io.KnownBytes.{Consumes, Appends}
-use Rattle.fluent_requests.specs.Text.{Text, line_feed}
-use Rattle.fluent_requests.specs.Lines.{IsUnfinished, unless_empty, whole_lines}
-use Rattle.fluent_requests.specs.Frames.{answers_to, answers}
+use Rattle.fluent_serve.specs.Text.{Text, line_feed}
+use Rattle.fluent_serve.specs.Lines.{IsUnfinished, unless_empty, whole_lines}
+use Rattle.fluent_serve.specs.Frames.{answers_to, answers}
 use Rattle.fluent_serve.specs.Devices.{HasFailed}
 use Rattle.fluent_serve.specs.Exchange.{IsFrontOf, Devices, devices}
 use Rattle.fluent_serve.specs.declared.serve.RunError.{RunError}

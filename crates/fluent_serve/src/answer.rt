@@ -1,7 +1,7 @@
 //! Answers, and the bytes that they are written as.
 ghost use Rattle.std.specs.Prelude.{◌++◌, OnOk, IfSome, decimal};
 ghost use Rattle.fluent_serve.specs.Exchange.{IsFrontOf};
-ghost use Rattle.fluent_requests.specs.Frames.{frame_of, ended};
+ghost use Rattle.fluent_serve.specs.Frames.{frame_of, ended};
 ghost use Rattle.fluent_serve.specs.AnswerView.{Adds, AddsLines, answer_view, error_texts, head_of};
 
 use itoa::Buffer;

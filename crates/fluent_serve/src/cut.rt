@@ -1,6 +1,6 @@
 //! Texts cut at a separator.
 ghost use Rattle.std.specs.Prelude.{◌≡◌, ◌<◌, Some, None, option_copied};
-ghost use Rattle.fluent_requests.specs.Text.{cut_at};
+ghost use Rattle.fluent_serve.specs.Text.{cut_at};
 
 use crate::find::first_place;
 

@@ -1,7 +1,7 @@
 //! Request lines: an id, an optional attribute, and arguments, separated by tabs.
 ghost use Rattle.std.specs.Prelude.{◌≡◌, ℕ, List, IfOk, OnOk, option_map, option_copied};
-ghost use Rattle.fluent_requests.specs.Text.{equals, cut_at};
-ghost use Rattle.fluent_requests.specs.Requests.{request_of, argument_of, value_named as value_of_name};
+ghost use Rattle.fluent_serve.specs.Text.{equals, cut_at};
+ghost use Rattle.fluent_serve.specs.Requests.{request_of, argument_of, value_named as value_of_name};
 ghost use Rattle.fluent_serve.specs.RequestView.{request_view, asked_request, argument_view, arguments_view, arguments_behind};
 ghost use Rattle.fluent_serve.specs.ReadArguments.{AreRead, GetsArgument};
 

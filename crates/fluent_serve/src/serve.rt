@@ -1,7 +1,7 @@
 //! Serves a stream of request lines.
 ghost use Rattle.std.specs.Prelude.{◌≡◌, ◌<◌, ◌++◌, [], length, ℕ, List, MatchOption, Err, IsTrue, ◌↔◌, OnOk, OnErr, IfErr, IsErrOf, ◌^◌};
 ghost use Rattle.std.specs.Io.KnownBytes.{Appends, IsAtEnd};
-ghost use Rattle.fluent_requests.specs.Lines.{IsUnfinished, unfinished};
+ghost use Rattle.fluent_serve.specs.Lines.{IsUnfinished, unfinished};
 ghost use Rattle.fluent_serve.specs.Devices.{HasFailed};
 ghost use Rattle.fluent_serve.specs.Exchange.{GivesUp, Runs};
 ghost use Rattle.fluent_serve.specs.Waiting.{IsSplitAtLine, PutsBlock, PutsFront, PutsLine, PutsRest, Serves};

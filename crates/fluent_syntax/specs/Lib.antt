@@ -10,5 +10,5 @@ pub use Rattle.fluent_grammar.specs.Written
 pub use Rattle.fluent_ast.specs.View
 pub use Rattle.fluent_parsed.specs.ErrorView
 pub use Rattle.fluent_parsed.specs.Collected
-pub use Rattle.fluent_unicode.specs.Unescaped
+pub use Rattle.fluent_tokens.specs.Unescaped
 pub mod ForCallers

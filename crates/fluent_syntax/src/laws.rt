@@ -5,17 +5,12 @@ pub use fluent_ast::laws::equal_nodes;
 pub use fluent_tidy_laws::laws::damage_stays;
 // The tiling of a source by blank blocks, entries and junk, of which trees and errors are made.
 pub use fluent_grammar::laws::tiling::{
-    each_text_has_a_tiling, no_text_has_two_tilings, parts_are_the_text,
-    tiling_gives_tree_and_errors,
+    each_text_has_a_tiling, errors_are_true, junk_is_sliced, no_text_has_two_tilings,
+    parts_are_the_text, places_start_in_slices, runtime_adds_no_junk, runtime_has_no_comments,
+    runtime_has_the_same_list, slices_ascend, tiling_gives_tree_and_errors,
 };
 // Junk and its errors.
-pub use fluent_grammar::laws::tiling::{
-    errors_are_true, junk_is_sliced, places_start_in_slices, slices_ascend,
-};
 // Reading for use at run time, compared with full reading.
-pub use fluent_grammar::laws::tiling::{
-    runtime_adds_no_junk, runtime_has_no_comments, runtime_has_the_same_list,
-};
 pub use fluent_parser::laws::{
     equal_error_kinds, equal_errors, equality_is_an_equivalence, message_attributes_may_select,
 };

@@ -10,4 +10,4 @@ pub mod laws;
 pub use fluent_ast as ast;
 pub use fluent_parser as parser;
 pub use fluent_serializer as serializer;
-pub use fluent_unicode as unicode;
+pub use fluent_tokens::unicode;

@@ -1,6 +1,6 @@
 -- Which error a call makes of another's.
-use Rattle.fluent_json_read.specs.declared.error.FromValueError.{FromValueError}
-use Rattle.fluent_json_read.specs.declared.error.FromValueError.TheVariants as value
+use Rattle.fluent_json.specs.declared.error.FromValueError.{FromValueError}
+use Rattle.fluent_json.specs.declared.error.FromValueError.TheVariants as value
 use Rattle.fluent_tidy.specs.declared.error.CleanError.{CleanError}
 use Rattle.fluent_tidy.specs.declared.error.CleanError.TheVariants as clean
 use Rattle.fluent_tidy.specs.declared.error.NormalizeError.{NormalizeError}

@@ -10,7 +10,7 @@ ghost use Rattle.fluent_tidy.specs.declared.error.CleanError.TheVariants.{Carria
 use crate::cutting::push_cut;
 use crate::error::CleanError;
 use crate::returns::has_return;
-use fluent_words::ends_line;
+use fluent_tokens::ends_line;
 use std::alloc::{AllocError, Global};
 
 /// Several sources as one: each without the stretches that can't be read, and on lines of its own, in their order.

@@ -7,7 +7,7 @@ pub use fluent_answers::laws::{
     joined_sources_keep_notices, lists_decide, tidied_sources_keep_answers,
 };
 use fluent_json::laws::value_decides_tree;
-pub use fluent_requests::laws::streams_join;
+pub use fluent_serve::laws::streams_join;
 pub use fluent_tidy_laws::laws::{
     canonical_trees_are_told_apart, cut_texts_are_texts, damage_is_local, joined_texts_keep_lists,
     normal_texts_stay, reading_is_unique, tidied_sources_keep_lists,

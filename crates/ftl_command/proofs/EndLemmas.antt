@@ -1,11 +1,11 @@
 -- What devices tell of a run of the program, and when words are refused.
 use Rattle.std.proofs.Common.{◌≡◌, ◌∙◌, ℕ, List, [], ◌∷◌, Option, None, Some, ap, option_map, refl, sym, inl, inr}
-use Rattle.fluent_requests.specs.Text.{Text}
-use Rattle.ftl_words.specs.Commands.{program_app}
+use Rattle.fluent_serve.specs.Text.{Text}
+use Rattle.ftl_arguments.specs.Commands.{program_app}
 use Rattle.clap.specs.Words.{IsAmong, subcommand_of}
 use Rattle.clap.specs.declared.error.kind.ErrorKind.{ErrorKind}
 use Rattle.clap.specs.declared.error.kind.ErrorKind.TheVariants.{DisplayHelp, DisplayVersion}
-use Rattle.ftl_words.specs.Meaning.{AskForHelp, AskForVersionAlone, Asked, asked_of, command_of, faults_of, without_faults, run, format, check, lint, tidy}
+use Rattle.ftl_arguments.specs.Meaning.{AskForHelp, AskForVersionAlone, Asked, asked_of, command_of, faults_of, without_faults, run, format, check, lint, tidy}
 use Rattle.ftl_command.specs.Ends.{seen, IsUntouched}
 use Rattle.ftl_command.specs.Faults.{SaysUnknown, status_of}
 use Rattle.ftl_command.specs.Program.{IsRefused, WithoutInput, locale_named}

@@ -2,11 +2,11 @@
 use Rattle.std.proofs.Common.{◌≡◌, ◌∙◌, List, [], ◌∷◌, Option, None, Some, IfErr, IfOk, IsSomeAnd, ap, ok_or, option_map, refl, subst}
 use Rattle.std.specs.Io.KnownBytes.{Appends}
 use Rattle.std.specs.List.{flat_map}
-use Rattle.fluent_requests.specs.Text.{Text}
-use Rattle.fluent_requests.specs.Frames.{Reply, ended}
-use Rattle.ftl_format.specs.Shown.{Shown, error_line, shown}
-use Rattle.ftl_format.specs.declared.formatting.Formatted.{Formatted}
-use Rattle.ftl_words.specs.Meaning.{Format, format}
+use Rattle.fluent_serve.specs.Text.{Text}
+use Rattle.fluent_serve.specs.Frames.{Reply, ended}
+use Rattle.ftl_command.specs.Shown.{Shown, error_line, shown}
+use Rattle.ftl_command.specs.declared.message.Formatted.{Formatted}
+use Rattle.ftl_arguments.specs.Meaning.{Format, format}
 use Rattle.ftl_command.specs.Faults.{end_status}
 use Rattle.ftl_command.specs.Plurals.{plurals_asked}
 use Rattle.ftl_command.specs.Program.{EndsWith, IsFound, OnFound, errors_in, reply_for, status_by}

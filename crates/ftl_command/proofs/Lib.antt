@@ -5,3 +5,4 @@ pub mod LintLemmas
 pub mod Refusals
 pub mod RunLemmas
 pub mod TellLemmas
+pub mod Environments

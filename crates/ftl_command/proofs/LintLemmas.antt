@@ -1,9 +1,9 @@
 -- What holds of the report on a catalog.
 use Rattle.std.proofs.Common.{◌≡◌, Option, subst}
 use Rattle.std.specs.Io.KnownBytes.{Appends}
-use Rattle.fluent_requests.specs.Text.{Text}
-use Rattle.ftl_lint.specs.LintReport.{LintReport, lint_report_from}
-use Rattle.ftl_words.specs.Linting.{Lint}
+use Rattle.fluent_serve.specs.Text.{Text}
+use Rattle.fluent_lint.specs.LintReport.{LintReport, lint_report_from}
+use Rattle.ftl_arguments.specs.Linting.{Lint}
 use Rattle.ftl_command.specs.Plurals.{language_asked}
 use Rattle.ftl_command.specs.Program.{IsLintReport, OnLintReport, WritesFront, lint_end}
 use Rattle.ftl_command.specs.declared.ended.Ended.{Ended}

@@ -1,11 +1,11 @@
 -- What is so of a fault, by how it came.
 use Rattle.std.proofs.Common.{◌≡◌, ◌≢◌, Option, None, Some, Result, Ok, Err, IfErr, OnErr, refl}
 use Rattle.std.proofs.lemmas.Result.{IfErr-weaker}
-use Rattle.fluent_requests.specs.Text.{Text}
+use Rattle.fluent_serve.specs.Text.{Text}
 use Rattle.fluent_serve.specs.Devices.{HasFailed}
 use Rattle.fluent_serve.specs.declared.stream.Sink.{Ghosts as SinkGhosts}
 use Rattle.fluent_serve.specs.declared.stream.Source.{Ghosts as SourceGhosts}
-use Rattle.ftl_words.specs.Meaning.{Asked, Format, Tidy, run, format, check, lint, tidy}
+use Rattle.ftl_arguments.specs.Meaning.{Asked, Format, Tidy, run, format, check, lint, tidy}
 use Rattle.fluent_serve.specs.Exchange.{GivesUp}
 use Rattle.fluent_serve.specs.declared.serve.RunError.{RunError}
 use Rattle.fluent_serve.specs.declared.serve.RunError.TheVariants.{Memory as RunMemory, Read as RunRead, Write as RunWrite}

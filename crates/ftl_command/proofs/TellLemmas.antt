@@ -1,7 +1,7 @@
 -- Text that is written piece by piece.
 use Rattle.std.proofs.Common.{◌≡◌, ◌∙◌, [], ◌∷◌, ◌++◌, Option, Result, Ok, Err, OnErr, ap, sym, append_assoc, append-nil, codes, rules}
 use Rattle.std.specs.Io.KnownBytes.{Appends}
-use Rattle.fluent_requests.specs.Text.{Text, line_feed}
+use Rattle.fluent_serve.specs.Text.{Text, line_feed}
 use Rattle.fluent_serve.specs.Waiting.{PutsFront}
 use Rattle.fluent_serve.proofs.Exchange.{appends_trans}
 use Rattle.ftl_command.specs.Program.{WritesFront}

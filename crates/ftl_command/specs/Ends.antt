@@ -1,12 +1,12 @@
 -- How the program ends, by what is known of its devices.
 use Rattle.std.specs.Prelude.{◌≡◌, ◌⊎◌, ℕ, List, Option, None, Result, Ok, Err, IfOk, OnOk, IfErr, IsErrOf, string_bytes}
 use Rattle.std.specs.Io.KnownBytes.{Appends}
-use Rattle.fluent_requests.specs.Text.{Text}
+use Rattle.fluent_serve.specs.Text.{Text}
 use Rattle.fluent_serve.specs.Devices.{HasFailed}
 use Rattle.fluent_serve.specs.Exchange.{Devices, devices_of}
 use Rattle.fluent_serve.specs.declared.stream.Sink.{Ghosts as SinkGhosts}
 use Rattle.fluent_serve.specs.declared.stream.Source.{Ghosts as SourceGhosts}
-use Rattle.ftl_words.specs.Meaning.{AskForText, AskForHelpAlone, AskForVersionAlone, command_of}
+use Rattle.ftl_arguments.specs.Meaning.{AskForText, AskForHelpAlone, AskForVersionAlone, command_of}
 use Rattle.ftl_command.specs.declared.ended.Ended.{Ended}
 use Rattle.ftl_command.specs.declared.ended.Ended.TheVariants.{Done, Found, Incomplete}
 use Rattle.ftl_command.specs.declared.fault.Fault.{Fault}

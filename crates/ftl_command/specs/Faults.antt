@@ -1,7 +1,7 @@
 -- The program's faults, and the status that it ends with.
 use Rattle.std.specs.Prelude.{◌≡◌, ℕ, List, ◌++◌, Option, Some, None, IfSome, IsUtf8, Result, Ok, Err, codes}
-use Rattle.fluent_requests.specs.Text.{Text}
-use Rattle.fluent_requests.specs.Frames.{ended}
+use Rattle.fluent_serve.specs.Text.{Text}
+use Rattle.fluent_serve.specs.Frames.{ended}
 use Rattle.fluent_serve.specs.Devices.{HasFailed}
 use Rattle.fluent_plurals.specs.Plurals.{plurals_for}
 use Rattle.ftl_command.specs.Files.{Reaches}

@@ -2,7 +2,7 @@
 use Rattle.std.specs.Prelude.{◌≡◌, ℕ, List, [], ◌∷◌, ◌++◌, ⊤, Option, IfSome, Result, Ok, Err, String, map, string_bytes}
 use Rattle.std.specs.Global.{Global}
 use denote.Ref.{Bor}
-use Rattle.fluent_requests.specs.Text.{Text}
+use Rattle.fluent_serve.specs.Text.{Text}
 use Rattle.fluent_tidy_laws.specs.Joined.{AreUtf8}
 use Rattle.fluent_serve.specs.Devices.{one_more}
 use Rattle.fluent_serve.specs.Texts.{texts}

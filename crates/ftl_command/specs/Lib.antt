@@ -5,3 +5,5 @@ pub mod Plurals
 pub mod Program
 pub mod Refusals
 pub mod ErrorTexts
+pub mod Shown
+pub mod FormatView

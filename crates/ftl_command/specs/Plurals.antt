@@ -3,7 +3,7 @@ use Rattle.std.specs.Prelude.{Option, Some, None, option_map}
 use Rattle.fluent_number.specs.Plurals.{english}
 use Rattle.fluent_plurals.specs.Plurals.{plurals_by, plurals_for}
 use Rattle.fluent_plurals.specs.declared.plurals.LanguagePlurals.{LanguagePlurals}
-use Rattle.fluent_requests.specs.Text.{Text}
+use Rattle.fluent_serve.specs.Text.{Text}
 use Rattle.fluent_value.specs.Matching.{Plurals}
 use Rattle.ftl_command.specs.declared.plurals.RunPlurals.{RunPlurals}
 use Rattle.ftl_command.specs.declared.plurals.RunPlurals.TheVariants.{English, Language}

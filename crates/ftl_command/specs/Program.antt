@@ -3,8 +3,8 @@ use Rattle.std.specs.Prelude.{◌≡◌, ℕ, Bool, if◌then◌else◌, List, [
 use Rattle.std.specs.List.{flat_map, list_any}
 use Rattle.std.specs.Io.KnownBytes.{Appends, IsAtEnd}
 use Rattle.fluent_value.specs.declared.function.NoFunction.{NoFunction}
-use Rattle.fluent_requests.specs.Text.{Text, line_feed}
-use Rattle.fluent_requests.specs.Frames.{Reply, answers, ended}
+use Rattle.fluent_serve.specs.Text.{Text, line_feed}
+use Rattle.fluent_serve.specs.Frames.{Reply, answers, ended}
 use Rattle.fluent_answers.specs.Answers.{line_answered}
 use Rattle.fluent_serve.specs.Devices.{HasFailed}
 use Rattle.fluent_serve.specs.Exchange.{Devices, devices, IsFrontOf, AnswersAll, AnswersFirst, AnswersWhole, AnswersFront}
@@ -25,14 +25,14 @@ use Rattle.fluent_tidy_laws.specs.Normal.{IsNormalText}
 use Rattle.fluent_json.specs.Json.{json}
 use Rattle.fluent_tidy.specs.Sources.{holds_return}
 use Rattle.fluent_tidy.specs.Trees.{IsImported}
-use Rattle.ftl_format.specs.FormatView.{IsWrittenAs}
-use Rattle.ftl_format.specs.Shown.{error_line, reply_asked}
-use Rattle.ftl_format.specs.declared.formatting.Formatted.{Formatted}
-use Rattle.ftl_lint.specs.LintReport.{LintReport, lint_report_from}
-use Rattle.ftl_report.specs.Report.{report_text}
-use Rattle.ftl_words.specs.Version.{version_line}
-use Rattle.ftl_words.specs.Linting.{Lint}
-use Rattle.ftl_words.specs.Meaning.{Asked, Run, Format, Tidy, run, format, check, lint, tidy, clean, normalize, join, export, import}
+use Rattle.ftl_command.specs.FormatView.{IsWrittenAs}
+use Rattle.ftl_command.specs.Shown.{error_line, reply_asked}
+use Rattle.ftl_command.specs.declared.message.Formatted.{Formatted}
+use Rattle.fluent_lint.specs.LintReport.{LintReport, lint_report_from}
+use Rattle.fluent_check.specs.Report.{report_text}
+use Rattle.ftl_arguments.specs.Version.{version_line}
+use Rattle.ftl_arguments.specs.Linting.{Lint}
+use Rattle.ftl_arguments.specs.Meaning.{Asked, Run, Format, Tidy, run, format, check, lint, tidy, clean, normalize, join, export, import}
 use Rattle.ftl_command.specs.Files.{OnFile, OnTexts}
 use Rattle.ftl_command.specs.Faults.{end_status}
 use Rattle.ftl_command.specs.Plurals.{category_in, language_asked, plurals_asked}

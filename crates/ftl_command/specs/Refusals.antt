@@ -2,7 +2,7 @@
 use Rattle.std.specs.Prelude.{◌≡◌, ◌≢◌, Option, None, Some, IsTrue}
 use Rattle.std.specs.List.{list_any}
 use Rattle.serde_json.specs.Read.{read as read_text}
-use Rattle.fluent_requests.specs.Text.{Text}
+use Rattle.fluent_serve.specs.Text.{Text}
 use Rattle.fluent_serve.specs.Devices.{HasFailed}
 use Rattle.fluent_serve.specs.Exchange.{GivesUp}
 use Rattle.fluent_serve.specs.declared.stream.Sink.{Ghosts as SinkGhosts}
@@ -11,7 +11,7 @@ use Rattle.fluent_tidy_laws.specs.Normal.{HasNoNormalText}
 use Rattle.fluent_json.specs.Json.{HasNoTree}
 use Rattle.fluent_tidy.specs.Sources.{holds_return}
 use Rattle.fluent_tidy.specs.Trees.{IsNotImported}
-use Rattle.ftl_words.specs.Meaning.{Asked, Format, Tidy, run, format, check, lint, tidy, clean, normalize, join, export, import}
+use Rattle.ftl_arguments.specs.Meaning.{Asked, Format, Tidy, run, format, check, lint, tidy, clean, normalize, join, export, import}
 use Rattle.ftl_command.specs.Files.{OnFile, OnTexts}
 use Rattle.ftl_command.specs.Faults.{IsBeforeInput, IsOfLocale, SaysOfFiles, SaysUnknown}
 use Rattle.ftl_command.specs.Program.{OnFound, OnValue, files_named, locale_named}

@@ -1,7 +1,7 @@
 //! The report on the sources in files.
 ghost use Rattle.std.specs.Prelude.{◌≡◌, Some, IfOk, IfErr, OnOk, string_bytes};
 ghost use Rattle.fluent_serve.specs.Texts.{texts};
-ghost use Rattle.ftl_words.specs.Meaning.{check};
+ghost use Rattle.ftl_arguments.specs.Meaning.{check};
 ghost use Rattle.ftl_command.specs.Program.{CheckEnds, IsReport};
 ghost use Rattle.ftl_command.specs.Refusals.{IsEarlyFault, IsFaultOf, IsTextFault, TextWorks};
 
@@ -11,8 +11,8 @@ use crate::fault::Fault;
 use crate::files::read_text_files;
 use crate::folder::Folder;
 use crate::output::write_to_stream;
+use fluent_check::check_text;
 use fluent_serve::stream::Sink;
-use ftl_report::check_text;
 use std::alloc::Global;
 
 /// Writes a line for each error of the sources in `files`, and then one for each entry whose id was there.

@@ -1,6 +1,6 @@
 //! The program: its words, its files and its streams.
 ghost use Rattle.std.specs.Prelude.{◌≡◌, ◌∷◌, [], None, Contains, OnOk, IfErr, IsErrOf};
-ghost use Rattle.ftl_words.specs.Meaning.{AskForText, AskForHelpAlone, AskForVersionAlone, command_of, texts};
+ghost use Rattle.ftl_arguments.specs.Meaning.{AskForText, AskForHelpAlone, AskForVersionAlone, command_of, texts};
 ghost use Rattle.ftl_command.specs.Ends.{EndsOn, EndsOver};
 ghost use Rattle.ftl_command.specs.Program.{CommandEndsOn, IsRefused, ShowsVersionOn, WithoutInput};
 ghost use Rattle.ftl_command.specs.Refusals.{IsDeviceFault, IsFaultOf};
@@ -17,7 +17,7 @@ use crate::telling::{tell_errors_on, tell_on};
 use crate::tidying::write_tidied;
 use fluent_run::Settings;
 use fluent_serve::stream::{FromRead, FromWrite, Sink, Source};
-use ftl_words::{Command, WordsError, command};
+use ftl_arguments::{Command, WordsError, command};
 use std::alloc::Global;
 use std::io;
 use std::rt::Files;

@@ -1,9 +1,9 @@
 //! The text of a message, from the sources in files.
 ghost use Rattle.std.specs.Prelude.{◌≡◌, Some, IfOk, IfErr, OnOk, string_bytes};
 ghost use Rattle.fluent_serve.specs.Texts.{texts};
-ghost use Rattle.ftl_format.specs.FormatView.{IsWrittenAs};
-ghost use Rattle.ftl_words.specs.CommandView.{format_view};
-ghost use Rattle.ftl_words.specs.Meaning as asked;
+ghost use Rattle.ftl_command.specs.FormatView.{IsWrittenAs};
+ghost use Rattle.ftl_arguments.specs.CommandView.{format_view};
+ghost use Rattle.ftl_arguments.specs.Meaning as asked;
 ghost use Rattle.ftl_command.specs.Faults.{end_status};
 ghost use Rattle.ftl_command.specs.Program.{FormatEnds, IsFound, errors_in, reply_for, status_by};
 ghost use Rattle.ftl_command.specs.Refusals.{IsEarlyFault, IsFaultOf, IsTextFault, TextWorks};
@@ -15,10 +15,10 @@ use crate::files::read_text_files;
 use crate::folder::Folder;
 use crate::output::write_to_stream;
 use crate::plurals::RunPlurals;
+use crate::{Formatted, format_message};
 use fluent_run::Settings;
 use fluent_serve::stream::Sink;
-use ftl_format::{Formatted, format_message};
-use ftl_words::Format;
+use ftl_arguments::Format;
 use std::alloc::{AllocError, Global};
 
 /// Writes the text of the message that is asked for, and a line feed. What went wrong in the text is in the end.

@@ -2,6 +2,10 @@
 //!
 //! [`program`] does what the command-line arguments ask for, and returns the status that it ends with. These arguments
 //! are read by [`command`].
+//!
+//! The text of one message of Fluent sources, as `ftl format` writes it.
+//!
+//! [`format_message`] returns the text with a line feed, and a line for each error, as `ftl: Unknown variable: $name`.
 #![tactic(auto)]
 
 pub mod borrowed;
@@ -14,6 +18,8 @@ pub mod files;
 pub mod folder;
 pub mod formatting;
 pub mod linting;
+mod message;
+mod message_errors;
 pub mod output;
 pub mod plurals;
 pub mod running;
@@ -21,4 +27,5 @@ pub mod telling;
 pub mod tidying;
 
 pub use commands::program;
-pub use ftl_words::{Command, Format, Lint, ReportFormat, Tidy, VERSION, WordsError, command};
+pub use ftl_arguments::{Command, Format, Lint, ReportFormat, Tidy, VERSION, WordsError, command};
+pub use message::{Formatted, format_message};

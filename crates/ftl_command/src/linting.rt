@@ -1,9 +1,9 @@
 //! The report on the catalog in files.
 ghost use Rattle.std.specs.Prelude.{◌≡◌, ◌++◌, Some, IfOk, IfErr, OnOk};
 ghost use Rattle.fluent_serve.specs.Texts.{texts};
-ghost use Rattle.ftl_lint.specs.LintView.{report_view};
-ghost use Rattle.ftl_words.specs.CommandView.{lint_view};
-ghost use Rattle.ftl_words.specs.Meaning as asked;
+ghost use Rattle.fluent_lint.specs.LintView.{report_view};
+ghost use Rattle.ftl_arguments.specs.CommandView.{lint_view};
+ghost use Rattle.ftl_arguments.specs.Meaning as asked;
 ghost use Rattle.ftl_command.specs.Faults.{IsFaultOfFiles};
 ghost use Rattle.ftl_command.specs.Files.{AreRead};
 ghost use Rattle.ftl_command.specs.Program.{IsLintReport, LintEnds, lint_end};
@@ -15,9 +15,9 @@ use crate::files::read_text_files;
 use crate::folder::Folder;
 use crate::output::write_to_stream;
 use crate::plurals::language_plurals;
+use fluent_lint::{Report, lint_sources};
 use fluent_serve::stream::Sink;
-use ftl_lint::{Report, lint_sources};
-use ftl_words::Lint;
+use ftl_arguments::Lint;
 use std::alloc::Global;
 
 /// Writes what is found in the catalog in files.

@@ -4,8 +4,8 @@ ghost use Rattle.serde_json.specs.Read.{read as read_text};
 ghost use Rattle.serde_json.specs.View.{view};
 ghost use Rattle.serde_json.specs.Written.{has_float};
 ghost use Rattle.fluent_serve.specs.Texts.{texts};
-ghost use Rattle.ftl_words.specs.CommandView.{tidy_view};
-ghost use Rattle.ftl_words.specs.Meaning as asked;
+ghost use Rattle.ftl_arguments.specs.CommandView.{tidy_view};
+ghost use Rattle.ftl_arguments.specs.Meaning as asked;
 ghost use Rattle.ftl_command.specs.Program.{Tidies, TidyEnds, data_line};
 ghost use Rattle.ftl_command.specs.Refusals.{IsEarlyFault, IsFaultOf, IsTextFault, TextWorks};
 
@@ -17,7 +17,7 @@ use crate::folder::Folder;
 use crate::output::write_to_stream;
 use fluent_serve::stream::Sink;
 use fluent_tidy::{clean, export, import, join, normalize};
-use ftl_words::Tidy;
+use ftl_arguments::Tidy;
 use serde_json::Value;
 use std::alloc::{AllocError, Global};
 

@@ -7,7 +7,7 @@
 use crate::json::{count_of, list_in};
 use anyhow::{Context, Result};
 use fluent_run::{Settings, answers_within};
-use fluent_stack::StackBudget;
+use fluent_text::stack::StackBudget;
 use fluent_value::EnglishPlurals;
 use rows_common::Tally;
 use serde_json::Value;

@@ -1,12 +1,11 @@
 //! Reads the sources of `parse.jsonl`, `rows.jsonl` and `written.jsonl` by both readers, over both kinds of text, and compares
 //! with the trees, errors and written texts that stand there. A row may leave some of them out. Then it reads each prefix of the
 //! sources of `rows.jsonl` and `prefixes.jsonl`, writes the trees of `trees.jsonl`, most of which no source reads as, reads the
-//! values of `values.jsonl`, and resolves the escapes of `escapes.jsonl`. At last it appends the code of entries.
+//! values of `values.jsonl`, and resolves the escapes of `escapes.jsonl`.
 //!
 //! The files stand in `crates/all_rows/data/syntax`.
 #![tactic(auto)]
 
-mod codes;
 mod errors;
 mod escapes;
 mod laws;
@@ -54,7 +53,6 @@ pub fn try_all(rt: &HostRuntime) -> Result<()> {
         try_prefixes(rt, file)?;
     }
     tell(rt, "texts", "trials", slices::try_slices(rt.alloc()))?;
-    tell(rt, "code", "trials", codes::try_codes(rt.alloc()))?;
     Ok(())
 }
 

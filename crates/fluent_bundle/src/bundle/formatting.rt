@@ -2,18 +2,18 @@
 
 ghost use Rattle.std.specs.Prelude.{◌≡◌, IfSome, IsOkAnd, Some};
 ghost use Rattle.std.specs.Cow.{IsBorrowedStr};
-ghost use Rattle.fluent_asking.specs.Asked.{GivesText, IsText, ReportsAll, ReportsFirst, WritesStart, WritesWhole, lone_text};
+ghost use Rattle.fluent_resolver.specs.Asked.{GivesText, IsText, ReportsAll, ReportsFirst, WritesStart, WritesWhole, lone_text};
 ghost use Rattle.fluent_ast.specs.Borrowed.{elements_of};
 ghost use Rattle.fluent_bundle.specs.Bounds.{TellsTooManyOnce};
 ghost use Rattle.fluent_bundle.specs.BundleView.{IsLent, answer, bundle_of, handout};
 ghost use Rattle.fluent_bundle.specs.Contents.{ShowsAsIs};
 
 use super::FluentBundle;
-use fluent_asking::answer::{answer, hand_out, lone_text, write_answer};
 use fluent_ast::Pattern;
 use fluent_errors::FluentError;
 use fluent_meaning::laws::work_is_bounded;
 use fluent_progress::{Lent, Place};
+use fluent_resolver::answer::{answer, hand_out, lone_text, write_answer};
 use fluent_text::{TextWrite, WriteError};
 use fluent_value::{
     FluentArgs, FluentFunction, FluentType, MemoizerKind, TextTransform, ValueFormatter,

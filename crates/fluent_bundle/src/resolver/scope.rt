@@ -14,10 +14,10 @@ mod parts;
 mod showing;
 
 use crate::bundle::FluentBundle;
-use fluent_asking::steps::none_given;
 use fluent_ast::{CallArguments, Expression, InlineExpression, Pattern};
 use fluent_errors::{FluentError, ResolverError};
 use fluent_meaning::laws::work_is_bounded;
+use fluent_resolver::steps::none_given;
 use fluent_text::{TextWrite, WriteError};
 use fluent_value::{
     FluentArgs, FluentFunction, FluentType, FluentValue, MemoizerKind, TextTransform,

@@ -2,7 +2,7 @@
 
 ghost use Rattle.std.specs.Prelude.{◌≡◌, None, Some, is_some, option_map};
 ghost use Rattle.fluent_ast.specs.Borrowed.{elements_of};
-ghost use Rattle.fluent_asking.specs.Asked.{told};
+ghost use Rattle.fluent_resolver.specs.Asked.{told};
 ghost use Rattle.fluent_bundle.specs.ScopeSteps.{FindsArguments, TellsSome, WritesText};
 ghost use Rattle.fluent_bundle.specs.ScopeSteps.{argument_values, fallback, inside, reference, unknown_reference};
 ghost use Rattle.fluent_bundle.specs.ScopeView.{Keeps, path_of, state_of};
@@ -11,12 +11,12 @@ ghost use Rattle.fluent_progress.specs.Views as v;
 ghost use Rattle.fluent_progress.specs.Views.{state};
 
 use super::Scope;
-use fluent_asking::steps::{opened, referred, values};
 use fluent_ast::{CallArguments, Expression, InlineExpression, Pattern};
 use fluent_errors::{FluentError, ReferenceKind, ResolverError};
 use fluent_progress::fallback::write_inline_braced;
 use fluent_progress::{Path, Place, Progress};
-use fluent_stack::{Stack, StackBudget};
+use fluent_resolver::steps::{opened, referred, values};
+use fluent_text::stack::{Stack, StackBudget};
 use fluent_value::{
     FluentArgs, FluentFunction, FluentType, FluentValue, MemoizerKind, TextTransform,
     ValueFormatter,

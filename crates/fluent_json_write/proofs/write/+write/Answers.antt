@@ -1,7 +1,7 @@
 use Rattle.std.proofs.Common.{sym, ◌∙◌}
 use Rattle.serde_json.specs.View.{view}
-use Rattle.fluent_json_values.specs.Parts.{variant_json, inline_json, named_json, element_json}
-use Rattle.fluent_json_values.proofs.Lists.{items_of-made, elements_json-items, variants_json-items, positional_json-items, nameds_json-items}
+use Rattle.fluent_json_write.specs.Parts.{variant_json, inline_json, named_json, element_json}
+use Rattle.fluent_json_write.proofs.Lists.{items_of-made, elements_json-items, variants_json-items, positional_json-items, nameds_json-items}
 use Rattle.fluent_json_write.proofs.write.+write.Goals as goal
 
 pub variant_values-returns : goal.variant_values-returns

@@ -1,6 +1,6 @@
 use Rattle.std.proofs.Common.{◌≡◌, map, take}
 use Rattle.serde_json.specs.View.{view}
-use Rattle.fluent_json_values.specs.Parts.{element_json, variant_json, inline_json, named_json}
+use Rattle.fluent_json_write.specs.Parts.{element_json, variant_json, inline_json, named_json}
 use Rattle.fluent_json_write.proofs.write.+write.Given as goal
 
 abbrev pub invariant-element_values-loop-element : goal.invariant-element_values-loop-element

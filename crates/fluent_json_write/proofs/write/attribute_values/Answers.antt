@@ -1,9 +1,9 @@
 use Rattle.std.proofs.Common.{String, Global, string_bytes, sym, ◌∙◌}
 use Rattle.serde_json.specs.View.{view}
 use Rattle.fluent_ast.specs.View.{attribute_view}
-use Rattle.fluent_json_values.specs.Json.{json_attribute}
-use Rattle.fluent_json_values.specs.Parts.{attribute_json}
-use Rattle.fluent_json_values.proofs.Lists.{each-map, items_of-made}
+use Rattle.fluent_json_write.specs.Json.{json_attribute}
+use Rattle.fluent_json_write.specs.Parts.{attribute_json}
+use Rattle.fluent_json_write.proofs.Lists.{each-map, items_of-made}
 use Rattle.fluent_json_write.proofs.write.attribute_values.Goals as goal
 
 pub returns : goal.returns

@@ -1,9 +1,9 @@
 use Rattle.std.proofs.Common.{String, Global, string_bytes, sym, ◌∙◌}
 use Rattle.serde_json.specs.View.{view}
 use Rattle.fluent_ast.specs.View.{entry_view}
-use Rattle.fluent_json_values.specs.Json.{json_entry}
-use Rattle.fluent_json_values.specs.Parts.{entry_json}
-use Rattle.fluent_json_values.proofs.Lists.{each-map, items_of-made}
+use Rattle.fluent_json_write.specs.Json.{json_entry}
+use Rattle.fluent_json_write.specs.Parts.{entry_json}
+use Rattle.fluent_json_write.proofs.Lists.{each-map, items_of-made}
 use Rattle.fluent_json_write.proofs.write.entry_values.Goals as goal
 
 pub returns : goal.returns

@@ -1,6 +1,6 @@
 use Rattle.std.proofs.Common.{◌≡◌, map, take}
 use Rattle.serde_json.specs.View.{view}
-use Rattle.fluent_json_values.specs.Parts.{entry_json}
+use Rattle.fluent_json_write.specs.Parts.{entry_json}
 use Rattle.fluent_json_write.proofs.write.entry_values.Given as goal
 
 abbrev pub invariant-loop-entry : goal.invariant-loop-entry

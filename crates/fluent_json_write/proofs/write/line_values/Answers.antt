@@ -1,8 +1,8 @@
 use Rattle.std.proofs.Common.{string_bytes, sym, ◌∙◌}
 use Rattle.serde_json.specs.Data.{string}
 use Rattle.serde_json.specs.View.{view}
-use Rattle.fluent_json_values.specs.Parts.{line_json}
-use Rattle.fluent_json_values.proofs.Lists.{each-map, items_of-made}
+use Rattle.fluent_json_write.specs.Parts.{line_json}
+use Rattle.fluent_json_write.proofs.Lists.{each-map, items_of-made}
 use Rattle.fluent_json_write.proofs.write.line_values.Goals as goal
 
 pub returns : goal.returns

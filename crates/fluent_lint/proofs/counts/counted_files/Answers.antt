@@ -1,9 +1,9 @@
 use Rattle.std.proofs.Common.{◌∙◌, ◌++◌, ◌∷◌, [], ap, map, refl, subst, sym}
 use Rattle.std.proofs.lemmas.List.{take_all}
 use Rattle.std.proofs.lemmas.List.Elements.{All-push, All-same}
-use Rattle.fluent_summaries.specs.Counted.{IsCounted}
-use Rattle.fluent_summaries.specs.declared.files.FileMessages.{FileMessages}
-use Rattle.fluent_tiles.specs.TileView.{tile_view}
+use Rattle.lint_report.specs.Counted.{IsCounted}
+use Rattle.lint_report.specs.declared.files.FileMessages.{FileMessages}
+use Rattle.lint_entries.specs.TileView.{tile_view}
 use Rattle.fluent_lint.specs.FileTiles.{AreTilesOf}
 use Rattle.fluent_lint.proofs.Counted.{all_viewed, one_counted, view_of}
 use Rattle.fluent_lint.proofs.counts.counted_files.Goals as goal

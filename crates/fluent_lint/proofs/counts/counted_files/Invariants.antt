@@ -1,7 +1,7 @@
 use Rattle.std.proofs.Common.{◌≡◌, map, take}
 use Rattle.std.specs.Prelude.{All}
-use Rattle.fluent_summaries.specs.Counted as counted
-use Rattle.fluent_summaries.specs.Counted.{IsCounted}
+use Rattle.lint_report.specs.Counted as counted
+use Rattle.lint_report.specs.Counted.{IsCounted}
 use Rattle.fluent_lint.proofs.Counted.{view_of}
 use Rattle.fluent_lint.proofs.counts.counted_files.Given as goal
 

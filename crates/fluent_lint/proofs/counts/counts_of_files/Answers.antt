@@ -1,11 +1,11 @@
 use Rattle.std.proofs.Common.{◌≡◌, ◌∙◌, List, ap, map, subst}
 use Rattle.std.specs.Prelude.{IfOk}
-use Rattle.fluent_finding.specs.View.{findings_view}
-use Rattle.fluent_findings.specs.Files.{File}
-use Rattle.fluent_findings.specs.Summary.{summaries}
+use Rattle.lint_finding.specs.View.{findings_view}
+use Rattle.lint_findings.specs.Files.{File}
+use Rattle.lint_findings.specs.Summary.{summaries}
 use Rattle.fluent_lint.specs.FileTiles.{files_of, files_view}
-use Rattle.fluent_lint_report.specs.View.{summary_view}
-use Rattle.fluent_summaries.specs.Counted as counted
+use Rattle.lint_report.specs.ReportView.{summary_view}
+use Rattle.lint_report.specs.Counted as counted
 use Rattle.fluent_lint.proofs.counts.counts_of_files.Goals as goal
 
 pub returns : goal.returns

@@ -1,8 +1,8 @@
 use Rattle.std.proofs.Common.{◌∙◌, [], ◌++◌, refl, sym, ap, append-nil}
 use Rattle.std.proofs.lemmas.List.{drop_all}
-use Rattle.fluent_catalog_findings.specs.PartFindings.{declared_in, findings_of_files}
-use Rattle.fluent_catalog_findings.specs.RulesView.{rules_view}
-use Rattle.fluent_finding.specs.View.{file_view, findings_view}
+use Rattle.lint_files.specs.PartFindings.{declared_in, findings_of_files}
+use Rattle.lint_files.specs.RulesView.{rules_view}
+use Rattle.lint_finding.specs.View.{file_view, findings_view}
 use Rattle.fluent_lint.specs.FileTiles.{files_of, files_view}
 use Rattle.fluent_lint.proofs.FilesFound.{one_found}
 use Rattle.fluent_lint.proofs.findings.push_files.Goals as goal

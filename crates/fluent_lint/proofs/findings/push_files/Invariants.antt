@@ -1,9 +1,9 @@
 use Rattle.std.proofs.Common.{◌≡◌, ◌++◌, [], List, drop}
-use Rattle.fluent_catalog_findings.specs.PartFindings.{findings_of_files}
-use Rattle.fluent_catalog_findings.specs.RulesView.{rules_view}
-use Rattle.fluent_duplicates.specs.First.{AreFirst}
-use Rattle.fluent_finding.specs.View.{findings_view}
-use Rattle.fluent_findings.specs.DuplicateIds.{Declaration}
+use Rattle.lint_files.specs.PartFindings.{findings_of_files}
+use Rattle.lint_files.specs.RulesView.{rules_view}
+use Rattle.lint_entries.specs.First.{AreFirst}
+use Rattle.lint_finding.specs.View.{findings_view}
+use Rattle.lint_findings.specs.DuplicateIds.{Declaration}
 use Rattle.fluent_lint.specs.FileTiles.{files_of, files_view}
 use Rattle.fluent_lint.proofs.findings.push_files.Given as goal
 

@@ -1,11 +1,11 @@
 use Rattle.std.proofs.Common.{◌∙◌, ◌++◌, ap, sym, subst, map}
 use Rattle.std.proofs.lemmas.List.{take_all}
-use Rattle.fluent_finding.specs.View.{findings_view}
-use Rattle.fluent_findings.specs.Findings.{findings_in}
+use Rattle.lint_finding.specs.View.{findings_view}
+use Rattle.lint_findings.specs.Findings.{findings_in}
 use Rattle.fluent_ids.specs.IdsView.{ids_view}
-use Rattle.fluent_reference_findings.proofs.Lists.{one_more}
-use Rattle.fluent_reference_findings.specs.Missing.{missing_in}
-use Rattle.fluent_tiles.specs.TileView.{tile_view}
+use Rattle.lint_comparison.proofs.Lists.{one_more}
+use Rattle.lint_comparison.specs.Missing.{missing_in}
+use Rattle.lint_entries.specs.TileView.{tile_view}
 use Rattle.fluent_lint.specs.FileTiles.{AreTilesOf}
 use Rattle.fluent_lint.specs.Missing.{missing_in_files}
 use Rattle.fluent_lint.proofs.Counted.{all_viewed, view_of}

@@ -2,7 +2,7 @@ use Rattle.std.proofs.Common.{◌+◌, ◌++◌, ◌∙◌, ap, sym, arith, map,
 use Rattle.std.proofs.lemmas.List.{map-set, length-map}
 use Rattle.std.proofs.Math.ListN.{get_or-map}
 use Rattle.fluent_ast.specs.Borrowed.{entry_of}
-use Rattle.fluent_entry_findings.specs.AttributePlaces.{uncommented}
+use Rattle.lint_entries.specs.AttributePlaces.{uncommented}
 use Rattle.fluent_lint.proofs.Lists.{one_changed}
 use Rattle.fluent_lint.proofs.read.drop_comments.Goals as goal
 

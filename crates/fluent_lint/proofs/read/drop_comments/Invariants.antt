@@ -1,6 +1,6 @@
 use Rattle.std.proofs.Common.{◌≡◌, ◌++◌, map, take, drop}
 use Rattle.fluent_ast.specs.Borrowed.{entry_of}
-use Rattle.fluent_entry_findings.specs.AttributePlaces.{uncommented}
+use Rattle.lint_entries.specs.AttributePlaces.{uncommented}
 use Rattle.fluent_lint.proofs.read.drop_comments.Given as goal
 
 abbrev pub invariant-loop-entry : goal.invariant-loop-entry

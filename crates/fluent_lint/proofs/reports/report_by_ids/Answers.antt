@@ -1,10 +1,10 @@
 use Rattle.std.proofs.Common.{◌≡◌, ◌∙◌, List, [], sym, ap, subst}
 use Rattle.std.specs.Prelude.{IfOk}
-use Rattle.fluent_catalog_findings.proofs.TilesFound.{tiles_found}
-use Rattle.fluent_catalog_findings.specs.PartFindings.{findings_of_files}
-use Rattle.fluent_endless.specs.Catalog.{AreDeclaredIn}
-use Rattle.fluent_findings.specs.Findings.{FileFinding, Rules, catalog_rules, sources}
-use Rattle.fluent_findings.specs.Flaws.{catalog_ids}
+use Rattle.lint_files.proofs.TilesFound.{tiles_found}
+use Rattle.lint_files.specs.PartFindings.{findings_of_files}
+use Rattle.lint_endless.specs.Catalog.{AreDeclaredIn}
+use Rattle.lint_findings.specs.Findings.{FileFinding, Rules, catalog_rules, sources}
+use Rattle.lint_findings.specs.Flaws.{catalog_ids}
 use Rattle.fluent_ids.specs.IdsView.{ids_view}
 use Rattle.fluent_meaning.specs.Ids.{Ids}
 use Rattle.fluent_resource.specs.Sources.{texts}

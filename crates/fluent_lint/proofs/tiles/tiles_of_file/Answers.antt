@@ -1,6 +1,6 @@
 use Rattle.std.proofs.Common.{◌∙◌, ap}
 use Rattle.fluent_grammar.specs.Tiling.{tree}
-use Rattle.fluent_tiles.specs.Kept.{kept_entries}
+use Rattle.lint_entries.specs.Kept.{kept_entries}
 use Rattle.fluent_lint.proofs.Trees.{kept_bare}
 use Rattle.fluent_lint.proofs.tiles.tiles_of_file.Goals as goal
 

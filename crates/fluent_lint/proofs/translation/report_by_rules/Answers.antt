@@ -1,9 +1,9 @@
 use Rattle.std.proofs.Common.{◌∙◌, ◌++◌, List, ap, subst}
 use Rattle.std.specs.Prelude.{IfOk}
-use Rattle.fluent_catalog_findings.specs.RulesView.{rules_view}
-use Rattle.fluent_finding.specs.View.{findings_view}
-use Rattle.fluent_findings.specs.Findings.{FileFinding}
-use Rattle.fluent_findings.specs.Summary.{summaries}
+use Rattle.lint_files.specs.RulesView.{rules_view}
+use Rattle.lint_finding.specs.View.{findings_view}
+use Rattle.lint_findings.specs.Findings.{FileFinding}
+use Rattle.lint_findings.specs.Summary.{summaries}
 use Rattle.fluent_lint.specs.FileTiles.{files_of, files_view}
 use Rattle.fluent_lint.specs.Missing.{missing_in_files}
 use Rattle.fluent_lint.specs.Reports.{IsReportOf}

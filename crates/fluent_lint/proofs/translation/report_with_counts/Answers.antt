@@ -1,9 +1,9 @@
 use Rattle.std.proofs.Common.{◌∙◌, List, ap, map, subst}
 use Rattle.std.specs.Prelude.{IfOk}
-use Rattle.fluent_finding.specs.View.{findings_view}
-use Rattle.fluent_findings.specs.Summary.{Summary}
+use Rattle.lint_finding.specs.View.{findings_view}
+use Rattle.lint_findings.specs.Summary.{Summary}
 use Rattle.fluent_lint.specs.Reports.{IsReportOf}
-use Rattle.fluent_lint_report.specs.View.{summary_view}
+use Rattle.lint_report.specs.ReportView.{summary_view}
 use Rattle.fluent_lint.proofs.translation.report_with_counts.Goals as goal
 
 pub returns : goal.returns

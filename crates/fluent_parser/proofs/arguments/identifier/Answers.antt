@@ -1,5 +1,5 @@
 use Rattle.std.proofs.Common.{ℕ, List, subst}
-use Rattle.fluent_words.specs.Counted.{Cuts}
+use Rattle.fluent_tokens.specs.Counted.{Cuts}
 use Rattle.fluent_parser.proofs.arguments.identifier.Goals as goal
 
 pub range-requires-clause-end_boundary : goal.range-requires-clause-end_boundary

@@ -1,4 +1,4 @@
-use Rattle.fluent_words.proofs.Chars.{cut_char}
+use Rattle.fluent_tokens.proofs.Chars.{cut_char}
 use Rattle.fluent_parser.proofs.token.first_char.Goals as goal
 
 pub range-requires-clause-end_boundary : goal.range-requires-clause-end_boundary

@@ -1,7 +1,7 @@
 use Rattle.std.proofs.Common.{◌≡◌, ◌+◌, ◌-◌, ℕ, length, take, ap, ◌∙◌, arith, subst}
 use Rattle.std.specs.Str.{IsUtf8}
 use Rattle.fluent_grammar.specs.Reading.{first_char}
-use Rattle.fluent_words.proofs.Chars.{cut_first, first_char_front}
+use Rattle.fluent_tokens.proofs.Chars.{cut_first, first_char_front}
 use Rattle.fluent_parser.proofs.token.with_next_char.Goals as goal
 
 pub range-requires-clause-end_boundary : goal.range-requires-clause-end_boundary

@@ -1,5 +1,5 @@
 use Rattle.std.proofs.Common.{[], ◌++◌, ap, sym, ◌∙◌, refl}
-use Rattle.fluent_requests.specs.Frames.{frame_of, ok}
+use Rattle.fluent_serve.specs.Frames.{frame_of, ok}
 use Rattle.fluent_run.proofs.AskedLines.{bad-asked, same-asked}
 use Rattle.fluent_run.specs.ReplyView.{reply_of}
 use Rattle.fluent_serve.proofs.Outcomes.{on_ok_map}

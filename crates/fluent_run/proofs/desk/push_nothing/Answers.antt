@@ -1,5 +1,5 @@
 use Rattle.std.proofs.Common.{◌++◌, ap, sym, ◌∙◌, refl}
-use Rattle.fluent_requests.specs.Frames.{frame_of, none}
+use Rattle.fluent_serve.specs.Frames.{frame_of, none}
 use Rattle.fluent_run.proofs.AskedLines.{bad-asked, same-asked}
 use Rattle.fluent_serve.proofs.Outcomes.{on_ok_map}
 use Rattle.fluent_serve.specs.RequestView.{arguments_behind}

@@ -3,7 +3,7 @@ use Rattle.std.proofs.lemmas.List.{take_all}
 use Rattle.std.proofs.lemmas.List.Folds.{flat_map-map}
 use Rattle.std.specs.List.{flat_map}
 use Rattle.fluent_errors.specs.View.{bundle_view}
-use Rattle.fluent_requests.specs.Frames.{ended}
+use Rattle.fluent_serve.specs.Frames.{ended}
 use Rattle.fluent_run.specs.ReplyView.{error_text}
 use Rattle.fluent_run.proofs.Replies.{lines-next}
 use Rattle.fluent_run.proofs.reply.push_lines.Goals as goal

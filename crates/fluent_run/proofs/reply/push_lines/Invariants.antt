@@ -1,7 +1,7 @@
 use Rattle.std.proofs.Common.{◌≡◌, ◌++◌, take, string_bytes}
 use Rattle.std.specs.List.{flat_map}
 use Rattle.fluent_errors.specs.View.{bundle_view}
-use Rattle.fluent_requests.specs.Frames.{ended}
+use Rattle.fluent_serve.specs.Frames.{ended}
 use Rattle.fluent_run.specs.ReplyView.{error_text}
 use Rattle.fluent_run.proofs.reply.push_lines.Given as goal
 

@@ -1,6 +1,6 @@
 use Rattle.std.proofs.Common.{◌++◌, length, ap, ap₂, ◌∙◌, string_bytes}
 use Rattle.std.specs.List.{flat_map}
-use Rattle.fluent_requests.specs.Frames.{ended}
+use Rattle.fluent_serve.specs.Frames.{ended}
 use Rattle.fluent_serve.proofs.Outcomes.{on_ok_map}
 use Rattle.fluent_serve.specs.AnswerView.{head_of}
 use Rattle.fluent_run.proofs.Replies.{frame-told}

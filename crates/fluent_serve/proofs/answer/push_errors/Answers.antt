@@ -1,5 +1,5 @@
 use Rattle.std.proofs.Common.{IfSome, subst, ◌≡◌, ◌++◌}
-use Rattle.fluent_requests.specs.Frames.{ended}
+use Rattle.fluent_serve.specs.Frames.{ended}
 use Rattle.fluent_serve.proofs.Answers.{errors_next, front_trans}
 use Rattle.fluent_serve.proofs.answer.push_errors.Goals as goal
 

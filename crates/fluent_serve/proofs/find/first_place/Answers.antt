@@ -1,6 +1,6 @@
 use Rattle.std.proofs.Common.{arith}
 use Rattle.memchr.specs.Find.{is_byte}
-use Rattle.fluent_words.proofs.Masked.{none_passes, first_passes}
+use Rattle.fluent_tokens.proofs.Masked.{none_passes, first_passes}
 use Rattle.fluent_serve.proofs.find.first_place.Goals as goal
 
 pub loop-place-preserved : goal.loop-place-preserved

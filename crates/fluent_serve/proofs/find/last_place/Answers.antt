@@ -1,6 +1,6 @@
 use Rattle.std.proofs.Common.{arith}
 use Rattle.memchr.specs.Find.{is_byte}
-use Rattle.fluent_words.proofs.Masked.{none_passes, first_passes}
+use Rattle.fluent_tokens.proofs.Masked.{none_passes, first_passes}
 use Rattle.fluent_serve.proofs.find.last_place.Goals as goal
 
 pub returns-then-found-eq0 : goal.returns-then-found-eq0

@@ -1,6 +1,6 @@
 use Rattle.std.proofs.Common.{false, subst, sym, ◌∙◌, ap, refl}
-use Rattle.fluent_requests.specs.Text.{Text}
-use Rattle.fluent_requests.specs.Requests.{and_argument}
+use Rattle.fluent_serve.specs.Text.{Text}
+use Rattle.fluent_serve.specs.Requests.{and_argument}
 use Rattle.fluent_serve.specs.ReadArguments.{AreRead}
 use Rattle.fluent_serve.specs.RequestView.{arguments_behind}
 use Rattle.fluent_serve.proofs.ArgumentsRead.{one-more}

@@ -1,5 +1,5 @@
 use Rattle.std.proofs.Common.{◌∙◌, ap, option_copied}
-use Rattle.fluent_requests.specs.Requests.{request_with}
+use Rattle.fluent_serve.specs.Requests.{request_with}
 use Rattle.fluent_serve.specs.RequestView.{arguments_behind, arguments_view}
 use Rattle.fluent_serve.proofs.ArgumentsRead.{list-read}
 use Rattle.fluent_serve.proofs.request.read_request.Goals as goal

@@ -1,5 +1,5 @@
 use Rattle.std.proofs.Common.{◌≡◌, take, option_copied}
-use Rattle.fluent_requests.specs.Requests.{value_named}
+use Rattle.fluent_serve.specs.Requests.{value_named}
 use Rattle.fluent_serve.specs.RequestView.{arguments_view}
 use Rattle.fluent_serve.proofs.request.value_named.Given as goal
 

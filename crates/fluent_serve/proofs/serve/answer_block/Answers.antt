@@ -1,6 +1,6 @@
 use Rattle.std.proofs.Common.{◌∙◌, refl, rules}
 use Rattle.std.proofs.lemmas.Result.{err_from_is_err_and}
-use Rattle.fluent_requests.proofs.Lines.{unfinished_append}
+use Rattle.fluent_serve.proofs.Lines.{unfinished_append}
 use Rattle.fluent_serve.proofs.Exchange.{puts_nothing}
 use Rattle.fluent_serve.proofs.Serving.{answered_next, answered_front, answered_first, answered_all, answered_left}
 use Rattle.fluent_serve.proofs.serve.answer_block.Goals as goal

@@ -1,5 +1,5 @@
 use Rattle.std.proofs.Common.{◌≡◌, ◌++◌, length}
-use Rattle.fluent_requests.specs.Lines.{IsUnfinished}
+use Rattle.fluent_serve.specs.Lines.{IsUnfinished}
 use Rattle.fluent_serve.proofs.Serving.{Answered}
 use Rattle.fluent_serve.proofs.serve.answer_block.Given as goal
 

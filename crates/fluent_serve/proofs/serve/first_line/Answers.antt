@@ -1,4 +1,4 @@
-use Rattle.fluent_requests.proofs.Lines.{no_line_feed, at_line_feed}
+use Rattle.fluent_serve.proofs.Lines.{no_line_feed, at_line_feed}
 use Rattle.fluent_serve.proofs.serve.first_line.Goals as goal
 
 pub returns-in-None : goal.returns-in-None

@@ -1,6 +1,6 @@
 use Rattle.std.proofs.Common.{◌∙◌, Err, Ok, ap, sym}
 use Rattle.clap.specs.declared.error.kind.ErrorKind.TheVariants.{DisplayHelp, DisplayVersion}
-use Rattle.ftl_words.specs.Meaning.{command_of, texts}
+use Rattle.ftl_arguments.specs.Meaning.{command_of, texts}
 use Rattle.ftl_command.proofs.EndLemmas.{not_alone_by, refused_by, untouched, without_input}
 use Rattle.ftl_command.proofs.FaultLemmas.{status_of-among}
 use Rattle.ftl_command.proofs.commands.program_on.Goals as goal

@@ -1,6 +1,6 @@
 use Rattle.std.proofs.Common.{ap}
 use Rattle.std.proofs.lemmas.Result.{IfErr-weaker, on_ok_weaker}
-use Rattle.ftl_words.specs.Meaning.{command_of, texts}
+use Rattle.ftl_arguments.specs.Meaning.{command_of, texts}
 use Rattle.ftl_command.proofs.Refusals.{asked_cut, of_asked, of_bad_words, of_words, unread_device}
 use Rattle.fluent_serve.proofs.Outcomes.{on_ok_always}
 use Rattle.ftl_command.specs.declared.fault.Fault.TheVariants.{Input, Memory}

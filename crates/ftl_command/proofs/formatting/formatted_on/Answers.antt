@@ -1,8 +1,8 @@
 use Rattle.std.proofs.Common.{◌≡◌, map, rules, string_bytes, subst}
 use Rattle.fluent_serve.specs.Texts.{texts}
-use Rattle.ftl_words.specs.CommandView.{format_view}
+use Rattle.ftl_arguments.specs.CommandView.{format_view}
 use Rattle.ftl_command.specs.Files.{AreHeld}
-use Rattle.ftl_words.specs.Meaning.{format}
+use Rattle.ftl_arguments.specs.Meaning.{format}
 use Rattle.ftl_command.specs.Program.{IsFound}
 use Rattle.ftl_command.specs.Refusals.{IsEarlyFault}
 use Rattle.ftl_command.proofs.FormatLemmas.{found_or_not, not_found}

@@ -1,6 +1,6 @@
 use Rattle.std.proofs.Common.{◌∙◌, ap, rules, subst}
-use Rattle.ftl_format.specs.FormatView.{formatted_view}
-use Rattle.ftl_words.specs.CommandView.{format_view}
+use Rattle.ftl_command.specs.FormatView.{formatted_view}
+use Rattle.ftl_arguments.specs.CommandView.{format_view}
 use Rattle.ftl_command.specs.Program.{WritesFront}
 use Rattle.ftl_command.proofs.FormatLemmas.{on_found, on_shown, written_so}
 use Rattle.ftl_command.proofs.Refusals.{of_output, text_cut, text_unwritten}

@@ -1,6 +1,6 @@
 use Rattle.std.proofs.Common.{rules}
-use Rattle.ftl_lint.specs.LintView.{report_view}
-use Rattle.ftl_words.specs.CommandView.{lint_view}
+use Rattle.fluent_lint.specs.LintView.{report_view}
+use Rattle.ftl_arguments.specs.CommandView.{lint_view}
 use Rattle.ftl_command.proofs.LintLemmas.{lint_cut, linted_so}
 use Rattle.ftl_command.proofs.Refusals.{of_output, text_cut, text_unwritten}
 use Rattle.ftl_command.proofs.linting.lint_files.Goals as goal

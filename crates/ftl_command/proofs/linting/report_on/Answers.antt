@@ -1,6 +1,6 @@
 use Rattle.std.proofs.Common.{map, rules, string_bytes}
-use Rattle.ftl_words.specs.CommandView.{lint_view}
-use Rattle.ftl_words.specs.Meaning.{lint}
+use Rattle.ftl_arguments.specs.CommandView.{lint_view}
+use Rattle.ftl_arguments.specs.Meaning.{lint}
 use Rattle.ftl_command.specs.Refusals.{IsEarlyFault}
 use Rattle.ftl_command.proofs.Refusals.{of_files, of_locale, of_memory}
 use Rattle.ftl_command.proofs.RunLemmas.{by_plurals}

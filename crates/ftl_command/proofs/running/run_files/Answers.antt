@@ -4,7 +4,7 @@ use Rattle.ftl_command.proofs.RunLemmas.{before_answers, by_plurals, known_alike
 use Rattle.fluent_serve.specs.Texts.{texts}
 use Rattle.ftl_command.specs.Files.{AreHeld}
 use Rattle.ftl_command.specs.Program.{run_asked, run_of}
-use Rattle.ftl_words.specs.Meaning.{run}
+use Rattle.ftl_arguments.specs.Meaning.{run}
 use Rattle.ftl_command.specs.Faults.{run_fault}
 use Rattle.ftl_command.specs.Refusals.{IsDeviceFault, IsFaultOf}
 use Rattle.ftl_command.proofs.Refusals.{of_files, of_locale, of_run, run_stops, untouched_devices}

@@ -1,5 +1,5 @@
 use Rattle.std.proofs.Common.{◌≡◌, ◌++◌, ◌∷◌, [], subst, codes}
-use Rattle.fluent_requests.specs.Text.{line_feed}
+use Rattle.fluent_serve.specs.Text.{line_feed}
 use Rattle.ftl_command.specs.Faults.{fault_text}
 use Rattle.ftl_command.specs.Program.{WritesFront}
 use Rattle.ftl_command.proofs.TellLemmas.{front_after, front_at_end, front_of_piece, line_of, on_err, on_err_map}

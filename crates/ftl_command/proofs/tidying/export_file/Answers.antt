@@ -5,7 +5,7 @@ use Rattle.fluent_grammar.specs.Tiling.{tree}
 use Rattle.fluent_tidy_laws.specs.Cut.{cut}
 use Rattle.fluent_json.specs.Json.{json}
 use Rattle.fluent_json.proofs.NoFloats.{has_no_float}
-use Rattle.fluent_requests.specs.Text.{line_feed}
+use Rattle.fluent_serve.specs.Text.{line_feed}
 use Rattle.ftl_command.proofs.Refusals.{of_clean, of_files}
 use Rattle.ftl_command.proofs.tidying.export_file.Goals as goal
 

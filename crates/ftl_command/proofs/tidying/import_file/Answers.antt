@@ -1,7 +1,7 @@
 use Rattle.std.proofs.Common.{rules, ◌≡◌, ap, sym, ◌∙◌, string_bytes, Err, Some}
 use Rattle.serde_json.specs.View.{view}
 use Rattle.serde_json.specs.Read.{read as read_text}
-use Rattle.ftl_words.specs.Meaning.{import, tidy}
+use Rattle.ftl_arguments.specs.Meaning.{import, tidy}
 use Rattle.ftl_command.specs.Faults.{import_fault}
 use Rattle.ftl_command.specs.Refusals.{IsEarlyFault}
 use Rattle.ftl_command.proofs.Refusals.{of_files, of_import}

@@ -1,5 +1,5 @@
 use Rattle.std.proofs.Common.{arith, sym}
-use Rattle.fluent_asking.proofs.Asking.{tells-none}
+use Rattle.fluent_resolver.proofs.Asking.{tells-none}
 use Rattle.fluent_bundle.proofs.LoneTexts.{lone-handed, lone-unreported}
 use Rattle.fluent_bundle.specs.BundleView.{handout}
 use Rattle.fluent_bundle.proofs.bundle.FluentBundle.format_pattern.Goals as goal

@@ -1,8 +1,8 @@
 use Rattle.std.proofs.Common.{List, subst, sym}
 use Rattle.std.specs.Prelude.{IfOk}
-use Rattle.fluent_endless.specs.Catalog.{AreDeclaredIn}
-use Rattle.fluent_findings.specs.Findings.{FileFinding}
-use Rattle.fluent_findings.specs.Summary.{summaries}
+use Rattle.lint_endless.specs.Catalog.{AreDeclaredIn}
+use Rattle.lint_findings.specs.Findings.{FileFinding}
+use Rattle.lint_findings.specs.Summary.{summaries}
 use Rattle.fluent_ids.specs.IdsView.{ids_view}
 use Rattle.fluent_lint.specs.FileTiles.{files_view}
 use Rattle.fluent_lint.specs.Reports.{IsReportOf, options_view}

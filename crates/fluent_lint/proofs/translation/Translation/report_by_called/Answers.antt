@@ -1,5 +1,5 @@
 use Rattle.std.proofs.Common.{◌∙◌, ◌++◌, [], ap}
-use Rattle.fluent_findings.specs.Flaws.{catalog_ids}
+use Rattle.lint_findings.specs.Flaws.{catalog_ids}
 use Rattle.fluent_resource.specs.Sources.{texts}
 use Rattle.fluent_lint.proofs.translation.Translation.report_by_called.Goals as goal
 

@@ -9,24 +9,24 @@ use Rattle.fluent_grammar.specs.Reading as read
 use Rattle.fluent_ast.specs.declared.NamedArgument.{NamedArgument}
 use Rattle.fluent_ast.specs.declared.InlineExpression.{InlineExpression}
 use Rattle.fluent_ast.specs.declared.Variant.{Variant}
-use Rattle.fluent_words.specs.Counted.{begins_literal}
+use Rattle.fluent_tokens.specs.Counted.{begins_literal}
 use Rattle.fluent_parser.specs.Reads.{Gives, whole, string_or_number_at, argument_value_at}
 use Rattle.fluent_parser.specs.Steps.{names_of, variants_behind, Argument, named, arguments_behind, positional_by, argument_by, nested_by, placeable_piece_by, pattern_behind, kept_piece_by, piece_behind, first_place}
 use Rattle.fluent_ast.specs.View.{Named, inlines_of, nameds_of, name_of, inline_view, named_view, variant_view, variants_of, arguments_view, pattern_view, element_view}
-use Rattle.fluent_elements.specs.Elements.{value_by}
+use Rattle.fluent_parsed.specs.Elements.{value_by}
 use Rattle.fluent_parser.specs.declared.named_arguments.NamedArguments.{NamedArguments}
 use Rattle.fluent_parser.specs.Arguments.{argument_view, IsNamed}
 use Rattle.fluent_parser.specs.Indexed.{IsIndexed}
 use Rattle.fluent_parser.proofs.Named.{name_begins}
 use Rattle.fluent_ast.proofs.Views.{inline_view-FunctionReference, inline_view-TermReference, arguments_view-roll, named_view-roll}
 use Rattle.fluent_parser.proofs.Failing.{handed_on, fails_mapped, fails_same}
-use Rattle.fluent_words.proofs.Scanned.{test_of}
+use Rattle.fluent_tokens.proofs.Scanned.{test_of}
 use Rattle.fluent_parser.proofs.Runs.{cut_indent_at, cut_behind_indent, cut_crlf, cut_line_feed, line_feed_read, begun_shorter, cut_arrow}
 use Rattle.fluent_parser.proofs.Cycle.{gives_same, pattern_is_behind, inline_literal, inline_term, inline_variable, inline_named, inline_nested, inline_none, inline_shorter, argument_fails, argument_not_named, argument_unnamed, argument_named, arguments_start, arguments_empty, arguments_fail, argument_fail, positional_read, named_read, arguments_end, mark_fails, variants_fail, variant_fails, variants_read, variants_end, variants_refused, pattern_fails, term_read, function_read, pushed, arguments_same, variants_same, on_ok_always}
 use Rattle.fluent_parser.specs.Frame.{StartsLine}
 use Rattle.fluent_parser.proofs.LastFeeds.{kept_fails}
 use Rattle.fluent_grammar.specs.Lines.{Piece, pattern_ends}
-use Rattle.fluent_lines.specs.Lookup.{is_last_feed}
+use Rattle.fluent_tokens.specs.Lookup.{is_last_feed}
 use Rattle.fluent_parser.specs.Pieces.{GivesPiece}
 use Rattle.fluent_parser.proofs.LinePieces.{kept_in_line, kept_feed, kept_end, kept_at_line}
 use Rattle.fluent_parser.proofs.LineStarts.{first_starts, piece_starts}

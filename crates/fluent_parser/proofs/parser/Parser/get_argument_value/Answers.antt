@@ -1,6 +1,6 @@
 use Rattle.std.proofs.Common.{map, sym, ap, ◌∙◌, refl}
 use Rattle.fluent_grammar.specs.Words as w
-use Rattle.fluent_words.specs.Counted.{begins_value}
+use Rattle.fluent_tokens.specs.Counted.{begins_value}
 use Rattle.fluent_parser.specs.Reads.{string_or_number_at, argument_value_at}
 use Rattle.fluent_parser.specs.Steps.{names_of}
 use Rattle.fluent_ast.specs.View.{inline_view, named_view}

@@ -2,7 +2,7 @@ use Rattle.std.proofs.Common.{◌≡◌, ◌∙◌, List, ℕ, true, false, leng
 use Rattle.std.specs.Prelude.{◌==◌}
 use Rattle.fluent_grammar.specs.Refusal.{got}
 use Rattle.fluent_grammar.specs.Words.{after_line_end}
-use Rattle.fluent_words.specs.Counted.{is_comment_line}
+use Rattle.fluent_tokens.specs.Counted.{is_comment_line}
 use Rattle.fluent_parser.proofs.Comments.{comment_line_is, comment_line_refused, no_line_left}
 use Rattle.fluent_parser.proofs.parser.Parser.get_comment_line.Goals as goal
 

@@ -2,7 +2,7 @@ use Rattle.std.proofs.Common.{◌≡◌, ◌∙◌, ◌+◌, ◌-◌, ◌<◌, �
 use Rattle.fluent_grammar.specs.Words.{Text}
 use Rattle.fluent_grammar.specs.Reading.{entry_at}
 use Rattle.fluent_grammar.specs.Tiling.{errors_of, behind_junk}
-use Rattle.fluent_words.specs.Counted.{Cuts}
+use Rattle.fluent_tokens.specs.Counted.{Cuts}
 use Rattle.fluent_parsed.specs.ErrorView.{ErrorView, error_view, error_told, kind_view}
 use Rattle.fluent_parser.specs.Places.{error_by}
 use Rattle.fluent_parser.specs.Reads.{Refuses}

@@ -7,7 +7,7 @@ use Rattle.fluent_parser.specs.Left.{pieces_left}
 use Rattle.fluent_parser.specs.Parts.{piece_of}
 use Rattle.fluent_parsed.proofs.CollectedEntries.{test_some}
 use Rattle.fluent_parser.proofs.Left.{nothing_left, piece_left}
-use Rattle.fluent_words.proofs.Scanned.{test_of}
+use Rattle.fluent_tokens.proofs.Scanned.{test_of}
 use Rattle.fluent_parser.proofs.parser.Parser.get_parts.Goals as goal
 
 pub returns-then-is_empty-clause-entries : goal.returns-then-is_empty-clause-entries

@@ -1,7 +1,7 @@
 use Rattle.std.proofs.Common.{◌≡◌, ℕ, suc, List, drop, sym, ap, ◌∙◌, arith, add-one}
 use Rattle.std.proofs.lemmas.List.{drop-drop}
 use Rattle.fluent_grammar.specs.Refusal.{got}
-use Rattle.fluent_words.proofs.Counted.{cut_hex}
+use Rattle.fluent_tokens.proofs.Counted.{cut_hex}
 use Rattle.fluent_parser.proofs.Failing.{string_unknown, string_missing}
 use Rattle.fluent_parser.proofs.parser.Parser.get_string_content.Goals as goal
 

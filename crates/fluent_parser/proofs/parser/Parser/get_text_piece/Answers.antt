@@ -2,7 +2,7 @@ use Rattle.std.proofs.Common.{◌≡◌, ◌+◌, ℕ, List, drop, take, sym, re
 use Rattle.fluent_grammar.specs.Lines.{ends_line, indent_of}
 use Rattle.fluent_grammar.specs.Reading.{text_run}
 use Rattle.fluent_grammar.specs.Refusal.{got}
-use Rattle.fluent_words.specs.Counted.{Cuts}
+use Rattle.fluent_tokens.specs.Counted.{Cuts}
 use Rattle.fluent_parser.specs.Steps.{text_piece}
 use Rattle.fluent_parser.proofs.Runs.{cut_behind_indent, text_shorter}
 use Rattle.fluent_parser.proofs.PutPieces.{text_put}

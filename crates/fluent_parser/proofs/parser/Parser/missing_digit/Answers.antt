@@ -1,4 +1,4 @@
-use Rattle.fluent_words.proofs.Counted.{cut_hex}
+use Rattle.fluent_tokens.proofs.Counted.{cut_hex}
 use Rattle.fluent_parser.proofs.parser.Parser.missing_digit.Goals as goal
 
 pub with_next_char-requires : goal.with_next_char-requires

@@ -1,7 +1,7 @@
 use Rattle.std.proofs.Common.{◌≡◌, ◌<◌, ℕ, zero, suc, sym, ◌∙◌, arith, refl, length}
 use Rattle.std.specs.Prelude.{◌==◌, false}
 use Rattle.fluent_ast.specs.View.{named_view, inline_view}
-use Rattle.fluent_words.proofs.Scanned.{test_of}
+use Rattle.fluent_tokens.proofs.Scanned.{test_of}
 use Rattle.fluent_parser.proofs.Cycle.{no_names, positional_none, positional_refused}
 use Rattle.fluent_parser.proofs.parser.Parser.positional_argument.Goals as goal
 

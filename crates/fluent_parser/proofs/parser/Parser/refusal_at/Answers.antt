@@ -1,6 +1,6 @@
 use Rattle.std.proofs.Common.{◌≡◌, ◌∙◌, ◌-◌, length, drop}
 use Rattle.fluent_grammar.specs.Words.{Text}
-use Rattle.fluent_words.proofs.Counted.{place_of_tail}
+use Rattle.fluent_tokens.proofs.Counted.{place_of_tail}
 use Rattle.fluent_parser.proofs.parser.Parser.refusal_at.Goals as goal
 
 pub returns-clause-places : goal.returns-clause-places

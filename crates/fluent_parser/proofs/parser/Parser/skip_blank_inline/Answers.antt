@@ -1,6 +1,6 @@
 use Rattle.std.proofs.Common.{◌∙◌, ap}
 use Rattle.fluent_grammar.specs.Words as w
-use Rattle.fluent_words.proofs.Counted.{cut_spaces}
+use Rattle.fluent_tokens.proofs.Counted.{cut_spaces}
 use Rattle.fluent_parser.proofs.parser.Parser.skip_blank_inline.Goals as goal
 
 pub advance-requires : goal.advance-requires

@@ -1,6 +1,6 @@
 use Rattle.std.proofs.Common.{◌-◌, ℕ, List, length, sym, subst}
 use Rattle.std.specs.Str.{IsUtf8, IsCharBoundary}
-use Rattle.fluent_words.proofs.Counted.{place_of_tail}
+use Rattle.fluent_tokens.proofs.Counted.{place_of_tail}
 use Rattle.fluent_parser.proofs.parser.Parser.take.Goals as goal
 
 pub slice-part-requires-clause-start_boundary : goal.slice-part-requires-clause-start_boundary

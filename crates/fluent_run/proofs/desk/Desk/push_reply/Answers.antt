@@ -1,6 +1,6 @@
 use Rattle.std.proofs.Common.{◌≡◌, List, [], ◌++◌, map, ap, sym, ◌∙◌}
 use Rattle.fluent_grammar.specs.Words.{Text}
-use Rattle.fluent_requests.specs.Frames.{frame_of, ok}
+use Rattle.fluent_serve.specs.Frames.{frame_of, ok}
 use Rattle.fluent_run.proofs.AskedLines.{bad-asked, like-asked, read-if, valued-asked}
 use Rattle.fluent_run.proofs.OneText.{lone-told}
 use Rattle.fluent_run.specs.DeskView.{arguments_view, elements_of, environment_in, pattern_answer, reply_by, valued}

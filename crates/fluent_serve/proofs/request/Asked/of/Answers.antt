@@ -1,5 +1,5 @@
 use Rattle.std.proofs.Common.{◌∙◌, sym, ap, refl, option_copied}
-use Rattle.fluent_requests.specs.Requests.{request_with}
+use Rattle.fluent_serve.specs.Requests.{request_with}
 use Rattle.fluent_serve.specs.RequestView.{arguments_behind}
 use Rattle.fluent_serve.proofs.Requests.{request_of-no_text, request_at}
 use Rattle.fluent_serve.proofs.request.Asked.of.Goals as goal

@@ -10,7 +10,7 @@ use Rattle.fluent_resolver.proofs.Parts.{tells-as}
 use Rattle.fluent_bundle.proofs.Scopes.{scope-within}
 use Rattle.fluent_bundle.proofs.Within.{arguments-within, of-both}
 use Rattle.fluent_bundle.specs.BundleView.{environment_of}
-use Rattle.fluent_asking.specs.Called.{no_arguments}
+use Rattle.fluent_resolver.specs.Called.{no_arguments}
 use Rattle.fluent_bundle.specs.ScopeView.{place_of, state_of}
 use Rattle.fluent_bundle.proofs.resolver.scope.Scope.get_arguments.Goals as goal
 

@@ -1,7 +1,7 @@
 use Rattle.std.proofs.Common.{◌∙◌}
 use Rattle.fluent_meaning.proofs.Refusals.{counts-all}
 use Rattle.fluent_progress.proofs.Telling.{on-err}
-use Rattle.fluent_asking.proofs.Pieces.{piece-missing, piece-refused}
+use Rattle.fluent_resolver.proofs.Pieces.{piece-missing, piece-refused}
 use Rattle.fluent_bundle.proofs.Within.{expression-within}
 use Rattle.fluent_bundle.proofs.resolver.scope.Scope.maybe_track.Goals as goal
 

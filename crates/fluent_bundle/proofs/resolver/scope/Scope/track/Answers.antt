@@ -1,6 +1,6 @@
 use Rattle.fluent_meaning.proofs.Refusals.{counts-all}
 use Rattle.fluent_progress.proofs.Telling.{on-err}
-use Rattle.fluent_asking.proofs.Pieces.{piece-missing, piece-refused}
+use Rattle.fluent_resolver.proofs.Pieces.{piece-missing, piece-refused}
 use Rattle.fluent_bundle.proofs.Within.{reference-within}
 use Rattle.fluent_bundle.proofs.resolver.scope.Scope.track.Goals as goal
 

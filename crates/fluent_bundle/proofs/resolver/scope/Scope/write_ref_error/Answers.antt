@@ -1,5 +1,5 @@
 use Rattle.fluent_progress.proofs.Telling.{on-err}
-use Rattle.fluent_asking.proofs.Pieces.{piece-missing, piece-refused}
+use Rattle.fluent_resolver.proofs.Pieces.{piece-missing, piece-refused}
 use Rattle.fluent_bundle.proofs.resolver.scope.Scope.write_ref_error.Goals as goal
 
 pub returns-in_err-write_missed-clause-refused : goal.returns-in_err-write_missed-clause-refused

@@ -1,3 +1,0 @@
-pub mod TilesFound
-pub mod EntryPushed
-pub mod TilesPushed

@@ -1,3 +1,0 @@
-pub mod PartFindings
-pub mod RulesView
-pub mod Pushes

@@ -1,5 +1,0 @@
-pub mod Code
-pub mod Decoding
-pub mod Spans
-pub mod Appending
-pub mod Laws

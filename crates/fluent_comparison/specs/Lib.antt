@@ -1,9 +1,0 @@
-pub mod HasNames
-pub mod HasReached
-pub mod Lacks
-pub mod LackingAttributes
-pub mod Compared
-pub mod HasFirstPlaces
-pub mod HasPlaces
-pub mod Found
-pub mod InCode

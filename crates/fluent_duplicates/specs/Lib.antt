@@ -1,3 +1,0 @@
-pub mod LocationText
-pub mod DuplicateText
-pub mod First

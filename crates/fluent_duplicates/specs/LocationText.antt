@@ -1,9 +1,0 @@
--- The texts of locations.
-use Rattle.std.specs.Prelude.{◌++◌, codes}
-use Rattle.fluent_grammar.specs.Words.{Text}
-use Rattle.fluent_position.specs.PlaceView.{place_text}
-use Rattle.fluent_duplicates.specs.declared.location.Location.{Location}
-
--- `FILE:LINE:COLUMN`
-abbrev pub location_text : Location → Text
-location_text l = l.file.now ++ (codes ":" ++ place_text l.place)

@@ -1,6 +1,0 @@
-pub mod IndicesView
-pub mod Holding
-pub mod Catalog
-pub mod ReferenceGraph
-pub mod Marks
-pub mod EndlessView

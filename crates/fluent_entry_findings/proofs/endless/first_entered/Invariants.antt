@@ -1,9 +1,0 @@
-use Rattle.std.proofs.Common.{◌≡◌, drop}
-use Rattle.fluent_entry_findings.specs.FirstEndless as first
-use Rattle.fluent_entry_findings.specs.FoundAt.{nodes_of}
-use Rattle.fluent_entry_findings.proofs.endless.first_entered.Given as goal
-
-abbrev pub invariant-loop-occurrence : goal.invariant-loop-occurrence
-invariant-loop-occurrence g l =
-    let ids = g.E.Endless.ids l.endless in
-    first.first_entered ids (nodes_of (drop l.occurrence-index l.occurrences)) ≡ first.first_entered ids (nodes_of l.occurrences)

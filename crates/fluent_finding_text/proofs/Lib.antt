@@ -1,4 +1,0 @@
-pub mod Characters
-pub mod Passing
-pub mod Windows
-pub mod Written

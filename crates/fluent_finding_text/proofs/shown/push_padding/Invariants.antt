@@ -1,7 +1,0 @@
-use Rattle.std.proofs.Common.{◌≡◌, ◌++◌, string_bytes}
-use Rattle.std.specs.List.{flat_map}
-use Rattle.fluent_finding_text.proofs.Written.{padding_piece}
-use Rattle.fluent_finding_text.proofs.shown.push_padding.Given as goal
-
-abbrev pub invariant-loop-c : goal.invariant-loop-c
-invariant-loop-c l = string_bytes l.text ≡ string_bytes l.fn.text ++ flat_map padding_piece l.yielded

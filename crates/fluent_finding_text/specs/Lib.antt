@@ -1,4 +1,0 @@
-pub mod Changes
-pub mod View
-pub mod Excerpts
-pub mod Texts

@@ -1,5 +1,0 @@
-use Rattle.fluent_findings.proofs.FlawlessCatalogs.{flawless_catalogs_answer}
-use Rattle.fluent_findings.proofs.laws.flawless_catalogs_answer.Goals as goal
-
-pub returns : goal.returns
-returns g c = flawless_catalogs_answer

@@ -1,5 +1,0 @@
-use Rattle.fluent_findings.proofs.NothingMissing.{nothing_missing}
-use Rattle.fluent_findings.proofs.laws.nothing_missing_answers_all.Goals as goal
-
-pub returns : goal.returns
-returns g c = nothing_missing

@@ -1,5 +1,0 @@
-use Rattle.fluent_findings.proofs.Positions.{positions_determine_offsets}
-use Rattle.fluent_findings.proofs.laws.positions_determine_offsets.Goals as goal
-
-pub returns : goal.returns
-returns c = positions_determine_offsets

@@ -1,5 +1,0 @@
-use Rattle.fluent_findings.proofs.Translations.{translations_answer_all}
-use Rattle.fluent_findings.proofs.laws.translations_answer_all.Goals as goal
-
-pub returns : goal.returns
-returns c = translations_answer_all

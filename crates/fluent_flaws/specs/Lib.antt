@@ -1,2 +1,0 @@
-pub mod FlawView
-pub mod HintText

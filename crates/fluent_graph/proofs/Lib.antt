@@ -1,6 +1,0 @@
-pub mod StateChanges
-pub mod Way
-pub mod Circle
-pub mod Work
-pub mod Fetched
-pub mod Settled

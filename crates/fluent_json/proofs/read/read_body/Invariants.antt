@@ -1,0 +1,7 @@
+use Rattle.std.proofs.Common.{◌≡◌, map, take}
+use Rattle.serde_json.specs.View.{view}
+use Rattle.fluent_json_write.specs.Parts.{entry_json}
+use Rattle.fluent_json.proofs.read.read_body.Given as goal
+
+abbrev pub invariant-loop-value : goal.invariant-loop-value
+invariant-loop-value l = map entry_json l.body.items ≡ map view (take l.value-index l.values)

@@ -1,3 +1,0 @@
-mod NoTree
-mod OneTree
-mod Selected

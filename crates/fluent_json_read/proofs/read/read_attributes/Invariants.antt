@@ -1,7 +1,0 @@
-use Rattle.std.proofs.Common.{◌≡◌, map, take}
-use Rattle.serde_json.specs.View.{view}
-use Rattle.fluent_json_values.specs.Parts.{attribute_json}
-use Rattle.fluent_json_read.proofs.read.read_attributes.Given as goal
-
-abbrev pub invariant-loop-value : goal.invariant-loop-value
-invariant-loop-value l = map attribute_json l.attributes.items ≡ map view (take l.value-index l.values)

@@ -1,4 +1,0 @@
-use Rattle.fluent_json_values.proofs.parts.attribute.Goals as goal
-
-pub returns-in_err-id-clause-none : goal.returns-in_err-id-clause-none
-returns-in_err-id-clause-none c = rw c.from_residual.ensures (λ _ _ h. c.in_err-id.ensures.none _ _ _ h)

@@ -1,7 +1,0 @@
-pub mod Objects
-pub mod Left
-pub mod Given
-pub mod Taken
-pub mod Selectors
-pub mod Json
-pub mod Parts

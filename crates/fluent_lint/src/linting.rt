@@ -1,0 +1,91 @@
+//! The report on a catalog.
+ghost use Rattle.std.specs.Prelude.{◌≡◌, IfOk, map, string_bytes};
+ghost use Rattle.fluent_lint.specs.FileTiles.{files_view};
+ghost use Rattle.lint_report.specs.Formats.{format_view};
+ghost use Rattle.ftl_arguments.specs.CommandView.{report_format_view};
+ghost use Rattle.ftl_arguments.specs.Meaning.{texts};
+ghost use Rattle.fluent_lint.specs.LintReport.{named_files, output_format};
+ghost use Rattle.fluent_lint.specs.LintView.{report_asked, report_on_files, report_view};
+
+use crate::{Options, Output, Report, report_findings, report_findings_with_reference};
+use fluent_plurals::LanguagePlurals;
+use ftl_arguments::{Lint, ReportFormat};
+use lint_finding::File;
+use lint_report::Format;
+use std::alloc::{AllocError, Global};
+
+/// The report on the files of a catalog, which have the texts `sources`. The files of the reference have the texts
+/// `references`, and plural categories are looked for by the rules `plurals`.
+///
+/// # Errors
+/// [`AllocError`] if memory runs out; nothing is left behind.
+pub fn lint_sources(
+    alloc: Global,
+    lint: &Lint,
+    plurals: Option<LanguagePlurals>,
+    references: &[String],
+    sources: &[String],
+) -> Result<Report, AllocError>
+    ensures { IfOk result (λ report. report_view report
+        ≡ report_asked lint.now plurals references.now sources.now) }
+{
+    let references = named_files(alloc, &lint.references, references)?;
+    let files = named_files(alloc, &lint.files, sources)?;
+    report_on(alloc, lint, plurals, &references, &files)
+}
+
+/// Files of these names, with these texts.
+fn named_files<'a>(
+    alloc: Global,
+    names: &'a [&'a str],
+    sources: &'a [String],
+) -> Result<Vec<File<'a>>, AllocError>
+    ensures { IfOk result (λ files.
+        files_view files.items ≡ named_files (texts names.now) (map string_bytes sources.now)) }
+{
+    let mut files = Vec::with_capacity(alloc, names.len())?;
+    for (&name, source) in names.iter().zip(sources) {
+        let source = source.as_str();
+        files.push(File { name, source })?;
+    }
+    Ok(files)
+}
+
+/// The report on these files, with those of the reference.
+fn report_on(
+    alloc: Global,
+    lint: &Lint,
+    plurals: Option<LanguagePlurals>,
+    references: &[File],
+    files: &[File],
+) -> Result<Report, AllocError>
+    ensures { IfOk result (λ report. report_view report
+        ≡ report_on_files lint.now plurals references.now files.now) }
+{
+    let options = Options {
+        functions: &lint.functions,
+        plurals,
+    };
+    let output = Output {
+        format: format_of(lint.format),
+        notes: lint.notes,
+        strict: lint.strict,
+    };
+    if references.is_empty() {
+        report_findings(alloc, &options, output, files)
+    } else {
+        report_findings_with_reference(alloc, &options, output, references, files)
+    }
+}
+
+/// The format of a report.
+fn format_of(format: ReportFormat) -> Format
+    ensures { format_view result ≡ output_format (report_format_view format) }
+{
+    match format {
+        ReportFormat::Text => Format::Text,
+        ReportFormat::Line => Format::Line,
+        ReportFormat::Json => Format::Json,
+        ReportFormat::Github => Format::Github,
+    }
+}

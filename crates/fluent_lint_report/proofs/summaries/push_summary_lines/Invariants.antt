@@ -1,9 +1,0 @@
-use Rattle.std.proofs.Common.{string_bytes}
-use Rattle.fluent_findings.specs.Summary.{summary_line}
-use Rattle.fluent_lint_report.specs.View.{summary_view}
-use Rattle.fluent_lint_report.proofs.Items.{PiecesSoFar}
-use Rattle.fluent_lint_report.proofs.summaries.push_summary_lines.Given as goal
-
-abbrev pub invariant-loop-summary : goal.invariant-loop-summary
-invariant-loop-summary l =
-    PiecesSoFar (λ s. summary_line (summary_view s)) l.summaries (string_bytes l.fn.text) l.summary-index (string_bytes l.text)

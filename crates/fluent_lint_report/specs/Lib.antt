@@ -1,4 +1,0 @@
-pub mod View
-pub mod Parts
-pub mod Formats
-pub mod Changes

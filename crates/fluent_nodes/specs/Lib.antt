@@ -1,2 +1,0 @@
-pub mod NodeView
-pub mod HasKeys

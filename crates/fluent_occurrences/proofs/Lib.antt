@@ -1,3 +1,0 @@
-pub mod AfterTexts
-pub mod RestsAreRead
-pub mod OccurrencesAreFound

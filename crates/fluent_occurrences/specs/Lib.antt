@@ -1,3 +1,0 @@
-pub mod Rests
-pub mod TreeOccurrences
-pub mod OccurrenceView

@@ -1,5 +1,0 @@
-pub mod Text
-pub mod Lines
-pub mod Requests
-pub mod Frames
-pub mod RequestLaws

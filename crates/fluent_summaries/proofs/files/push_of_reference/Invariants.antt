@@ -1,8 +1,0 @@
-use Rattle.fluent_findings.specs.Summary.{reference_summary}
-use Rattle.fluent_finding.specs.View.{file_view, findings_view}
-use Rattle.fluent_summaries.proofs.Lists.{SummedSoFar}
-use Rattle.fluent_summaries.proofs.files.push_of_reference.Given as goal
-
-abbrev pub invariant-loop-file : goal.invariant-loop-file
-invariant-loop-file l =
-    SummedSoFar (λ m. reference_summary (findings_view l.findings) (file_view m.file)) l.references l.fn.summaries.items l.file-index l.summaries.items

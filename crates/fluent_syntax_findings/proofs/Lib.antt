@@ -1,2 +1,0 @@
-pub mod JunkTiles
-pub mod Loops

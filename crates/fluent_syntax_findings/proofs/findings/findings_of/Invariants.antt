@@ -1,8 +1,0 @@
-use Rattle.std.proofs.Common.{◌≡◌, map, take}
-use Rattle.fluent_parser.specs.Refusals.{refusal_view}
-use Rattle.fluent_finding.specs.View.{finding_view}
-use Rattle.fluent_syntax_findings.specs.SourceFindings.{finding_of}
-use Rattle.fluent_syntax_findings.proofs.findings.findings_of.Given as goal
-
-abbrev pub invariant-loop-refusal : goal.invariant-loop-refusal
-invariant-loop-refusal l = map finding_view l.findings.items ≡ map (finding_of l.source) (map (refusal_view l.source) (take l.refusal-index l.refusals))

@@ -1,6 +1,0 @@
-use Rattle.std.proofs.Common.{◌∙◌}
-use Rattle.fluent_tiles.proofs.Parts.{messages_counted}
-use Rattle.fluent_tiles.proofs.tile.message_count.Goals as goal
-
-pub returns : goal.returns
-returns c = λ source same. c.count_of_messages.ensures ∙ messages_counted c.args.tiles.now source same

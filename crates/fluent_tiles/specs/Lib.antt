@@ -1,5 +1,0 @@
-pub mod Starts
-pub mod Kept
-pub mod Ahead
-pub mod TileView
-pub mod Walks

@@ -1,0 +1,12 @@
+use Rattle.std.proofs.Common.{ℕ, bit_or, refl, arith}
+use Rattle.std.proofs.lemmas.Simd.{zip2_splat, zip2_of_maps}
+use Rattle.fluent_tokens.specs.Bytes.{is_stop}
+use Rattle.fluent_tokens.proofs.Masked.{masked}
+use Rattle.fluent_tokens.proofs.lanes.stops.Goals as goal
+
+pub returns : goal.returns
+returns c =
+    let v = c.args.bytes in
+    let long = c.fits-bytes.0 in
+    let braces = zip2_of_maps bit_or _ _ v (zip2_splat {Y = ℕ} _ v 16 123 long) (zip2_splat {Y = ℕ} _ v 16 125 long) in
+    masked _ is_stop v _ (omega arith) c.fits-bytes.1 (zip2_of_maps bit_or _ _ v braces (zip2_splat {Y = ℕ} _ v 16 10 long)) refl

@@ -1,3 +1,0 @@
-pub mod Bytes
-pub mod Counted
-pub mod Swept

@@ -1,0 +1,175 @@
+-- What some words ask for, by computing.
+use Rattle.std.proofs.Common.{◌≡◌, [], ◌∷◌, true, false, Some, None, refl, codes}
+use Rattle.clap.specs.declared.error.kind.ErrorKind.TheVariants.{ArgumentConflict, DisplayHelp, InvalidValue, MissingRequiredArgument, MissingSubcommand, UnknownArgument}
+use Rattle.clap.proofs.OnLiterals.{clap_on_literals}
+use Rattle.ftl_arguments.specs.Linting.{github, json, text}
+use Rattle.ftl_arguments.specs.Meaning.{AskForHelpAlone, AskForVersionAlone, check, clean, command_of, faults_of, format, join, lint, run, tidy}
+
+no_words : faults_of [] ≡ MissingSubcommand ∷ []
+unfolding clap_on_literals
+no_words = refl
+
+no_file : faults_of (codes "run" ∷ codes "--overriding" ∷ []) ≡ MissingRequiredArgument ∷ []
+unfolding clap_on_literals
+no_file = refl
+
+an_unknown_option : faults_of (codes "run" ∷ codes "-x" ∷ codes "a" ∷ []) ≡ UnknownArgument ∷ []
+unfolding clap_on_literals
+an_unknown_option = refl
+
+an_option_twice : faults_of (codes "run" ∷ codes "--no-isolating" ∷ codes "--no-isolating" ∷ codes "a" ∷ []) ≡ ArgumentConflict ∷ []
+unfolding clap_on_literals
+an_option_twice = refl
+
+two_to_clean : faults_of (codes "clean" ∷ codes "a" ∷ codes "b" ∷ []) ≡ UnknownArgument ∷ []
+unfolding clap_on_literals
+two_to_clean = refl
+
+help : AskForHelpAlone (codes "join" ∷ codes "--help" ∷ [])
+unfolding clap_on_literals
+help = refl
+
+the_version : AskForVersionAlone (codes "--version" ∷ [])
+unfolding clap_on_literals
+the_version = refl
+
+the_version_by_a_letter : AskForVersionAlone (codes "-V" ∷ [])
+unfolding clap_on_literals
+the_version_by_a_letter = refl
+
+help_before_the_version : faults_of (codes "--help" ∷ codes "--version" ∷ []) ≡ DisplayHelp ∷ []
+unfolding clap_on_literals
+help_before_the_version = refl
+
+a_version_of_run : faults_of (codes "run" ∷ codes "--version" ∷ codes "a" ∷ []) ≡ UnknownArgument ∷ []
+unfolding clap_on_literals
+a_version_of_run = refl
+
+two_files : command_of (codes "run" ∷ codes "a" ∷ codes "b-" ∷ [])
+    ≡ Some (run (record { isolating = true; overriding = false; locale = None; files = codes "a" ∷ codes "b-" ∷ [] }))
+unfolding clap_on_literals
+two_files = refl
+
+options_between_files : command_of (codes "run" ∷ codes "a" ∷ codes "--no-isolating" ∷ codes "--overriding" ∷ codes "b" ∷ [])
+    ≡ Some (run (record { isolating = false; overriding = true; locale = None; files = codes "a" ∷ codes "b" ∷ [] }))
+unfolding clap_on_literals
+options_between_files = refl
+
+a_locale : command_of (codes "run" ∷ codes "--locale" ∷ codes "pl_PL.UTF-8" ∷ codes "a" ∷ [])
+    ≡ Some (run (record { isolating = true; overriding = false; locale = Some (codes "pl_PL.UTF-8"); files = codes "a" ∷ [] }))
+unfolding clap_on_literals
+a_locale = refl
+
+a_locale_behind_its_sign : command_of (codes "run" ∷ codes "a" ∷ codes "--locale=pl" ∷ [])
+    ≡ Some (run (record { isolating = true; overriding = false; locale = Some (codes "pl"); files = codes "a" ∷ [] }))
+unfolding clap_on_literals
+a_locale_behind_its_sign = refl
+
+no_locale : faults_of (codes "run" ∷ codes "a" ∷ codes "--locale" ∷ []) ≡ InvalidValue ∷ []
+unfolding clap_on_literals
+no_locale = refl
+
+two_locales : faults_of (codes "run" ∷ codes "--locale" ∷ codes "pl" ∷ codes "--locale" ∷ codes "cs" ∷ codes "a" ∷ []) ≡ ArgumentConflict ∷ []
+unfolding clap_on_literals
+two_locales = refl
+
+a_locale_to_clean : faults_of (codes "clean" ∷ codes "--locale" ∷ codes "pl" ∷ codes "a" ∷ []) ≡ UnknownArgument ∷ []
+unfolding clap_on_literals
+a_locale_to_clean = refl
+
+files_behind_two_hyphens : command_of (codes "check" ∷ codes "--" ∷ codes "-a" ∷ codes "--b" ∷ []) ≡ Some (check (codes "-a" ∷ codes "--b" ∷ []))
+unfolding clap_on_literals
+files_behind_two_hyphens = refl
+
+one_to_clean : command_of (codes "clean" ∷ codes "a" ∷ []) ≡ Some (tidy (clean (codes "a")))
+unfolding clap_on_literals
+one_to_clean = refl
+
+two_to_join : command_of (codes "join" ∷ codes "a" ∷ codes "b" ∷ []) ≡ Some (tidy (join (codes "a" ∷ codes "b" ∷ [])))
+unfolding clap_on_literals
+two_to_join = refl
+
+one_message : command_of (codes "format" ∷ codes "login.title" ∷ codes "a" ∷ codes "--argument" ∷ codes "n=-1" ∷ codes "b" ∷ codes "--argument=n=x=y" ∷ [])
+    ≡ Some (format (record {
+      isolating = true;
+      overriding = false;
+      locale = None;
+      request = record { id = codes "login"; attribute = Some (codes "title"); arguments = (codes "n", codes "-1") ∷ (codes "n", codes "x=y") ∷ [] };
+      files = codes "a" ∷ codes "b" ∷ [];
+    }))
+unfolding clap_on_literals
+one_message = refl
+
+a_message_with_options : command_of (codes "format" ∷ codes "--overriding" ∷ codes "hi" ∷ codes "--locale" ∷ codes "pl" ∷ codes "--no-isolating" ∷ codes "a" ∷ [])
+    ≡ Some (format (record {
+      isolating = false;
+      overriding = true;
+      locale = Some (codes "pl");
+      request = record { id = codes "hi"; attribute = None; arguments = [] };
+      files = codes "a" ∷ [];
+    }))
+unfolding clap_on_literals
+a_message_with_options = refl
+
+no_value : command_of (codes "format" ∷ codes "hi" ∷ codes "a" ∷ codes "--argument" ∷ codes "name" ∷ []) ≡ None
+unfolding clap_on_literals
+no_value = refl
+
+no_file_to_format : faults_of (codes "format" ∷ codes "hi" ∷ []) ≡ MissingRequiredArgument ∷ []
+unfolding clap_on_literals
+no_file_to_format = refl
+
+a_lint : command_of (codes "lint" ∷ codes "a" ∷ [])
+    ≡ Some (lint (record { references = []; functions = []; locale = None; notes = false; strict = false; format = text; files = codes "a" ∷ [] }))
+unfolding clap_on_literals
+a_lint = refl
+
+a_lint_with_options : command_of (codes "lint" ∷ codes "--reference" ∷ codes "r1" ∷ codes "a" ∷ codes "--notes" ∷ codes "--function=F" ∷ codes "--reference=r2" ∷ codes "--strict" ∷ codes "--locale" ∷ codes "pl_PL.UTF-8" ∷ codes "--function" ∷ codes "G" ∷ codes "--format" ∷ codes "json" ∷ codes "b" ∷ [])
+    ≡ Some (lint (record {
+      references = codes "r1" ∷ codes "r2" ∷ [];
+      functions = codes "F" ∷ codes "G" ∷ [];
+      locale = Some (codes "pl_PL.UTF-8");
+      notes = true;
+      strict = true;
+      format = json;
+      files = codes "a" ∷ codes "b" ∷ [];
+    }))
+unfolding clap_on_literals
+a_lint_with_options = refl
+
+lint_after_two_hyphens : command_of (codes "lint" ∷ codes "--format=github" ∷ codes "--" ∷ codes "-a" ∷ codes "--notes" ∷ [])
+    ≡ Some (lint (record { references = []; functions = []; locale = None; notes = false; strict = false; format = github; files = codes "-a" ∷ codes "--notes" ∷ [] }))
+unfolding clap_on_literals
+lint_after_two_hyphens = refl
+
+no_such_format : command_of (codes "lint" ∷ codes "--format" ∷ codes "xml" ∷ codes "a" ∷ []) ≡ None
+unfolding clap_on_literals
+no_such_format = refl
+
+a_format_in_capitals : command_of (codes "lint" ∷ codes "--format=JSON" ∷ codes "a" ∷ []) ≡ None
+unfolding clap_on_literals
+a_format_in_capitals = refl
+
+two_formats : faults_of (codes "lint" ∷ codes "--format=json" ∷ codes "--format=line" ∷ codes "a" ∷ []) ≡ ArgumentConflict ∷ []
+unfolding clap_on_literals
+two_formats = refl
+
+a_reference_alone : faults_of (codes "lint" ∷ codes "--reference" ∷ codes "a" ∷ []) ≡ MissingRequiredArgument ∷ []
+unfolding clap_on_literals
+a_reference_alone = refl
+
+no_reference : faults_of (codes "lint" ∷ codes "a" ∷ codes "--reference" ∷ []) ≡ InvalidValue ∷ []
+unfolding clap_on_literals
+no_reference = refl
+
+notes_twice : faults_of (codes "lint" ∷ codes "--notes" ∷ codes "--notes" ∷ codes "a" ∷ []) ≡ ArgumentConflict ∷ []
+unfolding clap_on_literals
+notes_twice = refl
+
+notes_of_check : faults_of (codes "check" ∷ codes "--notes" ∷ codes "a" ∷ []) ≡ UnknownArgument ∷ []
+unfolding clap_on_literals
+notes_of_check = refl
+
+help_of_lint : AskForHelpAlone (codes "lint" ∷ codes "--help" ∷ [])
+unfolding clap_on_literals
+help_of_lint = refl

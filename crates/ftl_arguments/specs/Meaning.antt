@@ -1,0 +1,139 @@
+-- What words ask for, by what `clap` makes of them.
+use Rattle.std.specs.Prelude.{◌≡◌, ◌⊎◌, Bool, not, if◌then◌else◌, List, [], ◌∷◌, Option, Some, None, map, option_map, option_and_then, codes}
+use Rattle.std.specs.Str.{bytes_eq}
+use denote.Ref.{Bor}
+use Rattle.clap.specs.Words.{Kinds, IsAmong, Row, Text, fault_of, first_of, subcommand_of}
+use Rattle.clap.specs.declared.error.kind.ErrorKind.TheVariants.{DisplayHelp, DisplayVersion}
+use Rattle.fluent_serve.specs.Requests.{Request, request_of_parts}
+use Rattle.ftl_arguments.specs.Commands.{program_app}
+use Rattle.ftl_arguments.specs.Found.{is_given, values_in, locale_in, file_in, files_in}
+use Rattle.ftl_arguments.specs.Linting.{Lint, lint_in}
+
+-- answer the request lines of standard input, from the sources in these files
+pub record Run : Type 0 where
+  pub isolating : Bool
+  pub overriding : Bool
+  -- the tag of the locale whose plural rules choose variants, if one is given
+  pub locale : Option Text
+  pub files : List Text
+
+-- write the text of the message that is asked for, from the sources in these files
+pub record Format : Type 0 where
+  pub isolating : Bool
+  pub overriding : Bool
+  pub locale : Option Text
+  pub request : Request Text
+  pub files : List Text
+
+-- write what a file's source is tidied into, or what several are joined into; or its JSON tree, or the text of one
+pub data Tidy : Type 0 where
+  clean : Text → Tidy
+  normalize : Text → Tidy
+  join : List Text → Tidy
+  export : Text → Tidy
+  import : Text → Tidy
+
+-- what the words ask for
+pub data Asked : Type 0 where
+  run : Run → Asked
+  format : Format → Asked
+  check : List Text → Asked
+  lint : Lint → Asked
+  tidy : Tidy → Asked
+
+-- ---- what was found for a command
+
+-- the values of `--argument`
+abbrev pub arguments_in : List Row → List Text
+arguments_in rows = values_in (codes "argument") rows
+
+abbrev pub id_in : List Row → Option Text
+id_in rows = first_of (codes "ID") rows
+
+-- The message that is asked for, and its attribute after a dot, with the arguments; without an equals sign there is no argument, and
+-- then nothing is asked for. It is read as the parts of a request line are.
+abbrev pub request_in : List Row → Option (Request Text)
+request_in rows = option_and_then (λ id. request_of_parts (λ s. s) (id ∷ arguments_in rows)) (id_in rows)
+
+abbrev pub run_in : List Row → Run
+run_in rows = record {
+  isolating = not (is_given (codes "no-isolating") rows);
+  overriding = is_given (codes "overriding") rows;
+  locale = locale_in rows;
+  files = files_in rows;
+}
+
+-- with what else was found
+abbrev pub format_with : List Row → Request Text → Format
+format_with rows request = record {
+  isolating = not (is_given (codes "no-isolating") rows);
+  overriding = is_given (codes "overriding") rows;
+  locale = locale_in rows;
+  request = request;
+  files = files_in rows;
+}
+
+abbrev pub format_in : List Row → Option Format
+format_in rows = option_map (format_with rows) (request_in rows)
+
+-- a command on one file
+abbrev pub on_file : (Text → Tidy) → List Row → Option Asked
+on_file command rows = option_map (λ file. tidy (command file)) (file_in rows)
+
+-- a command that tidies, by its name, with what was found for it
+abbrev pub tidying_by : Text × List Row → Option Asked
+tidying_by found =
+    if bytes_eq found.0 (codes "clean") then on_file clean found.1
+    else if bytes_eq found.0 (codes "normalize") then on_file normalize found.1
+    else if bytes_eq found.0 (codes "join") then Some (tidy (join (files_in found.1)))
+    else if bytes_eq found.0 (codes "export") then on_file export found.1
+    else if bytes_eq found.0 (codes "import") then on_file import found.1
+    else None
+
+-- any command
+abbrev pub asked_by : Text × List Row → Option Asked
+asked_by found =
+    if bytes_eq found.0 (codes "run") then Some (run (run_in found.1))
+    else if bytes_eq found.0 (codes "format") then option_map format (format_in found.1)
+    else if bytes_eq found.0 (codes "check") then Some (check (files_in found.1))
+    else if bytes_eq found.0 (codes "lint") then option_map lint (lint_in found.1)
+    else tidying_by found
+
+abbrev pub asked_of : Option (Text × List Row) → Option Asked
+asked_of None = None
+asked_of (Some found) = asked_by found
+
+-- ---- words
+
+-- what is wrong with the words, as `clap` has it: a request for help or for the version is a fault too
+abbrev pub faults_of : List Text → Kinds
+faults_of words = fault_of program_app words
+
+abbrev pub without_faults : Kinds → Option Asked → Option Asked
+without_faults [] asked = asked
+without_faults (k ∷ ks) asked = None
+
+-- what the words ask for, if nothing is wrong with them
+abbrev pub command_of : List Text → Option Asked
+command_of words = without_faults (faults_of words) (asked_of (subcommand_of program_app words))
+
+abbrev pub AskForHelp : List Text → Type 0
+AskForHelp words = IsAmong DisplayHelp (faults_of words)
+
+-- nothing but a request for help
+abbrev pub AskForHelpAlone : List Text → Type 0
+AskForHelpAlone words = faults_of words ≡ DisplayHelp ∷ []
+
+abbrev pub AskForVersion : List Text → Type 0
+AskForVersion words = IsAmong DisplayVersion (faults_of words)
+
+-- nothing but a request for the version
+abbrev pub AskForVersionAlone : List Text → Type 0
+AskForVersionAlone words = faults_of words ≡ DisplayVersion ∷ []
+
+-- a request for one of the two texts, of help or of the version
+abbrev pub AskForText : List Text → Type 0
+AskForText words = AskForHelp words ⊎ AskForVersion words
+
+abbrev pub texts : List (Bor Text) → List Text
+texts words = map (λ w. w.now) words

@@ -1,0 +1,24 @@
+//! The text that says why command-line arguments aren't a command.
+
+ghost use Rattle.std.specs.Prelude.{Some};
+ghost use Rattle.ftl_arguments.specs.ErrorTexts.{words_text};
+
+use crate::reading::WordsError;
+use std::error::Error;
+use std::fmt;
+
+/// The text of help, or of the version, is the one that was asked for.
+impl fmt::Display for WordsError {
+    ghost output = { λ error. Some (words_text error) };
+
+    fn fmt<W: fmt::Write>(&self, f: &mut fmt::Formatter<W>) -> fmt::Result {
+        f.write_str(match self {
+            WordsError::Memory => "out of memory",
+            WordsError::Bad => "bad command line",
+            WordsError::Help(text) => text.as_str(),
+            WordsError::Version(text) => text.as_str(),
+        })
+    }
+}
+
+impl Error for WordsError {}

@@ -1,0 +1,298 @@
+//! The program and its commands, as `clap` knows them.
+ghost use Rattle.std.specs.Prelude.{◌≡◌, ◌∷◌, [], false, codes, IfOk};
+ghost use Rattle.clap.specs.Words.{app_of, rule_of, with_subcommand};
+ghost use Rattle.ftl_arguments.specs.Commands.{IsShaped, IsLocal, shaped, with_command};
+ghost use Rattle.ftl_arguments.specs.Commands.{flag_rule, option_rule, each_rule, default_rule};
+ghost use Rattle.ftl_arguments.specs.Commands.{id_rule, file_rule, files_rule};
+ghost use Rattle.ftl_arguments.specs.Commands.{bare_program, program_app, asking_rules, flagged_rules, format_shape, run_shape};
+ghost use Rattle.ftl_arguments.specs.Commands.{known_rules, lint_shape, linting_rules, with_reports, with_tidying};
+
+use crate::version::VERSION;
+use clap::{Arg, ArgAction, Command};
+use std::alloc::{AllocError, Global};
+
+/// The program with all its commands.
+pub(crate) fn program<'a>(alloc: Global) -> Result<Command<'a>, AllocError>
+    ensures { IfOk result (λ program. app_of program ≡ program_app) }
+{
+    let run = run(alloc)?;
+    let program = bare_program(alloc)?.subcommand(run)?;
+    let program = with_format(alloc, program)?;
+    let program = with_reports(alloc, program)?;
+    with_tidying(alloc, program)
+}
+
+/// The program with the commands that report on sources, too.
+fn with_reports<'a>(alloc: Global, program: Command<'a>) -> Result<Command<'a>, AllocError>
+    ensures { IfOk result (λ more. app_of more ≡ with_reports (app_of program.entry)) }
+{
+    let program = with_files(
+        alloc,
+        program,
+        "check",
+        "Reports the syntax errors of sources, and each entry whose id was taken",
+    )?;
+    with_lint(alloc, program)
+}
+
+/// The program with the commands that tidy sources, too.
+fn with_tidying<'a>(alloc: Global, program: Command<'a>) -> Result<Command<'a>, AllocError>
+    ensures { IfOk result (λ more. app_of more ≡ with_tidying (app_of program.entry)) }
+{
+    let program = with_file(
+        alloc,
+        program,
+        "clean",
+        "Takes out the stretches that can't be read",
+    )?;
+    let program = with_file(
+        alloc,
+        program,
+        "normalize",
+        "Writes a source as the serializer writes it",
+    )?;
+    let program = with_files(
+        alloc,
+        program,
+        "join",
+        "Cleans sources and puts them together",
+    )?;
+    let program = with_file(
+        alloc,
+        program,
+        "export",
+        "Writes the JSON tree of the cleaned source",
+    )?;
+    with_file(alloc, program, "import", "Writes the text of a JSON tree")
+}
+
+/// The program before its commands.
+fn bare_program<'a>(alloc: Global) -> Result<Command<'a>, AllocError>
+    ensures { IfOk result (λ program. app_of program ≡ bare_program) }
+{
+    Command::new(alloc, "ftl")
+        .about("Answers, checks and tidies Fluent sources")
+        .version(VERSION)
+        .no_binary_name(true)
+        .subcommand_required(true)
+        .bin_name("ftl")
+}
+
+/// The program with one more command, on one file.
+fn with_file<'a>(
+    alloc: Global,
+    program: Command<'a>,
+    name: &'a str,
+    about: &'a str,
+) -> Result<Command<'a>, AllocError>
+    ensures { IfOk result (λ more.
+        app_of more ≡ with_command (app_of program.entry) name.entry.now file_rule) }
+{
+    program.subcommand(command_of(alloc, name, about, file(alloc))?)
+}
+
+/// The program with one more command, on one or more files.
+fn with_files<'a>(
+    alloc: Global,
+    program: Command<'a>,
+    name: &'a str,
+    about: &'a str,
+) -> Result<Command<'a>, AllocError>
+    ensures { IfOk result (λ more.
+        app_of more ≡ with_command (app_of program.entry) name.entry.now files_rule) }
+{
+    program.subcommand(command_of(alloc, name, about, files(alloc))?)
+}
+
+/// A command with this argument alone.
+fn command_of<'a>(
+    alloc: Global,
+    name: &'a str,
+    about: &'a str,
+    argument: Arg<'a>,
+) -> Result<Command<'a>, AllocError>
+    ensures { argument.entry.global ≡ false
+        → IfOk result (IsShaped (shaped name.entry.now (rule_of argument.entry ∷ []))) }
+{
+    Command::new(alloc, name).about(about).arg(argument)
+}
+
+/// The command `run`.
+fn run<'a>(alloc: Global) -> Result<Command<'a>, AllocError>
+    ensures { IfOk result (IsShaped run_shape) }
+{
+    asking(alloc, "run", "Answers the request lines of standard input")?.arg(files(alloc))
+}
+
+/// The program with the command `format`, too.
+fn with_format<'a>(alloc: Global, program: Command<'a>) -> Result<Command<'a>, AllocError>
+    ensures { IfOk result (λ more. app_of more ≡ with_subcommand (app_of program.entry) format_shape) }
+{
+    program.subcommand(format(alloc)?)
+}
+
+/// The command `format`.
+fn format<'a>(alloc: Global) -> Result<Command<'a>, AllocError>
+    ensures { IfOk result (IsShaped format_shape) }
+{
+    let argument = each(alloc, "argument", "NAME=VALUE").help(
+        "Sets an argument, once for each: a number if the value is one, or else a text",
+    );
+    asking(alloc, "format", "Writes the text of one message")?
+        .after_help("Example: ftl format welcome hello.ftl --argument name=Jane")
+        .arg(argument)?
+        .arg(id(alloc))?
+        .arg(files(alloc))
+}
+
+/// The program with the command `lint`, too.
+fn with_lint<'a>(alloc: Global, program: Command<'a>) -> Result<Command<'a>, AllocError>
+    ensures { IfOk result (λ more. app_of more ≡ with_subcommand (app_of program.entry) lint_shape) }
+{
+    program.subcommand(lint(alloc)?)
+}
+
+/// The command `lint`.
+fn lint<'a>(alloc: Global) -> Result<Command<'a>, AllocError>
+    ensures { IfOk result (IsShaped lint_shape) }
+{
+    reporting(alloc)?
+        .after_help("Example: ftl lint --reference en.ftl de.ftl")
+        .arg(files(alloc))
+}
+
+/// The command `lint` without its files.
+fn reporting<'a>(alloc: Global) -> Result<Command<'a>, AllocError>
+    ensures { IfOk result (IsShaped (shaped (codes "lint") linting_rules)) }
+{
+    comparing(alloc)?
+        .arg(flag(alloc, "notes").help("Reports notes, too"))?
+        .arg(flag(alloc, "strict").help("Lets warnings count for the status"))?
+        .arg(report_format(alloc))
+}
+
+/// The same with the options alone that say what is known of the program and of the language.
+fn comparing<'a>(alloc: Global) -> Result<Command<'a>, AllocError>
+    ensures { IfOk result (IsShaped (shaped (codes "lint") known_rules)) }
+{
+    Command::new(alloc, "lint")
+        .about("Reports the mistakes of sources that are one catalog, each with its line")
+        .arg(reference(alloc))?
+        .arg(function(alloc))?
+        .arg(categories(alloc))
+}
+
+/// A command of this name with the options that say how texts are made.
+fn asking<'a>(alloc: Global, name: &'a str, about: &'a str) -> Result<Command<'a>, AllocError>
+    ensures { IfOk result (IsShaped (shaped name.entry.now asking_rules)) }
+{
+    let locale = option(alloc, "locale", "TAG").help(
+        "Chooses variants by the plural rules of this locale, and not by those of English",
+    );
+    flagged(alloc, name, about)?.arg(locale)
+}
+
+/// The same with the flags alone.
+fn flagged<'a>(alloc: Global, name: &'a str, about: &'a str) -> Result<Command<'a>, AllocError>
+    ensures { IfOk result (IsShaped (shaped name.entry.now flagged_rules)) }
+{
+    let isolating = flag(alloc, "no-isolating").help(
+        "Sets no marks around the values of placeables",
+    );
+    let overriding = flag(alloc, "overriding").help(
+        "Lets the last entry of an id count, and not the first",
+    );
+    Command::new(alloc, name)
+        .about(about)
+        .arg(isolating)?
+        .arg(overriding)
+}
+
+/// A flag of this name.
+fn flag<'a>(alloc: Global, name: &'a str) -> Arg<'a>
+    ensures { IsLocal (flag_rule name.entry.now) result }
+{
+    Arg::new(alloc, name).long(name).action(ArgAction::SetTrue)
+}
+
+/// An option of this name with one value, which help calls so.
+fn option<'a>(alloc: Global, name: &'a str, value: &'a str) -> Arg<'a>
+    ensures { IsLocal (option_rule name.entry.now) result }
+{
+    Arg::new(alloc, name).long(name).value_name(value)
+}
+
+/// An option of this name with one value, which it has if it isn't given, too.
+fn option_or<'a>(alloc: Global, name: &'a str, value: &'a str, default: &'a str) -> Arg<'a>
+    ensures { IsLocal (default_rule name.entry.now default.entry.now) result }
+{
+    option(alloc, name, value).default_value(default)
+}
+
+/// An option of this name that may come more than once, with one value each, which help calls so.
+fn each<'a>(alloc: Global, name: &'a str, value: &'a str) -> Arg<'a>
+    ensures { IsLocal (each_rule name.entry.now) result }
+{
+    option(alloc, name, value).action(ArgAction::Append)
+}
+
+/// A file that `lint` compares with.
+fn reference<'a>(alloc: Global) -> Arg<'a>
+    ensures { IsLocal (each_rule (codes "reference")) result }
+{
+    each(alloc, "reference", "FILE").help(
+        "Compares with a file that is translated from, once for each",
+    )
+}
+
+/// A function that `lint` knows.
+fn function<'a>(alloc: Global) -> Arg<'a>
+    ensures { IsLocal (each_rule (codes "function")) result }
+{
+    each(alloc, "function", "NAME").help("Names a function that your program adds, once for each")
+}
+
+/// The locale whose plural categories `lint` looks for.
+fn categories<'a>(alloc: Global) -> Arg<'a>
+    ensures { IsLocal (option_rule (codes "locale")) result }
+{
+    option(alloc, "locale", "TAG").help(
+        "Reports plural categories of this locale that have no variant",
+    )
+}
+
+/// How `lint` writes findings.
+fn report_format<'a>(alloc: Global) -> Arg<'a>
+    ensures { IsLocal (default_rule (codes "format") (codes "text")) result }
+{
+    option_or(alloc, "format", "FORMAT", "text").help(
+        "Writes findings as text, line, json or github",
+    )
+}
+
+/// The message that a command is on.
+fn id<'a>(alloc: Global) -> Arg<'a>
+    ensures { IsLocal id_rule result }
+{
+    Arg::new(alloc, "ID").required(true).help(
+        "The id of the message, as `login`, or one with an attribute, as `login.title`",
+    )
+}
+
+/// The file that a command is on.
+fn file<'a>(alloc: Global) -> Arg<'a>
+    ensures { IsLocal file_rule result }
+{
+    Arg::new(alloc, "FILE")
+        .required(true)
+        .help("The file to read")
+}
+
+/// The files that a command is on.
+fn files<'a>(alloc: Global) -> Arg<'a>
+    ensures { IsLocal files_rule result }
+{
+    file(alloc)
+        .num_args(1..)
+        .help("The files to read, in their order")
+}

@@ -1,2 +1,0 @@
-pub mod LintReport
-pub mod LintView

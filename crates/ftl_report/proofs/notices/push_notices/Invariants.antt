@@ -1,8 +1,0 @@
-use Rattle.std.proofs.Common.{string_bytes}
-use Rattle.fluent_errors.specs.View.{bundle_view}
-use Rattle.ftl_report.specs.Report.{notice_line}
-use Rattle.ftl_report.proofs.Lines.{LinesSoFar}
-use Rattle.ftl_report.proofs.notices.push_notices.Given as goal
-
-abbrev pub invariant-loop-notice : goal.invariant-loop-notice
-invariant-loop-notice l = LinesSoFar (λ n. notice_line (bundle_view n)) l.notices (string_bytes l.fn.text) l.notice-index (string_bytes l.text)

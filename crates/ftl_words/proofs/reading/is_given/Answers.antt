@@ -1,7 +1,0 @@
-use Rattle.std.proofs.Common.{◌∙◌, refl}
-use Rattle.clap.specs.Words.{found_of}
-use Rattle.ftl_words.proofs.Found.{given}
-use Rattle.ftl_words.proofs.reading.is_given.Goals as goal
-
-pub returns : goal.returns
-returns c = c.eq.ensures ∙ given _ (λ a b. refl) c.get_str.result _ refl (found_of c.args.found.now) c.args.name.now c.get_str.ensures

@@ -1,0 +1,16 @@
+pub mod Unions
+pub mod Rounds
+pub mod NamesAdded
+pub mod NodeReferences
+pub mod References
+pub mod Reaching
+pub mod Lacking
+pub mod SameMessages
+pub mod ComparedParts
+pub mod FirstPlacesAdded
+pub mod PlacesAdded
+pub mod FindingsAdded
+pub mod Placed
+pub mod Lists
+pub mod MissingParts
+pub mod Called

@@ -1,0 +1,28 @@
+-- The findings of a message, by the reference.
+use Rattle.std.specs.Prelude.{◌≡◌, ℕ, List, map, Option, Vec}
+use Rattle.std.specs.Global.{Global}
+use Rattle.std.specs.Option.{option_to_list}
+use Rattle.lint_finding.specs.View.{finding_view}
+use Rattle.lint_finding.specs.declared.records.Finding.{Finding}
+use Rattle.lint_findings.specs.Comparison.{Difference}
+use Rattle.lint_findings.specs.ComparisonFindings as c
+use Rattle.lint_findings.specs.Tiles.{entry_tile}
+use Rattle.fluent_grammar.specs.Tree as t
+use Rattle.fluent_grammar.specs.Words.{Text}
+use Rattle.fluent_meaning.specs.Ids.{Ids}
+
+-- the findings of an entry of a catalog with this reference, in this source
+abbrev pub AreFoundIn : {F : Type 0} → Ids F → Ids F → Text → t.Entry → Text → Vec Finding Global → Type 0
+AreFoundIn ids reference source e s found = map finding_view found.items ≡ c.message_findings ids reference source e s
+
+-- of an entry of the reference, at any offset
+abbrev pub IsMissingIn : {F : Type 0} → Ids F → Text → t.Entry → Text → Option Finding → Type 0
+IsMissingIn ids source e s found = (at : ℕ) → map finding_view (option_to_list found) ≡ c.missing_findings ids source (entry_tile at s e)
+
+-- ---- of differences of the message of an id at the front of a text
+
+abbrev pub IsFindingOf : Text → Text → Text → Difference → Finding → Type 0
+IsFindingOf source id s d found = finding_view found ≡ c.difference_finding source id s d
+
+abbrev pub AreFindingsOf : Text → Text → Text → List Difference → Vec Finding Global → Type 0
+AreFindingsOf source id s ds found = map finding_view found.items ≡ map (c.difference_finding source id s) ds

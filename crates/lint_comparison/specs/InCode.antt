@@ -1,0 +1,65 @@
+-- The same of what the code has: ids, messages, their values and attributes.
+use Rattle.std.specs.Prelude.{◌≡◌, Bool, ◌&&◌, List, map, Option, option_map, Vec}
+use Rattle.std.specs.Global.{Global}
+use Rattle.std.specs.Str.{bytes_eq}
+use denote.Ref.{Bor}
+use Rattle.fluent_ast.specs.Borrowed.{attribute_of, elements_of, message_of}
+use Rattle.fluent_ast.specs.declared.Attribute.{Attribute}
+use Rattle.fluent_ast.specs.declared.Message.{Message}
+use Rattle.fluent_ast.specs.declared.Pattern.{Pattern}
+use Rattle.lint_finding.specs.DifferenceView.{difference_view}
+use Rattle.lint_finding.specs.declared.difference.Difference.{Difference}
+use Rattle.lint_entries.specs.AttributePlaces.{value_elements}
+use Rattle.lint_finding.specs.declared.records.Finding.{Finding}
+use Rattle.lint_findings.specs.Comparison as c
+use Rattle.lint_findings.specs.Occurrences.{pattern_read}
+use Rattle.fluent_grammar.specs.Refusal.{got}
+use Rattle.fluent_grammar.specs.Tree as t
+use Rattle.fluent_grammar.specs.Words.{Text}
+use Rattle.fluent_ids.specs.IdsView.{ids_view}
+use Rattle.fluent_ids.specs.declared.ids.FluentIds.{FluentIds}
+use Rattle.fluent_meaning.specs.Same.{same_elements}
+use Rattle.lint_comparison.specs.Compared.{untranslated_if, variable_differences}
+use Rattle.lint_comparison.specs.Found.{AreFindingsOf, AreFoundIn}
+
+-- ---- by ids of a catalog and of its reference
+
+module _ (F : Type 0) (ids : FluentIds F) where
+  -- the variables that the message of an id is shown with
+  abbrev pub variables_by : Text → List Text
+  variables_by id = c.variables_of (ids_view F ids) id
+
+module _ (F : Type 0) (ids reference : FluentIds F) where
+  abbrev pub differences_by : Text → List c.Difference
+  differences_by id = c.differences (ids_view F ids) (ids_view F reference) id
+
+  -- of the message of an id in both
+  abbrev pub message_differences_by : Text → Message (Bor Text) → Message (Bor Text) → List c.Difference
+  message_differences_by id message other = c.message_differences (ids_view F ids) (ids_view F reference) id (message_of message) (message_of other)
+
+  abbrev pub variable_differences_by : Text → List c.Difference
+  variable_differences_by id = variable_differences (variables_by F ids id) (variables_by F reference id)
+
+  -- the findings of a message at the front of a text, in this source
+  abbrev pub AreFoundOf : Text → Message (Bor Text) → Text → Vec Finding Global → Type 0
+  AreFoundOf source message text found = AreFoundIn (ids_view F ids) (ids_view F reference) source (t.message (message_of message)) text found
+
+-- ---- of messages
+
+abbrev pub values_difference : Option (Pattern (Bor Text)) → Option (Pattern (Bor Text)) → List c.Difference
+values_difference value other = c.value_difference (option_map elements_of value) (option_map elements_of other)
+
+abbrev pub untranslated_by : Message (Bor Text) → Message (Bor Text) → List c.Difference
+untranslated_by message other = untranslated_if (c.same_message (message_of message) (message_of other))
+
+abbrev pub same_attribute : Attribute (Bor Text) → Attribute (Bor Text) → Bool
+same_attribute attribute other =
+    bytes_eq (attribute_of other).id (attribute_of attribute).id && same_elements (attribute_of attribute).value (attribute_of other).value
+
+-- the findings of these differences of a message
+abbrev pub AreFindingsBy : Text → Message (Bor Text) → Text → List Difference → Vec Finding Global → Type 0
+AreFindingsBy source message text differences found = AreFindingsOf source (message_of message).id text (map difference_view differences) found
+
+-- what is left of a text after the value at its front
+abbrev pub LeavesOfValue : Option (Pattern (Bor Text)) → Text → Text → Type 0
+LeavesOfValue value text rest = pattern_read text ≡ got (value_elements (option_map elements_of value)) rest

@@ -1,0 +1,155 @@
+//! How a message differs from that of the reference.
+#![tactic(auto)]
+
+ghost use Rattle.std.specs.Prelude.{◌≡◌, IfOk, OnOk, map};
+ghost use Rattle.fluent_ast.specs.Borrowed.{message_of};
+ghost use Rattle.lint_comparison.specs.Compared.{AddsVariablesBy, own_differences};
+ghost use Rattle.lint_comparison.specs.InCode.{differences_by, message_differences_by, untranslated_by, values_difference, variable_differences_by, variables_by};
+ghost use Rattle.lint_comparison.specs.Lacks.{Adds};
+ghost use Rattle.lint_finding.specs.DifferenceView.{difference_view};
+
+use crate::attributes::push_lacking_attributes;
+use crate::lack::Lack;
+use crate::names::Names;
+use crate::same::is_same_message;
+use crate::variables::variables_of;
+use fluent_ast::{Message, Pattern};
+use fluent_ids::{FluentIds, GetEntry};
+use lint_finding::Difference;
+use std::alloc::{AllocError, Global};
+
+/// How an id of a catalog differs from that of the reference.
+///
+/// # Errors
+/// [`AllocError`] if memory runs out; nothing is left behind.
+pub fn differences<'i, 's: 'i, F>(
+    alloc: Global,
+    ids: &FluentIds<'_, 's, F>,
+    reference: &FluentIds<'_, 's, F>,
+    id: &'i str,
+) -> Result<Vec<Difference<'i>>, AllocError>
+    ensures { IfOk result (λ found. map difference_view found.items
+        ≡ differences_by F ids.now reference.now id.now) }
+{
+    let mut found = Vec::new(alloc);
+    push_differences(alloc, ids, reference, id, &mut found)?;
+    Ok(found)
+}
+
+/// Adds them.
+fn push_differences<'i, 's: 'i, F>(
+    alloc: Global,
+    ids: &FluentIds<'_, 's, F>,
+    reference: &FluentIds<'_, 's, F>,
+    id: &'i str,
+    found: &mut Vec<Difference<'i>>,
+) -> Result<(), AllocError>
+    ensures { OnOk result (Adds found.old found.new (differences_by F ids.now reference.now id.now)) }
+{
+    let message = ids.get_entry_message(id);
+    let other = reference.get_entry_message(id);
+    match (message, other) {
+        (None, None) => Ok(()),
+        (None, Some(_)) => Ok(found.push(Difference::MissingMessage)?),
+        (Some(_), None) => Ok(found.push(Difference::ObsoleteMessage)?),
+        (Some(message), Some(other)) => {
+            push_of_both(alloc, ids, reference, id, message, other, found)
+        }
+    }
+}
+
+/// Adds those of a message that both have.
+fn push_of_both<'i, 's: 'i, F>(
+    alloc: Global,
+    ids: &FluentIds<'_, 's, F>,
+    reference: &FluentIds<'_, 's, F>,
+    id: &'i str,
+    message: &Message<&'s str>,
+    other: &Message<&'s str>,
+    found: &mut Vec<Difference<'i>>,
+) -> Result<(), AllocError>
+    ensures { OnOk result (Adds found.old found.new
+        (message_differences_by F ids.now reference.now id.now message.now other.now)) }
+{
+    push_of_message(alloc, message, other, found)?;
+    push_variables(alloc, ids, reference, id, found)?;
+    push_untranslated(message, other, found)
+}
+
+/// Adds those of the value and of the attributes.
+fn push_of_message<'i, 's: 'i>(
+    alloc: Global,
+    message: &Message<&'s str>,
+    other: &Message<&'s str>,
+    found: &mut Vec<Difference<'i>>,
+) -> Result<(), AllocError>
+    ensures { OnOk result (Adds found.old found.new
+        (own_differences (message_of message.now) (message_of other.now))) }
+{
+    push_value(&message.value, &other.value, found)?;
+    let attributes = &message.attributes;
+    let others = &other.attributes;
+    push_lacking_attributes(alloc, Lack::MissingAttribute, others, attributes, found)?;
+    push_lacking_attributes(alloc, Lack::ObsoleteAttribute, attributes, others, found)
+}
+
+fn push_value(
+    value: &Option<Pattern<&str>>,
+    other: &Option<Pattern<&str>>,
+    found: &mut Vec<Difference<'_>>,
+) -> Result<(), AllocError>
+    ensures { OnOk result (Adds found.old found.new (values_difference value.now other.now)) }
+{
+    match (value, other) {
+        (None, Some(_)) => Ok(found.push(Difference::MissingValue)?),
+        (Some(_), None) => Ok(found.push(Difference::ObsoleteValue)?),
+        (None, None) => Ok(()),
+        (Some(_), Some(_)) => Ok(()),
+    }
+}
+
+/// Adds those of the variables.
+fn push_variables<'i, 's: 'i, F>(
+    alloc: Global,
+    ids: &FluentIds<'_, 's, F>,
+    reference: &FluentIds<'_, 's, F>,
+    id: &'i str,
+    found: &mut Vec<Difference<'i>>,
+) -> Result<(), AllocError>
+    ensures { OnOk result (Adds found.old found.new
+        (variable_differences_by F ids.now reference.now id.now)) }
+{
+    let variables = variables_of(alloc, ids, id)?;
+    push_variables_by(alloc, &variables, reference, id, found)
+}
+
+/// Adds those of these variables of the message of the catalog.
+fn push_variables_by<'i, 's: 'i, F>(
+    alloc: Global,
+    variables: &Names<'i>,
+    reference: &FluentIds<'_, 's, F>,
+    id: &'i str,
+    found: &mut Vec<Difference<'i>>,
+) -> Result<(), AllocError>
+    ensures { OnOk result (AddsVariablesBy variables.now (variables_by F reference.now id.now)
+        found.old found.new) }
+{
+    let others = variables_of(alloc, reference, id)?;
+    Lack::UnknownVariable.push_new(&variables.list, &others, found)?;
+    Lack::UnusedVariable.push_new(&others.list, variables, found)
+}
+
+/// Adds that a message has the text of the other, if it has.
+fn push_untranslated<'s>(
+    message: &Message<&'s str>,
+    other: &Message<&'s str>,
+    found: &mut Vec<Difference<'_>>,
+) -> Result<(), AllocError>
+    ensures { OnOk result (Adds found.old found.new
+        (untranslated_by message.now other.now)) }
+{
+    if is_same_message(message, other) {
+        found.push(Difference::Untranslated)?;
+    }
+    Ok(())
+}

@@ -1,0 +1,122 @@
+//! The findings of messages.
+#![tactic(auto)]
+
+ghost use Rattle.std.specs.Prelude.{◌≡◌, ◌-◌, IfOk, length, map};
+ghost use Rattle.fluent_ast.specs.Borrowed.{message_of};
+ghost use Rattle.lint_comparison.specs.Found.{AreFindingsOf, IsFindingOf, IsMissingIn};
+ghost use Rattle.lint_comparison.specs.InCode.{AreFindingsBy, AreFoundOf};
+ghost use Rattle.lint_comparison.specs.HasPlaces.{HasPlacesOf};
+ghost use Rattle.lint_finding.specs.DifferenceView.{difference_view};
+ghost use Rattle.lint_entries.specs.AttributePlaces.{IsEntryAt};
+ghost use Rattle.lint_findings.specs.Occurrences.{entry_places};
+ghost use Rattle.fluent_grammar.specs.Tree as t;
+ghost use Rattle.fluent_ids.specs.IdsView.{ids_view};
+
+use crate::compared::differences;
+use crate::places::Places;
+use fluent_ast::Message;
+use fluent_ids::FluentIds;
+use lint_finding::{Difference, Finding};
+use std::alloc::{AllocError, Global};
+
+/// How a message of a catalog differs from that of the reference, as findings. The text is the source from the message
+/// on.
+///
+/// # Errors
+/// [`AllocError`] if memory runs out; nothing is left behind.
+pub fn message_findings<'s, F>(
+    alloc: Global,
+    ids: &FluentIds<'_, 's, F>,
+    reference: &FluentIds<'_, 's, F>,
+    source: &str,
+    message: &Message<&str>,
+    text: &[u8],
+) -> Result<Vec<Finding>, AllocError>
+    requires { IsEntryAt (t.message (message_of message.now)) text.now }
+    ensures { IfOk result (AreFoundOf F ids.now reference.now source.now message.now text.now) }
+{
+    let found = differences(alloc, ids, reference, message.id.name)?;
+    if found.is_empty() {
+        return Ok(Vec::new(alloc));
+    }
+    findings_of(alloc, source, message, text, &found)
+}
+
+/// The finding that a catalog has no message of the id of this one, which is of the reference, if it has none. The text
+/// is the source from the message on.
+///
+/// # Errors
+/// [`AllocError`] if memory runs out; nothing is left behind.
+pub fn missing_finding<F>(
+    alloc: Global,
+    ids: &FluentIds<'_, '_, F>,
+    source: &str,
+    message: &Message<&str>,
+    text: &[u8],
+) -> Result<Option<Finding>, AllocError>
+    ensures { IfOk result (IsMissingIn (ids_view F ids.now) source.now
+        (t.message (message_of message.now)) text.now) }
+{
+    let id = message.id.name;
+    if ids.has_message(id) {
+        return Ok(None);
+    }
+    let offset = offset_of(source, text);
+    Ok(Some(Difference::MissingMessage.finding(alloc, id, offset)?))
+}
+
+/// The findings of these differences of a message.
+fn findings_of(
+    alloc: Global,
+    source: &str,
+    message: &Message<&str>,
+    text: &[u8],
+    differences: &[Difference<'_>],
+) -> Result<Vec<Finding>, AllocError>
+    requires { IsEntryAt (t.message (message_of message.now)) text.now }
+    ensures { IfOk result (AreFindingsBy source.now message.now text.now differences.now) }
+{
+    let places = Places::of_message(alloc, message, text)?;
+    findings_at(alloc, source, message.id.name, text, &places, differences)
+}
+
+/// The same, by the places of the message.
+fn findings_at<'t>(
+    alloc: Global,
+    source: &str,
+    id: &str,
+    text: &'t [u8],
+    places: &Places<'_, 't>,
+    differences: &[Difference<'_>],
+) -> Result<Vec<Finding>, AllocError>
+    requires { HasPlacesOf places.now (entry_places text.now) }
+    ensures { IfOk result (AreFindingsOf source.now id.now text.now (map difference_view differences.now)) }
+{
+    let mut findings = Vec::with_capacity(alloc, differences.len())?;
+    for difference in differences {
+        findings.push(finding_at(alloc, source, id, text, places, difference)?)?;
+    }
+    Ok(findings)
+}
+
+fn finding_at<'t>(
+    alloc: Global,
+    source: &str,
+    id: &str,
+    text: &'t [u8],
+    places: &Places<'_, 't>,
+    difference: &Difference<'_>,
+) -> Result<Finding, AllocError>
+    requires { HasPlacesOf places.now (entry_places text.now) }
+    ensures { IfOk result (IsFindingOf source.now id.now text.now (difference_view difference.now)) }
+{
+    let place = places.place_of(difference, text);
+    difference.finding(alloc, id, offset_of(source, place))
+}
+
+/// How many bytes of a source stand before a text.
+fn offset_of(source: &str, text: &[u8]) -> usize
+    ensures { result ≡ length source.now - length text.now }
+{
+    source.len().saturating_sub(text.len())
+}

@@ -1,0 +1,31 @@
+//! What is found of a catalog by its reference, the catalog that it translates.
+//!
+//! [`Reference`] compares the messages of the catalog with those of the reference, [`missing_findings`] lists the
+//! messages of the reference that the catalog hasn't, and [`called_functions`] the functions that the reference calls:
+//! these are known. [`message_findings`] lists how a message differs from that of the reference with the same id, each
+//! difference with its place. `Findings.antt` and `ComparisonFindings.antt` of `lint_findings` say which findings they are
+//! and how they go together; `docs/reference/lint.md` has the rules in plain words.
+//!
+//! The variables of a message are its own and those of all messages that it refers to, at any remove. Each of these is
+//! looked up once, so a message takes time linear in what it refers to. Only a message that differs is gone through for
+//! places.
+#![tactic(auto)]
+
+mod attributes;
+mod compared;
+mod findings;
+mod first_places;
+mod functions;
+mod lack;
+mod missing;
+mod names;
+mod places;
+mod reached;
+mod reference;
+mod same;
+mod variables;
+
+pub use findings::{message_findings, missing_finding};
+pub use functions::called_functions;
+pub use missing::missing_findings;
+pub use reference::Reference;

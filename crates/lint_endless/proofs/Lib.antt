@@ -1,0 +1,17 @@
+pub mod Inserted
+pub mod Held
+pub mod Owned
+pub mod Catalog
+pub mod Declared
+pub mod Circles
+pub mod NodeReferences
+pub mod Whole
+pub mod Edges
+pub mod Marked
+pub mod DeclaredIn
+pub mod StateChanges
+pub mod Way
+pub mod Circle
+pub mod Work
+pub mod Fetched
+pub mod Settled

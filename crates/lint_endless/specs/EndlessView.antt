@@ -1,0 +1,8 @@
+-- What the patterns of a catalog whose references never end are to contracts.
+use Rattle.fluent_ids.specs.IdsView.{ids_view}
+use Rattle.fluent_meaning.specs.Ids.{Ids}
+use Rattle.lint_endless.specs.declared.endless.EndlessPatterns.{EndlessPatterns}
+
+-- the ids of the catalog
+abbrev pub ids_of : (F : Type 0) → EndlessPatterns F → Ids F
+ids_of F endless = ids_view F endless.ids.now

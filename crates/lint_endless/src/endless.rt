@@ -1,0 +1,93 @@
+//! The patterns of a catalog whose references never end.
+#![tactic(auto)]
+
+ghost use Rattle.std.specs.Prelude.{◌≡◌, IfOk, length};
+ghost use Rattle.lint_endless.specs.Holding.{patterns_of};
+ghost use Rattle.lint_endless.specs.Marks.{AreBelow, SayWhatIsEntered};
+ghost use Rattle.lint_endless.specs.ReferenceGraph.{graph_by};
+ghost use Rattle.lint_endless.specs.Graph.{AreEndless, IsGraph};
+ghost use Rattle.fluent_ids.specs.IdsView.{ids_view};
+
+use crate::entered::{EnteredPattern, EnteredPatterns};
+use crate::graph::reference_graph;
+use crate::indices::Indices;
+use crate::lead_into_circles;
+use fluent_ast::{InlineExpression, Resource};
+use fluent_ids::FluentIds;
+use lint_entries::Endless;
+use std::alloc::{AllocError, Global};
+
+/// The patterns of a catalog whose references never end, by the names of the references that enter them.
+///
+/// ```no_run
+/// let endless = EndlessPatterns::new(alloc, &ids, &trees)?;
+/// if endless.is_entered(reference) {
+///     // the references of the pattern that it enters go round in a circle
+/// }
+/// ```
+#[derive(Drop)]
+pub struct EndlessPatterns<'c, 'r, 's, F> {
+    /// Only contracts speak of them.
+    ids: &'c FluentIds<'r, 's, F>,
+    /// What the ids refer to.
+    _trees: &'r [Resource<&'s str>],
+    indices: Indices<'s>,
+    /// At the index of each pattern, whether its references never end.
+    marks: Vec<bool>,
+    ghost below: { AreBelow (length marks.items) indices },
+    ghost right: { SayWhatIsEntered (ids_view F ids.now) indices marks.items },
+}
+
+impl<'c, 'r, 's, F> EndlessPatterns<'c, 'r, 's, F> {
+    ghost use Rattle.lint_endless.specs.Catalog.{AreDeclaredIn};
+    ghost use Rattle.lint_endless.specs.EndlessView.{ids_of};
+
+    /// Those of the catalog that has these ids, whose messages and terms are declared in these trees. It takes time in
+    /// proportion to the trees.
+    ///
+    /// # Errors
+    /// [`AllocError`] if memory runs out; nothing is left behind.
+    pub fn new(
+        alloc: Global,
+        ids: &'c FluentIds<'r, 's, F>,
+        trees: &'r [Resource<&'s str>],
+    ) -> Result<Self, AllocError>
+        requires { AreDeclaredIn (ids_view F ids.now) trees.now }
+        ensures { IfOk result (λ endless. ids_of F endless ≡ ids_view F ids.now) }
+    {
+        let entered = EnteredPatterns::of(alloc, ids, trees)?;
+        let marks = endless_marks(alloc, &entered.indices, &entered.patterns)?;
+        let EnteredPatterns { indices, .. } = entered;
+        Ok(EndlessPatterns {
+            ids,
+            _trees: trees,
+            indices,
+            marks,
+        })
+    }
+}
+
+impl<F> Endless<F> for EndlessPatterns<'_, '_, '_, F> {
+    ghost ids = { λ endless. ids_view F endless.ids.now };
+
+    fn is_entered(&self, reference: &InlineExpression<&str>) -> bool {
+        match self.indices.of_reference(reference) {
+            Some(index) => self.marks[index],
+            None => false,
+        }
+    }
+}
+
+/// For each pattern of a list with these indices, whether it leads into a circle of references.
+fn endless_marks(
+    alloc: Global,
+    indices: &Indices<'_>,
+    patterns: &[EnteredPattern<'_, '_>],
+) -> Result<Vec<bool>, AllocError>
+    requires { IsGraph (graph_by indices.now (patterns_of patterns.now)) }
+    ensures { IfOk result (λ marks.
+        AreEndless (graph_by indices.now (patterns_of patterns.now)) marks.items) }
+{
+    let graph = reference_graph(alloc, indices, patterns)?;
+    lead_into_circles(alloc, &graph)
+}

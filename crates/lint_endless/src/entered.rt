@@ -1,0 +1,153 @@
+//! The patterns of a catalog that references enter.
+#![tactic(auto)]
+
+ghost use Rattle.std.specs.Prelude.{◌≡◌, [], ◌∷◌, IfOk, OnOk};
+ghost use Rattle.fluent_ast.specs.Borrowed.{entries_of};
+ghost use Rattle.lint_endless.specs.Catalog.{ids_of_trees};
+ghost use Rattle.lint_endless.specs.Holding.{GetsEntryOf, GetsIds, GetsPatternOf, HasPatternsOf, declared_ids};
+ghost use Rattle.fluent_ids.specs.IdsView.{ids_view};
+
+use crate::indices::Indices;
+use fluent_ast::{Attribute, Pattern, Resource};
+use fluent_ids::{Entry, FluentIds};
+use lint_entries::declared_id;
+use std::alloc::{AllocError, Global};
+use std::collections::HashSet;
+
+/// A pattern that references enter.
+#[derive(Clone, Copy)]
+pub struct EnteredPattern<'r, 's> {
+    pub pattern: &'r Pattern<&'s str>,
+}
+
+/// The patterns of a catalog that references enter, each once, and the index of each.
+///
+/// ```no_run
+/// let mut entered = EnteredPatterns::new(alloc, &ids);
+/// entered.add_resource(&ids, &resource)?;
+/// if let Some(index) = entered.indices.get(true, "brand", None) {
+///     let pattern = entered.patterns[index].pattern; // the value of the term `-brand`
+/// }
+/// ```
+#[derive(Drop)]
+pub struct EnteredPatterns<'r, 's> {
+    /// The index of each in the list, by the names of the references that enter it.
+    pub indices: Indices<'s>,
+    /// The list.
+    pub patterns: Vec<EnteredPattern<'r, 's>>,
+    /// The ids that were looked at.
+    seen: HashSet<&'s str>,
+}
+
+impl<'r, 's> EnteredPatterns<'r, 's> {
+    /// No patterns, of a catalog with these ids. It doesn't allocate.
+    pub fn new<F>(alloc: Global, ids: &FluentIds<'r, 's, F>) -> Self
+        ensures { HasPatternsOf (ids_view F ids.now) result [] }
+    {
+        EnteredPatterns {
+            indices: Indices::new(alloc),
+            patterns: Vec::new(alloc),
+            seen: HashSet::new(alloc),
+        }
+    }
+
+    /// The patterns of a catalog with these ids that references to the ids of trees enter.
+    ///
+    /// # Errors
+    /// [`AllocError`] if memory runs out; nothing is left behind.
+    pub fn of<F>(
+        alloc: Global,
+        ids: &FluentIds<'r, 's, F>,
+        trees: &[Resource<&'s str>],
+    ) -> Result<Self, AllocError>
+        ensures { IfOk result (λ entered.
+            HasPatternsOf (ids_view F ids.now) entered (ids_of_trees trees.now)) }
+    {
+        let mut entered = EnteredPatterns::new(alloc, ids);
+        for tree in trees {
+            entered.add_resource(ids, tree)?;
+        }
+        Ok(entered)
+    }
+
+    /// Adds those that references to the ids of a resource enter, in a catalog with these ids. So all are there once
+    /// each resource of the catalog was added, in any order.
+    ///
+    /// # Errors
+    /// [`AllocError`] if memory runs out; some may be added then.
+    pub fn add_resource<F>(
+        &mut self,
+        ids: &FluentIds<'r, 's, F>,
+        resource: &Resource<&'s str>,
+    ) -> Result<(), AllocError>
+        ensures { OnOk result (GetsIds (ids_view F ids.now) self.old self.new
+            (declared_ids (entries_of resource.now))) }
+    {
+        for entry in &resource.body {
+            if let Some(id) = declared_id(entry) {
+                self.add(ids, id)?;
+            }
+        }
+        Ok(())
+    }
+
+    /// Adds those that references to an id enter.
+    fn add<F>(&mut self, ids: &FluentIds<'r, 's, F>, id: &'s str) -> Result<(), AllocError>
+        ensures { OnOk result (GetsIds (ids_view F ids.now) self.old self.new (id.now ∷ [])) }
+    {
+        if !self.seen.insert(id)? {
+            return Ok(());
+        }
+        match ids.get(id) {
+            Some(Entry::Message((_, message))) => {
+                self.add_entry(false, id, message.value.as_ref(), &message.attributes)
+            }
+            Some(Entry::Term((_, term))) => {
+                self.add_entry(true, id, Some(&term.value), &term.attributes)
+            }
+            Some(Entry::Function(_)) => Ok(()),
+            Some(Entry::Number) => Ok(()),
+            None => Ok(()),
+        }
+    }
+
+    /// Adds the patterns of an entry with this value and these attributes.
+    fn add_entry(
+        &mut self,
+        is_term: bool,
+        id: &'s str,
+        value: Option<&'r Pattern<&'s str>>,
+        attributes: &'r [Attribute<&'s str>],
+    ) -> Result<(), AllocError>
+        ensures patterns { OnOk result (GetsEntryOf self.old self.new is_term id.now value.entry
+            attributes.now) }
+        ensures seen { self.new.seen ≡ self.old.seen }
+    {
+        if let Some(value) = value {
+            self.add_pattern(is_term, id, None, value)?;
+        }
+        for attribute in attributes {
+            self.add_pattern(is_term, id, Some(attribute.id.name), &attribute.value)?;
+        }
+        Ok(())
+    }
+
+    /// Adds a pattern, if its names are new.
+    fn add_pattern(
+        &mut self,
+        is_term: bool,
+        id: &'s str,
+        attribute: Option<&'s str>,
+        pattern: &'r Pattern<&'s str>,
+    ) -> Result<(), AllocError>
+        ensures pattern { OnOk result (GetsPatternOf self.old self.new is_term id.now attribute.entry pattern.now) }
+        ensures seen { self.new.seen ≡ self.old.seen }
+    {
+        if self.indices.get(is_term, id, attribute).is_none() {
+            let index = self.patterns.len();
+            self.patterns.push(EnteredPattern { pattern })?;
+            self.indices.insert(is_term, id, attribute, index)?;
+        }
+        Ok(())
+    }
+}

@@ -1,0 +1,18 @@
+use Rattle.std.proofs.Common.{◌∙◌, ◌++◌, ap, map}
+use Rattle.lint_findings.specs.EntryFindings as e
+use Rattle.lint_finding.specs.View.{finding_view}
+use Rattle.lint_flaws.specs.FlawView.{flaw_view}
+use Rattle.fluent_ids.specs.IdsView.{ids_view}
+use Rattle.lint_nodes.specs.NodeView.{node_view}
+use Rattle.lint_entries.specs.Labels.{label_text}
+use Rattle.lint_entries.proofs.Pushed.{one_flaw, pushed}
+use Rattle.lint_entries.proofs.nodes.push_flaw.Goals as goal
+
+pub returns-in_ok-push : goal.returns-in_ok-push
+returns-in_ok-push g c = λ plurals es.
+    let ids = ids_view g.row.F.Denot c.args.ids.now in
+    let place = c.args.place.now in
+    let flaw = c.in-Some.flaw in
+    let made = e.flaw_finding ids plurals place.source.now es (label_text place.label) place.at.now in
+    pushed c.args.findings.now.items c.push.new.self.items c.in_ok-flaw_finding.field-0 (made (flaw_view flaw)) c.in_ok-push.ensures.items (c.in_ok-flaw_finding.ensures plurals es)
+    ∙ ap (λ l. map finding_view c.args.findings.now.items ++ map made l) (one_flaw c.node_flaw.result flaw (e.node_flaws ids (node_view c.args.node)) c.node_flaw.ensures c.in-Some.is)

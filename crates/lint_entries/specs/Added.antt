@@ -1,0 +1,61 @@
+-- What each call adds to the findings.
+use Rattle.std.specs.Prelude.{◌≡◌, List, [], map, Option, OnOk, Result, Vec, option_map}
+use Rattle.std.specs.Global.{Global}
+use denote.Ref.{Bor}
+use Rattle.fluent_ast.specs.Borrowed.{attributes_of, elements_of}
+use Rattle.fluent_ast.specs.declared.Attribute.{Attribute}
+use Rattle.fluent_ast.specs.declared.Pattern.{Pattern}
+use Rattle.lint_finding.specs.declared.records.Finding.{Finding}
+use Rattle.lint_findings.specs.Finding as f
+use Rattle.lint_findings.specs.Occurrences.{pattern_read}
+use Rattle.fluent_grammar.specs.Refusal.{got}
+use Rattle.fluent_grammar.specs.Tree.{Elements}
+use Rattle.fluent_grammar.specs.Words.{Text}
+use Rattle.fluent_ids.specs.declared.ids.FluentIds.{FluentIds}
+use Rattle.fluent_meaning.specs.Ids.{Ids}
+use Rattle.lint_nodes.specs.NodeView.{node_view}
+use Rattle.lint_nodes.specs.declared.nodes.Node.{Node}
+use Rattle.lint_nodes.specs.OccurrenceView.{occurrence_view}
+use Rattle.lint_nodes.specs.declared.occurrence.Occurrence.{Occurrence}
+use Rattle.fluent_plurals.specs.declared.plurals.LanguagePlurals.{LanguagePlurals}
+use Rattle.lint_entries.specs.AttributesFound.{attributes_found}
+use Rattle.lint_entries.specs.FirstEndless.{first_entered}
+use Rattle.lint_entries.specs.FoundAt.{endless_found, flaw_findings, node_found, nodes_of, occurrences_found, pattern_found, value_found}
+use Rattle.lint_entries.specs.Made.{Adds}
+use Rattle.lint_entries.specs.declared.catalog.Catalog.{Catalog}
+use Rattle.lint_entries.specs.declared.finding.Place.{Place}
+use Rattle.lint_entries.specs.declared.label.Label.{Label}
+
+-- a pattern is read at the front of a text, and leaves this rest
+abbrev pub LeavesAfter : Elements → Text → Text → Type 0
+LeavesAfter es s rest = pattern_read s ≡ got es rest
+
+-- the findings of a pattern with a name at this place, in the source from its first byte on
+abbrev pub AddsPattern : (F : Type 0) → Catalog F → Place → Text → Pattern (Bor Text) → Vec Finding Global → Vec Finding Global → Type 0
+AddsPattern F catalog name s pattern old new = Adds old new (pattern_found F catalog name s (elements_of pattern))
+
+-- those of a value, which may be none
+abbrev pub AddsValue : (F : Type 0) → Catalog F → Place → Text → Option (Pattern (Bor Text)) → Vec Finding Global → Vec Finding Global → Type 0
+AddsValue F catalog name s value old new = Adds old new (value_found F catalog name s (option_map elements_of value))
+
+-- those of the attributes of an entry at this place, in the source from the line of the first one on
+abbrev pub AddsAttributes : (F : Type 0) → Catalog F → Place → List (Attribute (Bor Text)) → Text → Vec Finding Global → Vec Finding Global → Type 0
+AddsAttributes F catalog entry attributes s old new = Adds old new (attributes_found F catalog entry [] (attributes_of attributes) s)
+
+-- the finding of a pattern with these occurrences and a name at this place, if its references never end
+abbrev pub endless_among : {F : Type 0} → Ids F → Place → List Occurrence → List f.Finding
+endless_among ids name occurrences = endless_found name (first_entered ids (nodes_of occurrences))
+
+-- those of a node at a place, in a pattern with these elements
+abbrev pub AddsNode : (F : Type 0) → Catalog F → Elements → Place → Node → Vec Finding Global → Vec Finding Global → Type 0
+AddsNode F catalog es place node old new = Adds old new (node_found F catalog es place (node_view node))
+
+-- If all went well: those of occurrences in a source, whatever pattern they are in.
+abbrev pub AddsOccurrences : (F : Type 0) {A E : Type 0} → Result A E → Catalog F → Text → Label → List Occurrence → Vec Finding Global → Vec Finding Global → Type 0
+AddsOccurrences F result catalog source label occurrences old new =
+    (es : Elements) → OnOk result (Adds old new (occurrences_found F catalog source label es (map occurrence_view occurrences)))
+
+-- If all went well: those of the flaws of a node at a place, whatever pattern it is in.
+abbrev pub AddsFlaws : (F : Type 0) {A E : Type 0} → Result A E → FluentIds F → Place → Node → Vec Finding Global → Vec Finding Global → Type 0
+AddsFlaws F result ids place node old new =
+    (plurals : Option LanguagePlurals) (es : Elements) → OnOk result (Adds old new (flaw_findings F ids plurals es place (node_view node)))

@@ -1,0 +1,105 @@
+//! How findings are made.
+#![tactic(auto)]
+
+ghost use Rattle.std.specs.Prelude.{◌≡◌, ◌-◌, IfOk, length, option_map, string_bytes};
+ghost use Rattle.lint_entries.specs.Made.{IsFlawFinding, made_of};
+ghost use Rattle.lint_finding.specs.View.{finding_view};
+ghost use Rattle.lint_flaws.specs.FlawView.{flaw_view};
+ghost use Rattle.lint_flaws.specs.HintText.{hint_text};
+ghost use Rattle.fluent_ids.specs.IdsView.{ids_view};
+ghost use Rattle.lint_entries.specs.Problems.{direction_text};
+
+use crate::label::Label;
+use crate::problem::{Direction, Problem};
+use fluent_ids::FluentIds;
+use lint_finding::Finding;
+use lint_flaws::{Flaw, Hint};
+use std::alloc::{AllocError, Global};
+
+/// A place in an entry or in one of its attributes: the source from there on.
+#[derive(Clone, Copy)]
+pub struct Place<'p, 't, 's> {
+    pub source: &'p str,
+    pub at: &'t [u8],
+    pub label: Label<'s>,
+}
+
+impl Place<'_, '_, '_> {
+    /// How many bytes of the source stand before the place.
+    fn offset(&self) -> usize
+        ensures { result ≡ length self.now.source.now - length self.now.at.now }
+    {
+        self.source.len().saturating_sub(self.at.len())
+    }
+}
+
+/// The finding of a flaw of a node.
+///
+/// # Errors
+/// [`AllocError`] if memory runs out; nothing is left behind.
+pub fn flaw_finding<'s, F>(
+    alloc: Global,
+    ids: &FluentIds<'_, 's, F>,
+    place: &Place<'_, '_, 's>,
+    flaw: Flaw<'_, 's>,
+) -> Result<Finding, AllocError>
+    ensures { IfOk result (IsFlawFinding (ids_view F ids.now) place.now (flaw_view flaw.entry)) }
+{
+    let entry = place.label.to_string(alloc)?;
+    let text = flaw.to_string(alloc)?;
+    let hint = hint_of(alloc, flaw.hint(ids))?;
+    Ok(Finding {
+        offset: place.offset(),
+        code: flaw.code(),
+        severity: flaw.severity(),
+        entry: Some(entry),
+        text,
+        hint,
+    })
+}
+
+fn hint_of(alloc: Global, hint: Option<Hint<'_>>) -> Result<Option<String>, AllocError>
+    ensures { IfOk result (λ made. option_map string_bytes made ≡ option_map hint_text hint.entry) }
+{
+    match hint {
+        Some(hint) => Ok(Some(hint.to_string(alloc)?)),
+        None => Ok(None),
+    }
+}
+
+/// The finding of any other problem.
+///
+/// # Errors
+/// [`AllocError`] if memory runs out; nothing is left behind.
+pub fn problem_finding(
+    alloc: Global,
+    place: &Place<'_, '_, '_>,
+    problem: Problem<'_>,
+) -> Result<Finding, AllocError>
+    ensures { IfOk result (λ made. finding_view made ≡ made_of place.now problem.entry) }
+{
+    let entry = place.label.to_string(alloc)?;
+    let text = problem.to_string(alloc)?;
+    let hint = direction_of(alloc, problem.hint())?;
+    Ok(Finding {
+        offset: place.offset(),
+        code: problem.code(),
+        severity: problem.severity(),
+        entry: Some(entry),
+        text,
+        hint,
+    })
+}
+
+fn direction_of(
+    alloc: Global,
+    direction: Option<Direction<'_>>,
+) -> Result<Option<String>, AllocError>
+    ensures { IfOk result (λ made. option_map string_bytes made
+        ≡ option_map direction_text direction.entry) }
+{
+    match direction {
+        Some(direction) => Ok(Some(direction.to_string(alloc)?)),
+        None => Ok(None),
+    }
+}

@@ -1,0 +1,108 @@
+//! The findings of nodes.
+#![tactic(auto)]
+
+ghost use Rattle.std.specs.Prelude.{◌≡◌, OnOk};
+ghost use Rattle.lint_entries.specs.Added.{AddsFlaws, AddsNode, AddsOccurrences};
+ghost use Rattle.lint_entries.specs.FoundAt.{category_findings, escape_findings};
+ghost use Rattle.lint_entries.specs.Made.{Adds};
+ghost use Rattle.fluent_grammar.specs.Tree.{Elements};
+ghost use Rattle.lint_nodes.specs.NodeView.{node_view};
+
+use crate::catalog::Catalog;
+use crate::finding::{Place, flaw_finding, problem_finding};
+use crate::label::Label;
+use crate::problem::Problem;
+use fluent_ids::FluentIds;
+use fluent_plurals::LanguagePlurals;
+use lint_finding::Finding;
+use lint_flaws::{node_categories, node_escapes, node_flaw};
+use lint_nodes::{Node, Occurrence};
+use std::alloc::{AllocError, Global};
+
+/// Adds the findings of occurrences in a source.
+///
+/// # Errors
+/// [`AllocError`] if memory runs out; `findings` then holds its old findings and some of these.
+pub fn push_occurrences<'s, F>(
+    alloc: Global,
+    catalog: &Catalog<'_, '_, 's, F>,
+    source: &str,
+    label: Label<'s>,
+    occurrences: &[Occurrence<'_, 's, '_>],
+    findings: &mut Vec<Finding>,
+) -> Result<(), AllocError>
+    ensures { AddsOccurrences F result catalog.now source.now label.entry occurrences.now
+        findings.old findings.new }
+{
+    for occurrence in occurrences {
+        let place = Place {
+            source,
+            at: occurrence.at,
+            label,
+        };
+        push_node(alloc, catalog, &place, occurrence.node, findings)?;
+    }
+    Ok(())
+}
+
+/// Adds the findings of a node at a place: its flaw, the plural categories that it lacks, and its invalid escapes.
+fn push_node<'s, F>(
+    alloc: Global,
+    catalog: &Catalog<'_, '_, 's, F>,
+    place: &Place<'_, '_, 's>,
+    node: Node<'_, 's>,
+    findings: &mut Vec<Finding>,
+) -> Result<(), AllocError>
+    ensures { (es : Elements) → OnOk result
+        (AddsNode F catalog.now es place.now node.entry findings.old findings.new) }
+{
+    push_flaw(alloc, catalog.ids, place, node, findings)?;
+    push_categories(alloc, catalog.plurals, place, node, findings)?;
+    push_escapes(alloc, place, node, findings)
+}
+
+fn push_flaw<'s, F>(
+    alloc: Global,
+    ids: &FluentIds<'_, 's, F>,
+    place: &Place<'_, '_, 's>,
+    node: Node<'_, 's>,
+    findings: &mut Vec<Finding>,
+) -> Result<(), AllocError>
+    ensures { AddsFlaws F result ids.now place.now node.entry findings.old findings.new }
+{
+    if let Some(flaw) = node_flaw(ids, node) {
+        findings.push(flaw_finding(alloc, ids, place, flaw)?)?;
+    }
+    Ok(())
+}
+
+fn push_categories(
+    alloc: Global,
+    plurals: Option<LanguagePlurals>,
+    place: &Place<'_, '_, '_>,
+    node: Node<'_, '_>,
+    findings: &mut Vec<Finding>,
+) -> Result<(), AllocError>
+    ensures { OnOk result (Adds findings.old findings.new (category_findings plurals place.now (node_view node.entry))) }
+{
+    let categories = node_categories(alloc, plurals, node)?;
+    for category in &categories {
+        findings.push(problem_finding(alloc, place, Problem::MissingCategory(*category))?)?;
+    }
+    Ok(())
+}
+
+fn push_escapes(
+    alloc: Global,
+    place: &Place<'_, '_, '_>,
+    node: Node<'_, '_>,
+    findings: &mut Vec<Finding>,
+) -> Result<(), AllocError>
+    ensures { OnOk result (Adds findings.old findings.new (escape_findings place.now (node_view node.entry))) }
+{
+    let escapes = node_escapes(alloc, node)?;
+    for escape in &escapes {
+        findings.push(problem_finding(alloc, place, Problem::InvalidEscape(*escape))?)?;
+    }
+    Ok(())
+}

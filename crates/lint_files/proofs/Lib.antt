@@ -1,0 +1,5 @@
+pub mod TilesFound
+pub mod EntryPushed
+pub mod TilesPushed
+pub mod JunkTiles
+pub mod Loops

@@ -1,0 +1,122 @@
+-- What each call adds.
+use Rattle.std.specs.Prelude.{◌≡◌, ◌-◌, Bool, List, [], ◌∷◌, ◌++◌, if◌then◌else◌, length, map, Vec}
+use Rattle.std.specs.Global.{Global}
+use Rattle.std.specs.Vec.Iter.{into_iter_items}
+use denote.Ref.{Bor}
+use Rattle.fluent_ast.specs.Borrowed.{entry_of}
+use Rattle.fluent_ast.specs.declared.Entry.{Entry}
+use Rattle.lint_files.specs.PartFindings.{declared_by, declared_by_parts, entry_findings_at, findings_of_parts}
+use Rattle.lint_files.specs.declared.cursor.Cursor.{Cursor}
+use Rattle.lint_files.specs.declared.entry.Placed.{Placed}
+use Rattle.lint_entries.specs.First.{AreFirst}
+use Rattle.lint_entries.specs.declared.declarations.Declarations.{Declarations}
+use Rattle.lint_entries.specs.AttributePlaces.{IsEntryAt, uncommented}
+use Rattle.lint_entries.specs.Made.{Adds}
+use Rattle.lint_finding.specs.View.{file_view, finding_view}
+use Rattle.lint_finding.specs.declared.records.File.{File}
+use Rattle.lint_finding.specs.declared.records.Finding.{Finding}
+use Rattle.lint_findings.specs.DuplicateIds.{Declaration}
+use Rattle.lint_findings.specs.EntryFindings.{entry_findings}
+use Rattle.lint_findings.specs.Finding as f
+use Rattle.lint_findings.specs.Findings.{Rules}
+use Rattle.fluent_grammar.specs.Tree as t
+use Rattle.fluent_grammar.specs.Words.{Text}
+use Rattle.lint_finding.specs.PlaceView.{IsPlaceIn}
+use Rattle.lint_entries.specs.Kept.{Part, entry_part}
+use Rattle.lint_entries.specs.TileView.{tile_view}
+use Rattle.lint_entries.specs.declared.tile.Tile.{Tile}
+
+-- ---- an entry
+
+-- without the comment above it
+abbrev pub bare_entry : Entry (Bor Text) → t.Entry
+bare_entry e = uncommented (entry_of e)
+
+-- The entry is read at its place.
+pub record IsPlaced (placed : Placed) : Type 0 where
+  pub place : IsPlaceIn placed.file.source.now placed.place
+  pub offset : placed.place.offset ≡ length placed.file.source.now - length placed.text.now
+  pub read : IsEntryAt (bare_entry placed.entry.now) placed.text.now
+
+-- as a part of its source
+abbrev pub placed_part : Placed → Part
+placed_part placed = entry_part placed.text.now (bare_entry placed.entry.now)
+
+-- The declarations of a part come after those that are known.
+abbrev pub Declares : Declarations → Declarations → File → Part → Type 0
+Declares old new file part = (before : List Declaration) → AreFirst old before → AreFirst new (before ++ declared_by (file_view file) part)
+
+abbrev pub DeclaresPlaced : Declarations → Declarations → Placed → Type 0
+DeclaresPlaced old new placed = Declares old new placed.file (placed_part placed)
+
+-- The findings of an entry are added, after the declarations that are known.
+abbrev pub AddsPlaced : Rules → Placed → Declarations → Vec Finding Global → Vec Finding Global → Type 0
+AddsPlaced rules placed known old new = (before : List Declaration) → AreFirst known before →
+    Adds old new (entry_findings_at rules (file_view placed.file) before placed.text.now (bare_entry placed.entry.now))
+
+abbrev pub own_findings : Rules → Placed → List f.Finding
+own_findings rules placed =
+    entry_findings rules.ids rules.plurals placed.file.source.now (bare_entry placed.entry.now) placed.text.now
+
+abbrev pub compared_findings : Rules → Placed → List f.Finding
+compared_findings rules placed = rules.compare placed.file.source.now (bare_entry placed.entry.now) placed.text.now
+
+abbrev pub AddsOwn : Rules → Placed → Vec Finding Global → Vec Finding Global → Type 0
+AddsOwn rules placed old new = Adds old new (own_findings rules placed)
+
+abbrev pub AddsComparison : Rules → Placed → Bool → Vec Finding Global → Vec Finding Global → Type 0
+AddsComparison rules placed is_new old new = Adds old new (if is_new then compared_findings rules placed else [])
+
+-- ---- a tile
+
+abbrev pub IsCursorIn : Cursor → Type 0
+IsCursorIn cursor = IsPlaceIn cursor.file.source.now cursor.place
+
+-- The cursor is where this is left of the source.
+pub record IsAt (cursor : Cursor) (text : Text) : Type 0 where
+  pub place : IsPlaceIn cursor.file.source.now cursor.place
+  pub offset : cursor.place.offset ≡ length cursor.file.source.now - length text
+
+pub record MovesTo (old new : Cursor) : Type 0 where
+  pub file : new.file ≡ old.file
+  pub syntax : new.syntax ≡ old.syntax
+
+-- the syntax findings that are left
+abbrev pub syntax_left : Cursor → List f.Finding
+syntax_left cursor = map finding_view (into_iter_items cursor.syntax)
+
+-- The first of the syntax findings is added, if there is one, and the others are left.
+pub record AddsSyntax (old new : Cursor) (before after : Vec Finding Global) : Type 0 where
+  pub file : new.file ≡ old.file
+  pub place : new.place ≡ old.place
+  pub one : (first : f.Finding) (others : List f.Finding) → syntax_left old ≡ first ∷ others →
+      (syntax_left new ≡ others) × Adds before after (first ∷ [])
+  pub none : syntax_left old ≡ [] → (syntax_left new ≡ []) × Adds before after []
+
+abbrev pub DeclaresTile : Declarations → Declarations → File → Tile → Type 0
+DeclaresTile old new file tile = Declares old new file (tile_view tile)
+
+-- what is found of parts from a cursor on
+abbrev pub found_from : Rules → Cursor → List Declaration → List Part → List f.Finding
+found_from rules cursor before ps = findings_of_parts rules (file_view cursor.file) before (syntax_left cursor) ps
+
+-- The findings of a tile are added: with those of the parts that are left they are those of all.
+abbrev pub AddsTile : Rules → Cursor → Cursor → Tile → Declarations → Vec Finding Global → Vec Finding Global → Type 0
+AddsTile rules old new tile known had has = (before : List Declaration) → AreFirst known before → (ps : List Part) →
+    map finding_view has.items ++ found_from rules new (before ++ declared_by (file_view old.file) (tile_view tile)) ps
+    ≡ map finding_view had.items ++ found_from rules old before (tile_view tile ∷ ps)
+
+-- ---- tiles
+
+abbrev pub DeclaresTiles : Declarations → Declarations → File → List Tile → Type 0
+DeclaresTiles old new file tiles = (before : List Declaration) → AreFirst old before →
+    AreFirst new (before ++ declared_by_parts (file_view file) (map tile_view tiles))
+
+abbrev pub AddsTiles : Rules → Cursor → List Tile → Declarations → Vec Finding Global → Vec Finding Global → Type 0
+AddsTiles rules start tiles known old new = (before : List Declaration) → AreFirst known before →
+    Adds old new (found_from rules start before (map tile_view tiles))
+
+-- these are the findings of a file with these tiles and syntax findings
+abbrev pub IsFoundAfter : Rules → Declarations → File → List Tile → Vec Finding Global → Vec Finding Global → Type 0
+IsFoundAfter rules known file tiles syntax found = (before : List Declaration) → AreFirst known before →
+    map finding_view found.items ≡ findings_of_parts rules (file_view file) before (map finding_view syntax.items) (map tile_view tiles)

@@ -1,0 +1,134 @@
+//! The findings of a file.
+#![tactic(auto)]
+
+ghost use Rattle.std.specs.Prelude.{◌≡◌, All, IfOk, OnOk, map};
+ghost use Rattle.lint_files.specs.Pushes.{AddsSyntax, AddsTile, AddsTiles, DeclaresTile, DeclaresTiles, IsAt, IsCursorIn, IsFoundAfter, MovesTo};
+ghost use Rattle.lint_files.specs.RulesView.{HasSameIds, rules_view};
+ghost use Rattle.lint_entries.specs.TileView.{IsReadPart, tile_view};
+
+use crate::comparison::Comparison;
+use crate::entry::{Placed, push_entry};
+use crate::rules::Rules;
+use lint_entries::{Declarations, Endless, Tile};
+use lint_finding::{File, Finding, Place};
+use std::alloc::{AllocError, Global};
+use std::vec;
+
+/// The findings of a file with these tiles and syntax findings, after the declarations of other files. Its own
+/// declarations are added to those.
+///
+/// # Errors
+/// [`AllocError`] if memory runs out; some declarations may be added then.
+pub fn file_findings<'s, E: Endless<()>, C: Comparison>(
+    alloc: Global,
+    rules: &Rules<'_, '_, 's, E, C>,
+    file: File<'s>,
+    tiles: &[Tile<'_, 's>],
+    syntax: Vec<Finding>,
+    declarations: &mut Declarations<'s>,
+) -> Result<Vec<Finding>, AllocError>
+    requires same_ids { HasSameIds E.ids rules.now }
+    requires read { All IsReadPart (map tile_view tiles.now) }
+    ensures declared { OnOk result (DeclaresTiles declarations.old declarations.new file.entry tiles.now) }
+    ensures findings { IfOk result (IsFoundAfter (rules_view C.compared rules.now) declarations.old file.entry
+        tiles.now syntax) }
+{
+    let mut findings = Vec::new(alloc);
+    let cursor = Cursor {
+        file,
+        place: Place::start(),
+        syntax: syntax.into_iter(),
+    };
+    push_tiles(alloc, rules, cursor, tiles, declarations, &mut findings)?;
+    Ok(findings)
+}
+
+/// A place in a file, and the syntax findings that are left there.
+#[derive(Drop)]
+struct Cursor<'s> {
+    file: File<'s>,
+    place: Place,
+    syntax: vec::IntoIter<Finding>,
+}
+
+impl<'s> Cursor<'s> {
+    /// Moves to where only this text is left of the source.
+    fn move_to(&mut self, text: &[u8])
+        requires { IsCursorIn self.old }
+        ensures place { IsAt self.new text.now }
+        ensures others { MovesTo self.old self.new }
+    {
+        let source = self.file.source;
+        let offset = source.len().saturating_sub(text.len());
+        self.place = self.place.moved_to(source, offset);
+    }
+
+    /// Adds the next syntax finding.
+    fn push_syntax(&mut self, findings: &mut Vec<Finding>) -> Result<(), AllocError>
+        ensures { OnOk result (AddsSyntax self.old self.new findings.old findings.new) }
+    {
+        match self.syntax.next() {
+            Some(finding) => {
+                findings.push(finding)?;
+                Ok(())
+            }
+            None => Ok(()),
+        }
+    }
+
+    /// Adds the findings of the next tile.
+    fn push_tile<E: Endless<()>, C: Comparison>(
+        &mut self,
+        alloc: Global,
+        rules: &Rules<'_, '_, 's, E, C>,
+        tile: &Tile<'_, 's>,
+        declarations: &mut Declarations<'s>,
+        findings: &mut Vec<Finding>,
+    ) -> Result<(), AllocError>
+        requires same_ids { HasSameIds E.ids rules.now }
+        requires read { IsReadPart (tile_view tile.now) }
+        requires place { IsCursorIn self.old }
+        ensures place { OnOk result (IsCursorIn self.new) }
+        ensures file { OnOk result (self.new.file ≡ self.old.file) }
+        ensures declared { OnOk result (DeclaresTile declarations.old declarations.new self.old.file tile.now) }
+        ensures findings { OnOk result (AddsTile (rules_view C.compared rules.now) self.old self.new tile.now
+            declarations.old findings.old findings.new) }
+    {
+        match tile {
+            Tile::Entry(entry, text) => {
+                self.move_to(text);
+                let placed = Placed {
+                    file: self.file,
+                    place: self.place,
+                    entry,
+                    text,
+                };
+                push_entry(alloc, rules, &placed, declarations, findings)
+            }
+            Tile::Junk => self.push_syntax(findings),
+        }
+    }
+}
+
+/// Adds the findings of tiles.
+fn push_tiles<'s, E: Endless<()>, C: Comparison>(
+    alloc: Global,
+    rules: &Rules<'_, '_, 's, E, C>,
+    start: Cursor<'s>,
+    tiles: &[Tile<'_, 's>],
+    declarations: &mut Declarations<'s>,
+    findings: &mut Vec<Finding>,
+) -> Result<(), AllocError>
+    requires same_ids { HasSameIds E.ids rules.now }
+    requires read { All IsReadPart (map tile_view tiles.now) }
+    requires place { IsCursorIn start }
+    ensures declared { OnOk result (DeclaresTiles declarations.old declarations.new start.entry.file tiles.now) }
+    ensures findings { OnOk result (AddsTiles (rules_view C.compared rules.now) start.entry tiles.now
+        declarations.old findings.old findings.new) }
+{
+    let mut cursor = start;
+    for tile in tiles {
+        cursor.push_tile(alloc, rules, tile, declarations, findings)?;
+    }
+    Ok(())
+}

@@ -1,0 +1,31 @@
+-- The plain differences that differences stand for.
+use Rattle.std.specs.Prelude.{ℕ, Some, None}
+use Rattle.fluent_grammar.specs.Words.{Text}
+use Rattle.lint_findings.specs.Comparison as c
+use Rattle.lint_findings.specs.ComparisonFindings.{difference_code, difference_severity, difference_text}
+use Rattle.lint_findings.specs.Finding.{Finding}
+use Rattle.lint_finding.specs.declared.difference.Difference.{Difference}
+use Rattle.lint_finding.specs.declared.difference.Difference.TheVariants as of
+
+abbrev pub difference_view : Difference → c.Difference
+difference_view of.MissingMessage = c.missing_message
+difference_view of.ObsoleteMessage = c.obsolete_message
+difference_view of.MissingValue = c.missing_value
+difference_view of.ObsoleteValue = c.obsolete_value
+difference_view (of.MissingAttribute name) = c.missing_attribute name.now
+difference_view (of.ObsoleteAttribute name) = c.obsolete_attribute name.now
+difference_view (of.UnknownVariable name) = c.unknown_variable name.now
+difference_view (of.UnusedVariable name) = c.unused_variable name.now
+difference_view of.Untranslated = c.untranslated
+
+-- The finding of a difference of the message with this id, at an offset. At that of `difference_at` it is
+-- `difference_finding`.
+abbrev pub finding_at : ℕ → Text → c.Difference → Finding
+finding_at offset id d = record {
+  offset = offset;
+  code = difference_code d;
+  severity = difference_severity d;
+  entry = Some id;
+  text = difference_text d;
+  hint = None;
+}

@@ -1,0 +1,39 @@
+-- What a place is to contracts.
+use Rattle.std.specs.Prelude.{◌≡◌, ℕ, ◌-◌, ◌<◌, ◌≤◌, ◌==◌, nat_lt, ◌&&◌, if◌then◌else◌, ◌++◌, length, drop, slice_index, codes, decimal}
+use Rattle.std.specs.Str.{chars}
+use Rattle.fluent_grammar.specs.Words.{Text, carriage_return, line_feed}
+use Rattle.lint_findings.specs.Position.{Position, position_of, line_from, to_line_end}
+use Rattle.lint_finding.specs.declared.places.Place.{Place}
+
+abbrev pub place_position : Place → Position
+place_position p = record { line = p.line; column = p.column }
+
+-- `LINE:COLUMN`
+abbrev pub place_text : Place → Text
+place_text p = decimal p.line ++ (codes ":" ++ decimal p.column)
+
+-- a line begins at this offset
+abbrev pub BeginsLine : Text → ℕ → Type 0
+BeginsLine source at = 0 < at → slice_index source (at - 1) ≡ line_feed
+
+-- Whether this is a place of the source: its line and column are those of its offset, and its line begins where it
+-- says.
+pub record IsPlaceIn (source : Text) (p : Place) : Type 0 where
+  pub within : p.offset ≤ length source
+  pub before : p.line_start ≤ p.offset
+  pub begins : BeginsLine source p.line_start
+  pub position : position_of source p.offset ≡ place_position p
+  pub line_position : position_of source p.line_start ≡ record { line = p.line; column = 1 }
+  pub line : line_from source p.offset source ≡ drop p.line_start source
+
+-- A place with this many characters before it on its line is after this front of the line. It has no more characters,
+-- unless the line ends there.
+pub record IsAfter (front rest : Text) (count : ℕ) : Type 0 where
+  pub not_less : length (chars front) ≤ count
+  pub same : 0 < length (chars (to_line_end rest)) → count ≡ length (chars front)
+
+-- An offset, or one less if it is within a line end.
+abbrev pub end_of_front : Text → ℕ → ℕ
+end_of_front source n =
+    if nat_lt 0 n && (nat_lt n (length source) && (slice_index source n == line_feed && slice_index source (n - 1) == carriage_return))
+    then n - 1 else n

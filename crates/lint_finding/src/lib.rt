@@ -1,0 +1,16 @@
+//! Findings: what is wrong in the files of a catalog, and where.
+//!
+//! A [`Finding`] stands in a [`File`]; [`FileFindings`] are those of one file. A [`Place`] is the line and the column of an
+//! offset. A [`Difference`] is how a message differs from that of the reference with the same id, in words.
+//!
+//! `crates/lint_findings` defines which findings a catalog has, and `specs/View.antt` says which of its records each type
+//! here stands for. `docs/reference/lint.md` lists the codes.
+#![tactic(auto)]
+
+mod difference;
+mod places;
+mod records;
+
+pub use difference::Difference;
+pub use places::Place;
+pub use records::{File, FileFindings, Finding, Severity};

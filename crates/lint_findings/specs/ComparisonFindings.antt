@@ -1,0 +1,95 @@
+-- The findings of a catalog with a reference.
+use Rattle.std.specs.Prelude.{◌-◌, Bool, false, if◌then◌else◌, List, [], ◌∷◌, ◌++◌, length, map, Option, Some, None, is_some, unwrap_or, codes}
+use Rattle.std.specs.Option.{option_map_or}
+use Rattle.std.specs.List.{flat_map}
+use Rattle.std.specs.Str.{bytes_eq}
+use Rattle.fluent_grammar.specs.Words.{Text, dot, dollar}
+use Rattle.fluent_grammar.specs.Tree as t
+use Rattle.fluent_meaning.specs.Ids.{Ids, find}
+use Rattle.lint_findings.specs.SyntaxErrors.{in_backticks}
+use Rattle.lint_findings.specs.Tiles.{Tile, entry_tile}
+use Rattle.lint_findings.specs.Comparison.{Difference, missing_message, obsolete_message, missing_value, obsolete_value, missing_attribute, obsolete_attribute, unknown_variable, unused_variable, untranslated, differences, as_message}
+use Rattle.lint_findings.specs.Nodes.{Node, expression}
+use Rattle.lint_findings.specs.Occurrences.{Occurrence, occurrences, PatternPlace, entry_places}
+use Rattle.lint_findings.specs.Finding.{Severity, error, warning, note, Finding}
+
+abbrev pub difference_code : Difference → Text
+difference_code missing_message = codes "missing-message"
+difference_code obsolete_message = codes "obsolete-message"
+difference_code missing_value = codes "missing-value"
+difference_code obsolete_value = codes "obsolete-value"
+difference_code (missing_attribute a) = codes "missing-attribute"
+difference_code (obsolete_attribute a) = codes "obsolete-attribute"
+difference_code (unknown_variable x) = codes "unknown-variable"
+difference_code (unused_variable x) = codes "unused-variable"
+difference_code untranslated = codes "untranslated"
+
+abbrev pub difference_severity : Difference → Severity
+difference_severity missing_message = warning
+difference_severity obsolete_message = note
+difference_severity missing_value = error
+difference_severity obsolete_value = warning
+difference_severity (missing_attribute a) = error
+difference_severity (obsolete_attribute a) = warning
+difference_severity (unknown_variable x) = error
+difference_severity (unused_variable x) = note
+difference_severity untranslated = note
+
+abbrev pub difference_text : Difference → Text
+difference_text missing_message = codes "the message has no translation"
+difference_text obsolete_message = codes "the reference has no such message"
+difference_text missing_value = codes "the value is missing, and the reference has one"
+difference_text obsolete_value = codes "the reference has no value"
+difference_text (missing_attribute a) = codes "the attribute " ++ (in_backticks (dot ∷ a) ++ codes " of the reference is missing")
+difference_text (obsolete_attribute a) = codes "the reference has no attribute " ++ in_backticks (dot ∷ a)
+difference_text (unknown_variable x) = codes "the reference has no variable " ++ in_backticks (dollar ∷ x)
+difference_text (unused_variable x) = codes "the variable " ++ (in_backticks (dollar ∷ x) ++ codes " of the reference isn't used")
+difference_text untranslated = codes "the text is the same as in the reference"
+
+-- ---- where a difference is
+
+-- the place of the first attribute of a name, from its dot on
+abbrev pub first_attribute_at : Text → List PatternPlace → Option Text
+first_attribute_at name [] = None
+first_attribute_at name (p ∷ ps) =
+    if option_map_or (bytes_eq name) p.attribute false then Some p.name_at else first_attribute_at name ps
+
+abbrev pub is_variable : Text → Node → Bool
+is_variable name (expression (t.variable_reference x)) = bytes_eq name x
+is_variable name _ = false
+
+abbrev pub first_variable_at : Text → List Occurrence → Option Text
+first_variable_at name [] = None
+first_variable_at name (o ∷ os) = if is_variable name o.node then Some o.at else first_variable_at name os
+
+-- At an attribute or a variable of the entry, if it has it, and otherwise at the entry.
+abbrev pub difference_at : Text → Difference → Text
+difference_at s (obsolete_attribute a) = unwrap_or (first_attribute_at a (entry_places s)) s
+difference_at s (unknown_variable x) =
+    unwrap_or (first_variable_at x (flat_map (λ (p : PatternPlace). occurrences p.pattern_at) (entry_places s))) s
+difference_at s _ = s
+
+-- the finding of a difference, of the message of this id at the front of an end of the source
+abbrev pub difference_finding : Text → Text → Text → Difference → Finding
+difference_finding source id s d = record {
+  offset = length source - length (difference_at s d);
+  code = difference_code d;
+  severity = difference_severity d;
+  entry = Some id;
+  text = difference_text d;
+  hint = None;
+}
+
+-- ---- of an entry
+
+-- the differences of a message of the catalog, in this source
+abbrev pub message_findings : {F : Type 0} → Ids F → Ids F → Text → t.Entry → Text → List Finding
+message_findings ids reference source (t.message m) s =
+    map (difference_finding source m.id s) (differences ids reference m.id)
+message_findings ids reference source _ s = []
+
+-- of a message of the reference, in this source: whether the catalog has none
+abbrev pub missing_findings : {F : Type 0} → Ids F → Text → Tile → List Finding
+missing_findings ids source (entry_tile at s (t.message m)) =
+    if is_some (as_message (find ids m.id)) then [] else difference_finding source m.id s missing_message ∷ []
+missing_findings ids source _ = []

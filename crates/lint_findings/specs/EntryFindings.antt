@@ -1,0 +1,131 @@
+-- The findings of an entry by itself, in a catalog.
+use Rattle.std.specs.Prelude.{ℕ, ◌-◌, if◌then◌else◌, List, [], ◌∷◌, ◌++◌, length, map, drop, Option, Some, None, is_some, codes}
+use Rattle.std.specs.Option.{option_to_list}
+use Rattle.std.specs.List.{list_any}
+use Rattle.fluent_grammar.specs.Words.{Text, is_among}
+use Rattle.fluent_grammar.specs.Tree as t
+use Rattle.fluent_grammar.specs.Tree.{Elements, Inline, Variants}
+use Rattle.fluent_number.specs.declared.plural.PluralCategory.{PluralCategory}
+use Rattle.fluent_value.specs.Matching.{category_text}
+use Rattle.fluent_errors.specs.Errors.{cyclic}
+use Rattle.fluent_meaning.specs.Ids.{Ids, find}
+use Rattle.fluent_meaning.specs.Choice.{first_default}
+use Rattle.fluent_meaning.specs.Fallback.{with_attribute}
+use Rattle.fluent_plurals.specs.declared.plurals.LanguagePlurals.{LanguagePlurals}
+use Rattle.lint_findings.specs.SyntaxErrors.{in_backticks}
+use Rattle.lint_findings.specs.References.{reference_error}
+use Rattle.lint_findings.specs.Flaws.{Flaw, unresolved, duplicate_key, default_flaws, entry_patterns, Owner}
+use Rattle.lint_findings.specs.Nodes.{Node, expression, select, repeated_key, elements_nodes}
+use Rattle.lint_findings.specs.Occurrences.{Occurrence, occurrences, PatternPlace, entry_places}
+use Rattle.lint_findings.specs.MissingCategories.{missing_categories}
+use Rattle.lint_findings.specs.Escapes.{invalid_escapes, named_escapes}
+use Rattle.lint_findings.specs.Finding.{warning, Finding}
+use Rattle.lint_findings.specs.FlawHints.{never_ends, flaw_hint}
+use Rattle.lint_findings.specs.FlawWords.{flaw_code, flaw_severity, flaw_text}
+
+-- ---- places
+
+-- the places of the patterns that an entry has: a message may have no value
+abbrev pub pattern_places : t.Entry → Text → List PatternPlace
+pattern_places (t.message m) s = if is_some m.value then entry_places s else drop 1 (entry_places s)
+pattern_places (t.term m) s = entry_places s
+pattern_places _ s = []
+
+abbrev pub first_place : Text → List PatternPlace → PatternPlace
+first_place s [] = record { attribute = None; name_at = s; pattern_at = s }
+first_place s (place ∷ places) = place
+
+-- ---- what a node has
+
+-- a resolver error of a reference, a select without default variant, or a duplicate key
+abbrev pub node_flaws : {F : Type 0} → Ids F → Node → List Flaw
+node_flaws ids (expression i) = map unresolved (option_to_list (reference_error (find ids) i))
+node_flaws ids (select i vs) = default_flaws (first_default vs)
+node_flaws ids (repeated_key k) = duplicate_key k ∷ []
+
+-- the plural categories that a select lacks
+abbrev pub node_categories : Option LanguagePlurals → Node → List PluralCategory
+node_categories None node = []
+node_categories (Some plurals) (expression i) = []
+node_categories (Some plurals) (select i vs) = missing_categories plurals i vs
+node_categories (Some plurals) (repeated_key k) = []
+
+-- the invalid escapes of a string literal, or of the named arguments of a call
+abbrev pub node_escapes : Node → List Text
+node_escapes (expression (t.string_literal raw)) = invalid_escapes raw
+node_escapes (expression (t.function_reference id (t.arguments ps ns))) = named_escapes ns
+node_escapes (expression (t.term_reference id a (t.with_arguments (t.arguments ps ns)))) = named_escapes ns
+node_escapes _ = []
+
+-- ---- findings of an entry of this source
+
+module _ {F : Type 0} (ids : Ids F) (plurals : Option LanguagePlurals) (source : Text) where
+  -- the offset at which an end of the source begins
+  abbrev pub offset_of : Text → ℕ
+  offset_of s = length source - length s
+
+  abbrev pub flaw_finding : Elements → Text → Text → Flaw → Finding
+  flaw_finding es owner at flaw = record {
+    offset = offset_of at;
+    code = flaw_code flaw;
+    severity = flaw_severity flaw;
+    entry = Some owner;
+    text = flaw_text flaw;
+    hint = flaw_hint ids es flaw;
+  }
+
+  -- a warning without a hint
+  abbrev pub plain_warning : Text → Text → Text → Text → Finding
+  plain_warning owner at code text =
+      record { offset = offset_of at; code = code; severity = warning; entry = Some owner; text = text; hint = None }
+
+  abbrev pub category_finding : Text → Text → PluralCategory → Finding
+  category_finding owner at category =
+      plain_warning owner at (codes "missing-category")
+      (codes "there is no variant for the plural category " ++ in_backticks (category_text category))
+
+  abbrev pub escape_finding : Text → Text → Text → Finding
+  escape_finding owner at escape =
+      plain_warning owner at (codes "invalid-escape") (in_backticks escape ++ codes " isn't a character, and is shown as U+FFFD")
+
+  -- of a node of a pattern, at its place
+  abbrev pub node_findings : Elements → Text → Text → Node → List Finding
+  node_findings es owner at node =
+      map (flaw_finding es owner at) (node_flaws ids node)
+      ++ (map (category_finding owner at) (node_categories plurals node) ++ map (escape_finding owner at) (node_escapes node))
+
+  -- Of nodes in their order, each at the place of the occurrence with the same index. If there were none, it would be
+  -- at the pattern; `OccurrencesAreTheNodes` says that there always is one.
+  abbrev pub nodes_findings : Elements → Text → Text → List Node → List Occurrence → List Finding
+  nodes_findings es owner at [] os = []
+  nodes_findings es owner at (node ∷ nodes) [] = node_findings es owner at node ++ nodes_findings es owner at nodes []
+  nodes_findings es owner at (node ∷ nodes) (o ∷ os) =
+      node_findings es owner o.at node ++ nodes_findings es owner at nodes os
+
+  -- of a pattern at its place: whether its references end, and then its nodes
+  abbrev pub pattern_findings : Text → PatternPlace → Elements → List Finding
+  pattern_findings owner place es =
+      (if never_ends ids es then flaw_finding es owner place.name_at (unresolved cyclic) ∷ [] else [])
+      ++ nodes_findings es owner place.pattern_at (elements_nodes es) (occurrences place.pattern_at)
+
+  -- whether the name of an attribute, if it is one, is that of an earlier one
+  abbrev pub attribute_findings : Text → List Text → PatternPlace → Option Text → List Finding
+  attribute_findings owner before place attribute =
+      if list_any (λ name. is_among name before) (option_to_list attribute)
+      then plain_warning owner place.name_at (codes "duplicate-attribute")
+      (codes "an earlier attribute has this name, so this one is never shown") ∷ []
+      else []
+
+  -- Of the patterns of an entry at their places, after attributes of these names. If there were no place, it would be
+  -- that of the entry; `PatternsHavePlaces` says that there always is one.
+  abbrev pub patterns_findings : Text → List Text → List PatternPlace → List (Owner × Elements) → List Finding
+  patterns_findings s before places [] = []
+  patterns_findings s before places (p ∷ ps) =
+      let owner = with_attribute p.0.label p.0.attribute in
+      let place = first_place s places in
+      attribute_findings owner before place p.0.attribute
+      ++ (pattern_findings owner place p.1 ++ patterns_findings s (option_to_list p.0.attribute ++ before) (drop 1 places) ps)
+
+  -- of the entry at the front of a text, but for its id
+  abbrev pub entry_findings : t.Entry → Text → List Finding
+  entry_findings e s = patterns_findings s [] (pattern_places e s) (entry_patterns e)

@@ -1,0 +1,128 @@
+-- The findings of a catalog, and of a catalog with a reference.
+use Rattle.std.specs.Prelude.{ℕ, ◌==◌, if◌then◌else◌, List, [], ◌∷◌, ◌++◌, length, map, Option, Some, None}
+use Rattle.std.specs.List.{flat_map}
+use Rattle.fluent_grammar.specs.Words.{Text}
+use Rattle.fluent_grammar.specs.Tree as t
+use Rattle.fluent_grammar.specs.Tree.{Inline}
+use Rattle.fluent_tidy_laws.specs.Joined.{lists}
+use Rattle.fluent_meaning.specs.Ids.{Ids}
+use Rattle.fluent_plurals.specs.declared.plurals.LanguagePlurals.{LanguagePlurals}
+use Rattle.lint_findings.specs.Tiles.{Tile, entry_tile, junk_tile, tiles}
+use Rattle.lint_findings.specs.References.{elements_references}
+use Rattle.lint_findings.specs.Flaws.{catalog_ids, entry_patterns}
+use Rattle.lint_findings.specs.Finding.{Finding}
+use Rattle.lint_findings.specs.SyntaxFindings.{syntax_finding}
+use Rattle.lint_findings.specs.EntryFindings.{entry_findings}
+use Rattle.lint_findings.specs.Files.{File}
+use Rattle.lint_findings.specs.DuplicateIds.{Declaration, id_of, declarations, duplicate_findings}
+use Rattle.lint_findings.specs.ComparisonFindings.{message_findings, missing_findings}
+
+-- What is known of the program and of the language: the functions that the program adds, and the plural rules, if
+-- plurals are looked at.
+pub record Options : Type 0 where
+  pub functions : List Text
+  pub plurals : Option LanguagePlurals
+
+-- a finding with its file
+pub record FileFinding : Type 0 where
+  pub file : File
+  pub finding : Finding
+
+-- a tile with its file
+pub record FileTile : Type 0 where
+  pub file : File
+  pub tile : Tile
+
+abbrev pub findings_in : File → List Finding → List FileFinding
+findings_in file fs = map (λ f. record { file = file; finding = f }) fs
+
+abbrev pub tiles_in : File → List FileTile
+tiles_in file = map (λ tile. record { file = file; tile = tile }) (tiles file.source)
+
+abbrev pub sources : List File → List Text
+sources files = map (λ (file : File). file.source) files
+
+-- How findings of a catalog are made: the ids of functions and those of the catalog, the plural rules, and what else
+-- is found of an entry that counts, in a source from the entry on.
+pub record Rules : Type 0 where
+  pub functions : Ids (Unit {0})
+  pub ids : Ids (Unit {0})
+  pub plurals : Option LanguagePlurals
+  pub compare : Text → t.Entry → Text → List Finding
+
+module _ (rules : Rules) where
+  -- Of an entry with this id, after these declarations: first of the id, then of its patterns. Only an entry that
+  -- counts is compared with the reference.
+  abbrev pub findings_of_entry : List Declaration → Text → t.Entry → ℕ → Text → Option Text → List Finding
+  findings_of_entry before source e at s None = []
+  findings_of_entry before source e at s (Some id) =
+      let duplicates = duplicate_findings rules.functions before e at id in
+      duplicates
+      ++ (entry_findings rules.ids rules.plurals source e s ++ (if length duplicates == 0 then rules.compare source e s else []))
+
+  abbrev pub findings_of_tile : List Declaration → File → Tile → List Finding
+  findings_of_tile before file (junk_tile at s refusal) = syntax_finding at s refusal ∷ []
+  findings_of_tile before file (entry_tile at s e) = findings_of_entry before file.source e at s (id_of e)
+
+  abbrev pub declarations_of_tile : File → Tile → List Declaration
+  declarations_of_tile file (junk_tile at s refusal) = []
+  declarations_of_tile file (entry_tile at s e) = declarations file e at (id_of e)
+
+  -- in the order of the tiles
+  abbrev pub findings_of_tiles : List Declaration → List FileTile → List FileFinding
+  findings_of_tiles before [] = []
+  findings_of_tiles before (t ∷ ts) =
+      findings_in t.file (findings_of_tile before t.file t.tile)
+      ++ findings_of_tiles (before ++ declarations_of_tile t.file t.tile) ts
+
+-- ---- a catalog by itself
+
+abbrev pub catalog_rules : Options → List File → Rules
+catalog_rules options files = record {
+  functions = catalog_ids options.functions [];
+  ids = catalog_ids options.functions (sources files);
+  plurals = options.plurals;
+  compare = λ source e s. [];
+}
+
+-- The findings of files that are one catalog, in the order of the files and of their entries and junk.
+abbrev pub findings : Options → List File → List FileFinding
+findings options files = findings_of_tiles (catalog_rules options files) [] (flat_map tiles_in files)
+
+-- ---- with a reference
+
+abbrev pub called_function : Inline → List Text
+called_function (t.function_reference id a) = id ∷ []
+called_function _ = []
+
+-- the functions that sources call
+abbrev pub called_functions : List Text → List Text
+called_functions texts = flat_map (λ p. flat_map called_function (elements_references p.1)) (flat_map entry_patterns (lists texts))
+
+-- The functions that are known: those of the program, and those that the reference calls.
+abbrev pub known_functions : Options → List File → List Text
+known_functions options references = options.functions ++ called_functions (sources references)
+
+-- the ids of files in a comparison
+abbrev pub known_ids : Options → List File → List File → Ids (Unit {0})
+known_ids options references files = catalog_ids (known_functions options references) (sources files)
+
+abbrev pub translation_rules : Options → List File → List File → Rules
+translation_rules options references files = record {
+  functions = known_ids options references [];
+  ids = known_ids options references files;
+  plurals = options.plurals;
+  compare = message_findings (known_ids options references files) (known_ids options references references);
+}
+
+-- the messages that the reference has and the catalog hasn't, in the files of the reference
+abbrev pub missing_messages : Options → List File → List File → List FileFinding
+missing_messages options references files =
+    let ids = known_ids options references files in
+    flat_map (λ (t : FileTile). findings_in t.file (missing_findings ids t.file.source t.tile)) (flat_map tiles_in references)
+
+-- The findings of a catalog with a reference. Missing messages come last.
+abbrev pub findings_with_reference : Options → List File → List File → List FileFinding
+findings_with_reference options references files =
+    findings_of_tiles (translation_rules options references files) [] (flat_map tiles_in files)
+    ++ missing_messages options references files

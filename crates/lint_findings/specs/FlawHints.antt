@@ -1,0 +1,70 @@
+-- What may be the cause of a flaw.
+use Rattle.std.specs.Prelude.{if◌then◌else◌, List, [], ◌∷◌, ◌++◌, Bool, Option, Some, None, codes}
+use Rattle.std.specs.List.{list_any}
+use Rattle.fluent_grammar.specs.Words.{Text, hyphen, dot, dollar}
+use Rattle.fluent_grammar.specs.Tree as t
+use Rattle.fluent_grammar.specs.Tree.{Elements, Inline}
+use Rattle.fluent_errors.specs.Errors.{unknown, no_value, missing_default, cyclic, too_many_placeables, Reference, to_function, to_message, to_term, to_variable}
+use Rattle.fluent_meaning.specs.Ids.{Ids, Meaning, number_function, function, message, term, find}
+use Rattle.fluent_meaning.specs.Fallback.{inline_fallback}
+use Rattle.lint_findings.specs.SyntaxErrors.{in_backticks}
+use Rattle.lint_findings.specs.References.{elements_references, reference_patterns, next_patterns}
+use Rattle.lint_findings.specs.Endless.{endless_patterns, is_pattern_among}
+use Rattle.lint_findings.specs.Flaws.{Flaw, unresolved, duplicate_key}
+use Rattle.lint_findings.specs.Comparison.{as_message}
+
+-- if a message of this id is missing
+abbrev pub message_hint : {F : Type 0} → Text → Option (Meaning F) → Option Text
+message_hint id None = Some (codes "a variable is written " ++ in_backticks (dollar ∷ id))
+message_hint id (Some number_function) = None
+message_hint id (Some (function f)) = None
+message_hint id (Some (message m)) = None
+message_hint id (Some (term m)) = Some (in_backticks (hyphen ∷ id) ++ codes " is a term")
+
+-- if a term of this id is missing
+abbrev pub term_hint : {F : Type 0} → Text → Option (Meaning F) → Option Text
+term_hint id None = None
+term_hint id (Some number_function) = None
+term_hint id (Some (function f)) = None
+term_hint id (Some (term m)) = None
+term_hint id (Some (message m)) = Some (in_backticks id ++ codes " is a message")
+
+abbrev pub first_attribute_hint : List t.Attribute → Option Text
+first_attribute_hint [] = None
+first_attribute_hint (a ∷ as') = Some (codes "it has the attribute " ++ in_backticks (dot ∷ a.id))
+
+-- if this message has no value
+abbrev pub value_hint : Option t.Message → Option Text
+value_hint None = None
+value_hint (Some m) = first_attribute_hint m.attributes
+
+module _ {F : Type 0} (ids : Ids F) where
+  abbrev pub is_endless : Elements → Bool
+  is_endless es = is_pattern_among es (endless_patterns ids)
+
+  -- Whether the references of a pattern never end: one of them enters an endless pattern. So it can be asked of patterns
+  -- that aren't in the catalog too, as those of an entry whose id is taken.
+  abbrev pub never_ends : Elements → Bool
+  never_ends es = list_any is_endless (next_patterns (find ids) es)
+
+  -- by the first reference to a pattern whose references never end
+  abbrev pub endless_hint : List Inline → Option Text
+  endless_hint [] = None
+  endless_hint (i ∷ is) =
+      if list_any is_endless (reference_patterns (find ids) i) then Some (codes "they go on at " ++ in_backticks (inline_fallback i))
+      else endless_hint is
+
+  abbrev pub unknown_hint : Reference → Option Text
+  unknown_hint (to_function id) = None
+  unknown_hint (to_message id a) = message_hint id (find ids id)
+  unknown_hint (to_term id a) = term_hint id (find ids id)
+  unknown_hint (to_variable id) = None
+
+  -- for a flaw of this pattern
+  abbrev pub flaw_hint : Elements → Flaw → Option Text
+  flaw_hint es (unresolved (unknown reference)) = unknown_hint reference
+  flaw_hint es (unresolved (no_value id)) = value_hint (as_message (find ids id))
+  flaw_hint es (unresolved missing_default) = Some (codes "write it before a variant, as `*[other]`")
+  flaw_hint es (unresolved cyclic) = endless_hint (elements_references es)
+  flaw_hint es (unresolved too_many_placeables) = None
+  flaw_hint es (duplicate_key k) = None

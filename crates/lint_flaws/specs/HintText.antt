@@ -1,0 +1,13 @@
+-- The texts of hints.
+use Rattle.std.specs.Prelude.{◌∷◌, ◌++◌, codes}
+use Rattle.fluent_grammar.specs.Words.{Text, hyphen, dot, dollar}
+use Rattle.lint_findings.specs.SyntaxErrors.{in_backticks}
+use Rattle.lint_flaws.specs.declared.hint.Hint.{Hint}
+use Rattle.lint_flaws.specs.declared.hint.Hint.TheVariants as of
+
+abbrev pub hint_text : Hint → Text
+hint_text (of.Variable id) = codes "a variable is written " ++ in_backticks (dollar ∷ id.now)
+hint_text (of.Message id) = in_backticks id.now ++ codes " is a message"
+hint_text (of.Term id) = in_backticks (hyphen ∷ id.now) ++ codes " is a term"
+hint_text (of.Attribute name) = codes "it has the attribute " ++ in_backticks (dot ∷ name.now)
+hint_text of.DefaultMark = codes "write it before a variant, as `*[other]`"

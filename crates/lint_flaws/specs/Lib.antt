@@ -1,0 +1,4 @@
+pub mod FlawView
+pub mod HintText
+pub mod MissingAmong
+pub mod Escape

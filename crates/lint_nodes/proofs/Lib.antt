@@ -1,0 +1,4 @@
+pub mod KeySets
+pub mod AfterTexts
+pub mod RestsAreRead
+pub mod OccurrencesAreFound

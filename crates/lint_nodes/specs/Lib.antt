@@ -1,0 +1,5 @@
+pub mod NodeView
+pub mod HasKeys
+pub mod Rests
+pub mod TreeOccurrences
+pub mod OccurrenceView

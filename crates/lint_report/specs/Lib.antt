@@ -1,0 +1,9 @@
+pub mod Changes
+pub mod View
+pub mod Excerpts
+pub mod Texts
+pub mod ReportView
+pub mod Parts
+pub mod Formats
+pub mod ReportChanges
+pub mod Counted
