@@ -7,7 +7,7 @@ ghost use Rattle.fluent_grammar.specs.Words.{is_hex_digit};
 ghost use Rattle.fluent_tokens.specs.Counted.{Cuts};
 ghost use Rattle.fluent_grammar.specs.Escapes.{escape_at, unicode_escape, digits_len, character_of};
 
-use fluent_tokens as words;
+use crate::char_len;
 
 /// What an escape stands for, and how many bytes of it follow its backslash.
 #[derive(Drop)]
@@ -35,7 +35,7 @@ pub(crate) fn escape_at(text: &str) -> Escape
         [b'U', ..] => unicode_escape(&text[1..], 6),
         bytes => Escape {
             character: char::REPLACEMENT_CHARACTER,
-            len: words::char_len(bytes),
+            len: char_len(bytes),
         },
     }
 }

@@ -8,8 +8,7 @@ ghost use Rattle.fluent_tokens.specs.Counted.{Cuts, IsLine, IsText, is_plain};
 ghost use Rattle.fluent_tokens.specs.Table.{row_view, lines, line_at};
 ghost use Rattle.fluent_tokens.specs.Lookup.{past_comments, feeds_last, is_last_feed, Holds, with_line_feed, is_last_line, IsOneLine};
 
-use crate::Row;
-use fluent_tokens as words;
+use crate::{Row, begins_text, begins_with, from, text_len};
 
 /// The lines of a text, looked up by place in their table. A place is an offset in bytes, up to the end of the text.
 #[derive(Drop)]
@@ -97,11 +96,11 @@ impl<'a> Lines<'a> {
         ensures text { self.new.text.now ≡ self.old.text.now }
     {
         let row = self.find(place);
-        let text = words::from(self.text, place);
+        let text = from(self.text, place);
         if row.is_plain {
             Ok(plain_text_len(text, row.end.saturating_sub(place)))
         } else {
-            words::text_len(text)
+            text_len(text)
         }
     }
 
@@ -126,9 +125,9 @@ impl<'a> Lines<'a> {
         ensures text { self.new.text.now ≡ self.old.text.now }
     {
         let row = self.find(place);
-        let text = words::from(self.text, place);
+        let text = from(self.text, place);
         // One test for three, none of which a processor foresees.
-        let is_told = row.is_plain & words::begins_text(text) & is_last_line(&row, self.later());
+        let is_told = row.is_plain & begins_text(text) & is_last_line(&row, self.later());
         if is_told {
             Some(plain_text_len(text, row.end.saturating_sub(place)))
         } else {
@@ -143,7 +142,7 @@ impl<'a> Lines<'a> {
         ensures text { self.new.text.now ≡ self.old.text.now }
     {
         // Mostly no line feed stands here, and no row is looked up.
-        if !words::begins_with(words::from(self.text, place), b'\n') {
+        if !begins_with(from(self.text, place), b'\n') {
             return false;
         }
         let row = self.find(place);
@@ -183,7 +182,7 @@ pub(crate) fn plain_text_len(text: &[u8], len: usize) -> usize
     ensures len { result ≡ with_line_feed len text.now }
     ensures value { IsText text.now (Ok result) }
 {
-    let has_line_feed = words::begins_with(words::from(text, len), b'\n');
+    let has_line_feed = begins_with(from(text, len), b'\n');
     len + usize::from(has_line_feed)
 }
 

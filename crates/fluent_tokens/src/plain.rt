@@ -6,8 +6,7 @@ ghost use Rattle.fluent_grammar.specs.Tiling.{at_column_zero};
 ghost use Rattle.fluent_tokens.specs.IndentedTexts.{IsPlainLine};
 
 use crate::lookup::{feeds_last, plain_text_len};
-use crate::{Lines, Row};
-use fluent_tokens as words;
+use crate::{Lines, Row, from};
 
 /// What the rows say of a pattern that stands in plain lines.
 #[derive(Clone, Copy, Drop)]
@@ -64,7 +63,7 @@ impl<'a> Lines<'a> {
             return None;
         }
         let indent = row.spaces as usize;
-        let text = words::from(self.text, place + indent);
+        let text = from(self.text, place + indent);
         let len = row.end.saturating_sub(place).saturating_sub(indent);
         let count = plain_text_len(text, len);
         if count == 0 {

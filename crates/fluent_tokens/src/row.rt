@@ -8,7 +8,7 @@ ghost use Rattle.fluent_tokens.specs.Counted as counted;
 ghost use Rattle.fluent_tokens.specs.Table.{row_view, cut_line_at};
 ghost use Rattle.fluent_tokens.specs.Lookup.{feeds_into};
 
-use fluent_tokens as words;
+use crate::{begins_with, blank_inline_len, pattern_ends};
 use std::alloc::AllocError;
 
 /// A line of a text. Offsets and lengths are in bytes.
@@ -45,18 +45,18 @@ impl Row {
     {
         let end = start + len;
         // Most lines begin at column 0, and of those no byte but the first one is looked at.
-        if !words::begins_with(line, b' ') {
+        if !begins_with(line, b' ') {
             return Ok(Row {
                 start,
                 end,
                 spaces: 0,
                 begins_entry: begins_entry(line),
-                begins_comment: words::begins_with(line, b'#'),
-                ends_pattern: words::pattern_ends(line, 0),
+                begins_comment: begins_with(line, b'#'),
+                ends_pattern: pattern_ends(line, 0),
                 is_plain,
             });
         }
-        let indent = words::blank_inline_len(line);
+        let indent = blank_inline_len(line);
         let Ok(spaces) = u32::try_from(indent) else {
             return Err(AllocError);
         };
@@ -66,7 +66,7 @@ impl Row {
             spaces,
             begins_entry: false,
             begins_comment: false,
-            ends_pattern: words::pattern_ends(line, indent),
+            ends_pattern: pattern_ends(line, indent),
             is_plain,
         })
     }

@@ -4,8 +4,7 @@
 ghost use Rattle.std.specs.Prelude.{◌≡◌, IfOk, map};
 ghost use Rattle.fluent_tokens.specs.Table.{row_view, lines};
 
-use crate::{Row, Told};
-use fluent_tokens as words;
+use crate::{Row, Told, from, measure_line};
 use std::alloc::{AllocError, Global};
 
 /// How many bytes a short line has, about. Room to spare, which a table for longer lines has, is never touched; one for still
@@ -26,8 +25,8 @@ pub fn line_table(alloc: Global, text: &[u8]) -> Result<Vec<Row>, AllocError>
     let mut start = 0;
     let mut told = Told::nothing();
     'lines: loop {
-        let line = words::from(text, start);
-        let front = words::measure_line(line, told);
+        let line = from(text, start);
+        let front = measure_line(line, told);
         let row = Row::new(line, start, front.len, front.is_plain)?;
         rows.push(row)?;
         let Some(next) = front.next else {
