@@ -12,7 +12,7 @@ use std::borrow::CowStr;
 /// The greeting of a user, with the name between the marks U+2068 and U+2069.
 ///
 /// # Errors
-/// [`AllocError`] if memory runs out; nothing is left behind.
+/// [`AllocError`] if memory runs out; nothing is kept.
 pub fn greeting(alloc: Global, name: &str) -> Result<CowStr<'static>, AllocError>
     ensures { IfOk result (λ text. cow_str_bytes text ≡ greeting_text name.now) }
 {

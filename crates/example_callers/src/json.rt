@@ -10,7 +10,7 @@ use std::alloc::{AllocError, Global};
 /// Makes a tree's JSON value and reads the value again, which gives the same tree.
 ///
 /// # Errors
-/// [`AllocError`] if memory runs out; nothing is left behind.
+/// [`AllocError`] if memory runs out; nothing is kept.
 pub fn round_trip(alloc: Global, tree: &Resource<String>) -> Result<Resource<String>, AllocError>
     ensures { IfOk result (λ back. plain back ≡ plain tree.now) }
 {

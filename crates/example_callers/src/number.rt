@@ -14,7 +14,7 @@ use std::str::FromStr;
 /// What is shown for a number that a user wrote, if it is one: the same digits, without a plus and without zeros at the front.
 ///
 /// # Errors
-/// [`AllocError`] if memory runs out; nothing is left behind.
+/// [`AllocError`] if memory runs out; nothing is kept.
 pub fn shown_again(alloc: Global, input: &str) -> Result<Option<String>, AllocError>
     ensures { IfOk result (λ shown. IfSome shown (λ text. string_bytes text ≡ tidied input.now)) }
 {
@@ -28,7 +28,7 @@ pub fn shown_again(alloc: Global, input: &str) -> Result<Option<String>, AllocEr
 /// The text of a price, which keeps its cents.
 ///
 /// # Errors
-/// [`AllocError`] if memory runs out; nothing is left behind.
+/// [`AllocError`] if memory runs out; nothing is kept.
 pub fn price(alloc: Global) -> Result<String, AllocError>
     ensures { IfOk result (λ text. string_bytes text ≡ codes "7.50") }
 {

@@ -12,7 +12,7 @@ use std::alloc::{AllocError, Global};
 /// The tree of a source that is written out, which has no errors.
 ///
 /// # Errors
-/// [`AllocError`] if memory runs out; nothing is left behind.
+/// [`AllocError`] if memory runs out; nothing is kept.
 pub fn welcome_tree(alloc: Global) -> Result<Resource<&'static str>, AllocError>
     ensures { IfOk result (λ read. entries_of read ≡ welcome) }
 {
@@ -26,7 +26,7 @@ pub fn welcome_tree(alloc: Global) -> Result<Resource<&'static str>, AllocError>
 /// A source as the serializer writes it, without what can't be read.
 ///
 /// # Errors
-/// [`AllocError`] if memory runs out; nothing is left behind.
+/// [`AllocError`] if memory runs out; nothing is kept.
 pub fn rewritten(alloc: Global, source: &str) -> Result<String, AllocError>
     ensures { IfOk result (λ text. string_bytes text ≡ written (tree source.now)) }
 {

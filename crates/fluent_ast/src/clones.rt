@@ -19,7 +19,7 @@ impl<'s, S: Slice<'s>> Identifier<S> {
     /// The same name.
     ///
     /// # Errors
-    /// [`AllocError`] if memory runs out; nothing is left behind.
+    /// [`AllocError`] if memory runs out; nothing is kept.
     pub fn try_clone(&self, alloc: Global) -> Result<Self, AllocError>
         ensures { GivesCopy (name_of S S.text) self.now result }
     {
@@ -31,7 +31,7 @@ impl<'s, S: Slice<'s>> VariantKey<S> {
     /// The same key.
     ///
     /// # Errors
-    /// [`AllocError`] if memory runs out; nothing is left behind.
+    /// [`AllocError`] if memory runs out; nothing is kept.
     pub fn try_clone(&self, alloc: Global) -> Result<Self, AllocError>
         ensures { GivesCopy (key_of S S.text) self.now result }
     {
@@ -43,7 +43,7 @@ impl<'s, S: Slice<'s>> Pattern<S> {
     /// The same pattern.
     ///
     /// # Errors
-    /// [`AllocError`] if memory runs out; nothing is left behind.
+    /// [`AllocError`] if memory runs out; nothing is kept.
     pub fn try_clone(&self, alloc: Global) -> Result<Self, AllocError>
         ensures { GivesCopy (pattern_view S S.text) self.now result }
     {
@@ -55,7 +55,7 @@ impl<'s, S: Slice<'s>> PatternElement<S> {
     /// The same element.
     ///
     /// # Errors
-    /// [`AllocError`] if memory runs out; nothing is left behind.
+    /// [`AllocError`] if memory runs out; nothing is kept.
     pub fn try_clone(&self, alloc: Global) -> Result<Self, AllocError>
         ensures { GivesCopy (element_view S S.text) self.now result }
     {
@@ -67,7 +67,7 @@ impl<'s, S: Slice<'s>> Expression<S> {
     /// The same expression.
     ///
     /// # Errors
-    /// [`AllocError`] if memory runs out; nothing is left behind.
+    /// [`AllocError`] if memory runs out; nothing is kept.
     pub fn try_clone(&self, alloc: Global) -> Result<Self, AllocError>
         ensures { GivesCopy (expression_view S S.text) self.now result }
     {
@@ -79,7 +79,7 @@ impl<'s, S: Slice<'s>> InlineExpression<S> {
     /// The same expression.
     ///
     /// # Errors
-    /// [`AllocError`] if memory runs out; nothing is left behind.
+    /// [`AllocError`] if memory runs out; nothing is kept.
     pub fn try_clone(&self, alloc: Global) -> Result<Self, AllocError>
         ensures { GivesCopy (inline_view S S.text) self.now result }
     {
@@ -91,7 +91,7 @@ impl<'s, S: Slice<'s>> Variant<S> {
     /// The same variant.
     ///
     /// # Errors
-    /// [`AllocError`] if memory runs out; nothing is left behind.
+    /// [`AllocError`] if memory runs out; nothing is kept.
     pub fn try_clone(&self, alloc: Global) -> Result<Self, AllocError>
         ensures { GivesCopy (variant_view S S.text) self.now result }
     {
@@ -103,7 +103,7 @@ impl<'s, S: Slice<'s>> CallArguments<S> {
     /// The same arguments.
     ///
     /// # Errors
-    /// [`AllocError`] if memory runs out; nothing is left behind.
+    /// [`AllocError`] if memory runs out; nothing is kept.
     pub fn try_clone(&self, alloc: Global) -> Result<Self, AllocError>
         ensures { GivesCopy (arguments_view S S.text) self.now result }
     {
@@ -115,7 +115,7 @@ impl<'s, S: Slice<'s>> NamedArgument<S> {
     /// The same argument.
     ///
     /// # Errors
-    /// [`AllocError`] if memory runs out; nothing is left behind.
+    /// [`AllocError`] if memory runs out; nothing is kept.
     pub fn try_clone(&self, alloc: Global) -> Result<Self, AllocError>
         ensures { GivesCopy (named_view S S.text) self.now result }
     {
@@ -127,7 +127,7 @@ impl<'s, S: Slice<'s>> Comment<S> {
     /// The same comment.
     ///
     /// # Errors
-    /// [`AllocError`] if memory runs out; nothing is left behind.
+    /// [`AllocError`] if memory runs out; nothing is kept.
     pub fn try_clone(&self, alloc: Global) -> Result<Self, AllocError>
         ensures { GivesCopy (comment_view S S.text) self.now result }
     {
@@ -144,7 +144,7 @@ impl<'s, S: Slice<'s>> Attribute<S> {
     /// The same attribute.
     ///
     /// # Errors
-    /// [`AllocError`] if memory runs out; nothing is left behind.
+    /// [`AllocError`] if memory runs out; nothing is kept.
     pub fn try_clone(&self, alloc: Global) -> Result<Self, AllocError>
         ensures { GivesCopy (attribute_view S S.text) self.now result }
     {
@@ -196,7 +196,7 @@ impl<'s, S: Slice<'s>> Message<S> {
     /// The same message.
     ///
     /// # Errors
-    /// [`AllocError`] if memory runs out; nothing is left behind.
+    /// [`AllocError`] if memory runs out; nothing is kept.
     pub fn try_clone(&self, alloc: Global) -> Result<Self, AllocError>
         ensures { GivesCopy (message_view S S.text) self.now result }
     {
@@ -213,7 +213,7 @@ impl<'s, S: Slice<'s>> Term<S> {
     /// The same term.
     ///
     /// # Errors
-    /// [`AllocError`] if memory runs out; nothing is left behind.
+    /// [`AllocError`] if memory runs out; nothing is kept.
     pub fn try_clone(&self, alloc: Global) -> Result<Self, AllocError>
         ensures { GivesCopy (term_view S S.text) self.now result }
     {
@@ -230,7 +230,7 @@ impl<'s, S: Slice<'s>> Entry<S> {
     /// The same entry.
     ///
     /// # Errors
-    /// [`AllocError`] if memory runs out; nothing is left behind.
+    /// [`AllocError`] if memory runs out; nothing is kept.
     pub fn try_clone(&self, alloc: Global) -> Result<Self, AllocError>
         ensures { GivesCopy (entry_view S S.text) self.now result }
     {
@@ -253,7 +253,7 @@ impl<'s, S: Slice<'s>> Resource<S> {
     /// The same tree.
     ///
     /// # Errors
-    /// [`AllocError`] if memory runs out; nothing is left behind.
+    /// [`AllocError`] if memory runs out; nothing is kept.
     pub fn try_clone(&self, alloc: Global) -> Result<Self, AllocError>
         ensures { GivesCopy (resource_view S S.text) self.now result }
     {

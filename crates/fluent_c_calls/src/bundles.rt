@@ -25,7 +25,7 @@ use std::alloc::{AllocError, Global};
 /// Copies of texts, in their order.
 ///
 /// # Errors
-/// [`AllocError`] if memory runs out; nothing is left behind.
+/// [`AllocError`] if memory runs out; nothing is kept.
 fn copied(alloc: Global, borrowed: &[&str]) -> Result<Vec<String>, AllocError>
     ensures { IfOk result (λ owned. map string_bytes owned.items ≡ texts borrowed.now) }
 {
@@ -40,7 +40,7 @@ fn copied(alloc: Global, borrowed: &[&str]) -> Result<Vec<String>, AllocError>
 ///
 /// # Errors
 /// [`Refusal::UnknownLocale`] if the locale has no plural rules, [`Refusal::NotUtf8`] if a source isn't UTF-8, and
-/// [`Refusal::Memory`] if memory or the budget runs out; nothing is left behind.
+/// [`Refusal::Memory`] if memory or the budget runs out; nothing is kept.
 fn kept(
     alloc: Global,
     sources: &[FluentSource<'_>],

@@ -23,7 +23,7 @@ use std::cell::Cell;
 /// A line for each error of a reply, or no text if there are none.
 ///
 /// # Errors
-/// [`AllocError`] if memory runs out; nothing is left behind.
+/// [`AllocError`] if memory runs out; nothing is kept.
 fn error_lines(alloc: Global, reply: &Reply) -> Result<FluentText, AllocError>
     ensures { IfOk result (λ made. HoldsLines made (reply_view reply.now).errors) }
 {

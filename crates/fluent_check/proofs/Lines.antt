@@ -1,4 +1,4 @@
--- Lines that are put behind one another.
+-- Lines that are put after one another.
 use Rattle.std.proofs.Common.{◌≡◌, ◌∙◌, ℕ, ◌+◌, ◌<◌, ◌≤◌, List, ◌∷◌, ◌++◌, length, drop, get_or, map, ap, sym, append_assoc, append-nil, drop-cons, add-one}
 use Rattle.std.proofs.lemmas.List.{drop_all}
 use Rattle.std.proofs.lemmas.List.Folds.{flat_map-map}
@@ -7,7 +7,7 @@ use Rattle.fluent_grammar.specs.Words.{Text}
 use Rattle.fluent_parsed.specs.ErrorView.{ErrorView}
 use Rattle.fluent_check.specs.Report.{error_line, errors_text}
 
--- With the lines of what is left, the lines of all stand behind the old text. `line` is what an item shows.
+-- With the lines of what is left, the lines of all stand after the old text. `line` is what an item shows.
 module _ {X : Type 0} (line : X → Text) (xs : List X) (old : Text) where
   abbrev pub LinesSoFar : ℕ → Text → Type 0
   LinesSoFar done text = text ++ flat_map line (drop done xs) ≡ old ++ flat_map line xs

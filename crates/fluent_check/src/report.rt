@@ -39,7 +39,7 @@ pub struct Report {
 /// ```
 ///
 /// # Errors
-/// [`AllocError`] if memory runs out; nothing is left behind. It also means that placeables, calls and selects of a source
+/// [`AllocError`] if memory runs out; nothing is kept. It also means that placeables, calls and selects of a source
 /// are nested so deep that reading them would take more than the budget of a program, [`StackBudget::PROGRAM`].
 pub fn check(alloc: Global, sources: &[&str]) -> Result<Report, AllocError>
     ensures errors { IfOk result (λ report. map errors_view report.errors.items

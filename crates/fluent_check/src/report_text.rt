@@ -14,7 +14,7 @@ use std::alloc::{AllocError, Global};
 /// nothing was found.
 ///
 /// # Errors
-/// [`AllocError`] if memory runs out; nothing is left behind. It also means that placeables, calls and selects of a source
+/// [`AllocError`] if memory runs out; nothing is kept. It also means that placeables, calls and selects of a source
 /// are nested so deep that reading them would take more than the budget of a program, [`StackBudget::PROGRAM`].
 pub fn check_text(alloc: Global, sources: &[&str]) -> Result<String, AllocError>
     ensures { IfOk result (λ text. string_bytes text ≡ report_text (texts sources.now)) }

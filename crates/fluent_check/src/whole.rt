@@ -65,7 +65,7 @@ impl<'s> Whole<'s> {
 /// What is read of each source, in their order, within this budget of the machine's stack for each message and term.
 ///
 /// # Errors
-/// [`AllocError`] if memory runs out, or the budget does; nothing is left behind.
+/// [`AllocError`] if memory runs out, or the budget does; nothing is kept.
 pub(crate) fn read_whole<'s>(
     alloc: Global,
     sources: &[&'s str],

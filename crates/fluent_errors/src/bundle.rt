@@ -32,7 +32,7 @@ impl FluentError {
     /// The same error.
     ///
     /// # Errors
-    /// [`AllocError`] if memory runs out; nothing is left behind.
+    /// [`AllocError`] if memory runs out; nothing is kept.
     pub fn try_clone(&self, alloc: Global) -> Result<Self, AllocError>
         ensures { IfOk result (λ copy. bundle_view copy ≡ bundle_view self.now) }
     {

@@ -43,7 +43,7 @@ impl ReferenceKind {
     /// What an expression refers to, with names copied; `None` for a literal and for a placeable.
     ///
     /// # Errors
-    /// [`AllocError`] if memory runs out; nothing is left behind.
+    /// [`AllocError`] if memory runs out; nothing is kept.
     pub fn of<'s, S: Slice<'s>>(
         alloc: Global,
         expression: &InlineExpression<S>,
@@ -79,7 +79,7 @@ impl ReferenceKind {
     /// The same reference.
     ///
     /// # Errors
-    /// [`AllocError`] if memory runs out; nothing is left behind.
+    /// [`AllocError`] if memory runs out; nothing is kept.
     pub fn try_clone(&self, alloc: Global) -> Result<Self, AllocError>
         ensures { IfOk result (λ copy. reference_view copy ≡ reference_view self.now) }
     {

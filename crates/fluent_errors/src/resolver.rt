@@ -36,7 +36,7 @@ impl ResolverError {
     /// The same error.
     ///
     /// # Errors
-    /// [`AllocError`] if memory runs out; nothing is left behind.
+    /// [`AllocError`] if memory runs out; nothing is kept.
     pub fn try_clone(&self, alloc: Global) -> Result<Self, AllocError>
         ensures { IfOk result (λ copy. resolver_view copy ≡ resolver_view self.now) }
     {

@@ -24,7 +24,7 @@ impl Object {
     /// An object of this `type`, without other keys.
     ///
     /// # Errors
-    /// [`AllocError`] if memory runs out; nothing is left behind.
+    /// [`AllocError`] if memory runs out; nothing is kept.
     pub fn of_type(alloc: Global, kind: &str) -> Result<Object, AllocError>
         ensures { IfOk result (λ made. given made ≡ members
             ((codes "type", string kind.now) ∷ [])) }
@@ -39,7 +39,7 @@ impl Object {
     /// The object with this value at a key.
     ///
     /// # Errors
-    /// [`AllocError`] if memory runs out; nothing is left behind.
+    /// [`AllocError`] if memory runs out; nothing is kept.
     pub fn with(self, key: &str, value: Value) -> Result<Object, AllocError>
         ensures { IfOk result (λ made. given made ≡ put key.now (view value) (given self)) }
     {
@@ -51,7 +51,7 @@ impl Object {
     /// The value of the object with this value at its last key.
     ///
     /// # Errors
-    /// [`AllocError`] if memory runs out; nothing is left behind.
+    /// [`AllocError`] if memory runs out; nothing is kept.
     pub fn finish(self, key: &str, value: Value) -> Result<Value, AllocError>
         ensures { IfOk result (λ made. view made ≡ object (put key.now (view value) (given self))) }
     {
@@ -61,7 +61,7 @@ impl Object {
     /// The value of the object with this text at its last key.
     ///
     /// # Errors
-    /// [`AllocError`] if memory runs out; nothing is left behind.
+    /// [`AllocError`] if memory runs out; nothing is kept.
     pub fn finish_text(self, key: &str, text: &str) -> Result<Value, AllocError>
         ensures { IfOk result (λ made. view made
             ≡ object (put key.now (string text.now) (given self))) }

@@ -30,7 +30,7 @@ use std::alloc::{AllocError, Global};
 /// ```
 ///
 /// # Errors
-/// [`AllocError`] if memory runs out; nothing is left behind.
+/// [`AllocError`] if memory runs out; nothing is kept.
 pub fn to_value(alloc: Global, resource: &Resource<String>) -> Result<Value, AllocError>
     ensures { IfOk result (λ value. view value ≡ json (plain resource.now)) }
 {

@@ -78,7 +78,7 @@ impl Bundle {
     /// Reads sources, and keeps them.
     ///
     /// # Errors
-    /// [`AllocError`] if memory runs out, or a message or a term of theirs nests too deep for their budget; nothing is left behind.
+    /// [`AllocError`] if memory runs out, or a message or a term of theirs nests too deep for their budget; nothing is kept.
     pub fn new(alloc: Global, sources: Sources) -> Result<Bundle, AllocError>
         ensures { IfOk result (λ bundle. bundle.catalog ≡ catalog_of sources) }
     {
@@ -95,7 +95,7 @@ impl Bundle {
     /// Lays out what was read.
     ///
     /// # Errors
-    /// [`AllocError`] if memory runs out; nothing is left behind.
+    /// [`AllocError`] if memory runs out; nothing is kept.
     fn of(alloc: Global, shelf: Shelf) -> Result<Bundle, AllocError>
         ensures { IfOk result (λ bundle. bundle.catalog ≡ shelf.catalog) }
     {

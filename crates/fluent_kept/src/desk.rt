@@ -26,7 +26,7 @@ impl<'r, 's> KeptDesk<'r, 's> {
     /// What answers from what was read.
     ///
     /// # Errors
-    /// [`AllocError`] if memory runs out; nothing is left behind.
+    /// [`AllocError`] if memory runs out; nothing is kept.
     fn new(alloc: Global, read: &'r Resources<'s>) -> Result<Self, AllocError>
         ensures { IfOk result (IsDeskFor read.now) }
     {
@@ -87,7 +87,7 @@ impl<'r, 's> KeptDesk<'r, 's> {
     /// What a check of the sources reports. It reads them whole, within the budget of the stack.
     ///
     /// # Errors
-    /// [`AllocError`] if memory runs out, or the budget does; nothing is left behind.
+    /// [`AllocError`] if memory runs out, or the budget does; nothing is kept.
     fn report(&self, alloc: Global) -> Result<String, AllocError>
         ensures { IfOk result (λ text. string_bytes text
             ≡ report_text (catalog_of self.now.sources.now).sources) }
@@ -123,7 +123,7 @@ impl<'r, 's> KeptDesk<'r, 's> {
 /// What answers from what was read, in a box.
 ///
 /// # Errors
-/// [`AllocError`] if memory runs out; nothing is left behind.
+/// [`AllocError`] if memory runs out; nothing is kept.
 fn try_lay<'r, 's>(
     alloc: Global,
     read: &'r Resources<'s>,

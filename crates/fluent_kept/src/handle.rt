@@ -94,7 +94,7 @@ impl FluentBundle {
     /// Reads sources, and keeps them.
     ///
     /// # Errors
-    /// [`AllocError`] if memory runs out, or a message or a term of theirs nests too deep for their budget; nothing is left behind.
+    /// [`AllocError`] if memory runs out, or a message or a term of theirs nests too deep for their budget; nothing is kept.
     pub fn new(alloc: Global, sources: Sources) -> Result<FluentBundle, AllocError>
         ensures { IfOk result (λ made. (made.held ≡ true) × (made.catalog ≡ catalog_of sources)) }
     {

@@ -20,7 +20,7 @@ pub(crate) struct Resources<'s> {
 /// What is read of each source, within the budget of the stack.
 ///
 /// # Errors
-/// [`AllocError`] if memory runs out, or the budget does; nothing is left behind.
+/// [`AllocError`] if memory runs out, or the budget does; nothing is kept.
 fn read_texts<'s>(
     alloc: Global,
     sources: &'s Sources,
@@ -35,7 +35,7 @@ fn read_texts<'s>(
 /// What is read of sources, in a box.
 ///
 /// # Errors
-/// [`AllocError`] if memory runs out; nothing is left behind.
+/// [`AllocError`] if memory runs out; nothing is kept.
 fn try_read<'s>(alloc: Global, sources: &'s Sources) -> Result<Box<Resources<'s>>, AllocError>
     ensures { IfOk result (λ read. IsReadOf read.value (catalog_of sources.now)) }
 {

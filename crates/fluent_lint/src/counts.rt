@@ -18,7 +18,7 @@ use std::alloc::{AllocError, Global};
 /// The counts of the files of a catalog, and then those of its reference, by all findings of the catalog.
 ///
 /// # Errors
-/// [`AllocError`] if memory runs out; nothing is left behind.
+/// [`AllocError`] if memory runs out; nothing is kept.
 pub fn counts_of_files<'s>(
     alloc: Global,
     references: &[FileTiles<'_, 's>],

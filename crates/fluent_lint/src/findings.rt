@@ -16,7 +16,7 @@ use std::alloc::{AllocError, Global};
 /// The findings of the files of a catalog, by these rules.
 ///
 /// # Errors
-/// [`AllocError`] if memory runs out; nothing is left behind.
+/// [`AllocError`] if memory runs out; nothing is kept.
 pub fn catalog_findings<'s, E: Endless<()>, C: Comparison>(
     alloc: Global,
     rules: &Rules<'_, '_, 's, E, C>,

@@ -15,7 +15,7 @@ use std::alloc::{AllocError, Global};
 /// the entries of these trees. The first of an id stays.
 ///
 /// # Errors
-/// [`AllocError`] if memory runs out; nothing is left behind.
+/// [`AllocError`] if memory runs out; nothing is kept.
 pub fn catalog_ids<'r, 's>(
     alloc: Global,
     functions: &[&str],

@@ -18,7 +18,7 @@ use std::alloc::{AllocError, Global};
 /// `references`, and plural categories are looked for by the rules `plurals`.
 ///
 /// # Errors
-/// [`AllocError`] if memory runs out; nothing is left behind.
+/// [`AllocError`] if memory runs out; nothing is kept.
 pub fn lint_sources(
     alloc: Global,
     lint: &Lint,

@@ -85,7 +85,7 @@ fn drop_comment(entry: &mut Entry<&str>)
 ///
 /// # Errors
 /// [`AllocError`] if memory runs out, or a file nests so deep that reading it would take more of the machine's stack
-/// than [`StackBudget::PROGRAM`](fluent_parser::StackBudget::PROGRAM); nothing is left behind.
+/// than [`StackBudget::PROGRAM`](fluent_parser::StackBudget::PROGRAM); nothing is kept.
 pub fn read_files<'s>(alloc: Global, files: &[File<'s>]) -> Result<ReadFiles<'s>, AllocError>
     ensures { IfOk result (IsReadOf files.now) }
 {

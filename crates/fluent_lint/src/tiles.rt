@@ -32,7 +32,7 @@ pub struct TiledFiles<'r, 's> {
 /// The tiles of files, by what was read of them.
 ///
 /// # Errors
-/// [`AllocError`] if memory runs out; nothing is left behind.
+/// [`AllocError`] if memory runs out; nothing is kept.
 pub fn tiles_of_files<'r, 's>(
     alloc: Global,
     files: &[File<'s>],

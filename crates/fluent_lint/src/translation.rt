@@ -40,7 +40,7 @@ pub struct Translation<'o, 'r, 's> {
 ///
 /// # Errors
 /// [`AllocError`] if memory runs out, or a file nests so deep that reading it would take more of the machine's stack
-/// than [`StackBudget::PROGRAM`](fluent_parser::StackBudget::PROGRAM); nothing is left behind.
+/// than [`StackBudget::PROGRAM`](fluent_parser::StackBudget::PROGRAM); nothing is kept.
 pub fn report_findings_with_reference<'s>(
     alloc: Global,
     options: &Options,

@@ -76,7 +76,7 @@ module _ {S F : Type 0} (env : Environment S F) (write : Writer env Expression) 
   pub placeable-element : (xs : List Element) (e : Expression) {held now next : Text} {r u v : State} → Writes held now r u (λ b. s.elements_with env write whole (elements_of xs) place b) → Writes now next u v (s.placeable_with env write whole e place) → Writes held next r v (λ b. s.elements_with env write whole (elements_of (xs ++ placeable e ∷ [])) place b)
   placeable-element xs e {u = u} p q = next-element xs (placeable e) p (writes-as _ _ (sym (one-placeable e u.budget)) q)
 
--- what an element weighs, and what stands behind it
+-- what an element weighs, and what stands after it
 weight-head : (y : Element) (e : Expression) (ys : List Element) → y ≡ placeable e → suc (expression_weight e) ≤ elements_weight (elements_of (y ∷ ys))
 unfolding elements_weight
 weight-head y e ys h =

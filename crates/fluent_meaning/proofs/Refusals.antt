@@ -143,7 +143,7 @@ tells-all a h = record { told = a.errors; first = begins-all a.errors; errors = 
 pub tells-first : {A B : Type 0} {s t : State} {a : Done A} (f : A → Budget → Done B) → TellsSome s t a → TellsSome s t (and_then a f)
 tells-first {a = a} f h = record { told = h.told; first = begins-more (f a.value a.budget).errors h.first; errors = h.errors; counts = counts-first f h.counts }
 
--- a step that was refused, behind another
+-- a step that was refused, after another
 pub tells-then : {A B : Type 0} {s t u : State} (a : Done A) (f : A → Budget → Done B) → t ≡ after s a → TellsSome t u (f a.value a.budget) → TellsSome s u (and_then a f)
 tells-then {s = s} a f e h = record {
   told = a.errors ++ h.told;
@@ -194,7 +194,7 @@ some-first {s = s} f g h = record {
   tells = tells-first (λ v b. mapped (λ r. v ++ r) (g b)) h.tells;
 }
 
--- a text that was refused, behind another
+-- a text that was refused, after another
 pub some-then : {x y z : Text} {s t u : State} (f g : Budget → Done Text) → Writes x y s t f → WritesSome y z t u g → WritesSome x z s u (λ b. beside (f b) g)
 some-then {x = x} {s = s} {t = t} {u = u} f g p h =
     let a = f s.budget in
@@ -220,7 +220,7 @@ module _ {A : Type 0} {v : A} {s t : State} (f : Budget → Done A) (p : Finds v
   next_same : {B : Type 0} (g : A → Budget → Done B) → g v t.budget ≡ g (f s.budget).value (f s.budget).budget
   next_same g = ap (λ (r : State). g v r.budget) p.state ∙ ap (λ x. g x (f s.budget).budget) p.value
 
-  -- a text was refused behind a value that it needs
+  -- a text was refused after a value that it needs
   pub some-found : {x y : Text} {u : State} (g : A → Budget → Done Text) → WritesSome x y t u (g v) → WritesSome x y s u (λ b. and_then (f b) g)
   some-found {u = u} g h = record {
     written = h.written;
@@ -229,13 +229,13 @@ module _ {A : Type 0} {v : A} {s t : State} (f : Budget → Done A) (p : Finds v
     tells = tells-then (f s.budget) g p.state (subst (λ d. TellsSome t u d) (next_same g) h.tells);
   }
 
-  -- a value was refused behind another that it needs
+  -- a value was refused after another that it needs
   pub tells-found : {B : Type 0} {u : State} (g : A → Budget → Done B) → TellsSome t u (g v t.budget) → TellsSome s u (and_then (f s.budget) g)
   tells-found {u = u} g h = tells-then (f s.budget) g p.state (subst (λ d. TellsSome t u d) (next_same g) h)
 
 -- ---- placeables
 
--- the part of a placeable's text that stands behind its first mark
+-- the part of a placeable's text that stands after its first mark
 begins-marked : (i z : Bool) (front back behind part : Text) (a : Done Text) → Begins part (a.value ++ cond z behind []) → Begins (cond i front [] ++ part) (opening (cond i (mapped (λ q. front ++ (q ++ back)) (cond z (mapped (λ q. q ++ behind) a) a)) (cond z (mapped (λ q. q ++ behind) a) a))).value
 begins-marked true true front back behind part a h = begins-behind front (begins-more back h)
 begins-marked true false front back behind part a h = begins-behind front (begins-more back (begins-as (append-nil a.value) h))
@@ -258,7 +258,7 @@ module _ {S F : Type 0} (env : Environment S F) (write : Writer env Expression) 
   abbrev behind : Text
   behind = braced (fallback e)
 
-  -- what is behind the first mark, by how much of it was written
+  -- what is after the first mark, by how much of it was written
   part-by : (r : State) (b : Budget) (u v : State) (w0 w1 w2 part : Text) (iso : Bool) → r.budget ≡ b → true ≡ (opens b).value → u ≡ after r (opens b) → iso ≡ isolates → w1 ≡ w0 ++ cond iso front [] → w2 ≡ w1 ++ part → Begins part ((write e (rooted whole place) u.budget).value ++ cond (is_shut (write e (rooted whole place) u.budget).budget) behind []) → TellsSome u v (write e (rooted whole place) u.budget) → WritesSome w0 w2 r v (s.placeable_with env write whole e place)
   part-by r shut u v w0 w1 w2 part iso at is_open found is_iso e1 e2 h t = absurd (false≢true (sym is_open))
   part-by r (may_open zero) u v w0 w1 w2 part iso at is_open found is_iso e1 e2 h t = absurd (false≢true (sym is_open))
@@ -283,7 +283,7 @@ module _ {S F : Type 0} (env : Environment S F) (write : Writer env Expression) 
         let a = write e (rooted whole place) u.budget in
         part-by r r.budget u v w0 w1 w2 h.written iso refl found.value found.state is_iso e1 h.text (begins-more (cond (is_shut a.budget) behind []) h.first) h.tells
 
-    -- its fallback was refused, of which a part may stand, or its last mark, behind the whole fallback
+    -- its fallback was refused, of which a part may stand, or its last mark, after the whole fallback
     pub behind-refused : (part w3 : Text) → Writes w1 w2 u v (write e (rooted whole place)) → w3 ≡ w2 ++ part → Begins part (cond (is_shut v.budget) behind []) → WritesSome w0 w3 r v (s.placeable_with env write whole e place)
     behind-refused part w3 p e3 h =
         let a = write e (rooted whole place) u.budget in

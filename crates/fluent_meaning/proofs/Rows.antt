@@ -320,7 +320,7 @@ a_select_falls_back_to_an_attribute :
 unfolding resolving
 a_select_falls_back_to_an_attribute = refl
 
--- once too many are opened by the attribute, the select's text is empty, behind which its fallback stands
+-- once too many are opened by the attribute, the select's text is empty, after which its fallback stands
 an_attribute_opens_too_many :
     asked bare (codes "b = v\n    .c = " ++ (times 100 (codes "{ \"a\" }") ++ codes "\nm = { b.c ->\n   *[k] l\n }x\n")) (codes "m") None [] ≡ Some (codes "{b.c}", codes "Too many placeables" ∷ [])
 unfolding resolving

@@ -1,4 +1,4 @@
--- Steps one after another, by the state before and behind each.
+-- Steps one after another, by the state before and after each.
 use Rattle.std.proofs.Common.{◌≡◌, ℕ, ◌+◌, List, [], ◌++◌, map, Option, Some, None, option_map, refl, ap, sym, ◌∙◌, arith, append-nil}
 use Rattle.fluent_grammar.specs.Words.{Text}
 use Rattle.fluent_errors.specs.Errors.{Reported, unresolved}

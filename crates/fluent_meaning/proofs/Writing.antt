@@ -67,7 +67,7 @@ beside-done b g = λ i. record { value = (g b).value; errors = (g b).errors; bud
     zero_plus n = omega arith
 
 module _ {S F : Type 0} (env : Environment S F) (write : Writer env Expression) (whole : Elements) (place : Place S) where
-  -- the elements behind others
+  -- the elements after others
   pub elements-append : (xs ys : List Element) (b : Budget) → s.elements_with env write whole (elements_of (xs ++ ys)) place b ≡ beside (s.elements_with env write whole (elements_of xs) place b) (λ c. s.elements_with env write whole (elements_of ys) place c)
   unfolding s.elements_with
   elements-append [] ys b = sym (beside-done b (λ c. s.elements_with env write whole (elements_of ys) place c))

@@ -38,7 +38,7 @@ impl FluentNumber {
     /// A copy. Only the text of the option `currency` is allocated.
     ///
     /// # Errors
-    /// [`AllocError`] if memory runs out; nothing is left behind.
+    /// [`AllocError`] if memory runs out; nothing is kept.
     pub fn try_clone(&self, alloc: Global) -> Result<Self, AllocError>
         ensures same { IfOk result (λ copy. number_of copy ≡ number_of self.now) }
         ensures succeeds { IsNone self.now.options.currency → IsOk result }
@@ -53,7 +53,7 @@ impl FluentNumber {
     /// follow it.
     ///
     /// # Errors
-    /// [`AllocError`] if memory runs out; nothing is left behind. A count that no memory holds is refused at once.
+    /// [`AllocError`] if memory runs out; nothing is kept. A count that no memory holds is refused at once.
     #[tactic(auto, unfolding(crate::specs::Text::number_text))]
     pub fn as_string(&self, alloc: Global) -> Result<String, AllocError>
         ensures { IfOk result (λ text. string_bytes text ≡ number_text (number_of self.now)) }

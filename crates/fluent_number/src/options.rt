@@ -152,7 +152,7 @@ impl FluentNumberOptions {
     /// A copy. Only the text of `currency` is allocated.
     ///
     /// # Errors
-    /// [`AllocError`] if memory runs out; nothing is left behind.
+    /// [`AllocError`] if memory runs out; nothing is kept.
     pub fn try_clone(&self, alloc: Global) -> Result<Self, AllocError>
         ensures same { IfOk result (λ copy. options_of copy ≡ options_of self.now) }
         ensures succeeds { IsNone self.now.currency → IsOk result }

@@ -24,7 +24,7 @@ impl<S: Drop> Collected<S> {
     /// Of no parts, with room for this many entries.
     ///
     /// # Errors
-    /// [`AllocError`] if memory runs out; nothing is left behind.
+    /// [`AllocError`] if memory runs out; nothing is kept.
     pub fn with_capacity(alloc: Global, entries: usize) -> Result<Self, AllocError>
         ensures entries { IfOk result (HasNoEntries S) }
         ensures errors { IfOk result (HasNoErrors S) }
@@ -134,7 +134,7 @@ impl<S: Drop> Collected<S> {
     /// The tree.
     ///
     /// # Errors
-    /// [`Error::Memory`] if memory runs out; nothing is left behind. [`Error::Broken`] with the tree if there are errors.
+    /// [`Error::Memory`] if memory runs out; nothing is kept. [`Error::Broken`] with the tree if there are errors.
     pub fn finish(mut self) -> Result<Resource<S>, Error<S>>
         ensures tree { (text_of : S → List ℕ) → HasTree S text_of result
             (entries_with S text_of self []) }

@@ -80,7 +80,7 @@ impl ErrorKind {
     /// The same kind.
     ///
     /// # Errors
-    /// [`AllocError`] if memory runs out; nothing is left behind.
+    /// [`AllocError`] if memory runs out; nothing is kept.
     pub fn try_clone(&self, alloc: Global) -> Result<Self, AllocError>
         ensures { IfOk result (λ copy. kind_view copy ≡ kind_view self.now) }
     {
@@ -163,7 +163,7 @@ impl ParserError {
     /// The same error.
     ///
     /// # Errors
-    /// [`AllocError`] if memory runs out; nothing is left behind.
+    /// [`AllocError`] if memory runs out; nothing is kept.
     pub fn try_clone(&self, alloc: Global) -> Result<Self, AllocError>
         ensures { IfOk result (λ copy. error_view copy ≡ error_view self.now) }
     {

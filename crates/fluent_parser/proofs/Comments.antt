@@ -67,7 +67,7 @@ comment_line_by false true false s a rest n h f g e =
 comment_line_by false false true s a rest n h f g e = ap (λ (w : Text × Text). got (w.0 ∷ []) w.1) e
 comment_line_by false false false s a rest n h f g e = absurd cc
 
--- a line behind its sign, where one stands
+-- a line after its sign, where one stands
 pub comment_line_is : (s u : Text) (n : ℕ) → (length s == 0) ≡ false → is_comment_line s ≡ true → u ≡ cond (begins_with space s) (drop 1 s) s → IsLine u n
     → comment_line_at s ≡ got (take n u ∷ []) (unwrap_or (after_line_end (drop n u)) (drop n u))
 unfolding comment_line_at
@@ -106,7 +106,7 @@ comment_line_stands s old kind rest h f = not_refused_by (comment_line_at s) kin
     unmapped (got a u) g = g
     unmapped (refused fault) g = g
 
--- the line that was put behind others
+-- the line that was put after others
 pub line_put : (old new : List Text) (rest : Text) (x : Reading (List Text)) → lines_with old x ≡ got new rest → (line : List Text) × (x ≡ got line rest) × (new ≡ old ++ line)
 line_put old new rest (got a u) e = let f : u ≡ rest = cc in (a, ap (got a) f, cc)
 line_put old new rest (refused fault) e = absurd cc

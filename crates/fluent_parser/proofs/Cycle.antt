@@ -107,7 +107,7 @@ pub argument_named : (names : List Text) (s rest : Text) (e : t.Inline) (name : 
 argument_named names s rest e name h k c =
     sym (read_inline names s rest (t.message_reference name None) (h ∙ ap (λ z. got z rest) k) ∙ rw c refl)
 
--- behind named arguments
+-- after named arguments
 pub no_names : {X : Type 0} (view : X → Named) (others : List X) → length others ≡ 0 → names_of (map view others) ≡ []
 no_names view [] h = refl
 no_names view (x ∷ xs) h = absurd (omega (arith, h))

@@ -1,4 +1,4 @@
--- A piece that was read may stand where it stands, and tells whether a line begins behind it.
+-- A piece that was read may stand where it stands, and tells whether a line begins after it.
 use Rattle.std.proofs.Common.{◌≡◌, ℕ, ◌+◌, suc, Bool, true, false, cond, ◌&&◌, [], ◌∷◌, length, drop, refl, ap, subst, arith, Option, Some, None}
 use Rattle.std.specs.Prelude.{◌==◌}
 use Rattle.fluent_grammar.specs.Words.{Text, space, spaces, skip_spaces, line_feed, carriage_return, open_brace, close_brace, begins_with, begins_crlf}
@@ -44,7 +44,7 @@ run_spaces (c ∷ cs) x rest h n =
 
 -- ---- what was read
 
--- a piece, and whether a line begins behind it
+-- a piece, and whether a line begins after it
 abbrev pub found : Piece → Bool → Option (Piece × Bool)
 found p next = Some (p, next)
 

@@ -1,4 +1,4 @@
--- The pieces of a pattern, gathered one behind the other.
+-- The pieces of a pattern, gathered one after the other.
 use Rattle.std.proofs.Common.{◌≡◌, ℕ, Bool, List, [], ◌∷◌, ◌++◌, map, refl, sym, ap, subst, ◌∙◌, None}
 use Rattle.std.proofs.lemmas.List.{map-append}
 use Rattle.fluent_grammar.specs.Words.{Text, after_line_end}

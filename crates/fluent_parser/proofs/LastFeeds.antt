@@ -1,4 +1,4 @@
--- The line feed of a blank line behind a pattern adds nothing to it.
+-- The line feed of a blank line after a pattern adds nothing to it.
 use Rattle.std.proofs.Common.{◌≡◌, ℕ, Bool, true, false, cond, ◌&&◌, List, [], ◌∷◌, ◌++◌, length, drop, refl, sym, ap, ◌∙◌, arith, Option, Some, None}
 use Rattle.std.specs.Prelude.{◌==◌}
 use Rattle.fluent_grammar.specs.Words.{Text, line_feed, after_line_end}
@@ -56,7 +56,7 @@ feed_pieces (c ∷ cs) h =
     let e : c ≡ line_feed = test_of c line_feed k.0 in
     rw e (feed_alone cs k.1)
 
--- what stands behind a refusal
+-- what stands after a refusal
 fails_by : (e : Fault) (rest u : Text) (b : Bool) (x : Reading (Option (Piece × Bool))) → Fails e rest (cond b (got None u) x) → Fails e rest x
 fails_by fault.Memory rest u b x f = tt
 fails_by (fault.Refused kind) rest u true x f = absurd f

@@ -123,7 +123,7 @@ line_less (c ∷ cs) rest h e = line_less_by c cs rest e (rest_of_line-tail (c �
 
 -- ---- comment lines, passed over at once
 
--- behind the first line
+-- after the first line
 feed_passed : (b d : Bool) (c : ℕ) (cs : Text) → (c == line_feed) ≡ b → (c == carriage_return && begins_with line_feed cs) ≡ d → past_comments false cs ≡ past_comments true (rest_of_line cs).1
     → past_comments false (c ∷ cs) ≡ past_comments true (rest_of_line (c ∷ cs)).1
 feed_passed true d c cs e f more = rw e refl

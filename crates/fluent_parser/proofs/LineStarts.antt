@@ -1,4 +1,4 @@
--- Where lines start: behind a line feed.
+-- Where lines start: after a line feed.
 use Rattle.std.proofs.Common.{◌≡◌, ◌⊎◌, inl, inr, ℕ, ◌-◌, Bool, true, false, cond, ◌&&◌, ◌||◌, [], ◌∷◌, ◌++◌, length, take, drop, refl, sym, ap, subst, ◌∙◌, Option, Some, None}
 use Rattle.std.specs.Prelude.{◌==◌}
 use Rattle.std.proofs.lemmas.List.{append_assoc, take-append-drop}
@@ -17,7 +17,7 @@ use Rattle.fluent_parser.specs.Steps.{piece_by, piece_behind, kept_piece_by, tex
 use Rattle.fluent_parser.proofs.FittingPieces.{found, same_piece}
 use Rattle.fluent_parser.proofs.LastFeeds.{kept_some}
 
--- what stands behind a line feed of a text
+-- what stands after a line feed of a text
 Behind : Text → Text → Type 0
 Behind rest whole = (line : Text) × (whole ≡ line ++ line_feed ∷ rest)
 
@@ -25,7 +25,7 @@ behind_front : (front s rest : Text) → Behind rest s → Behind rest (front ++
 unfolding Behind
 behind_front front s rest b = (front ++ b.0, ap (λ z. front ++ z) b.1 ∙ sym (append_assoc front b.0 (line_feed ∷ rest)))
 
--- behind that again
+-- after that again
 behind_behind : (v s rest : Text) → Behind v s → Behind rest v → Behind rest s
 unfolding Behind
 behind_behind v s rest b d =
@@ -42,7 +42,7 @@ column text s rest e b =
     ∙ sym (append_assoc front b.0 (line_feed ∷ rest)) ∙ sym (append_assoc (front ++ b.0) (line_feed ∷ []) rest) in
     ap (λ (z : Text). at_column_zero z rest) whole ∙ column-snoc (front ++ b.0) line_feed rest
 
--- ---- behind a text
+-- ---- after a text
 
 last_of : (c : ℕ) (x s rest : Text) → is_text_byte c ≡ true → (ends_line x ≡ true → Behind rest s) → ends_line (c ∷ x) ≡ true → Behind rest (c ∷ s)
 last_of c [] s rest b f h = absurd (let k : is_text_byte line_feed ≡ true = subst (λ (z : ℕ). is_text_byte z ≡ true) (test_of c line_feed h) b in cc)
@@ -56,7 +56,7 @@ text_ended (to_crlf {rest} c) h = absurd cc
 text_ended to_end h = absurd cc
 text_ended (text_byte {c} {piece} {s} {rest} b n d) h = last_of c piece s rest b (text_ended d) h
 
--- ---- behind a line end
+-- ---- after a line end
 
 crlf_case : (a b : Bool) (c d : ℕ) (ds : Text) → (d == line_feed) ≡ b → (a && b) ≡ true → Behind ds (c ∷ d ∷ ds)
 unfolding Behind
@@ -86,7 +86,7 @@ end_case false false s v e f h = absurd cc
 line_end_behind : (s v : Text) → after_line_end s ≡ Some v → Behind v s
 line_end_behind s v h = end_case (begins_with line_feed s) (begins_crlf s) s v refl refl h
 
--- ---- behind blank lines
+-- ---- after blank lines
 
 Stays : Text → Text → Type 0
 Stays rest v = (rest ≡ v) ⊎ Behind rest v
@@ -124,7 +124,7 @@ first_case : (o : Option Text) (line : Bool) (s rest : Text) → after_line_end 
 first_case None line s rest e h n = absurd (let k : line ≡ false = ap (λ (x : Bool × Text). x.0) h in cc)
 first_case (Some v) line s rest e h n = behind_block v s rest (line_end_behind s v e) (ap (λ (x : Bool × Text). x.1) h)
 
--- behind a line end and the blank lines that follow it
+-- after a line end and the blank lines that follow it
 pub first_starts : (line : Bool) (text s rest : Text) → s ≡ drop (length text - length s) text → (line, rest) ≡ first_place s (after_line_end s) → StartsLine line text rest
 first_starts line text s rest e h = starts_if line text s rest e (first_case (after_line_end s) line s rest refl h)
 
@@ -167,6 +167,6 @@ read_behind : (line : Bool) (s rest : Text) (p : Piece) (next : Bool) → piece_
 unfolding piece_by
 read_behind line s rest p next h n = piece_case (line && pattern_ends s) line s rest p next h n
 
--- behind a piece that ends its line
+-- after a piece that ends its line
 pub piece_starts : (line : Bool) (text s rest : Text) (p : Piece) (next : Bool) → s ≡ drop (length text - length s) text → kept_piece_by line s ≡ got (Some (p, next)) rest → StartsLine next text rest
 piece_starts line text s rest p next e h = starts_if next text s rest e (read_behind line s rest p next (kept_some line s rest (p, next) h))

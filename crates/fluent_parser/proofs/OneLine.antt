@@ -49,7 +49,7 @@ text_first c cs x rest b run ends =
 no_line_end : (c : ℕ) (cs : Text) → Begins c → (false, c ∷ cs) ≡ first_place (c ∷ cs) (after_line_end (c ∷ cs))
 no_line_end c cs b = rw b.feed (rw b.return refl)
 
--- the end of the pattern behind it
+-- the end of the pattern after it
 end_feed : (cs : Text) → pattern_ends cs ≡ true → kept_piece_by true (line_feed ∷ cs) ≡ got None cs
 unfolding kept_piece_by
 end_feed cs h = rw h refl

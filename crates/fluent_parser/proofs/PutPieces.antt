@@ -1,4 +1,4 @@
--- A piece that was put behind those that were gathered.
+-- A piece that was put after those that were gathered.
 use Rattle.std.proofs.Common.{◌≡◌, ℕ, ◌+◌, Bool, true, false, ◌&&◌, [], ◌∷◌, ◌++◌, length, take, drop, map, refl, ap, subst, ◌∙◌, Option, Some, None}
 use Rattle.std.specs.Prelude.{◌==◌, Ok}
 use Rattle.std.specs.Bool.{then_some}
@@ -24,7 +24,7 @@ pub placeable_next : (line zero : Bool) (n : ℕ) (u : Text) → (length u == 0)
 placeable_next line zero n u some brace z = rw (some, brace, z) refl
 
 module _ (S : Type 0) (text_of : S → Text) where
-  -- an element was put behind what was gathered, with what it says of the common indent
+  -- an element was put after what was gathered, with what it says of the common indent
   pub record Pushes (old new : Gathered S) (e : PatternElement S) (said : Option ℕ) : Type 0 where
     pub elements : new.elements.items ≡ old.elements.items ++ e ∷ []
     pub begins_line : new.begins_line ≡ old.begins_line

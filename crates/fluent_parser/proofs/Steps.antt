@@ -240,7 +240,7 @@ text_piece_is piece s = text_case piece (g.text_run s)
 line_feed_piece : Piece
 line_feed_piece = in_line (w.line_feed ∷ [])
 
--- the choice behind the spaces
+-- the choice after the spaces
 behind_spaces : (z line : Bool) (indent : ℕ) (u : Text) (crlf : Reading (List Piece)) → z ≡ (line && indent == 0) →
     ((length u == 0) ≡ false → begins_with w.open_brace u ≡ false → begins_crlf u ≡ true → crlf ≡ mapped (λ ps. in_line (w.line_feed ∷ []) ∷ ps) (whole.line (drop 2 u))) →
     cond (length u == 0) (got [] []) (cond (begins_with w.open_brace u) (g.placeable_piece_at whole z u) (cond (begins_crlf u) crlf (g.text_piece_at whole (text_piece line indent) u)))

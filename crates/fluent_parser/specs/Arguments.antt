@@ -20,15 +20,15 @@ module _ (S : Type 0) (text_of : S → List ℕ) where
   argument_view (argument.Positional e) = s.positional (inline_view S text_of e)
   argument_view (argument.Named n name) = s.named (named_view S text_of n)
 
-  -- an argument behind named ones
+  -- an argument after named ones
   abbrev pub argument_with : NamedArguments S → Text → Reading s.Argument
   argument_with others rest = s.argument_by (names_in S text_of others) rest
 
-  -- a positional argument behind named ones
+  -- a positional argument after named ones
   abbrev pub positional_with : NamedArguments S → InlineExpression S → Text → Reading s.Argument
   positional_with others e rest = s.positional_by (names_in S text_of others) (inline_view S text_of e) rest
 
-  -- the value of an argument of this name behind named ones, from the colon on
+  -- the value of an argument of this name after named ones, from the colon on
   abbrev pub value_with : NamedArguments S → Text → Text → Reading t.Inline
   value_with others name rest = argument_value_at (names_in S text_of others) name rest
 

@@ -8,12 +8,12 @@ use Rattle.fluent_grammar.specs.Reading.{identifier_at, attributes_at, message_o
 use Rattle.fluent_parser.specs.Reads.{byte_at}
 use Rattle.fluent_parser.specs.Steps.{pattern_by}
 
--- the line that stands behind a comment's sign, if one does
+-- the line that stands after a comment's sign, if one does
 abbrev pub line_of : {S : Type 0} → (S → Text) → Option S → List Text
 line_of text_of None = []
 line_of text_of (Some line) = text_of line ∷ []
 
--- lines, and one more behind them
+-- lines, and one more after them
 abbrev pub lines_with : List Text → Reading (List Text) → Reading (List Text)
 lines_with lines read = mapped (λ line. lines ++ line) read
 

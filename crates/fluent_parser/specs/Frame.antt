@@ -8,7 +8,7 @@ use Rattle.fluent_parser.specs.Reads.{Gives}
 use Rattle.fluent_parser.specs.declared.fault.Fault.{Fault}
 use Rattle.fluent_parser.specs.declared.parser.Parser.{Parser}
 
--- it reads the same text, from its place on or from behind it
+-- it reads the same text, from its place on or from after it
 pub record Advances {S T : Type 0} {texts : Ghosts T S} (old new : Parser S T texts) : Type 0 where
   pub text : new.text.now ≡ old.text.now
   pub onward : length new.rest.now ≤ length old.rest.now

@@ -20,6 +20,6 @@ module _ (S : Type 0) (text_of : S → List ℕ) where
   abbrev pub IsIndexed : NamedArguments S → Type 0
   IsIndexed n = (name : List ℕ) → contains_by (λ k. slice_cmp nat_cmp name k.now) n.later ≡ list_any (λ x. bytes_eq (named_view S text_of x).name name) (drop FEW n.all.items)
 
--- The set goes on having them, by whatever the bytes of a text are, behind one more argument whose name is this text.
+-- The set goes on having them, by whatever the bytes of a text are, after one more argument whose name is this text.
 abbrev pub StaysIndexed : (S : Type 0) → NamedArguments S → NamedArguments S → NamedArgument S → List ℕ → Type 0
 StaysIndexed S old new argument name = (text_of : S → List ℕ) → (named_view S text_of argument).name ≡ name → IsIndexed S text_of old → IsIndexed S text_of new

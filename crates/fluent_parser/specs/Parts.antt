@@ -13,7 +13,7 @@ abbrev pub piece_of : ℕ → Bool → Text → Reading t.Entry → Piece
 piece_of at apart s (got e rest) = entry apart e
 piece_of at apart s (refused fault) = junk (take (length s - length (behind_junk s fault.at)) s) (error_of at s fault)
 
--- the piece that a parser stands before, behind a blank line or not
+-- the piece that a parser stands before, after a blank line or not
 abbrev pub next_piece : {S T : Type 0} {texts : Ghosts T S} → Parser S T texts → Bool → Piece
 next_piece p apart = piece_of (length p.text.now - length p.rest.now) apart p.rest.now (entry_at p.rest.now)
 

@@ -12,7 +12,7 @@ use Rattle.fluent_parser.specs.declared.fault.Fault.{Fault}
 use Rattle.fluent_parser.specs.declared.parser.Parser.{Parser}
 
 module _ (S : Type 0) (text_of : S → Text) where
-  -- a piece was put behind what was gathered, with its leading spaces
+  -- a piece was put after what was gathered, with its leading spaces
   pub record Puts (old new : Gathered S) (piece : Piece) : Type 0 where
     pub elements : map (element_view S text_of) new.elements.items ≡ map (element_view S text_of) old.elements.items ++ undented piece ∷ []
     pub begins_line : new.begins_line ≡ old.begins_line

@@ -49,11 +49,11 @@ IsRange (fault.Refused kind) range = kind_view kind ≡ expected_char_range rang
 abbrev pub byte_at : ℕ → Text → Reading (Unit {0})
 byte_at byte s = if begins_with byte s then got tt (drop 1 s) else refuse (r.expected_token byte) s
 
--- a text from behind this byte, if it begins with it
+-- a text from after this byte, if it begins with it
 abbrev pub past_byte : ℕ → Text → Text
 past_byte byte s = if begins_with byte s then drop 1 s else s
 
--- so many bytes at the front of a text, and the character behind them
+-- so many bytes at the front of a text, and the character after them
 abbrev pub with_next_char : Text → ℕ → Text
 with_next_char s count = take count s ++ first_char (drop count s)
 
@@ -69,11 +69,11 @@ variable_at s = mapped t.variable_reference (identifier_at (drop 1 s))
 abbrev pub string_or_number_at : Text → Reading t.Inline
 string_or_number_at s = if begins_with quote s then mapped t.string_literal (string_content (drop 1 s)) else mapped t.number_literal (number_at s)
 
--- a key with its closing bracket, behind the opening one
+-- a key with its closing bracket, after the opening one
 abbrev pub key_in_brackets_at : Text → Reading t.VariantKey
 key_in_brackets_at s = key_at (skip_blank s) >>= (λ key. byte_at close_bracket (skip_blank key.1) >>= (λ u. got key.0 u.1))
 
--- the value of an argument of this name behind others, from the colon on
+-- the value of an argument of this name after others, from the colon on
 abbrev pub argument_value_at : List Text → Text → Text → Reading t.Inline
 argument_value_at names name s = if is_among name names then refuse (r.duplicated_named_argument name) s else literal_at (skip_blank (drop 1 s))
 

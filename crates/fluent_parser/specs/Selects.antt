@@ -1,4 +1,4 @@
--- Selects as they are read, from behind their selector.
+-- Selects as they are read, from after their selector.
 use Rattle.std.specs.Global.{Vec}
 use Rattle.fluent_grammar.specs.Words.{Text, skip_blank}
 use Rattle.std.specs.Prelude.{Bool, Option, Some, None}
@@ -26,11 +26,11 @@ module _ (S : Type 0) (text_of : S → Text) where
   expression_with selector None = t.inline (inline_view S text_of selector)
   expression_with selector (Some variants) = select_view selector variants
 
-  -- the reading of one, from behind its selector
+  -- the reading of one, from after its selector
   abbrev pub select_or_inline_by : InlineExpression S → Text → Reading t.Expression
   select_or_inline_by selector s = select_or_inline_at whole (inline_view S text_of selector) (skip_blank s)
 
-  -- the rest of a placeable in an expression, behind its selector and its variants
+  -- the rest of a placeable in an expression, after its selector and its variants
   abbrev pub nested_end_by : InlineExpression S → Option (Vec (Variant S)) → Text → Reading t.Inline
   nested_end_by selector variants s = mapped t.nested (closed_by (expression_with selector variants) s)
 

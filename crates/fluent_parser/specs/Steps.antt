@@ -14,7 +14,7 @@ use Rattle.fluent_ast.specs.View.{Variant, Named}
 unfoldable pub expression_by : Text → Reading t.Expression
 expression_by s = whole.inline s >>= (λ e. select_or_inline_at whole e.0 (skip_blank e.1))
 
--- the closing brace of a placeable, behind blank
+-- the closing brace of a placeable, after blank
 abbrev pub closed_by : t.Expression → Text → Reading t.Expression
 closed_by e s = byte_at close_brace (skip_blank s) >>= (λ u. got e u.1)
 
@@ -38,7 +38,7 @@ placeable_piece_by column_zero s = mapped (placed_piece column_zero) (placeable_
 abbrev pub pattern_by : Text → Reading (Option t.Elements)
 pattern_by s = mapped value_of (pattern_at whole s)
 
--- the same, behind the blank inline before it
+-- the same, after the blank inline before it
 unfoldable pub pattern_behind : Text → Reading (Option t.Elements)
 pattern_behind s = mapped value_of (mapped elements_of (first_pieces_at whole s (after_line_end s)))
 
@@ -53,7 +53,7 @@ variant_by default s =
     key_in_brackets_at (drop 1 s) >>= (λ key. pattern_by key.1 >>= (λ value. present value.0 value.1 >>= (λ es.
     got (record { key = key.0; value = es.0; default = default }) es.1)))
 
--- the variants that are left, behind some
+-- the variants that are left, after some
 abbrev pub variants_behind : List Variant → t.Variants → t.Variants
 variants_behind [] vs = vs
 variants_behind (v ∷ more) vs = t.variant v.key v.value v.default (variants_behind more vs)
@@ -75,7 +75,7 @@ named_or_positional_by names e (Some name) s =
     if begins_with colon s then mapped (λ v. named (record { name = name; value = v })) (argument_value_at names name s)
     else positional_by names e s
 
--- an argument behind named ones of these names
+-- an argument after named ones of these names
 unfoldable pub argument_by : List Text → Text → Reading Argument
 argument_by names s = whole.inline s >>= (λ e. named_or_positional_by names e.0 (name_of_argument e.0) e.1)
 
@@ -84,22 +84,22 @@ abbrev pub names_with : Argument → List Text → List Text
 names_with (positional e) names = names
 names_with (named n) names = n.name ∷ names
 
--- the arguments that are left, behind one
+-- the arguments that are left, after one
 abbrev pub with_argument : Argument → t.Arguments → t.Arguments
 with_argument (positional e) (t.arguments ps ns) = t.arguments (t.positional e ps) ns
 with_argument (named n) (t.arguments ps ns) = t.arguments ps (t.named n.name n.value ns)
 
--- positional arguments behind some
+-- positional arguments after some
 abbrev pub inlines_behind : List t.Inline → t.Inlines → t.Inlines
 inlines_behind [] es = es
 inlines_behind (e ∷ more) es = t.positional e (inlines_behind more es)
 
--- named arguments behind some
+-- named arguments after some
 abbrev pub nameds_behind : List Named → t.Nameds → t.Nameds
 nameds_behind [] ns = ns
 nameds_behind (n ∷ more) ns = t.named n.name n.value (nameds_behind more ns)
 
--- the arguments that are left, behind some
+-- the arguments that are left, after some
 abbrev pub arguments_behind : List t.Inline → List Named → t.Arguments → t.Arguments
 arguments_behind ps ns (t.arguments es ms) = t.arguments (inlines_behind ps es) (nameds_behind ns ms)
 
@@ -121,7 +121,7 @@ indent_at false s = 0
 abbrev pub text_step : Bool → ℕ → Text → Reading (Option (Piece × Bool))
 text_step line indent u = text_run u >>= (λ x. got (Some (text_piece line indent x.0, ends_line x.0)) x.1)
 
--- the next piece of a pattern behind so many spaces, and whether it ends its line; None where the text ends
+-- the next piece of a pattern after so many spaces, and whether it ends its line; None where the text ends
 abbrev pub piece_behind : Bool → ℕ → Text → Reading (Option (Piece × Bool))
 piece_behind line indent u =
     if length u == 0 then got None []
@@ -150,7 +150,7 @@ abbrev pub pieces_by : Bool → Text → Reading (List Piece)
 pieces_by true s = whole.line s
 pieces_by false s = whole.pieces s
 
--- the pieces that are left, behind one
+-- the pieces that are left, after one
 abbrev pub pieces_after : Option (Piece × Bool) → Text → Reading (List Piece)
 pieces_after None s = got [] s
 pieces_after (Some p) s = mapped (λ ps. p.0 ∷ ps) (pieces_by p.1 s)

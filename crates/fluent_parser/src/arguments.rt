@@ -67,7 +67,7 @@ impl<'p, S: Drop, T: Texts<S>> Parser<'p, S, T> {
         })
     }
 
-    /// An argument of a call, behind these named ones. Productions `Argument` and `NamedArgument`.
+    /// An argument of a call, after these named ones. Productions `Argument` and `NamedArgument`.
     #[cycle(parser)]
     fn get_argument(&mut self, others: &NamedArguments<'p, S>) -> Result<Argument<'p, S>, Fault>
         requires indexed { IsIndexed S T.text others.now }
@@ -92,7 +92,7 @@ impl<'p, S: Drop, T: Texts<S>> Parser<'p, S, T> {
         }
     }
 
-    /// A positional argument, which may stand behind no named one.
+    /// A positional argument, which may stand after no named one.
     fn positional_argument(
         &self,
         argument: InlineExpression<S>,
@@ -125,7 +125,7 @@ impl<'p, S: Drop, T: Texts<S>> Parser<'p, S, T> {
         }
     }
 
-    /// The value of an argument of this name behind others, from the colon on.
+    /// The value of an argument of this name after others, from the colon on.
     fn get_argument_value(
         &mut self,
         name: &str,

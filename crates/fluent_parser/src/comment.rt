@@ -76,7 +76,7 @@ impl<'p, S: Drop, T: Texts<S>> Parser<'p, S, T> {
         words::comment_level(line) == level && words::is_comment_line(&line[level..])
     }
 
-    /// Puts the line that stands here behind others of its comment.
+    /// Puts the line that stands here after others of its comment.
     #[inline(always)]
     fn push_comment_line(&mut self, level: usize, lines: &mut Vec<S>) -> Result<(), Fault>
         requires signs { level ≡ w.comment_level self.old.rest.now }
@@ -92,7 +92,7 @@ impl<'p, S: Drop, T: Texts<S>> Parser<'p, S, T> {
         Ok(())
     }
 
-    /// What stands behind the sign of a comment's line. None at the end of the text, where a sign adds no line.
+    /// What stands after the sign of a comment's line. None at the end of the text, where a sign adds no line.
     #[inline(always)]
     fn get_comment_line(&mut self) -> Result<Option<S>, Fault>
         ensures gives { Reads (line_of T.text) self.old self.new result comment_line_at }

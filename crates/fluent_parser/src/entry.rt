@@ -160,7 +160,7 @@ impl<'p, S: Drop, T: Texts<S>> Parser<'p, S, T> {
         }
     }
 
-    /// Whether this line may be an attribute: a dot stands behind its spaces.
+    /// Whether this line may be an attribute: a dot stands after its spaces.
     pub fn is_attribute_line(&self) -> bool
         ensures { result ≡ w.begins_with w.dot (w.skip_spaces self.now.rest.now) }
     {

@@ -55,7 +55,7 @@ use std::alloc::Global;
 /// # Errors
 /// - [`Error::Broken`] if there is junk, with the whole tree and the errors in the order of their places, which are
 ///   bytes of the source.
-/// - [`Error::Memory`] if memory runs out; nothing is left behind. It also means that placeables, calls and selects are
+/// - [`Error::Memory`] if memory runs out; nothing is kept. It also means that placeables, calls and selects are
 ///   nested so deep that reading them would take more than the budget of the machine's stack.
 pub fn parse<'s, S: Slice<'s>>(alloc: Global, input: S) -> Result<S>
     ensures tree { HasTree S S.text result (tree (S.text input)) }
@@ -91,7 +91,7 @@ pub fn parse_within<'s, S: Slice<'s>>(alloc: Global, input: S, budget: StackBudg
 ///
 /// # Errors
 /// - [`Error::Broken`] if there is junk, with the whole tree and the errors in the order of their places.
-/// - [`Error::Memory`] if memory runs out; nothing is left behind. It also means that placeables, calls and selects are
+/// - [`Error::Memory`] if memory runs out; nothing is kept. It also means that placeables, calls and selects are
 ///   nested so deep that reading them would take more than the budget of the machine's stack.
 pub fn parse_runtime<'s, S: Slice<'s>>(alloc: Global, input: S) -> Result<S>
     ensures tree { HasTree S S.text result (runtime_tree (S.text input)) }

@@ -38,7 +38,7 @@ pub struct Parser<'p, S, T: Texts<S>> {
     ghost lined: { lines.text.now ≡ text.now },
 }
 
-/// A text behind so many bytes.
+/// A text after so many bytes.
 pub fn behind<'a>(text: &'a str, count: usize) -> &'a str
     requires { Cuts text.now count }
     ensures { result.now ≡ drop count text.now }
@@ -140,7 +140,7 @@ impl<'p, S: Drop, T: Texts<S>> Parser<'p, S, T> {
         self.lines.line_len(place)
     }
 
-    /// How many bytes stand before the next line behind this one that may begin an entry: all, where there is none.
+    /// How many bytes stand before the next line after this one that may begin an entry: all, where there is none.
     pub fn next_entry(&mut self) -> usize
         ensures value { drop result self.old.rest.now ≡ resume false self.old.rest.now }
         ensures cuts { Cuts self.old.rest.now result }
@@ -160,7 +160,7 @@ impl<'p, S: Drop, T: Texts<S>> Parser<'p, S, T> {
         self.lines.comments_len(place)
     }
 
-    /// The text of a pattern that stands behind so many bytes: see `text_len` of `fluent_tokens`.
+    /// The text of a pattern that stands after so many bytes: see `text_len` of `fluent_tokens`.
     ///
     /// # Errors
     /// The offset of a closing brace from here, if one comes first: no text may have it.
@@ -202,7 +202,7 @@ impl<'p, S: Drop, T: Texts<S>> Parser<'p, S, T> {
         self.lines.plain_line(place)
     }
 
-    /// Whether a line feed stands here, behind which a pattern ends.
+    /// Whether a line feed stands here, after which a pattern ends.
     pub fn is_last_feed(&mut self) -> bool
         ensures value { result ≡ is_last_feed self.old.rest.now }
         ensures stays { Stays self.old self.new }
@@ -222,7 +222,7 @@ impl<'p, S: Drop, T: Texts<S>> Parser<'p, S, T> {
         self.lines.line_at(place)
     }
 
-    /// Passes over so many bytes, behind which a character begins.
+    /// Passes over so many bytes, after which a character begins.
     pub fn advance(&mut self, count: usize)
         requires { Cuts self.old.rest.now count }
         ensures rest { self.new.rest.now ≡ drop count self.old.rest.now }

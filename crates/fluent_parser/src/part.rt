@@ -20,8 +20,8 @@ impl<'p, S: Drop, T: Texts<S>> Parser<'p, S, T> {
     ghost use Rattle.fluent_parser.specs.Parts.{next_piece, behind_piece};
     ghost use Rattle.fluent_parsed.specs.Collected.{TakesEntries, TakesErrors};
 
-    /// Reads the part that begins here, and puts it behind those that were collected. `apart` says whether a blank line
-    /// stands before it. Behind a refused entry, reading goes on at the first place that may begin another: at or behind
+    /// Reads the part that begins here, and puts it after those that were collected. `apart` says whether a blank line
+    /// stands before it. Behind a refused entry, reading goes on at the first place that may begin another: at or after
     /// the place of the refusal, at column 0, before a letter, `-` or `#`.
     ///
     /// # Errors

@@ -17,7 +17,7 @@ use fluent_parsed::{ErrorKind, Gathered, is_blank_text};
 use fluent_text::Texts;
 use fluent_tokens as words;
 
-/// What a text says of the common indent, behind so many spaces at a line start or within a line: nothing where it is blank.
+/// What a text says of the common indent, after so many spaces at a line start or within a line: nothing where it is blank.
 pub fn said_by(at_line_start: bool, indent: usize, text: &[u8]) -> Option<usize>
     ensures { result ≡ indent_of (text_piece at_line_start indent text.now) }
 {
@@ -28,7 +28,7 @@ pub fn said_by(at_line_start: bool, indent: usize, text: &[u8]) -> Option<usize>
     }
 }
 
-/// Whether a piece behind so many spaces, at a line start or within a line, stands at column zero.
+/// Whether a piece after so many spaces, at a line start or within a line, stands at column zero.
 fn is_column_zero(at_line_start: bool, indent: usize) -> bool
     ensures { result ≡ (at_line_start && indent == 0) }
 {
@@ -75,7 +75,7 @@ impl<'p, S: Drop, T: Texts<S>> Parser<'p, S, T> {
         Ok(Some(Pattern { elements }))
     }
 
-    /// Any pattern, behind the blank before it.
+    /// Any pattern, after the blank before it.
     #[cycle(parser)]
     fn get_lines(&mut self) -> Result<Option<Pattern<S>>, Fault>
         ensures gives { Reads (option_map (pattern_view S T.text)) self.old self.new result
@@ -94,7 +94,7 @@ impl<'p, S: Drop, T: Texts<S>> Parser<'p, S, T> {
         Ok(pattern)
     }
 
-    /// Passes over a line end and the blank lines behind it, and says whether one stood here.
+    /// Passes over a line end and the blank lines after it, and says whether one stood here.
     #[inline(always)]
     pub fn skip_to_line(&mut self) -> bool
         ensures place { (result, self.new.rest.now)
@@ -108,8 +108,8 @@ impl<'p, S: Drop, T: Texts<S>> Parser<'p, S, T> {
         begins_line
     }
 
-    /// Reads the next piece of a pattern, puts it behind those that were gathered, and says whether it ends its line. None
-    /// where the pattern ends. A blank line behind most patterns would be a piece of its own, which is dropped again: its line
+    /// Reads the next piece of a pattern, puts it after those that were gathered, and says whether it ends its line. None
+    /// where the pattern ends. A blank line after most patterns would be a piece of its own, which is dropped again: its line
     /// feed is passed over.
     #[cycle(parser)]
     fn get_piece(
@@ -138,7 +138,7 @@ impl<'p, S: Drop, T: Texts<S>> Parser<'p, S, T> {
         self.get_piece_behind(true, row.spaces as usize, gathered)
     }
 
-    /// The same for a piece behind so many spaces. Productions `inline_text`, `block_text`, `inline_placeable` and
+    /// The same for a piece after so many spaces. Productions `inline_text`, `block_text`, `inline_placeable` and
     /// `block_placeable`.
     #[cycle(parser)]
     fn get_piece_behind(
@@ -216,7 +216,7 @@ impl<'p, S: Drop, T: Texts<S>> Parser<'p, S, T> {
         Ok(Some(false))
     }
 
-    /// The same for a text behind so many spaces.
+    /// The same for a text after so many spaces.
     fn get_text_piece(
         &mut self,
         at_line_start: bool,

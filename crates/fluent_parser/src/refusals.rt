@@ -39,7 +39,7 @@ pub struct Refusal {
 ///
 /// # Errors
 /// [`AllocError`] if memory runs out, or what is there nests so deep that reading it would take more of the machine's
-/// stack than [`StackBudget::PROGRAM`]; nothing is left behind.
+/// stack than [`StackBudget::PROGRAM`]; nothing is kept.
 pub fn refusals_at<'s, S: Slice<'s>>(
     alloc: Global,
     source: S,

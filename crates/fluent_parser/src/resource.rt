@@ -21,7 +21,7 @@ const SHORT: usize = 64;
 /// The parts of a source, with their comments.
 ///
 /// # Errors
-/// [`AllocError`] if memory runs out, or a message or a term nests past the budget; nothing is left behind.
+/// [`AllocError`] if memory runs out, or a message or a term nests past the budget; nothing is kept.
 pub fn parts_of<S: Drop, T: Texts<S>>(
     alloc: Global,
     texts: &T,
@@ -41,7 +41,7 @@ pub fn parts_of<S: Drop, T: Texts<S>>(
 /// The parts of a source, without comments.
 ///
 /// # Errors
-/// [`AllocError`] if memory runs out, or a message or a term nests past the budget; nothing is left behind.
+/// [`AllocError`] if memory runs out, or a message or a term nests past the budget; nothing is kept.
 pub fn runtime_parts_of<S: Drop, T: Texts<S>>(
     alloc: Global,
     texts: &T,

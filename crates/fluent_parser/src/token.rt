@@ -25,7 +25,7 @@ fn first_char(text: &str) -> &str
     &text[..words::char_len(text.as_bytes())]
 }
 
-/// So many bytes at the front of a text, and the character behind them.
+/// So many bytes at the front of a text, and the character after them.
 fn with_next_char(text: &str, count: usize) -> &str
     requires { Cuts text.now count }
     ensures { result.now ≡ with_next_char text.now count }
@@ -80,7 +80,7 @@ impl<'p, S: Drop, T: Texts<S>> Parser<'p, S, T> {
         }
     }
 
-    /// The content of a string, behind its opening quote, with the closing one. Production `StringLiteral`.
+    /// The content of a string, after its opening quote, with the closing one. Production `StringLiteral`.
     ///
     /// # Errors
     /// [`Fault::Refused`] if the string isn't closed on its line, or an escape is none; the parser then stands at the place of the refusal.
@@ -116,7 +116,7 @@ impl<'p, S: Drop, T: Texts<S>> Parser<'p, S, T> {
         }
     }
 
-    /// The refusal of what stands behind a backslash: a character, or a space at the end.
+    /// The refusal of what stands after a backslash: a character, or a space at the end.
     fn unknown_escape(&self) -> Fault
         requires { w.begins_with w.backslash self.now.rest.now ≡ true }
         ensures { Tells result (r.unknown_escape_sequence
@@ -134,7 +134,7 @@ impl<'p, S: Drop, T: Texts<S>> Parser<'p, S, T> {
         }
     }
 
-    /// The refusal of an escape with too few hex digits, which are shown with the character behind them.
+    /// The refusal of an escape with too few hex digits, which are shown with the character after them.
     fn missing_digit(&self, digits: usize) -> Fault
         requires { digits ≡ prefix_len w.is_hex_digit self.now.rest.now }
         ensures { Tells result (r.invalid_unicode_escape_sequence

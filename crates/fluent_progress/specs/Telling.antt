@@ -7,7 +7,7 @@ use Rattle.fluent_meaning.specs.Told.{State, budget_of}
 abbrev pub fresh : Option (List Reported) → State
 fresh errors = record { errors = errors; budget = budget_of false 0; placeables = 0; entered = 0 }
 
--- an error stands behind those told before, where errors are wanted; nothing is counted
+-- an error stands after those told before, where errors are wanted; nothing is counted
 abbrev pub with_error : Unresolved → State → State
 with_error e s = record {
   errors = option_map (λ es. es ++ unresolved e ∷ []) s.errors;

@@ -12,7 +12,7 @@ impl<'b, 'r, 's, 'a, C: FluentType, F, E: Context<C, F>> Place<'b, 'r, 's, 'a, C
     /// What the function of an id gives for these values, if the id stands for one.
     ///
     /// # Errors
-    /// [`AllocError`] if memory runs out; nothing is left behind.
+    /// [`AllocError`] if memory runs out; nothing is kept.
     pub fn call<'v, 'n>(
         &self,
         id: &str,

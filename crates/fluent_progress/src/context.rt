@@ -25,7 +25,7 @@ pub trait Context<C: FluentType, F>: ValueScope<C> {
     /// What a function gives for these values.
     ///
     /// # Errors
-    /// [`AllocError`] if memory runs out; nothing is left behind.
+    /// [`AllocError`] if memory runs out; nothing is kept.
     fn call<'a, 'n>(
         &self,
         function: &FunctionRef<'_, F>,
@@ -39,7 +39,7 @@ pub trait Context<C: FluentType, F>: ValueScope<C> {
     /// succeeds.
     ///
     /// # Errors
-    /// [`AllocError`] if memory runs out; nothing is left behind.
+    /// [`AllocError`] if memory runs out; nothing is kept.
     fn transform<'t>(&self, text: &'t str) -> Result<CowStr<'t>, AllocError>
         ensures text { IfOk result (λ new. cow_str_bytes new
             ≡ (environment self.now).transformed text.now) }

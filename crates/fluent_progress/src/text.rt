@@ -42,7 +42,7 @@ pub fn write_literal(out: &mut String, raw: &str) -> Result<(), AllocError>
 /// What the raw text of a string literal stands for, as a value. A text without escapes is borrowed.
 ///
 /// # Errors
-/// [`AllocError`] if memory runs out; nothing is left behind.
+/// [`AllocError`] if memory runs out; nothing is kept.
 pub fn literal_value<'s, C: FluentType>(
     alloc: Global,
     raw: &'s str,

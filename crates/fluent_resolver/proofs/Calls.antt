@@ -30,7 +30,7 @@ plus_assoc a b c = omega arith
 zero_plus : (n : ℕ) → 0 + n ≡ n
 zero_plus n = omega arith
 
--- steps that find lists, one behind the other
+-- steps that find lists, one after the other
 then-none : {A : Type 0} (b : Budget) (f : Budget → Done (List A)) → and_then (done [] b) (λ vs c. mapped (λ ws. vs ++ ws) (f c)) ≡ f b
 then-none b f = λ i. record { value = (f b).value; errors = (f b).errors; budget = (f b).budget; opened = zero_plus (f b).opened i; entered = zero_plus (f b).entered i }
 
@@ -93,7 +93,7 @@ module _ {S F : Type 0} (env : Environment S F) (place : Place S) where
       (finds-then (λ b. s.positional_found env (inlines_of xs) place b) p (λ ys c. mapped (λ ws. ys ++ ws) (s.positional_found env (inlines_of (x ∷ [])) place c))
       (finds-as (λ c. mapped (λ y. vs ++ y ∷ []) (s.value_found env x place c)) (λ c. mapped (λ ws. vs ++ ws) (s.positional_found env (inlines_of (x ∷ [])) place c)) (ap (mapped (λ ws. vs ++ ws)) (sym (one-positional x u.budget))) (finds-mapped (s.value_found env x place) q (λ y. vs ++ y ∷ []))))
 
-  -- values behind others were refused
+  -- values after others were refused
   pub positional-refused : (xs ys : List t.Inline) (x : t.Inline) {vs : List (Value S)} {r u w : State} → Finds vs r u (λ b. s.positional_found env (inlines_of xs) place b) → TellsSome u w (s.value_found env x place u.budget) → TellsSome r w (s.positional_found env (inlines_of (xs ++ x ∷ ys)) place r.budget)
   unfolding s.positional_with
   positional-refused xs ys x {r = r} p h =

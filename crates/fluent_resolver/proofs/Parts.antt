@@ -66,11 +66,11 @@ module _ {S F : Type 0} (env : Environment S F) (write : Writer env Expression) 
       (tells-then a (λ x c. mapped (λ q. x ++ q) (s.elements_with env write whole (elements_of ys) place c)) p.state
       (tells-like (mapped (λ q. a.value ++ q) (s.elements_with env write whole (elements_of ys) place a.budget)) refl (tells-as same h)))
 
-  -- nothing was told and counted behind them
+  -- nothing was told and counted after them
   pub rest-refused : (ys : List Element) {v : State} → v ≡ u → TellsSome r v (s.elements_with env write whole (elements_of (xs ++ ys)) place r.budget)
   rest-refused ys h = before-tells ys (tells-none (s.elements_with env write whole (elements_of ys) place u.budget) h)
 
-  -- a placeable behind them was refused
+  -- a placeable after them was refused
   pub placeable-refused : (e : Expression) (ys : List Element) {v : State} → TellsSome u v (s.placeable_with env write whole e place u.budget) → TellsSome r v (s.elements_with env write whole (elements_of (xs ++ placeable e ∷ ys)) place r.budget)
   unfolding s.elements_with
   placeable-refused e ys h = before-tells (placeable e ∷ ys) (tells-first (λ x c. mapped (λ q. x ++ q) (s.elements_with env write whole (elements_of ys) place c)) h)

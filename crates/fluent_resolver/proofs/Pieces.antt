@@ -25,7 +25,7 @@ pub piece-missing : {x : Text} {s t : State} (f : Budget → Done Text) → Tell
 piece-missing {x = x} {s = s} f h = record { written = []; first = begins-none (f s.budget).value; text = sym (append-nil x); tells = h }
 
 module _ {S F : Type 0} (env : Environment S F) (write : Writer env Expression) (whole : Elements) (place : Place S) (xs : List Element) {held now : Text} {r u : State} (p : Writes held now r u (λ b. s.elements_with env write whole (elements_of xs) place b)) where
-  -- what was refused behind other elements
+  -- what was refused after other elements
   before-refused : {next : Text} {v : State} (ys : List Element) → WritesSome now next u v (λ b. s.elements_with env write whole (elements_of ys) place b) → WritesSome held next r v (λ b. s.elements_with env write whole (elements_of (xs ++ ys)) place b)
   before-refused ys h =
       some-as _ _ (sym (elements-append env write whole place xs ys r.budget))

@@ -114,7 +114,7 @@ fn put_back(errors: &mut Vec<FluentError>, progress: Progress<'_, '_>)
 /// Hands a text out as a value is shown: if no formatter is set, as it is, which allocates nothing.
 ///
 /// # Errors
-/// [`AllocError`] if memory runs out; nothing is left behind.
+/// [`AllocError`] if memory runs out; nothing is kept.
 pub fn hand_out<'s, C: FluentType + Drop, V: ValueScope<C>>(
     scope: &V,
     text: CowStr<'s>,

@@ -13,7 +13,7 @@ use std::alloc::{AllocError, Global};
 /// The resource of each source, in their order. What is no entry is passed over: a resource has it as junk.
 ///
 /// # Errors
-/// [`AllocError`] if memory runs out; nothing is left behind. It also means that placeables, calls and selects of a source
+/// [`AllocError`] if memory runs out; nothing is kept. It also means that placeables, calls and selects of a source
 /// are nested so deep that reading them would take more than the budget of a program, [`StackBudget::PROGRAM`].
 pub fn parse_sources<'s>(
     alloc: Global,

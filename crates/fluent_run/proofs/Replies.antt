@@ -30,7 +30,7 @@ unstarted = record { errors = Some []; budget = budget_of false 0; placeables = 
 abbrev pub reply : Text → List Reported → Reply
 reply s errors = record { text = s; errors = map error_text errors }
 
--- a text that was written behind nothing, and errors that were told behind none
+-- a text that was written after nothing, and errors that were told after none
 written : (a : Done Text) (held now : Text) (s t : State) (errors : List Reported) → held ≡ [] → s ≡ unstarted →
     now ≡ held ++ a.value → t ≡ after s a → ((list : List Reported) → t.errors ≡ Some list → errors ≡ list) → reply now errors ≡ told a
 written a held now s t errors nothing start text state listed =
@@ -50,11 +50,11 @@ resolved env first es place held now s t errors at_first nothing start wrote lis
     ∙ ap (λ x. pattern_written env es first x.budget) start in
     written a held now s t errors nothing start wrote.text wrote.state listed ∙ ap told asked-for
 
--- pieces put behind one another, and one piece more
+-- pieces put after one another, and one piece more
 pieces-more : (a b c d e : Text) → (a ++ (b ++ (c ++ d))) ++ e ≡ a ++ (b ++ (c ++ (d ++ e)))
 pieces-more a b c d e = append_assoc a (b ++ (c ++ d)) e ∙ ap (λ x. a ++ x) (append_assoc b (c ++ d) e ∙ ap (λ x. b ++ x) (append_assoc c d e))
 
--- the bytes of an answer whose error lines stand behind its text
+-- the bytes of an answer whose error lines stand after its text
 pub frame-told : (s : Text) (errors : List FluentError) → head_of (length s) (length errors) ++ (ended s ++ flat_map ended (error_texts errors)) ≡ frame_of (ok (reply_of s errors))
 frame-told s errors =
     let lines = ended s ++ flat_map ended (error_texts errors) in

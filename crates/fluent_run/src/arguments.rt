@@ -50,7 +50,7 @@ fn set_valued<'line>(
 /// The arguments that pairs of a name and a text give.
 ///
 /// # Errors
-/// [`AllocError`] if memory runs out; nothing is left behind.
+/// [`AllocError`] if memory runs out; nothing is kept.
 pub fn valued_arguments<'line>(
     alloc: Global,
     pairs: &[(&'line str, &'line str)],

@@ -14,7 +14,7 @@ use std::alloc::{AllocError, Global};
 /// Of an id the first entry counts, or the last with `overriding`.
 ///
 /// # Errors
-/// [`AllocError`] if memory runs out; nothing is left behind.
+/// [`AllocError`] if memory runs out; nothing is kept.
 pub(crate) fn ids_of<'r, 's>(
     alloc: Global,
     resources: &'r [FluentResource<'s>],

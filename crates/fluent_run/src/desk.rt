@@ -42,7 +42,7 @@ impl<'b, 'r, 's, M: MemoizerKind> Desk<'b, 'r, 's, M> {
     /// Answers from resources, in their order. An answer may take [`StackBudget::PROGRAM`] of the machine's stack.
     ///
     /// # Errors
-    /// [`AllocError`] if memory runs out; nothing is left behind.
+    /// [`AllocError`] if memory runs out; nothing is kept.
     pub fn new(
         alloc: Global,
         resources: &'r [FluentResource<'s>],
@@ -60,7 +60,7 @@ impl<'b, 'r, 's, M: MemoizerKind> Desk<'b, 'r, 's, M> {
     /// The same as [`Desk::new`], with a budget of the machine's stack for each answer.
     ///
     /// # Errors
-    /// [`AllocError`] if memory runs out; nothing is left behind.
+    /// [`AllocError`] if memory runs out; nothing is kept.
     pub fn within(
         alloc: Global,
         resources: &'r [FluentResource<'s>],
@@ -121,7 +121,7 @@ impl<'b, 'r, 's, M: MemoizerKind> Desk<'b, 'r, 's, M> {
     ///
     /// # Errors
     /// [`AllocError`] if memory runs out, or if calls and placeables nest so deep, over all messages that are entered, that they
-    /// would take more of the machine's stack than the desk's budget; nothing is left behind.
+    /// would take more of the machine's stack than the desk's budget; nothing is kept.
     pub fn format(
         &self,
         alloc: Global,

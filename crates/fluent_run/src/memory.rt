@@ -21,7 +21,7 @@ use std::alloc::{AllocError, Global};
 ///
 /// # Errors
 /// [`AllocError`] if memory runs out, or the requests are longer than 4,294,967,296 blocks of 8,192 bytes; nothing is left
-/// behind.
+/// after.
 pub fn answers<M: MemoizerKind>(
     alloc: Global,
     sources: &[&str],

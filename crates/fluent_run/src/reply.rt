@@ -57,7 +57,7 @@ impl fmt::Display for ErrorLine<'_> {
 /// What a pattern gives, within a budget of the machine's stack. It is written into the memory of `text`, whose old bytes are lost.
 ///
 /// # Errors
-/// [`AllocError`] if memory runs out, or the budget does; nothing is left behind.
+/// [`AllocError`] if memory runs out, or the budget does; nothing is kept.
 pub(crate) fn resolve<'b, 'r, 's, 'a, C: FluentType + Drop, F, E: Context<C, F>>(
     place: &Place<'b, 'r, 's, 'a, C, F, E>,
     pattern: &'r Pattern<&'s str>,
@@ -104,7 +104,7 @@ impl Reply {
     /// A line for each error, as an answer has them. It is empty if nothing came up, and isn't allocated then.
     ///
     /// # Errors
-    /// [`AllocError`] if memory runs out; nothing is left behind.
+    /// [`AllocError`] if memory runs out; nothing is kept.
     pub fn errors_text(&self, alloc: Global) -> Result<String, AllocError>
         ensures { IfOk result (λ text. string_bytes text
             ≡ flat_map ended (reply_view self.now).errors) }

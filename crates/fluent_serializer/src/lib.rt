@@ -41,7 +41,7 @@ pub struct Options {
 /// ```
 ///
 /// # Errors
-/// [`AllocError`] if memory runs out; nothing is left behind.
+/// [`AllocError`] if memory runs out; nothing is kept.
 pub fn serialize<'s, S: Slice<'s>>(
     alloc: Global,
     resource: &Resource<S>,
@@ -55,7 +55,7 @@ pub fn serialize<'s, S: Slice<'s>>(
 /// The text of a tree, by the options.
 ///
 /// # Errors
-/// [`AllocError`] if memory runs out; nothing is left behind.
+/// [`AllocError`] if memory runs out; nothing is kept.
 pub fn serialize_with_options<'s, S: Slice<'s>>(
     alloc: Global,
     resource: &Resource<S>,

@@ -111,7 +111,7 @@ pub fn read_arguments<'line, A: Arguments<'line>>(
 /// Reads a line, without its line feed. `None` if it is not UTF-8, or an argument has no equals sign.
 ///
 /// # Errors
-/// [`AllocError`] if memory runs out; nothing is left behind.
+/// [`AllocError`] if memory runs out; nothing is kept.
 pub fn read_request(alloc: Global, line: &[u8]) -> Result<Option<Request<'_>>, AllocError>
     ensures { IfOk result (λ request. option_map request_view request
         ≡ request_of (λ s. s) line.now) }

@@ -31,7 +31,7 @@ pub trait Slice<'s>: PartialEq + Drop {
     /// character.
     ///
     /// # Errors
-    /// [`AllocError`] if memory runs out; nothing is left behind.
+    /// [`AllocError`] if memory runs out; nothing is kept.
     fn slice(&self, alloc: Global, range: Range<usize>) -> Result<Self, AllocError>
         requires ordered { range.start ≤ range.end }
         requires start_boundary { IsCharBoundary (text self.now) range.start }
@@ -46,7 +46,7 @@ pub trait Slice<'s>: PartialEq + Drop {
     /// The same text.
     ///
     /// # Errors
-    /// [`AllocError`] if memory runs out; nothing is left behind.
+    /// [`AllocError`] if memory runs out; nothing is kept.
     fn try_clone(&self, alloc: Global) -> Result<Self, AllocError>
         ensures { IfOk result (λ copy. text copy ≡ text self.now) };
 
@@ -126,7 +126,7 @@ pub trait Texts<S> {
     /// The same as [`Slice::slice`].
     ///
     /// # Errors
-    /// [`AllocError`] if memory runs out; nothing is left behind.
+    /// [`AllocError`] if memory runs out; nothing is kept.
     fn slice(&self, whole: &S, alloc: Global, range: Range<usize>) -> Result<S, AllocError>
         requires ordered { range.start ≤ range.end }
         requires start_boundary { IsCharBoundary (text whole.now) range.start }
@@ -141,7 +141,7 @@ pub trait Texts<S> {
     /// The same as [`Slice::try_clone`].
     ///
     /// # Errors
-    /// [`AllocError`] if memory runs out; nothing is left behind.
+    /// [`AllocError`] if memory runs out; nothing is kept.
     fn try_clone(&self, original: &S, alloc: Global) -> Result<S, AllocError>
         ensures { IfOk result (λ copy. text copy ≡ text original.now) };
 }

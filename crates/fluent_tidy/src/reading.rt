@@ -13,7 +13,7 @@ use std::alloc::{AllocError, Global};
 /// The tree of a text, its errors passed over.
 ///
 /// # Errors
-/// [`AllocError`] if memory runs out; nothing is left behind.
+/// [`AllocError`] if memory runs out; nothing is kept.
 pub fn read_tree<'s, S: Slice<'s>>(alloc: Global, text: S) -> Result<Resource<S>, AllocError>
     ensures { IfOk result (λ r. resource_view S S.text r ≡ tree (S.text text)) }
 {
@@ -29,7 +29,7 @@ pub fn read_tree<'s, S: Slice<'s>>(alloc: Global, text: S) -> Result<Resource<S>
 /// Whether a text is read as a tree: whole, and as that very tree.
 ///
 /// # Errors
-/// [`AllocError`] if memory runs out; nothing is left behind.
+/// [`AllocError`] if memory runs out; nothing is kept.
 pub fn is_read_as<'s, S: Slice<'s>>(
     alloc: Global,
     text: S,

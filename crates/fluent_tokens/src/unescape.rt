@@ -42,7 +42,7 @@ pub fn unescape_unicode<W: TextWrite>(w: &mut W, text: &str) -> fmt::Result
 /// ```
 ///
 /// # Errors
-/// [`AllocError`] if memory runs out; nothing is left behind.
+/// [`AllocError`] if memory runs out; nothing is kept.
 pub fn unescape_unicode_to_string(alloc: Global, text: &str) -> Result<CowStr<'_>, AllocError>
     ensures value { IfOk result (λ cow. cow_str_bytes cow ≡ unescaped text.now) }
     ensures borrowed { IfOk result (λ cow. IsBorrowedStr cow ↔ has_backslash text.now ≡ false) }

@@ -13,7 +13,7 @@ use std::alloc::{AllocError, Global};
 /// [`Error`](FluentValue::Error).
 ///
 /// # Errors
-/// [`AllocError`] if memory runs out; nothing is left behind.
+/// [`AllocError`] if memory runs out; nothing is kept.
 pub fn NUMBER<'a, 'n, C: FluentType + Drop>(
     alloc: Global,
     positional: &[FluentValue<'a, C>],

@@ -32,7 +32,7 @@ pub trait ValueFormatter<C: FluentType, M> {
     /// The text of a value, if the formatter has one for it.
     ///
     /// # Errors
-    /// [`AllocError`] if memory runs out; nothing is left behind.
+    /// [`AllocError`] if memory runs out; nothing is kept.
     fn format(
         &self,
         alloc: Global,

@@ -27,7 +27,7 @@ pub trait FluentFunction<C: FluentType> {
     /// What it gives for these values, [`Error`](FluentValue::Error) if it has no answer.
     ///
     /// # Errors
-    /// [`AllocError`] if memory runs out; nothing is left behind.
+    /// [`AllocError`] if memory runs out; nothing is kept.
     fn call<'a, 'n>(
         &self,
         alloc: Global,

@@ -31,7 +31,7 @@ pub trait MemoizerKind {
     /// The text of a value of a program's own type.
     ///
     /// # Errors
-    /// [`AllocError`] if memory runs out; nothing is left behind.
+    /// [`AllocError`] if memory runs out; nothing is kept.
     fn stringify_value<C: FluentType>(
         &self,
         alloc: Global,

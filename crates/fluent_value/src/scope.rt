@@ -39,7 +39,7 @@ pub trait ValueScope<C: FluentType> {
     /// allocate, and succeeds.
     ///
     /// # Errors
-    /// [`AllocError`] if memory runs out; nothing is left behind.
+    /// [`AllocError`] if memory runs out; nothing is kept.
     fn format(&self, value: &FluentValue<'_, C>) -> Result<Option<String>, AllocError>
         ensures text { IfOk result (λ text. optional_bytes text
             ≡ formatted self.now (value_view C.meaning value.now)) }
@@ -52,7 +52,7 @@ pub trait ValueScope<C: FluentType> {
     /// The text of a value of the program's own type.
     ///
     /// # Errors
-    /// [`AllocError`] if memory runs out; nothing is left behind.
+    /// [`AllocError`] if memory runs out; nothing is kept.
     fn stringify(&self, custom: &C) -> Result<CowStr<'static>, AllocError>
         ensures { IfOk result (λ text. cow_str_bytes text
             ≡ shown self.now (C.meaning custom.now)) };

@@ -84,7 +84,7 @@ impl<'a, C: FluentType> FluentValue<'a, C> {
     /// text stays borrowed, which doesn't allocate, and succeeds.
     ///
     /// # Errors
-    /// [`AllocError`] if memory runs out; nothing is left behind.
+    /// [`AllocError`] if memory runs out; nothing is kept.
     pub fn as_string<S: ValueScope<C>>(&self, scope: &S) -> Result<CowStr<'a>, AllocError>
         ensures text { IfOk result (λ text. cow_str_bytes text
             ≡ text_in S.formatted S.shown scope.now C.meaning self.now) }
@@ -111,7 +111,7 @@ impl<'a, C: FluentType + Drop> FluentValue<'a, C> {
     /// returned as it is, which doesn't allocate, and succeeds.
     ///
     /// # Errors
-    /// [`AllocError`] if memory runs out; nothing is left behind.
+    /// [`AllocError`] if memory runs out; nothing is kept.
     pub fn into_string<S: ValueScope<C>>(self, scope: &S) -> Result<CowStr<'a>, AllocError>
         ensures text { IfOk result (λ text. cow_str_bytes text
             ≡ text_in S.formatted S.shown scope.now C.meaning self.entry) }

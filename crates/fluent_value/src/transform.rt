@@ -24,7 +24,7 @@ pub trait TextTransform: Drop {
     /// What becomes of a text.
     ///
     /// # Errors
-    /// [`AllocError`] if memory runs out; nothing is left behind.
+    /// [`AllocError`] if memory runs out; nothing is kept.
     fn transform<'t>(&self, alloc: Global, text: &'t str) -> Result<CowStr<'t>, AllocError>
         ensures { IfOk result (λ new. cow_str_bytes new ≡ transformed self.now text.now) };
 }

@@ -53,7 +53,7 @@ impl<'a, C: FluentType> FluentValue<'a, C> {
     /// The same value. A borrowed text stays borrowed.
     ///
     /// # Errors
-    /// [`AllocError`] if memory runs out; nothing is left behind.
+    /// [`AllocError`] if memory runs out; nothing is kept.
     pub fn try_clone(&self, alloc: Global) -> Result<Self, AllocError>
         ensures { IfOk result (λ copy. value_view C.meaning copy ≡ value_view C.meaning self.now) }
     {
@@ -68,7 +68,7 @@ impl<'a, C: FluentType> FluentValue<'a, C> {
     /// The same value, which borrows nothing.
     ///
     /// # Errors
-    /// [`AllocError`] if memory runs out; nothing is left behind.
+    /// [`AllocError`] if memory runs out; nothing is kept.
     pub fn into_owned<'b>(&self, alloc: Global) -> Result<FluentValue<'b, C>, AllocError>
         ensures { IfOk result (λ copy. value_view C.meaning copy ≡ value_view C.meaning self.now) }
     {

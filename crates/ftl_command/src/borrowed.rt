@@ -7,7 +7,7 @@ use std::alloc::{AllocError, Global};
 /// The texts, borrowed, in their order.
 ///
 /// # Errors
-/// [`AllocError`] if memory runs out; nothing is left behind.
+/// [`AllocError`] if memory runs out; nothing is kept.
 pub fn borrow_texts(alloc: Global, owned: &[String]) -> Result<Vec<&str>, AllocError>
     ensures { IfOk result (λ borrowed. texts borrowed.items ≡ map string_bytes owned.now) }
 {

@@ -14,7 +14,7 @@ use std::alloc::Global;
 ///
 /// # Errors
 /// For the first file that has no text: [`Fault::FileUnreadable`] if it can't be read, [`Fault::FileNotUtf8`] if it
-/// isn't UTF-8. [`Fault::Memory`] if memory runs out; nothing is left behind.
+/// isn't UTF-8. [`Fault::Memory`] if memory runs out; nothing is kept.
 pub fn read_text_files<'words, F: Folder>(
     folder: &mut F,
     alloc: Global,
@@ -37,7 +37,7 @@ pub fn read_text_files<'words, F: Folder>(
 /// Reads one file.
 ///
 /// # Errors
-/// [`Fault::Memory`] if memory runs out; nothing is left behind. [`Fault::FileUnreadable`] if the file can't be read.
+/// [`Fault::Memory`] if memory runs out; nothing is kept. [`Fault::FileUnreadable`] if the file can't be read.
 /// [`Fault::FileNotUtf8`] if it isn't UTF-8.
 pub fn read_text_file<'words, F: Folder>(
     folder: &mut F,

@@ -33,7 +33,7 @@ pub trait Folder {
     /// Reads a file to its end. The files stay as they are.
     ///
     /// # Errors
-    /// [`FileError::Memory`] if memory runs out; nothing is left behind. [`FileError::Unreadable`] if the file can't be opened, or
+    /// [`FileError::Memory`] if memory runs out; nothing is kept. [`FileError::Unreadable`] if the file can't be opened, or
     /// a read of it fails.
     fn read(&mut self, alloc: Global, name: &str) -> Result<Vec<u8>, FileError>
         ensures held { IfOk result (λ bytes.

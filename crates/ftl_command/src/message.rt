@@ -23,7 +23,7 @@ pub struct Formatted {
 /// attribute. An argument whose text is a number is that number.
 ///
 /// # Errors
-/// [`AllocError`] if memory runs out; nothing is left behind.
+/// [`AllocError`] if memory runs out; nothing is kept.
 pub fn format_message<M: MemoizerKind>(
     alloc: Global,
     sources: &[&str],

@@ -13,7 +13,7 @@ use std::alloc::{AllocError, Global};
 /// A line for each error, in their order.
 ///
 /// # Errors
-/// [`AllocError`] if memory runs out; nothing is left behind.
+/// [`AllocError`] if memory runs out; nothing is kept.
 pub(crate) fn error_lines(alloc: Global, errors: &[FluentError]) -> Result<String, AllocError>
     ensures { IfOk result (λ text. string_bytes text
         ≡ flat_map error_line (map error_text (map bundle_view errors.now))) }

@@ -48,7 +48,7 @@ pub fn write_tidied<'words, F: Folder, O: Sink>(
 /// The text that the sources' files are tidied into.
 ///
 /// # Errors
-/// The first fault; nothing is left behind.
+/// The first fault; nothing is kept.
 pub fn tidied_text<'words, F: Folder>(
     folder: &mut F,
     alloc: Global,

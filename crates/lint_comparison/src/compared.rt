@@ -21,7 +21,7 @@ use std::alloc::{AllocError, Global};
 /// How an id of a catalog differs from that of the reference.
 ///
 /// # Errors
-/// [`AllocError`] if memory runs out; nothing is left behind.
+/// [`AllocError`] if memory runs out; nothing is kept.
 pub fn differences<'i, 's: 'i, F>(
     alloc: Global,
     ids: &FluentIds<'_, 's, F>,

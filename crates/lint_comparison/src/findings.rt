@@ -23,7 +23,7 @@ use std::alloc::{AllocError, Global};
 /// on.
 ///
 /// # Errors
-/// [`AllocError`] if memory runs out; nothing is left behind.
+/// [`AllocError`] if memory runs out; nothing is kept.
 pub fn message_findings<'s, F>(
     alloc: Global,
     ids: &FluentIds<'_, 's, F>,
@@ -46,7 +46,7 @@ pub fn message_findings<'s, F>(
 /// is the source from the message on.
 ///
 /// # Errors
-/// [`AllocError`] if memory runs out; nothing is left behind.
+/// [`AllocError`] if memory runs out; nothing is kept.
 pub fn missing_finding<F>(
     alloc: Global,
     ids: &FluentIds<'_, '_, F>,

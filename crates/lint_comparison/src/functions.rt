@@ -13,7 +13,7 @@ use std::alloc::{AllocError, Global};
 /// The ids of the functions that trees call, in their order and as often as they are called.
 ///
 /// # Errors
-/// [`AllocError`] if memory runs out; nothing is left behind.
+/// [`AllocError`] if memory runs out; nothing is kept.
 pub fn called_functions<'s>(
     alloc: Global,
     trees: &[Resource<&'s str>],

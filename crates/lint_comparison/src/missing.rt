@@ -20,7 +20,7 @@ use std::alloc::{AllocError, Global};
 /// of the source.
 ///
 /// # Errors
-/// [`AllocError`] if memory runs out; nothing is left behind.
+/// [`AllocError`] if memory runs out; nothing is kept.
 pub fn missing_findings<F>(
     alloc: Global,
     ids: &FluentIds<'_, '_, F>,

@@ -32,7 +32,7 @@ impl<'s, 't> Places<'s, 't> {
     /// Those of a message. The text is the source from the message on.
     ///
     /// # Errors
-    /// [`AllocError`] if memory runs out; nothing is left behind.
+    /// [`AllocError`] if memory runs out; nothing is kept.
     pub fn of_message(
         alloc: Global,
         message: &Message<&'s str>,

@@ -14,7 +14,7 @@ use std::alloc::{AllocError, Global};
 /// The variables of a message and of all that it refers to, at any remove.
 ///
 /// # Errors
-/// [`AllocError`] if memory runs out; nothing is left behind.
+/// [`AllocError`] if memory runs out; nothing is kept.
 pub fn variables_of<'i, 's: 'i, F>(
     alloc: Global,
     ids: &FluentIds<'_, 's, F>,

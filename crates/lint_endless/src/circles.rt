@@ -11,7 +11,7 @@ use std::alloc::{AllocError, Global};
 /// For each node of a graph, whether it leads into a circle or is on one. Each edge is followed at most once.
 ///
 /// # Errors
-/// [`AllocError`] if memory runs out; nothing is left behind.
+/// [`AllocError`] if memory runs out; nothing is kept.
 pub fn lead_into_circles(alloc: Global, graph: &[Vec<usize>]) -> Result<Vec<bool>, AllocError>
     requires { IsGraph (graph_of graph.now) }
     ensures { IfOk result (λ endless. AreEndless (graph_of graph.now) endless.items) }

@@ -46,7 +46,7 @@ impl<'c, 'r, 's, F> EndlessPatterns<'c, 'r, 's, F> {
     /// proportion to the trees.
     ///
     /// # Errors
-    /// [`AllocError`] if memory runs out; nothing is left behind.
+    /// [`AllocError`] if memory runs out; nothing is kept.
     pub fn new(
         alloc: Global,
         ids: &'c FluentIds<'r, 's, F>,

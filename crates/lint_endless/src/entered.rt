@@ -54,7 +54,7 @@ impl<'r, 's> EnteredPatterns<'r, 's> {
     /// The patterns of a catalog with these ids that references to the ids of trees enter.
     ///
     /// # Errors
-    /// [`AllocError`] if memory runs out; nothing is left behind.
+    /// [`AllocError`] if memory runs out; nothing is kept.
     pub fn of<F>(
         alloc: Global,
         ids: &FluentIds<'r, 's, F>,

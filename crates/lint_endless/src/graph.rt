@@ -16,7 +16,7 @@ use std::alloc::{AllocError, Global};
 /// For each pattern of a list, the indices of the patterns that its references enter.
 ///
 /// # Errors
-/// [`AllocError`] if memory runs out; nothing is left behind.
+/// [`AllocError`] if memory runs out; nothing is kept.
 pub fn reference_graph(
     alloc: Global,
     indices: &Indices<'_>,

@@ -62,7 +62,7 @@ impl<'a> Declarations<'a> {
     /// functions has it.
     ///
     /// # Errors
-    /// [`AllocError`] if memory runs out; nothing is left behind.
+    /// [`AllocError`] if memory runs out; nothing is kept.
     pub fn finding<F>(
         &self,
         functions: &FluentIds<'_, '_, F>,

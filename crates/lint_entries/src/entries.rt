@@ -22,7 +22,7 @@ pub fn declared_id<'s>(entry: &Entry<&'s str>) -> Option<&'s str>
 /// The id of an entry, a term's with its minus.
 ///
 /// # Errors
-/// [`AllocError`] if memory runs out; nothing is left behind.
+/// [`AllocError`] if memory runs out; nothing is kept.
 pub fn label(alloc: Global, entry: &Entry<&str>) -> Result<String, AllocError>
     ensures { IfOk result (λ label. string_bytes label ≡ label_of (entry_of entry.now)) }
 {

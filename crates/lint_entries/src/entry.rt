@@ -35,7 +35,7 @@ pub struct EntryFindings<'t> {
 /// The findings of a message, but for its id. The text is the source from the message on.
 ///
 /// # Errors
-/// [`AllocError`] if memory runs out; nothing is left behind.
+/// [`AllocError`] if memory runs out; nothing is kept.
 pub fn message_findings<'s, 't, F, E: Endless<F>>(
     alloc: Global,
     catalog: &Catalog<'_, '_, 's, F>,
@@ -85,7 +85,7 @@ pub fn message_findings<'s, 't, F, E: Endless<F>>(
 /// The findings of a term, but for its id. The text is the source from the term on, with its minus.
 ///
 /// # Errors
-/// [`AllocError`] if memory runs out; nothing is left behind.
+/// [`AllocError`] if memory runs out; nothing is kept.
 pub fn term_findings<'s, 't, F, E: Endless<F>>(
     alloc: Global,
     catalog: &Catalog<'_, '_, 's, F>,

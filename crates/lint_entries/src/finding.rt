@@ -36,7 +36,7 @@ impl Place<'_, '_, '_> {
 /// The finding of a flaw of a node.
 ///
 /// # Errors
-/// [`AllocError`] if memory runs out; nothing is left behind.
+/// [`AllocError`] if memory runs out; nothing is kept.
 pub fn flaw_finding<'s, F>(
     alloc: Global,
     ids: &FluentIds<'_, 's, F>,
@@ -70,7 +70,7 @@ fn hint_of(alloc: Global, hint: Option<Hint<'_>>) -> Result<Option<String>, Allo
 /// The finding of any other problem.
 ///
 /// # Errors
-/// [`AllocError`] if memory runs out; nothing is left behind.
+/// [`AllocError`] if memory runs out; nothing is kept.
 pub fn problem_finding(
     alloc: Global,
     place: &Place<'_, '_, '_>,

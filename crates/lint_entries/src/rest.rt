@@ -16,7 +16,7 @@ use std::alloc::{AllocError, Global};
 /// What follows a message. The text is the source from the message on.
 ///
 /// # Errors
-/// [`AllocError`] if memory runs out; nothing is left behind.
+/// [`AllocError`] if memory runs out; nothing is kept.
 pub fn message_rest<'t>(
     alloc: Global,
     message: &Message<&str>,
@@ -35,7 +35,7 @@ pub fn message_rest<'t>(
 /// What follows a term. The text is the source from the term on, with its minus.
 ///
 /// # Errors
-/// [`AllocError`] if memory runs out; nothing is left behind.
+/// [`AllocError`] if memory runs out; nothing is kept.
 pub fn term_rest<'t>(
     alloc: Global,
     term: &Term<&str>,

@@ -24,7 +24,7 @@ pub enum Tile<'r, 's> {
 /// `fluent_parser::parse` gives of the source; comments of the tree make no difference.
 ///
 /// # Errors
-/// [`AllocError`] if memory runs out; nothing is left behind.
+/// [`AllocError`] if memory runs out; nothing is kept.
 pub fn source_tiles<'r, 's>(
     alloc: Global,
     source: &'s str,

@@ -34,7 +34,7 @@ use std::alloc::{AllocError, Global};
 /// ```
 ///
 /// # Errors
-/// [`AllocError`] if memory runs out; nothing is left behind.
+/// [`AllocError`] if memory runs out; nothing is kept.
 pub fn syntax_findings(
     alloc: Global,
     source: &str,

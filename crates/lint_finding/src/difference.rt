@@ -72,7 +72,7 @@ impl Difference<'_> {
     /// The finding of a difference of the message with this id, at an offset.
     ///
     /// # Errors
-    /// [`AllocError`] if memory runs out; nothing is left behind.
+    /// [`AllocError`] if memory runs out; nothing is kept.
     pub fn finding(&self, alloc: Global, id: &str, offset: usize) -> Result<Finding, AllocError>
         ensures { IfOk result (λ finding. finding_view finding
             ≡ finding_at offset id.now (difference_view self.now)) }

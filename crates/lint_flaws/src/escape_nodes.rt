@@ -17,7 +17,7 @@ use std::alloc::{AllocError, Global};
 /// The escapes of a node that stand for no character: of a string literal, or of the named arguments of a call.
 ///
 /// # Errors
-/// [`AllocError`] if memory runs out; nothing is left behind.
+/// [`AllocError`] if memory runs out; nothing is kept.
 pub fn node_escapes<'s>(alloc: Global, node: Node<'_, 's>) -> Result<Vec<&'s str>, AllocError>
     ensures { IfOk result (λ found. map (λ s. s.now) found.items
         ≡ e.node_escapes (node_view node.entry)) }

@@ -29,7 +29,7 @@ const CATEGORIES: [PluralCategory; 5] = [
 /// known.
 ///
 /// # Errors
-/// [`AllocError`] if memory runs out; nothing is left behind.
+/// [`AllocError`] if memory runs out; nothing is kept.
 pub fn node_categories(
     alloc: Global,
     plurals: Option<LanguagePlurals>,

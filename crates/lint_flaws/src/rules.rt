@@ -73,7 +73,7 @@ fn has_category(
 /// and otherwise those for counts.
 ///
 /// # Errors
-/// [`AllocError`] if memory runs out; nothing is left behind.
+/// [`AllocError`] if memory runs out; nothing is kept.
 pub fn selector_rule(
     alloc: Global,
     selector: &InlineExpression<&str>,

@@ -31,7 +31,7 @@ pub enum Node<'a, 's> {
 /// part of the node of the call.
 ///
 /// # Errors
-/// [`AllocError`] if memory runs out; nothing is left behind.
+/// [`AllocError`] if memory runs out; nothing is kept.
 pub fn pattern_nodes<'a, 's>(
     alloc: Global,
     pattern: &'a Pattern<&'s str>,

@@ -33,7 +33,7 @@ pub struct Found<'a, 's, 't> {
 /// pattern on.
 ///
 /// # Errors
-/// [`AllocError`] if memory runs out; nothing is left behind.
+/// [`AllocError`] if memory runs out; nothing is kept.
 pub fn pattern_occurrences<'a, 's, 't>(
     alloc: Global,
     pattern: &'a Pattern<&'s str>,

@@ -21,7 +21,7 @@ pub struct FileMessages<'a> {
 /// is looked at three times.
 ///
 /// # Errors
-/// [`AllocError`] if memory runs out; nothing is left behind.
+/// [`AllocError`] if memory runs out; nothing is kept.
 pub fn summaries<'a>(
     alloc: Global,
     references: &[FileMessages<'a>],

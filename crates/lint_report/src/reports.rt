@@ -34,7 +34,7 @@ pub enum Format {
 /// true.
 ///
 /// # Errors
-/// [`AllocError`] if memory runs out; nothing is left behind.
+/// [`AllocError`] if memory runs out; nothing is kept.
 pub fn report(
     alloc: Global,
     format: Format,

@@ -1,4 +1,4 @@
-//! What is done to a bundle, and what its ids stand for behind each step.
+//! What is done to a bundle, and what its ids stand for after each step.
 
 use crate::bundle::Function;
 use crate::found::Found::{self, Message, Nothing, Number, Own, Term};
@@ -17,7 +17,7 @@ pub enum Call {
     Builtins,
 }
 
-/// A call, the notices that it answers, and what ids stand for behind it.
+/// A call, the notices that it answers, and what ids stand for after it.
 #[derive(Clone, Copy)]
 pub struct Step {
     pub call: Call,
@@ -123,7 +123,7 @@ pub const ROWS: [&[Step]; 9] = [
             ids: &[("a", Message("one"))],
         },
     ],
-    // a function under a function's id, and a term behind it
+    // a function under a function's id, and a term after it
     &[
         Step {
             call: Call::Function("F", Function::Older),

@@ -1,4 +1,4 @@
-//! Taking steps, and looking at what each of them answers and leaves behind.
+//! Taking steps, and looking at what each of them answers and leaves after.
 
 use crate::bundle::{Bundle, read};
 use crate::found::{Found, is_found};

@@ -10,7 +10,7 @@ pub trait Lines: Copy {
     /// Whether what a line says is so.
     ///
     /// # Errors
-    /// [`AllocError`] if memory runs out; nothing is left behind.
+    /// [`AllocError`] if memory runs out; nothing is kept.
     fn is_right(self, alloc: Global, line: &str) -> Result<bool, AllocError>;
 }
 

@@ -7,7 +7,7 @@ pub trait Trial: Copy {
     /// Whether it is right.
     ///
     /// # Errors
-    /// [`AllocError`] if memory runs out; nothing is left behind.
+    /// [`AllocError`] if memory runs out; nothing is kept.
     fn is_right(self, alloc: Global) -> Result<bool, AllocError>;
 }
 

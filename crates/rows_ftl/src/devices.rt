@@ -23,7 +23,7 @@ pub const ANSWERS: [&str; 5] = [
     "bad\n",
 ];
 
-/// How many calls work, how many bytes each moves at most, and whether all calls but the one behind those work.
+/// How many calls work, how many bytes each moves at most, and whether all calls but the one after those work.
 #[derive(Clone, Copy)]
 pub struct Manner {
     pub calls: usize,

@@ -21,7 +21,7 @@ struct Run {
 }
 
 impl Run {
-    /// Answers the requests over devices of these manners. The only error is that memory ran out behind whole answers.
+    /// Answers the requests over devices of these manners. The only error is that memory ran out after whole answers.
     fn over(alloc: Global, reading: Manner, writing: Manner) -> Result<Run, AllocError> {
         let mut given = Vec::with_capacity(alloc, ROOM)?;
         let mut reader = FromRead::new(Reader(REQUESTS, reading));
@@ -138,7 +138,7 @@ enum Device {
     Writer,
 }
 
-/// A run one of whose devices moves so many bytes at a time, and fails behind so many calls.
+/// A run one of whose devices moves so many bytes at a time, and fails after so many calls.
 #[derive(Clone, Copy)]
 struct Failing<'a> {
     answers: &'a str,

@@ -3,7 +3,7 @@
 //! `crates/all_rows/data/ftl`, and the files that they name beside that folder. The rows of `ftl lint` are in
 //! `crates/all_rows/data/lint`, with the texts of their files.
 //!
-//! A run that is refused memory has to tell so behind whole answers, and is made once more. So the same counts are printed with
+//! A run that is refused memory has to tell so after whole answers, and is made once more. So the same counts are printed with
 //! any one allocation refused: see `docs/inside/validation.md`.
 #![tactic(auto)]
 

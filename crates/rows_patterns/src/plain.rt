@@ -123,7 +123,7 @@ fn is_too_large(bundle: &Bundle<'_, '_>, errors: &mut Vec<FluentError>) -> bool 
     }
 }
 
-/// Whether errors are put behind those that are in the list.
+/// Whether errors are put after those that are in the list.
 fn keeps_errors(
     bundle: &Bundle<'_, '_>,
     errors: &mut Vec<FluentError>,
@@ -138,7 +138,7 @@ fn keeps_errors(
     Ok(is_reference_behind(errors))
 }
 
-/// Whether a list is one error, which is no `Reference`, with a `Reference` behind it.
+/// Whether a list is one error, which is no `Reference`, with a `Reference` after it.
 fn is_reference_behind(errors: &[FluentError]) -> bool {
     matches!(
         errors,

@@ -24,7 +24,7 @@ pub fn is_added(added: Result<(), AddResourceError>) -> bool {
     !matches!(added, Err(AddResourceError::Memory))
 }
 
-/// The value of a message, or of the attribute whose name stands behind a point.
+/// The value of a message, or of the attribute whose name stands after a point.
 pub fn pattern_in<'r, 's>(bundle: &Bundle<'r, 's>, id: &str) -> Option<&'r Pattern<&'s str>> {
     match id.split_once('.') {
         Some((id, name)) => {

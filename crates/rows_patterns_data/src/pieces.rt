@@ -12,7 +12,7 @@ use std::fmt;
 /// More pieces than any pattern of the rows is written in.
 const MOST_PIECES: u32 = 500;
 
-/// A writer that takes so many pieces and refuses those behind them.
+/// A writer that takes so many pieces and refuses those after them.
 #[derive(Drop)]
 pub struct Pieces {
     pub text: String,
@@ -78,7 +78,7 @@ impl Asked<'_, '_, '_, '_> {
     }
 }
 
-/// How writing ended, by what it answered and left behind. The only error is that memory runs out, also that of the writer's
+/// How writing ended, by what it answered and left after. The only error is that memory runs out, also that of the writer's
 /// text.
 fn judge(
     alloc: Global,

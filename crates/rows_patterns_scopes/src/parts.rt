@@ -5,7 +5,7 @@ use fluent_ast::{
 };
 use fluent_bundle::FluentResource;
 
-/// The pattern of a message or a term, `-` before its name, or of the attribute whose name stands behind a point.
+/// The pattern of a message or a term, `-` before its name, or of the attribute whose name stands after a point.
 pub fn pattern_in<'r, 's>(
     resource: &'r FluentResource<'s>,
     id: &str,

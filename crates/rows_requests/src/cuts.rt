@@ -9,13 +9,13 @@ use std::alloc::Global;
 /// How many bytes a call gives where it gives few.
 const PIECE: usize = 3;
 
-/// Requests of up to so many bytes are cut behind each of them.
+/// Requests of up to so many bytes are cut after each of them.
 const MOST_CUTS: usize = 300;
 
 /// Longer requests are cut in about so many places, and near the ends of blocks and of few lines.
 const FEW_CUTS: usize = 20;
 
-/// Runs whose reader fails behind each byte of the requests: the whole lines before are answered, and nothing else is written. It
+/// Runs whose reader fails after each byte of the requests: the whole lines before are answered, and nothing else is written. It
 /// changes nothing that the reader would work again.
 pub fn try_cuts(alloc: Global, case: Case<'_, '_>) -> Tally {
     let mut tally = Tally::new();
@@ -36,7 +36,7 @@ fn is_tried(case: Case<'_, '_>, count: usize) -> bool {
         || case.script.is_near_end(count)
 }
 
-/// Whether a run ends as it must whose reader fails behind so many bytes.
+/// Whether a run ends as it must whose reader fails after so many bytes.
 fn is_cut(alloc: Global, case: Case<'_, '_>, piece: usize, count: usize, heals: bool) -> bool {
     let reading = Reading {
         piece,

@@ -15,9 +15,9 @@ pub const BLOCK: usize = 8_192;
 pub struct Reading {
     /// The most bytes that a call gives.
     pub piece: usize,
-    /// The count of bytes behind which a call fails.
+    /// The count of bytes after which a call fails.
     pub fails_behind: Option<usize>,
-    /// Whether the calls behind the failed one work.
+    /// Whether the calls after the failed one work.
     pub heals: bool,
 }
 
@@ -37,7 +37,7 @@ pub struct Writing {
     pub piece: usize,
     /// The calls that work before one fails.
     pub calls: usize,
-    /// Whether the calls behind the failed one work.
+    /// Whether the calls after the failed one work.
     pub heals: bool,
 }
 
@@ -108,7 +108,7 @@ pub struct Requests<'a> {
     left: &'a [u8],
     /// How many bytes were given.
     pub given: usize,
-    /// How many calls came behind the end.
+    /// How many calls came after the end.
     pub ends: u32,
     /// The most bytes that a call asked for.
     pub most: usize,

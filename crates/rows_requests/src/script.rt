@@ -17,7 +17,7 @@ const FEW_LINES: usize = 12;
 pub struct Script {
     pub requests: Vec<u8>,
     pub answers: Vec<u8>,
-    /// Behind each whole line, and behind its answer.
+    /// Behind each whole line, and after its answer.
     ends: Vec<(usize, usize)>,
     /// Whether memory runs out while the last line is answered.
     pub is_too_large: bool,
@@ -78,7 +78,7 @@ impl Script {
         count == 0 || self.ends.iter().any(|&(_, told)| told == count)
     }
 
-    /// Whether a line of the requests ends at this place, right before it or right behind it, where they are few.
+    /// Whether a line of the requests ends at this place, right before it or right after it, where they are few.
     pub fn is_near_end(&self, place: usize) -> bool {
         self.ends.len() <= FEW_LINES
             && self
@@ -88,7 +88,7 @@ impl Script {
     }
 }
 
-/// Puts a text, or what a list of pieces is, behind `bytes`.
+/// Puts a text, or what a list of pieces is, after `bytes`.
 fn push_pieces(bytes: &mut Vec<u8>, pieces: &Value) -> Result<()> {
     match pieces {
         Value::Array(pieces) => {
@@ -121,7 +121,7 @@ fn push_byte(bytes: &mut Vec<u8>, byte: &Value) -> Result<()> {
     Ok(())
 }
 
-/// Puts a text behind `bytes`, as often as its list says.
+/// Puts a text after `bytes`, as often as its list says.
 fn push_repeated(bytes: &mut Vec<u8>, parts: &[Value]) -> Result<()> {
     let text = parts.first().context("a text")?;
     let count = count_of(parts.get(1).context("a count")?)?;

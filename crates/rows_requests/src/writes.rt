@@ -6,7 +6,7 @@ use fluent_run::RunError;
 use rows_common::Tally;
 use std::alloc::Global;
 
-/// Answers of up to so many bytes are cut behind each of them.
+/// Answers of up to so many bytes are cut after each of them.
 const MOST_CUTS: usize = 300;
 
 /// Longer answers are cut in about so many places.

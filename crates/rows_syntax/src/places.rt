@@ -59,7 +59,7 @@ fn is_outside(range: &str, text: &str) -> bool {
     }
 }
 
-/// Whether a text begins with a backslash and this character, or ends behind the backslash, for which a space stands.
+/// Whether a text begins with a backslash and this character, or ends after the backslash, for which a space stands.
 fn is_unknown_escape(character: &str, text: &str) -> bool {
     match text.strip_prefix('\\') {
         None => false,
@@ -68,7 +68,7 @@ fn is_unknown_escape(character: &str, text: &str) -> bool {
     }
 }
 
-/// Whether a text is the hex digits before a place and the character behind it, if one stands there.
+/// Whether a text is the hex digits before a place and the character after it, if one stands there.
 fn are_digits(text: &str, before: &str, behind: &str) -> bool {
     let digits = text.trim_end_matches(|c: char| !c.is_ascii_hexdigit());
     let Some(character) = text.strip_prefix(digits) else {

@@ -27,7 +27,7 @@ impl<'args, C: FluentType> FluentArgs<'args, C> {
     /// No arguments, with room for this many of them.
     ///
     /// # Errors
-    /// [`AllocError`] if memory runs out; nothing is left behind.
+    /// [`AllocError`] if memory runs out; nothing is kept.
     pub fn with_capacity(alloc: Global, capacity: usize) -> Result<Self, AllocError>
         ensures { IfOk result (λ args. args_view C.meaning args ≡ []) }
     {

@@ -15,7 +15,7 @@ impl<'args, C: FluentType + Drop> FluentArgs<'args, C> {
     /// last value stands. Names and values are what [`set`](FluentArgs::set) takes.
     ///
     /// # Errors
-    /// [`AllocError`] if memory runs out; nothing is left behind.
+    /// [`AllocError`] if memory runs out; nothing is kept.
     pub fn from_pairs<
         K: Into<CowStr<'args>>,
         V: Into<FluentValue<'args, C>>,

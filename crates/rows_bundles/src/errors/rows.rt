@@ -3,7 +3,7 @@
 use fluent_errors::{ReferenceKind, ResolverError};
 use std::alloc::{AllocError, Global};
 
-/// What an expression refers to by its kind, its id and perhaps an attribute, and behind a bar how its absence is told.
+/// What an expression refers to by its kind, its id and perhaps an attribute, and after a bar how its absence is told.
 pub const REFERENCES: &str = "\
 function F|Unknown function: F()
 message a|Unknown message: a

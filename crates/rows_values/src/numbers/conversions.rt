@@ -4,7 +4,7 @@ use fluent_number::{Decimal, FluentNumber};
 use rows_common::Row;
 use std::str::SplitWhitespace;
 
-/// Whether a sign, a whole part and a fraction make the decimal whose parts stand behind them, or `none`.
+/// Whether a sign, a whole part and a fraction make the decimal whose parts stand after them, or `none`.
 pub fn are_parts(row: Row<'_>) -> Option<bool> {
     let made = decimal_of(row.subject)?;
     if row.wanted == "none" {

@@ -1,4 +1,4 @@
-//! Options that others are merged into, one behind the other, with `;` between: a text is a key with `=` and the text, a number
+//! Options that others are merged into, one after the other, with `;` between: a text is a key with `=` and the text, a number
 //! a key with `#` and the number, and `#` with a number alone is the source that has a value under every key.
 
 use crate::numbers::names::are_choices;

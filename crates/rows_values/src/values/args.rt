@@ -1,6 +1,6 @@
 //! Arguments: values by name, in the order of the names' bytes.
 //!
-//! They are written as names with the words of their values behind `=`, and `;` between. A row says what they are made by:
+//! They are written as names with the words of their values after `=`, and `;` between. A row says what they are made by:
 //! `new`, with `room` for two, or as `pairs`, of two of them with `+` between.
 
 use crate::values::count::{Count, Value};
@@ -47,7 +47,7 @@ fn set_all<'r>(alloc: Global, mut args: Args<'r>, words: &'r str) -> Option<Args
     Some(args)
 }
 
-/// Arguments from the pairs of two, one behind the other.
+/// Arguments from the pairs of two, one after the other.
 fn chained<'r>(alloc: Global, words: &'r str) -> Option<Args<'r>> {
     let (first, second) = words.split_once('+')?;
     let pairs = args_of(alloc, first)?.into_iter();

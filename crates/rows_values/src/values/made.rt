@@ -1,4 +1,4 @@
-//! Values, as rows write them: what a value is made of, and behind a space its text.
+//! Values, as rows write them: what a value is made of, and after a space its text.
 //!
 //! `text` and `cow` are borrowed texts, `own` is one of its own, and `some` one that may be absent, as `absent` is. `read` is
 //! what a text is read as, and `place` the same as a place in an order. `i8` to `usize` are integers, and `some_u8` is one that

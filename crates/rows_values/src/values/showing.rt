@@ -12,7 +12,7 @@ use std::alloc::{AllocError, Global};
 use std::borrow::CowStr;
 use std::fmt;
 
-/// What stands in a text before a value is written behind it.
+/// What stands in a text before a value is written after it.
 const BEFORE: &str = "> ";
 
 /// Whether a value is shown as its row says, by each call.
@@ -25,7 +25,7 @@ pub fn is_right<S: ValueScope<Count>>(alloc: Global, scope: &S, row: Row<'_>) ->
     )
 }
 
-/// Whether a value is written behind what stands there.
+/// Whether a value is written after what stands there.
 fn is_written<S: ValueScope<Count>>(
     alloc: Global,
     scope: &S,
