@@ -26,7 +26,7 @@ module _ (ps : List Elements) (test : Elements → Bool) where
       either_false (test (pattern_at ps x)) (list_any test (map (pattern_at ps) xs)) (each zero (omega arith)) (none_at xs (λ j inside. each (suc j) (omega arith)))
 
 -- a graph of the patterns of a catalog, with an edge for each reference that enters one
-module _ {F : Type 0} (ids : Ids F) (ps : List Elements) (g : List (List ℕ)) (marks : List Bool) (long : length g ≡ length ps) (graph : IsGraph g)
+module _ (ids : Ids (Unit {0})) (ps : List Elements) (g : List (List ℕ)) (marks : List Bool) (long : length g ≡ length ps) (graph : IsGraph g)
     (known : All (λ es. is_pattern_among es (all_patterns ids) ≡ true) ps)
     (nexts : (v : ℕ) → v < length g → next_patterns (find ids) (pattern_at ps v) ≡ map (pattern_at ps) (edges g v))
     (endless : AreEndless g marks) where
