@@ -18,6 +18,7 @@ use Rattle.fluent_meaning.specs.Ids.{Ids}
 use Rattle.lint_comparison.proofs.MissingParts.{missing_found}
 use Rattle.fluent_lint.specs.FileTiles.{files_view}
 use Rattle.fluent_lint.specs.Known.{by_ids, trees_by_id}
+use Rattle.fluent_lint.specs.KnownIds.{compare_by}
 use Rattle.fluent_lint.specs.Missing.{missing_in_files}
 use Rattle.fluent_lint.specs.Reading.{bare_tree, sources_of}
 use Rattle.fluent_lint.specs.Found.{found_by}
@@ -40,10 +41,6 @@ module _ (options : Options) (references : List File) (files : List code.File) (
       subst (λ these. AreDeclaredIn these trees) (ids_are known files trees read ∙ sym are) (are_declared known trees)
 
 -- ---- findings
-
-abbrev compare_by : Ids (Unit {0}) → Ids (Unit {0}) → List code.File → Text → t.Entry → Text → List Finding
-compare_by ids reference [] = λ source e s. []
-compare_by ids reference (r ∷ rs) = message_findings ids reference
 
 module _ (options : Options) (files : List File) where
   abbrev rules_by : Ids (Unit {0}) → Ids (Unit {0}) → (Text → t.Entry → Text → List Finding) → Rules

@@ -3,6 +3,7 @@ use Rattle.std.specs.Prelude.{◌≡◌, List, [], ◌∷◌}
 use denote.Ref.{Bor}
 use Rattle.fluent_grammar.specs.Tree as t
 use Rattle.fluent_grammar.specs.Words.{Text}
+use Rattle.fluent_meaning.specs.Ids.{Ids}
 use Rattle.fluent_ids.specs.IdsView.{ids_view}
 use Rattle.fluent_ids.specs.declared.ids.FluentIds.{FluentIds}
 use Rattle.fluent_lint.specs.FileTiles.{files_view}
@@ -29,7 +30,10 @@ pub record IsKnownOf (o : Options) (references files : List File) (known : Known
   pub ids : AreKnownIds o references files known.ids
   pub reference : AreKnownIds o references references known.reference
 
--- what is found of entries by the reference, if it has files
+-- what is found of entries by ids of a catalog and of its reference, if that has files
+abbrev pub compare_by : Ids (Unit {0}) → Ids (Unit {0}) → List File → Text → t.Entry → Text → List Finding
+compare_by ids reference [] = λ source e s. []
+compare_by ids reference (file ∷ files) = message_findings ids reference
+
 abbrev pub compared : Known → List File → Text → t.Entry → Text → List Finding
-compared known [] = λ source e s. []
-compared known (file ∷ files) = message_findings (ids_view (Unit {0}) known.ids) (ids_view (Unit {0}) known.reference)
+compared known references = compare_by (ids_view (Unit {0}) known.ids) (ids_view (Unit {0}) known.reference) references

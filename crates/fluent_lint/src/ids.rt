@@ -1,38 +1,54 @@
 //! What the ids of a catalog stand for.
 #![tactic(auto)]
 
-ghost use Rattle.std.specs.Prelude.{◌≡◌, ◌++◌, [], ◌∷◌, false, IfOk, OnOk};
+ghost use Rattle.std.specs.Prelude.{◌≡◌, ◌++◌, [], ◌∷◌, false, OnOk};
 ghost use Rattle.fluent_ids.specs.IdsView.{ids_view};
 ghost use Rattle.fluent_lint.specs.Known.{AddsFunctions, IsIdsOf, trees_by_id};
 ghost use Rattle.fluent_meaning.specs.Ids.{function, number_pair, with_id};
 ghost use Rattle.fluent_resource.specs.Sources.{texts};
 
 use fluent_ast::Resource;
-use fluent_ids::{AddFunctionError, FluentIds};
+use fluent_ids::AddFunctionError;
 use lint_finding::CatalogIds;
-use std::alloc::{AllocError, Global};
+use std::alloc::AllocError;
 
-/// What the ids of a catalog stand for: first `NUMBER` and these functions, then those that its reference calls, and then
-/// the entries of these trees. The first of an id stays.
+/// Adds to no ids what the ids of a catalog stand for: the functions that are known, and then the entries of these trees.
+/// The first of an id stays.
 ///
 /// # Errors
-/// [`AllocError`] if memory runs out; nothing is kept.
-pub fn catalog_ids<'r, 's>(
-    alloc: Global,
+/// [`AllocError`] if memory runs out; some may be added then.
+pub fn add_ids<'r, 's>(
+    ids: &mut CatalogIds<'r, 's>,
     functions: &[&str],
     called: &[&str],
     trees: &'r [Resource<&'s str>],
-) -> Result<CatalogIds<'r, 's>, AllocError>
-    ensures { IfOk result (λ ids. IsIdsOf ids (texts functions.now ++ texts called.now) (trees_by_id trees.now)) }
+) -> Result<(), AllocError>
+    requires { ids_view _ ids.old ≡ [] }
+    ensures { OnOk result (IsIdsOf ids.new (texts functions.now ++ texts called.now) (trees_by_id trees.now)) }
 {
-    let mut ids = FluentIds::new(alloc);
-    add_number(&mut ids)?;
-    add_functions(&mut ids, functions)?;
-    add_functions(&mut ids, called)?;
+    add_known_functions(ids, functions, called)?;
     for tree in trees {
         ids.add_resource_silently(tree)?;
     }
-    Ok(ids)
+    Ok(())
+}
+
+/// Adds the functions that are known to no ids: `NUMBER`, these functions, and then those that the reference calls. The
+/// first of an id stays.
+///
+/// # Errors
+/// [`AllocError`] if memory runs out; some may be added then.
+pub fn add_known_functions(
+    ids: &mut CatalogIds<'_, '_>,
+    functions: &[&str],
+    called: &[&str],
+) -> Result<(), AllocError>
+    requires { ids_view _ ids.old ≡ [] }
+    ensures { OnOk result (IsIdsOf ids.new (texts functions.now ++ texts called.now) []) }
+{
+    add_number(ids)?;
+    add_functions(ids, functions)?;
+    add_functions(ids, called)
 }
 
 /// Adds `NUMBER` to no ids.

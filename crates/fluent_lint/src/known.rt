@@ -1,14 +1,16 @@
 //! What is known of a catalog and its reference.
 #![tactic(auto)]
 
-ghost use Rattle.std.specs.Prelude.{◌≡◌, IfOk};
+ghost use Rattle.std.specs.Prelude.{◌≡◌, [], IfOk, OnOk};
+ghost use Rattle.fluent_ids.specs.IdsView.{ids_view};
 ghost use Rattle.fluent_lint.specs.KnownIds.{AreCalledBy, IsKnownOf, compared};
 ghost use Rattle.fluent_lint.specs.Reading.{IsRead};
 ghost use Rattle.lint_files.specs.RulesView.{compare_with};
 
-use crate::ids::catalog_ids;
+use crate::ids::{add_ids, add_known_functions};
 use crate::read::ReadFiles;
 use crate::reports::Options;
+use fluent_ids::FluentIds;
 use lint_comparison::{Reference, called_functions};
 use lint_finding::CatalogIds;
 use std::alloc::{AllocError, Global};
@@ -23,6 +25,19 @@ pub struct Known<'r, 's> {
 }
 
 impl<'r, 's> Known<'r, 's> {
+    /// Nothing. It doesn't allocate.
+    fn new(alloc: Global) -> Self
+        ensures functions { ids_view _ result.functions ≡ [] }
+        ensures ids { ids_view _ result.ids ≡ [] }
+        ensures reference { ids_view _ result.reference ≡ [] }
+    {
+        Known {
+            functions: FluentIds::new(alloc),
+            ids: FluentIds::new(alloc),
+            reference: FluentIds::new(alloc),
+        }
+    }
+
     /// What is known of the files of a catalog and of its reference, which has none if there is no reference. The
     /// functions that the reference calls are known, too.
     ///
@@ -39,30 +54,36 @@ impl<'r, 's> Known<'r, 's> {
         ensures { IfOk result (IsKnownOf options.now references.now.files.now files.now.files.now) }
     {
         let called = called_functions(alloc, &references.trees)?;
-        Known::by_called(alloc, options, &called, references, files)
+        let mut known = Known::new(alloc);
+        known.add(options, &called, references, files)?;
+        Ok(known)
     }
 
-    /// The same, with the functions that the reference calls.
-    fn by_called(
-        alloc: Global,
+    /// Adds it to nothing, with the functions that the reference calls.
+    fn add(
+        &mut self,
         options: &Options,
         called: &[&str],
         references: &'r ReadFiles<'_, 's>,
         files: &'r ReadFiles<'_, 's>,
-    ) -> Result<Self, AllocError>
+    ) -> Result<(), AllocError>
         requires called { AreCalledBy references.now.files.now called.now }
         requires references { IsRead references.now }
         requires files { IsRead files.now }
-        ensures { IfOk result (IsKnownOf options.now references.now.files.now files.now.files.now) }
+        requires no_functions { ids_view _ self.old.functions ≡ [] }
+        requires no_ids { ids_view _ self.old.ids ≡ [] }
+        requires no_reference { ids_view _ self.old.reference ≡ [] }
+        ensures { OnOk result
+            (IsKnownOf options.now references.now.files.now files.now.files.now self.new) }
     {
-        let functions = catalog_ids(alloc, options.functions, called, &[])?;
-        let ids = catalog_ids(alloc, options.functions, called, &files.trees)?;
-        let reference = catalog_ids(alloc, options.functions, called, &references.trees)?;
-        Ok(Known {
-            functions,
-            ids,
-            reference,
-        })
+        add_known_functions(&mut self.functions, options.functions, called)?;
+        add_ids(&mut self.ids, options.functions, called, &files.trees)?;
+        add_ids(
+            &mut self.reference,
+            options.functions,
+            called,
+            &references.trees,
+        )
     }
 
     /// What entries of the catalog are compared with: the reference, if it has files.
