@@ -32,14 +32,16 @@ GLOSSARY = ROOT / 'docs/glossary.md'
 # The crates that programs call, with those whose types they pass on, and the types of these that only crates of this
 # repository use.
 CALLED = '''
-    fluent_ast fluent_parsed fluent_parser fluent_serializer fluent_unicode fluent_text fluent_syntax fluent_json
-    fluent_json_read fluent_json_write fluent_number fluent_value fluent_plurals fluent_errors fluent_resource fluent_ids
+    fluent_ast fluent_parsed fluent_parser fluent_serializer fluent_tokens fluent_text fluent_syntax fluent_json
+    fluent_json_write fluent_number fluent_value fluent_plurals fluent_errors fluent_resource fluent_ids
     fluent_bundle fluent_check fluent_tidy fluent_serve fluent_run fluent_desk fluent_kept fluent_c_calls fluent_c
 '''.split()
 INNER = {
-    'fluent_parsed': ['Collected'],
+    'fluent_json_write': ['Object'],
+    'fluent_parsed': ['Collected', 'Dedented', 'Gathered'],
     'fluent_run': ['Desk'],
-    'fluent_text': ['Texts', 'Slices'],
+    'fluent_text': ['Texts', 'Slices', 'StackBudget'],
+    'fluent_tokens': ['Lines', 'PlainLine', 'PlainLines', 'Row', 'StringEnd', 'Told', 'FrontLine'],
     'fluent_kept': ['Bundle', 'Loose', 'Question', 'Answer', 'Sources'],
 }
 # What names pages by their paths in comments.
