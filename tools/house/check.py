@@ -1,7 +1,7 @@
 #!/usr/bin/env python3
 """Holds the pages and the doc comments against the sources.
 
-    tools/house/check.py [ROOT]
+    tools/house/check.py [--sources|--calls] [ROOT]
 
 Each block of code in a page is cut from an example, and each in the doc comment of a public crate from an example or another
 crate that the gate proves, unless its fence is `no_run`: such a block was only tried. Each public type that programs use has
@@ -10,8 +10,9 @@ in a page is wider than 120 columns; no page has words that the glossary leaves 
 prints what follows it there; each public call that can fail says how, under `# Errors`; no clause is longer than 200
 characters, and at most 30 are longer than 120.
 
-Prints what isn't so, then how many public types there are, and how many of these eight checks passed and failed, and ends
-with 1 if one failed. The calls need the built program, `crates/ftl/out/ftl`: without it they are skipped.
+Prints what isn't so, then how many of these checks passed and failed, and ends with 1 if one failed. The calls of shell
+blocks need the built program, `crates/ftl/out/ftl`: without it they are skipped. `--calls` runs them alone, and `--sources`
+all other checks, which need no build.
 """
 import re
 import shutil
@@ -20,7 +21,9 @@ import sys
 import tempfile
 from pathlib import Path
 
-ROOT = Path(sys.argv[1] if len(sys.argv) > 1 else Path(__file__).parents[2]).resolve()
+OPTIONS = [word for word in sys.argv[1:] if word.startswith('--')]
+FOLDERS = [word for word in sys.argv[1:] if not word.startswith('--')]
+ROOT = Path(FOLDERS[0] if FOLDERS else Path(__file__).parents[2]).resolve()
 PAGES = [page for files in ('*.md', 'docs/**/*.md', 'crates/*/CALLING.md') for page in sorted(ROOT.glob(files))]
 SOURCES = sorted(ROOT.glob('crates/*/src/**/*.rt'))
 # Crates of rows, benchmarks and examples are programs of their own: nobody calls them.
@@ -311,18 +314,28 @@ def long_clauses():
         yield f'{long} clauses are longer than {LONG_CLAUSE} characters'
 
 
-def main():
-    failed, checks = 0, [wrong_quotes, types_without_examples, wrong_links, wide_prose, wrong_words, silent_calls, long_clauses]
+def checks():
+    """The checks that are asked for."""
+    if '--calls' not in OPTIONS:
+        yield from (wrong_quotes, types_without_examples, wrong_links, wide_prose, wrong_words, silent_calls, long_clauses)
+    if '--sources' in OPTIONS:
+        return
     if PROGRAM.exists():
-        checks.append(wrong_outputs)
+        yield wrong_outputs
     else:
         print(f'{place_of(PROGRAM)} is not built: the calls of shell blocks are skipped')
-    for check in checks:
+
+
+def main():
+    if set(OPTIONS) - {'--calls', '--sources'}:
+        sys.exit(f'usage: {Path(__file__).name} [--sources|--calls] [ROOT]')
+    passed, failed = 0, 0
+    for check in checks():
         faults = list(check())
         print(*faults, sep='\n', end='\n' if faults else '')
         failed += bool(faults)
-    print(f'{len(list(public_types()))} public types, {len(list(types_without_examples()))} of them without an example')
-    print(f'{len(checks) - failed} passed, {failed} failed')
+        passed += not faults
+    print(f'{passed} passed, {failed} failed')
     sys.exit(failed > 0)
 
 
