@@ -5,11 +5,11 @@
 
 Each block of code in a page is cut from an example, and each in the doc comment of a public crate from an example or another
 crate that the gate proves, unless its fence is `no_run`: such a block was only tried. Each public type that programs use has
-a block. Each link leads to a file and a heading that are there, and each page that a comment names is there; no line of prose
-in a page is wider than 120 columns; no page has words that the glossary leaves out, and no comment of the code has
-"behind" for "after"; each call in a shell block of a page prints what follows it there; each public call that can fail says
-how, under `# Errors`; no clause is longer than 200 characters, and at most 30 are longer than 120; each file that names the
-version names the same one.
+a block. Each link leads to a file and a heading that are there, and so does each path in `crates` that a page names; each page
+that a comment names is there; no line of prose in a page is wider than 120 columns; no page has words that the glossary
+leaves out, and no comment of the code has "behind" for "after"; each call in a shell block of a page prints what follows it
+there; each public call that can fail says how, under `# Errors`; no clause is longer than 200 characters, and at most 30 are
+longer than 120; each file that names the version names the same one.
 
 Prints what isn't so, then how many public types there are, and how many of these ten checks passed and failed, and ends
 with 1 if one failed. The calls need the built program, `crates/ftl/out/ftl`: without it they are skipped.
@@ -56,6 +56,8 @@ EXAMPLES = {
 }
 # What parts a program's `main.rt` from its module in the crate `examples`: a line of root files, and that its `main` is called.
 OF_ROOT_FILE = re.compile(r'^#!\[tactic\(auto\)\]$|^pub (?=fn main\()')
+# Paths in `crates` that are there once a reader has made them.
+OF_READER = re.compile(r'^crates/hello/|/out\b')
 # Where "behind" doesn't mean "after".
 GOOD_BEHIND = re.compile(r'\b(?:left|leaves?|far|call)\b[^.;]*?\bbehind\b')
 # Where the version is named. The first match counts: in the changelog that is the topmost release. What only some checkouts
@@ -175,6 +177,9 @@ def wrong_links():
                     yield f'{place_of(page, number)}: no such file: {link}'
                 elif heading and heading not in headings(target):
                     yield f'{place_of(page, number)}: no such heading: {link}'
+            for name in re.findall(r'`(crates/[a-z_]+[\w./-]*)`', line):
+                if not OF_READER.search(name) and not (ROOT / name).exists():
+                    yield f'{place_of(page, number)}: no such file: {name}'
     for path in (path for files in NAMING for path in sorted(ROOT.glob(files))):
         for name in re.findall(r'\bdocs/[\w/-]+\.md\b', path.read_text()):
             if not (ROOT / name).exists():
