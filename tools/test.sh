@@ -57,6 +57,7 @@ for library in crates/*/out/rlib; do
 done
 
 count_with python3 tools/house/check.py --sources
+count_with python3 tools/plurals/compare.py
 count layout
 before=$failed
 count rt ci
