@@ -3,13 +3,13 @@
 use crate::args::FluentArgs;
 use crate::errors::{EntryKind, FluentError};
 use crate::kept::{Kept, Refusal};
-use crate::listing::{Entry, Written};
+use crate::listing::Entry;
 use crate::message::{FluentMessage, Message, Pattern};
 use crate::resolver::{ReferenceKind, ResolverError};
 use crate::resource::FluentResource;
 use crate::text::Text;
 use std::borrow::{Borrow, Cow};
-use std::collections::{hash_map, HashMap, HashSet};
+use std::collections::{hash_map, HashMap};
 use std::fmt;
 use std::mem;
 use std::sync::atomic::{AtomicU64, Ordering};
@@ -19,8 +19,8 @@ use std::sync::{Arc, OnceLock};
 ///
 /// The library reads all resources at the first question after one was added.
 ///
-/// It is `Send` and `Sync`: the bundle that the library keeps is under a lock, which an answer holds for about a microsecond. So threads
-/// can share one, and threads that do nothing but format are faster with a bundle each.
+/// It is `Send` and `Sync`: the bundle that the library keeps is under a lock, which an answer holds for about a
+/// microsecond. So threads can share one, and threads that do nothing but format are faster with a bundle each.
 pub struct FluentBundle<R = FluentResource> {
     /// The locales that [`FluentBundle::new`] was given, as texts. The plural rules stay those that it chose.
     pub locales: Vec<String>,
@@ -61,7 +61,7 @@ impl<R: Borrow<FluentResource>> FluentBundle<R> {
     pub fn new<L: fmt::Display>(locales: Vec<L>) -> Self {
         static BUNDLES: AtomicU64 = AtomicU64::new(0);
         let locales: Vec<String> = locales.iter().map(L::to_string).collect();
-        let has_rules = |locale: &&String| Kept::of(&[], locale, true).is_some();
+        let has_rules = |locale: &&String| Kept::of(&[], locale, true, false).is_some();
         let rules = locales.iter().filter(|locale| !locale.is_empty()).find(has_rules).cloned().unwrap_or_default();
         FluentBundle {
             locales,
@@ -104,7 +104,10 @@ impl<R: Borrow<FluentResource>> FluentBundle<R> {
         }
     }
 
-    /// Adds a resource. Of an id that is there the new entry counts.
+    /// Adds a resource. Of an id that is there the new entry counts, and of one that the resource has twice the last.
+    ///
+    /// If a resource that [`FluentBundle::add_resource`] added has an id twice too, the first entry of the overriding
+    /// one counts.
     pub fn add_resource_overriding(&mut self, resource: R) {
         self.forget();
         for entry in resource.borrow().entries() {
@@ -113,8 +116,8 @@ impl<R: Borrow<FluentResource>> FluentBundle<R> {
         self.resources.push(Added { resource, overriding: true });
     }
 
-    /// Whether the values of placeables are between marks that keep their direction from that of the text around them, as they do
-    /// at first.
+    /// Whether the values of placeables are between marks that keep their direction from that of the text around them,
+    /// as they do at first.
     pub fn set_use_isolating(&mut self, value: bool) {
         self.forget();
         self.isolating = value;
@@ -134,9 +137,9 @@ impl<R: Borrow<FluentResource>> FluentBundle<R> {
     ///
     /// A text that asks for no argument is lent: the bundle keeps it once it was asked for.
     ///
-    /// A pattern of another bundle is looked up in this one by the id of its message. If it isn't there, the text is that of a reference to
-    /// it, such as `{login.title}`, and the error is [`ResolverError::Reference`]. The text is that too if the answer nests too deep, and the error is
-    /// [`ResolverError::OutOfMemory`].
+    /// A pattern of another bundle is looked up in this one by the id of its message. If it isn't there, the text is
+    /// that of a reference to it, such as `{login.title}`, and the error is [`ResolverError::Reference`]. If the answer
+    /// nests too deep, the text is the same, and the error is [`ResolverError::OutOfMemory`].
     pub fn format_pattern<'bundle>(
         &'bundle self,
         pattern: &'bundle Pattern,
@@ -195,8 +198,8 @@ impl<R: Borrow<FluentResource>> FluentBundle<R> {
 
     /// The text of a pattern, if it is the same for all arguments.
     ///
-    /// It is if there are no errors without arguments, by the law `needs_no_arguments` of the library: a variable that is missing is
-    /// an error, so none was asked for.
+    /// It is if there are no errors without arguments, by the law `needs_no_arguments` of the library: a variable that
+    /// is missing is an error, so none was asked for.
     fn fixed_text<'p>(&'p self, pattern: &'p Pattern) -> Option<&'p str> {
         let own = self.own(pattern)?;
         own.fixed(|| {
@@ -233,16 +236,22 @@ impl<R: Borrow<FluentResource>> FluentBundle<R> {
     /// The bundle that the library keeps, which is made now if it isn't there.
     fn kept(&self) -> &Kept {
         self.kept.get_or_init(|| {
-            let lists: Vec<Vec<Cow<'_, str>>> = self.in_order().map(Added::sources).collect();
-            let sources: Vec<&str> = lists.iter().flatten().map(AsRef::as_ref).collect();
-            Kept::of(&sources, &self.rules, self.isolating).unwrap_or_else(|| out_of_memory())
+            let last_counts = self.added(true).any(FluentResource::has_doubles)
+                && !self.added(false).any(FluentResource::has_doubles);
+            let resources: Vec<&FluentResource> = if last_counts {
+                self.added(false).rev().chain(self.added(true)).collect()
+            } else {
+                self.added(true).rev().chain(self.added(false)).collect()
+            };
+            let sources: Vec<&str> = resources.into_iter().map(FluentResource::readable).collect();
+            Kept::of(&sources, &self.rules, self.isolating, last_counts).unwrap_or_else(|| out_of_memory())
         })
     }
 
-    /// The resources in an order in which the first entry of an id counts.
-    fn in_order(&self) -> impl Iterator<Item = &Added<R>> {
-        let overriding = self.resources.iter().rev().filter(|added| added.overriding);
-        overriding.chain(self.resources.iter().filter(|added| !added.overriding))
+    /// The resources that were added in one of the two ways.
+    fn added(&self, overriding: bool) -> impl DoubleEndedIterator<Item = &FluentResource> {
+        let resources = self.resources.iter().filter(move |added| added.overriding == overriding);
+        resources.map(|added| added.resource.borrow())
     }
 
     /// Forgets what the library was asked, before the bundle changes.
@@ -256,25 +265,6 @@ impl<R: Borrow<FluentResource>> FluentBundle<R> {
             }
         }
     }
-}
-
-impl<R: Borrow<FluentResource>> Added<R> {
-    /// The sources of a resource, in an order in which the first entry of an id counts: the whole, or entry by entry from the last if the last
-    /// of an id counts.
-    fn sources(&self) -> Vec<Cow<'_, str>> {
-        let resource = self.resource.borrow();
-        if !self.overriding || is_without_doubles(resource.entries()) {
-            return vec![Cow::Borrowed(resource.readable())];
-        }
-        let written = Written::of(resource.source()).unwrap_or_else(|| out_of_memory());
-        written.texts().into_iter().rev().map(|text| Cow::Owned(text.to_owned())).collect()
-    }
-}
-
-/// Whether no two entries have the same id.
-fn is_without_doubles(entries: &[Entry]) -> bool {
-    let mut ids = HashSet::with_capacity(entries.len());
-    entries.iter().all(|entry| ids.insert(&*entry.id))
 }
 
 /// What is shown for a pattern that has no text.

@@ -41,8 +41,7 @@ impl Decimal {
         let (is_negative, whole, digits) = parts(text)?;
         let (kept, rest) = digits.split_at(digits.len().min(DIGITS));
         let fraction = units(kept) + u64::from(rest.starts_with(|digit| digit >= '5'));
-        let (whole, fraction) =
-            if fraction < UNITS { (whole, fraction) } else { (whole.checked_add(1)?, 0) };
+        let (whole, fraction) = if fraction < UNITS { (whole, fraction) } else { (whole.checked_add(1)?, 0) };
         Some(Decimal::new(is_negative, whole, fraction))
     }
 

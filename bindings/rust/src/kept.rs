@@ -31,9 +31,9 @@ struct Asked {
 unsafe impl Send for Asked {}
 
 impl Kept {
-    /// A bundle of copies of sources, in which the first entry of an id counts; or `None` if the locale has no plural rules or
-    /// the library was refused memory.
-    pub(crate) fn of(sources: &[&str], locale: &str, isolating: bool) -> Option<Kept> {
+    /// A bundle of copies of sources, in which the first or the last entry of an id counts; or `None` if the locale has
+    /// no plural rules or the library was refused memory.
+    pub(crate) fn of(sources: &[&str], locale: &str, isolating: bool, last_counts: bool) -> Option<Kept> {
         let sources: Vec<c::FluentSource> =
             sources.iter().map(|source| c::FluentSource { text: source.as_ptr(), len: source.len() }).collect();
         let mut handle =
@@ -46,7 +46,7 @@ impl Kept {
                 locale.as_ptr(),
                 locale.len(),
                 isolating,
-                false,
+                last_counts,
                 &mut handle,
             )
         };
@@ -59,7 +59,8 @@ impl Kept {
         self.0.lock().unwrap_or_else(PoisonError::into_inner)
     }
 
-    /// Hands the text of a pattern on, and the lines of its errors. `took` may take the text, and doesn't ask the bundle.
+    /// Hands the text of a pattern on, and the lines of its errors. `took` may take the text, and doesn't ask the
+    /// bundle.
     pub(crate) fn format<T>(
         &self,
         pattern: &Pattern,
@@ -68,7 +69,8 @@ impl Kept {
     ) -> Result<T, Refusal> {
         let Asked { handle, text, errors } = &mut *self.asked();
         let (id, attribute) = (pattern.id(), pattern.attribute());
-        // SAFETY: each pointer is that of a slice of the length beside it, and the handle holds a bundle, which is lent by `&mut`.
+        // SAFETY: each pointer is that of a slice of the length beside it, and the handle holds a bundle, which is lent
+        // by `&mut`.
         let answered = args.with_c(|arguments| unsafe {
             c::fluent_bundle_format(
                 handle,

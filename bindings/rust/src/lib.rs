@@ -1,7 +1,8 @@
 //! Fluent is a system for the messages of a program, in which a translation says what its language needs.
 //!
-//! This package has the names and the manners of the crate `fluent-bundle`, so that a program which formats messages changes its `use`
-//! lines and little else. The texts come from a library whose every answer is proved; this package only hands them over.
+//! This package has the names and the manners of the crate `fluent-bundle`, so that a program which formats messages
+//! changes its `use` lines and little else. The texts come from a library whose every answer is proved; this package
+//! only hands them over.
 //!
 //! - [`FluentResource`] holds a source: messages and terms.
 //! - [`FluentBundle`] holds resources, and formats their messages.

@@ -17,7 +17,7 @@ pub(crate) struct Entry {
 }
 
 impl Entry {
-    /// The entry that this text is, or `None` for a comment.
+    /// The entry that this text is.
     ///
     /// An attribute is one level in, and no other line at that level begins with a dot.
     fn of(text: &str) -> Option<Entry> {
@@ -37,7 +37,7 @@ impl Entry {
 
 /// What the library writes of the tree of a source, without its junk.
 ///
-/// Each entry and each comment begins at the beginning of a line, and all their other lines that aren't empty are indented.
+/// Each entry and each comment begins at the beginning of a line, and all its other lines are indented or empty.
 pub(crate) struct Written(Text);
 
 impl Written {
@@ -51,12 +51,7 @@ impl Written {
 
     /// The messages and terms, in their order.
     pub(crate) fn entries(&self) -> Vec<Entry> {
-        parts(self.0.as_str()).filter_map(Entry::of).collect()
-    }
-
-    /// The texts of the messages and terms, in their order.
-    pub(crate) fn texts(&self) -> Vec<&str> {
-        parts(self.0.as_str()).filter(|text| !text.starts_with('#')).collect()
+        parts(self.0.as_str()).filter(|part| !part.starts_with('#')).filter_map(Entry::of).collect()
     }
 }
 
@@ -88,7 +83,7 @@ mod tests {
     #[test]
     fn entries_are_listed() {
         let source = "\
-# A comment
+# a = A comment
 a = A
 ### Another
 junk
@@ -135,14 +130,5 @@ g = .dot
         assert_eq!(entries(""), []);
         assert_eq!(entries("# Alone\n"), []);
         assert_eq!(entries("a = {\"\"}\r\n  b\r\n\r\n  c\r\nd =\r\n  .e = \r\n   F\r\n").len(), 2);
-    }
-
-    #[test]
-    fn texts_of_entries_are_read_again() {
-        let source = "# One\na = A\n\n    B\n# Two\n\n-a = { $n ->\n *[x] X\n }\n    .b = B\na = C\n";
-        let written = Written::of(source).expect("It can be read.");
-        let again: Vec<Entry> = written.texts().into_iter().flat_map(entries).collect();
-        assert_eq!(again, written.entries());
-        assert_eq!(again.len(), 3);
     }
 }

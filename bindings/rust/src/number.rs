@@ -19,9 +19,9 @@ enum Amount {
 
 /// A number: an integer or a decimal, exactly, and how it is shown.
 ///
-/// A decimal has at most 18 digits after the point, and a whole part below 2^64. A float is rounded to that: the digits are those that
-/// Rust shows, so `1.0` is 1 and `0.1` is 0.1. A float that is no number, or too large, is shown as Rust shows it, and chooses
-/// variants as a text.
+/// A decimal has at most 18 digits after the point, and a whole part below 2^64. A float is rounded to that: the digits
+/// are those that Rust shows, so `1.0` is 1 and `0.1` is 0.1. A float that is no number, or too large, is shown as Rust
+/// shows it, and chooses variants as a text.
 #[derive(Clone, Debug, PartialEq)]
 pub struct FluentNumber {
     amount: Amount,
@@ -115,7 +115,8 @@ impl fmt::Display for FluentNumber {
     }
 }
 
-/// Conversions from integers, which are exact if they are below 2^64, and to them: toward zero, to the nearest that the type has.
+/// Conversions from integers, which are exact if they are below 2^64, and to them: toward zero, to the nearest that the
+/// type has.
 macro_rules! integers {
     ($($integer:ty),*) => {$(
         impl From<$integer> for FluentNumber {
