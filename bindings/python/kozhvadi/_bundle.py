@@ -161,7 +161,8 @@ class Bundle:
         key = encoded(id, "the id")
         name = b"" if attribute is None else encoded(attribute, "the name of the attribute")
         array, count = arguments_of(arguments, self._formatter)
-        self._warn()
+        if self._sources is not None:
+            self._warn()
         # An answer that comes up meanwhile, in a signal handler or another thread, has texts of its own.
         texts = self._spare.pop() if self._spare else _Texts()
         try:
@@ -222,9 +223,7 @@ class Bundle:
             c.library.fluent_free_text(report)
 
     def _warn(self) -> None:
-        """Warns of the errors of the sources, if nobody has looked at them."""
-        if self._sources is None:
-            return
+        """Warns of the errors of the sources, at which nobody has looked."""
         errors = self.errors
         if self._overriding:
             errors = [error for error in errors if error.kind != "Overriding"]
@@ -269,7 +268,7 @@ def _texts_of(sources: str | Iterable[str]) -> list[bytes]:
     for number, text in enumerate(texts, 1):
         if isinstance(text, str) and _NAME.fullmatch(text):
             raise ValueError(f"source {number} is a name and no source: {text!r}; Bundle.from_files reads files")
-    return [encoded(text, f"source {number}") for number, text in enumerate(texts, 1)]
+    return [encoded(text, "source", number) for number, text in enumerate(texts, 1)]
 
 
 def _file(path: str | os.PathLike[str]) -> tuple[str, bytes]:

@@ -35,15 +35,19 @@ class Number(str):
     __slots__ = ()
 
 
-def encoded(text: object, what: str) -> bytes:
-    """The bytes of a text, which is called `what` if it is none."""
-    if not isinstance(text, str):
-        raise TypeError(f"{what} is no text: {type(text).__name__}")
-    try:
-        # A subclass may have an `encode` of its own.
-        return str.encode(text)
-    except UnicodeEncodeError as error:
-        raise ValueError(f"{what} can't be written in UTF-8: {error}") from error
+def encoded(text: object, what: str, name: object = None) -> bytes:
+    """The bytes of a text, which is called `what`, and by its name if it has one, if it is none."""
+    if isinstance(text, str):
+        try:
+            # A subclass may have an `encode` of its own.
+            return str.encode(text)
+        except UnicodeEncodeError as error:
+            raise ValueError(f"{_called(what, name)} can't be written in UTF-8: {error}") from error
+    raise TypeError(f"{_called(what, name)} is no text: {type(text).__name__}")
+
+
+def _called(what: str, name: object) -> str:
+    return what if name is None else f"{what} {name!r}"
 
 
 def _is_number(text: str) -> bool:
@@ -62,9 +66,13 @@ def _rounded(value: Decimal) -> str | None:
     return format(value, "f") if abs(value) < _TOO_LARGE else None
 
 
-def _real(value: numbers.Real) -> str | None:
+def _real(value: float) -> str | None:
     """The digits of a float, as Python shows them: those of 1.0 are "1"."""
-    text = _rounded(Decimal(repr(float(value))))
+    shown = repr(value)
+    # Most floats are shown without an exponent, and so few characters have at most 18 digits after the point.
+    if len(shown) <= 20 and "e" not in shown and shown[-1].isdigit():
+        return shown.removesuffix(".0")
+    text = _rounded(Decimal(shown))
     return text.rstrip("0").rstrip(".") if text and "." in text else text
 
 
@@ -72,25 +80,35 @@ def _number(value: object) -> tuple[int, str] | None:
     """The kind of a number and its text, or `None` for another object. What is too large or no number is a text."""
     if isinstance(value, Decimal):
         text = _rounded(value)
-    elif isinstance(value, numbers.Integral):
-        text = str(int(value)) if abs(value) < _TOO_LARGE else None
-    elif isinstance(value, numbers.Real):
-        text = _real(value)
+    elif isinstance(value, (int, numbers.Integral)):
+        integer = int(value)
+        text = str(integer) if abs(integer) < _TOO_LARGE else None
+    elif isinstance(value, (float, numbers.Real)):
+        text = _real(float(value))
     else:
         return None
     return (c.TEXT, str(value)) if text is None else (c.DECIMAL, text)
 
 
+def _text(name: str, value: str) -> tuple[int, str]:
+    """The kind of a text."""
+    if not isinstance(value, Number):
+        return c.TEXT, value
+    if not _is_number(value):
+        raise ValueError(f"the argument {name!r} is no number that can be shown: {str.__str__(value)!r}")
+    return c.DECIMAL, value
+
+
 def _kind_and_text(name: str, value: object, formatter: Formatter) -> tuple[int, str]:
     """The kind of a value and its text. The formatter makes a value of what is neither a text nor a number."""
     if isinstance(value, str):
-        return (c.DECIMAL if isinstance(value, Number) else c.TEXT), value
+        return _text(name, value)
     found = _number(value)
     if found is not None:
         return found
     made = formatter(value)
     if isinstance(made, str):
-        return (c.DECIMAL if isinstance(made, Number) else c.TEXT), made
+        return _text(name, made)
     found = _number(made)
     if found is None:
         what = f"neither a text nor a number of the argument {name!r}"
@@ -99,13 +117,11 @@ def _kind_and_text(name: str, value: object, formatter: Formatter) -> tuple[int,
 
 
 def _argument(name: str, value: object, formatter: Formatter) -> c.FluentArgument:
-    key = encoded(name, f"the name of the argument {name!r}")
+    key = encoded(name, "the name of an argument", name)
     if type(value) is int and -(2**63) <= value < 2**63:
         return c.FluentArgument(key, len(key), b"", 0, value, 0, c.INTEGER)
-    kind, text = _kind_and_text(name, value, formatter)
-    if kind == c.DECIMAL and not _is_number(text):
-        raise ValueError(f"the argument {name!r} is no number that can be shown: {str.__str__(text)!r}")
-    data = encoded(text, f"the argument {name!r}")
+    kind, text = (c.TEXT, value) if type(value) is str else _kind_and_text(name, value, formatter)
+    data = encoded(text, "the argument", name)
     return c.FluentArgument(key, len(key), data, len(data), 0, 0, kind)
 
 
