@@ -187,12 +187,12 @@ class Bundle:
 
     def __contains__(self, key: object) -> bool:
         """Whether there is a message of this id with a value, or with an attribute: `("id", "attribute") in bundle`."""
-        pair = key if isinstance(key, tuple) and len(key) == 2 else (key, "")
-        if not all(isinstance(part, str) for part in pair):
+        name, of = key if isinstance(key, tuple) and len(key) == 2 else (key, "")
+        if not isinstance(name, str) or not isinstance(of, str):
             return False
         try:
-            id, attribute = (encoded(part, "a name") for part in pair)
-        except ValueError:
+            id, attribute = str.encode(name), str.encode(of)
+        except UnicodeEncodeError:
             return False
         with self._lock:
             found = c.library.fluent_bundle_has(self._handle, id, len(id), attribute, len(attribute))
