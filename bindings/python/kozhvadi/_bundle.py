@@ -185,20 +185,28 @@ class Bundle:
         else:
             texts.free()
 
+    def has_message(self, id: str) -> bool:
+        """Whether there is a message of this id, with a value or with attributes alone."""
+        found = self._has(encoded(id, "the id"), b"")
+        return found != c.NO_MESSAGE
+
+    def _has(self, id: bytes, attribute: bytes) -> int:
+        """Whether there is a value or an attribute, as a status of the library."""
+        with self._lock:
+            found: int = c.library.fluent_bundle_has(self._handle, id, len(id), attribute, len(attribute))
+        if found not in (c.READ, c.NO_MESSAGE, c.NO_PATTERN):
+            self._refuse(found, "the question")
+        return found
+
     def __contains__(self, key: object) -> bool:
         """Whether there is a message of this id with a value, or with an attribute: `("id", "attribute") in bundle`."""
         name, of = key if isinstance(key, tuple) and len(key) == 2 else (key, "")
         if not isinstance(name, str) or not isinstance(of, str):
             return False
         try:
-            id, attribute = str.encode(name), str.encode(of)
+            return self._has(str.encode(name), str.encode(of)) == c.READ
         except UnicodeEncodeError:
             return False
-        with self._lock:
-            found = c.library.fluent_bundle_has(self._handle, id, len(id), attribute, len(attribute))
-        if found in (c.READ, c.NO_MESSAGE, c.NO_PATTERN):
-            return bool(found == c.READ)
-        self._refuse(found, "the question")
 
     @property
     def errors(self) -> list[SourceError]:
