@@ -15,11 +15,13 @@ scratch_crate() {
         file=${text##*/}
         cp "$text" "$1/crates/$name/src/${file%.txt}"
     done
-    # The libraries that `rt` built here. Without a stamp they are the gate's, and no other command takes them.
+    # The libraries that `rt` built here, as hard links if the disk is the same. Without a stamp they are the gate's, and no
+    # other command takes them.
     for library in "$root"/crates/*/out/rlib; do
         [ -e "$library/stamp" ] || continue
         crate=${library%/out/rlib}
-        mkdir -p "$1/crates/${crate##*/}/out/rlib"
-        ln -s "$library"/* "$1/crates/${crate##*/}/out/rlib"
+        out=$1/crates/${crate##*/}/out
+        mkdir -p "$out"
+        cp -Rl "$library" "$out" 2>/dev/null || { rm -rf "$out/rlib" && cp -R "$library" "$out"; }
     done
 }

@@ -34,15 +34,7 @@ pub struct Progress<'r, 's> {
 
 impl Progress<'_, '_> {
     /// What an answer starts with: these errors, reported earlier, if they are wanted, and nothing counted, entered or
-    /// open. It may take [`StackBudget::PROGRAM`] of the machine's stack. It doesn't allocate.
-    pub fn new(alloc: Global, errors: Option<Vec<FluentError>>) -> Self
-        ensures state { state result ≡ fresh (option_map (λ es. map bundle_view es.items) errors) }
-        ensures path { path_of result ≡ [] }
-    {
-        Progress::within(alloc, errors, StackBudget::PROGRAM)
-    }
-
-    /// The same as [`new`](Progress::new), with a budget of the machine's stack.
+    /// open. It may take this budget of the machine's stack. It doesn't allocate.
     pub fn within(alloc: Global, errors: Option<Vec<FluentError>>, budget: StackBudget) -> Self
         ensures state { state result ≡ fresh (option_map (λ es. map bundle_view es.items) errors) }
         ensures path { path_of result ≡ [] }

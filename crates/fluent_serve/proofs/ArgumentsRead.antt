@@ -1,14 +1,10 @@
 -- Arguments that are put somewhere, one more at a time.
-use Rattle.std.proofs.Common.{Bool, true, List, [], ◌∷◌, ◌++◌, Option, Some, None, subst, append_assoc, append-nil, sym, refl}
+use Rattle.std.proofs.Common.{Bool, List, [], ◌∷◌, ◌++◌, Option, Some, None, subst, append_assoc}
 use Rattle.fluent_serve.specs.Text.{Text}
 use Rattle.fluent_serve.specs.Requests.{and_argument}
 use Rattle.fluent_serve.specs.ReadArguments.{AreRead, GetsArgument}
 
 module _ {A : Type 0} (has : A → List (Text × Text) → Type 0) where
-  -- with none left, all are there
-  pub none-left : (one : A) → AreRead has one one (Some []) true
-  none-left one = (refl, λ before there. subst (has one) (sym (append-nil before)) there)
-
   -- one more was put there, before those that are left
   pub one-more : (old one new : A) (argument : Text × Text) (left : Option (List (Text × Text))) (are_read : Bool) →
       GetsArgument has old one argument → AreRead has one new left are_read → AreRead has old new (and_argument (Some argument) left) are_read

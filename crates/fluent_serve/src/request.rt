@@ -44,9 +44,22 @@ impl<'line> Asked<'line> {
 /// What the arguments of a line are put into, one after the other.
 ///
 /// ```no_run
-/// let mut arguments = Vec::new(alloc); // of a name and a text
-/// if read_arguments(asked.arguments, &mut arguments)? {
-///     println!(rt; "{} arguments", arguments.len())?;
+/// #[derive(Drop)]
+/// struct Texts<'line> {
+///     named: Vec<(&'line str, &'line str)>,
+/// }
+///
+/// impl<'line> Arguments<'line> for Texts<'line> {
+///     ghost has = { λ texts arguments. arguments_view texts.named.items ≡ arguments };
+///
+///     fn put(&mut self, name: &'line str, text: &'line str) -> Result<(), AllocError> {
+///         self.named.push((name, text))?;
+///         Ok(())
+///     }
+/// }
+/// ..
+/// if read_arguments(asked.arguments, &mut texts)? {
+///     println!(rt; "{} arguments", texts.named.len())?;
 /// }
 /// ```
 pub trait Arguments<'line> {
