@@ -34,6 +34,8 @@ ROOT = Path(__file__).resolve().parents[1]
 PARTS = ('src', 'specs', 'proofs')
 BYTES_A_JOB = 3 * 2 ** 30
 REFUSED = 'refused'
+NOT_READ = 'bad: it does not reach the prover'
+NAMES_GONE = 'bad: only names are gone'
 # What the prover prints: a line for each function, and above it the places of its goals that aren't proved.
 VERDICT = re.compile(r'fn (\S+): (.*)')
 GOAL = re.compile(r'(?:note: )?(?:\./)?(\S+?):(\d+):\d+: (.*)')
@@ -180,7 +182,7 @@ def judged(edit, said):
     """What a try of the edit comes to, by what the prover says."""
     found = refusals(said)
     if not found and re.search(r'error(\[|:)', said):
-        return 'bad: it does not reach the prover'
+        return NOT_READ
     module, function = f'{edit.crate}::{edit.module()}'.removesuffix('::'), edit.function()
     here = [(why, goals) for name, why, goals in found if name.startswith(f'{module}::') and goals
             and (not function or name.split('::')[-1] == function[0]
@@ -190,8 +192,27 @@ def judged(edit, said):
     if all(why.startswith('could not tell') for why, _ in here):
         return 'bad: the prover stops at a limit'
     if all(NAME_GONE.search(text) for _, goals in here for _, _, text in goals):
-        return 'bad: only names are gone'
+        return NAMES_GONE
     return REFUSED
+
+
+def tried_at_once(edits, repository):
+    """What one check with all of these edits tells of each, with what the prover says."""
+    copy = repository.copy()
+    try:
+        for edit in edits:
+            source = copy.room / edit.source()
+            source.write_text(source.read_text().replace(edit.old, edit.new))
+        # The changed module is asked for alone, and the whole crate to tell what else refuses an edit.
+        modules = {edit.module() for edit in edits}
+        for flags in [['--only', *modules]] * (len(modules) == 1 and modules != {''}) + [[]]:
+            _, said = copy.check(*flags)
+            found = [(judged(edit, said), said) for edit in edits]
+            if all(result in (REFUSED, NAMES_GONE) for result, _ in found):
+                break
+        return found
+    finally:
+        shutil.rmtree(copy.room, ignore_errors=True)
 
 
 def tried(edits, base, repository):
@@ -201,28 +222,13 @@ def tried(edits, base, repository):
         return [('bad: the crate is not proved as it stands', said) for _ in edits]
     if not edits[0].applies():
         return [(f'bad: its old text is not once in {edits[0].path}', '')]
-    copy = repository.copy()
-    try:
-        for edit in edits:
-            source = copy.room / edit.source()
-            source.write_text(source.read_text().replace(edit.old, edit.new))
-        if len(edits) > 1:
-            _, said = copy.check()
-            found = [(judged(edit, said), said) for edit in edits]
-            return [it if it[0] == REFUSED else tried([edit], base, repository)[0] for edit, it in zip(edits, found)]
-        return [tried_alone(edits[0], copy)]
-    finally:
-        shutil.rmtree(copy.room, ignore_errors=True)
-
-
-def tried_alone(edit, copy):
-    """Asks for the changed module alone, and where that is proved for the whole crate, to tell what refuses the edit."""
-    for flags in [['--only', edit.module()]] * bool(edit.module()) + [[]]:
-        _, said = copy.check(*flags)
-        result = judged(edit, said)
-        if result == REFUSED or result.startswith('bad: only'):
-            break
-    return result, said
+    found = tried_at_once(edits, repository)
+    if len(edits) == 1:
+        return found
+    if all(result == NOT_READ for result, _ in found):
+        half = len(edits) // 2
+        return tried(edits[:half], base, repository) + tried(edits[half:], base, repository)
+    return [it if it[0] == REFUSED else tried([edit], base, repository)[0] for edit, it in zip(edits, found)]
 
 
 def default_jobs():
