@@ -1,22 +1,22 @@
 #!/usr/bin/env python3
 """Tries the edits that must fail, each by itself: the prover has to refuse it in the function that it changes.
 
-    tools/edits.sh [--jobs N] [--together] [CRATE..]
+    tools/edits.sh [--jobs N] [--together] [CRATE|FILE.edit ..]
 
-An edit is a line `old: TEXT`, which stands once in the file that the line `file: PATH` above names, and a line `new: TEXT`.
-The edits of a crate lie in tools/edits/CRATE, where only this script reads them, and in crates/CRATE/must-fail, where the
-gate tries all of a file at once, and is content if the prover refuses one of them.
+An edit is a line `old: TEXT`, which stands once in the file that the line `file: PATH` above names, and a line
+`new: TEXT`. The edits of a crate lie in tools/edits/CRATE, where only this script reads them, and in
+crates/CRATE/must-fail, where the gate tries all of a file at once, and is content if the prover refuses one of them.
 
-Each is tried in a scratch copy of the crate and of those that it uses, over what `rt check` keeps of them on this machine.
-It is refused if the prover can't prove a goal of the function that it changes. An edit outside of all functions, as of a
-constant or a derive, has to be refused in a function of its file. A refusal that only misses a name that is gone from the
-code says nothing of a contract: the edit is bad, as is one that doesn't compile.
+Each is tried in a scratch copy of the crate and of those that it uses, over what `rt check` keeps of them on this
+machine. It is refused if the prover can't prove a goal of the function that it changes. An edit outside of all
+functions, as of a constant or a derive, has to be refused in a function of its file. A refusal that only misses a name
+that is gone from the code says nothing of a contract: the edit is bad, as is one that doesn't compile.
 
-Prints a line for each edit, and what the prover says if it isn't refused, then the time and 'N passed, M failed', and ends
-with 1 if one failed. N edits are tried at once: by default one for each processor, and for each 3 GB of memory.
+Prints a line for each edit, and what the prover says if it isn't refused, then the time and 'N passed, M failed', and
+ends with 1 if one failed. N edits are tried at once: by default one for each processor, and for each 3 GB of memory.
 
---together tries edits of different functions in one check, and by itself only an edit that isn't refused there. That is
-sooner done, since the prover goes on after a function that it refuses.
+--together tries edits of different functions in one check, and by itself only an edit that isn't refused there. That
+is sooner done, since the prover goes on after a function that it refuses.
 """
 import argparse
 import os
@@ -103,7 +103,7 @@ class Repository:
 
 
 def linked(one, other):
-    """Copies a file of a scratch repository. A check replaces modules and libraries as wholes: links of them will do."""
+    """Copies a file of a repository. A check replaces whole modules and libraries, so links of them will do."""
     if one.endswith('.oantt') or '/rlib/' in one:
         os.link(one, other)
     else:
@@ -123,6 +123,10 @@ def edits_of(crate):
                 old = rest
             elif word == 'new':
                 yield Edit(crate, file, line - 1, path, old, rest)
+
+
+def is_asked_for(edit, names):
+    return not names or edit.crate in names or edit.file in map(Path.absolute, map(Path, names))
 
 
 def function_at(lines, line):
@@ -151,17 +155,19 @@ def used_crates():
 
 
 def rounds(edits, is_together):
-    """Which edits of a crate are tried in one check: at most one for each function, and each that is in none by itself."""
-    found = []
+    """The edits of a crate that are tried in one check: one alone, or several of different functions."""
+    alone, shared = [], []
     for edit in edits:
-        place = (edit.path, edit.function()) if edit.applies() else (edit.path, None)
-        free = (it for it in found if is_together and place[1] and place not in it and (edit.path, None) not in it)
-        taken = next(free, None)
-        if taken is None:
-            found.append({place: edit})
+        place = (edit.path, edit.function()) if is_together and edit.applies() else (edit.path, None)
+        if place[1] is None:
+            alone.append([edit])
+            continue
+        fitting = next((it for it in shared if place not in it), None)
+        if fitting is None:
+            shared.append({place: edit})
         else:
-            taken[place] = edit
-    return [[*it.values()] for it in found]
+            fitting[place] = edit
+    return [[*it.values()] for it in shared] + alone
 
 
 def refusals(said):
@@ -178,20 +184,33 @@ def refusals(said):
     return found
 
 
+def is_of(edit, name, goal):
+    """Whether a goal under the function of this name is one of the function that the edit changes.
+
+    Its place tells, or in a file of proofs its name: functions that call one another share such files, in which the
+    name of each goal begins with its function's.
+    """
+    path, line, text = goal
+    module, function = f'{edit.crate}::{edit.module()}'.removesuffix('::'), edit.function()
+    if function is None:
+        return path == edit.path or name.startswith(f'{module}::')
+    called, first, last = function
+    if path == edit.path:
+        return first <= line <= last
+    return name.startswith(f'{module}::') and name.endswith(f'::{called}') or f'`{called}-' in text
+
+
 def judged(edit, said):
     """What a try of the edit comes to, by what the prover says."""
     found = refusals(said)
     if not found and re.search(r'error(\[|:)', said):
         return NOT_READ
-    module, function = f'{edit.crate}::{edit.module()}'.removesuffix('::'), edit.function()
-    here = [(why, goals) for name, why, goals in found if name.startswith(f'{module}::') and goals
-            and (not function or name.split('::')[-1] == function[0]
-                 and all(path != edit.path or function[1] <= line <= function[2] for path, line, _ in goals))]
+    here = [(why, goal) for name, why, goals in found for goal in goals if is_of(edit, name, goal)]
     if not here:
         return f'refused elsewhere: {" ".join(name for name, _, _ in found)}' if found else 'NOT REFUSED'
     if all(why.startswith('could not tell') for why, _ in here):
         return 'bad: the prover stops at a limit'
-    if all(NAME_GONE.search(text) for _, goals in here for _, _, text in goals):
+    if all(NAME_GONE.search(text) for _, (_, _, text) in here):
         return NAMES_GONE
     return REFUSED
 
@@ -257,10 +276,10 @@ def main():
     parser = argparse.ArgumentParser(description=__doc__.split('\n')[0])
     parser.add_argument('--jobs', type=int, default=default_jobs(), help='how many checks run at once')
     parser.add_argument('--together', action='store_true', help='try edits of different functions in one check')
-    parser.add_argument('crates', metavar='CRATE', nargs='*')
+    parser.add_argument('names', metavar='CRATE|FILE.edit', nargs='*', help='all crates, if none is named')
     given = parser.parse_args()
     used = used_crates()
-    edits = {crate: [*edits_of(crate)] for crate in given.crates or used}
+    edits = {crate: [it for it in edits_of(crate) if is_asked_for(it, given.names)] for crate in used}
     edits = {crate: found for crate, found in edits.items() if found}
     passed, failed, began = 0, 0, time.monotonic()
     with tempfile.TemporaryDirectory(prefix='edits-') as top:
