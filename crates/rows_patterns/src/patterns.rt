@@ -7,14 +7,14 @@
 
 use fluent_ast::Pattern;
 use fluent_bundle::{EnglishPlurals, FluentResource, TextTransform};
-use rows_patterns_data::asking::Asked;
-use rows_patterns_data::bundle::{Bundle, is_added, pattern_in, read};
-use rows_patterns_data::json::text_in;
-use rows_patterns_data::own::{Args, Brackets, Capitals};
-use rows_patterns_data::settings::Settings;
-use rows_patterns_data::trees::pattern_of;
-use rows_patterns_data::values::arguments_of;
-use rows_patterns_data::wanted::Wanted;
+use crate::asking::Asked;
+use crate::bundle::{Bundle, is_added, pattern_in, read};
+use crate::json::text_in;
+use crate::own::{Args, Brackets, Capitals};
+use crate::settings::Settings;
+use crate::trees::pattern_of;
+use crate::values::arguments_of;
+use crate::wanted::Wanted;
 use serde_json::Value as Json;
 use std::alloc::{AllocError, Global};
 
