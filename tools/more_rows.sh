@@ -1,7 +1,8 @@
 #!/usr/bin/env bash
 # Runs the rows of tests/more_rows, which aren't proved: their sources end in .txt, since the toolchain takes a .rt file nowhere but
 # in a crate that the gate proves. Here they become a crate of a scratch copy of the repository, and `rt try` compiles it with all that
-# it uses, with the toolchain's own checks. The last line is 'N passed, M failed', and the status is 1 if anything failed.
+# it uses, with the toolchain's own checks. The last line is 'N passed, M failed', and the status is 1 if anything failed. Words are
+# passed to `rt try`: with `--fail-alloc N` the Nth allocation is refused, and the same counts must come.
 set -euo pipefail
 top=$(cd "$(dirname "$0")/.." && pwd)
 work=$(mktemp -d)
@@ -29,7 +30,7 @@ for file in data/*; do
     data+=(--data "${file#data/}=$file")
 done
 status=0
-rt try --seconds 600 "${data[@]}" </dev/null >"$work/told" || status=$?
+rt try --seconds 600 "$@" "${data[@]}" </dev/null >"$work/told" || status=$?
 cat "$work/told"
 # A line of a kind ends in 'N things, M wrong'.
 awk -v status="$status" '

@@ -3,9 +3,9 @@
 
     tools/rows.py [PROGRAM [FILE..]]
 
-PROGRAM is crates/ftl/out/ftl, and FILE is each .jsonl of tests/rows, unless they are given. A line of a file is a row: an object
-that tests/rows/README.md describes. Each row runs in a new folder with its files, which must be left as they were. The last line
-is 'N passed, M failed', and the status is 1 if anything failed.
+PROGRAM is crates/ftl/out/ftl, and FILE is each .jsonl of tests/rows, unless they are given. A line of a file is a row: an
+object that tests/rows/README.md describes. Each row runs in a new folder with its files, which must be left as they were. The
+last line is 'N passed, M failed', and the status is 1 if anything failed.
 """
 import json
 import os
@@ -16,21 +16,38 @@ import tempfile
 
 TOP = pathlib.Path(__file__).resolve().parent.parent
 ROWS = TOP / "tests" / "rows"
-WANTED = {"words": list, "status": int, "stdout": str, "stderr": str}
-FREE = {"what": str, "files": dict, "stdin": (str, type(None)), "full": bool}
 SECONDS = 60
+
+
+def is_name(text):
+    """Whether a file of this name lies in the folder of its row."""
+    return text != "" and not text.startswith("/") and ".." not in text.split("/")
+
+
+WANTED = {
+    "words": lambda it: type(it) is list and all(type(word) is str for word in it),
+    "status": lambda it: type(it) is int,
+    "stdout": lambda it: type(it) is str,
+    "stderr": lambda it: type(it) is str,
+}
+FREE = {
+    "what": lambda it: type(it) is str,
+    "files": lambda it: type(it) is dict and all(is_name(key) and type(it[key]) in (str, type(None)) for key in it),
+    "stdin": lambda it: type(it) in (str, type(None)),
+    "full": lambda it: type(it) is bool,
+}
 
 
 def checked(line):
     """The row of a line. ValueError if it is none."""
     row = json.loads(line)
-    if not isinstance(row, dict):
+    if type(row) is not dict:
         raise ValueError("it is no object")
-    for key, kind in {**WANTED, **FREE}.items():
-        if key in row and not isinstance(row[key], kind) or key in WANTED and key not in row:
+    if strange := sorted(row.keys() - WANTED.keys() - FREE.keys()):
+        raise ValueError(f"nothing is known of {strange}")
+    for key, is_right in {**WANTED, **FREE}.items():
+        if key in row and not is_right(row[key]) or key in WANTED and key not in row:
             raise ValueError(f"`{key}` is missing, or of another kind")
-    if unknown := row.keys() - WANTED.keys() - FREE.keys():
-        raise ValueError(f"nothing is known of {sorted(unknown)}")
     return row
 
 
@@ -47,12 +64,14 @@ def bytes_in(folder):
 
 def ended(program, row, folder):
     """How the program ends that runs on the row in this folder: its status, its output and its errors."""
-    source = os.open(folder, os.O_RDONLY) if row.get("stdin", "") is None else subprocess.PIPE
+    given = row.get("stdin", "")
+    # A folder can be opened, and not read.
+    source = os.open(folder, os.O_RDONLY) if given is None else subprocess.PIPE
     target = os.open("/dev/full", os.O_WRONLY) if row.get("full") else subprocess.PIPE
-    given = None if row.get("stdin", "") is None else row.get("stdin", "").encode()
-    with subprocess.Popen([program, *row["words"]], stdin=source, stdout=target, stderr=subprocess.PIPE, cwd=folder, env={}) as run:
+    devices = {"stdin": source, "stdout": target, "stderr": subprocess.PIPE}
+    with subprocess.Popen([program, *row["words"]], cwd=folder, env={}, **devices) as run:
         try:
-            output, errors = run.communicate(given, timeout=SECONDS)
+            output, errors = run.communicate(given and given.encode(), timeout=SECONDS)
         except subprocess.TimeoutExpired:
             run.kill()
             output, errors = run.communicate()
@@ -78,6 +97,8 @@ def differences(program, line):
 
 def main(program=TOP / "crates" / "ftl" / "out" / "ftl", *files):
     program, passed, failed = os.path.abspath(program), 0, 0
+    if not os.access(program, os.X_OK):
+        sys.exit(f"tools/rows.py: there is no program {program}")
     for file in map(pathlib.Path, files or sorted(ROWS.glob("*.jsonl"))):
         for number, line in enumerate(file.read_bytes().splitlines(), 1):
             try:

@@ -64,7 +64,14 @@ impl Trial for Words<'_> {
         let wanted = self.wanted;
         let mut given = Vec::with_capacity(alloc, wanted.answers.len())?;
         let mut told = Vec::with_capacity(alloc, wanted.room())?;
-        let status = program(self.rt, alloc, self.words, self.requests, &mut given, &mut told);
+        let status = program(
+            self.rt,
+            alloc,
+            self.words,
+            self.requests,
+            &mut given,
+            &mut told,
+        );
         wanted.is_met(status, &given, &told)
     }
 }

@@ -22,7 +22,9 @@ use rows_common::{tell, try_lines};
 
 /// The files of rows.
 const FILES: [&str; 3] = [
-    "patterns/rows.jsonl", "patterns/own.jsonl", "patterns/trees.jsonl",
+    "patterns/rows.jsonl",
+    "patterns/own.jsonl",
+    "patterns/trees.jsonl",
 ];
 
 /// Tries the rows of all files, and the calls of a scope.

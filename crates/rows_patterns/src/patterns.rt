@@ -5,8 +5,6 @@
 //! differs, and `errors` has the texts of the errors. The settings stand by their names; placeables are isolated where
 //! `isolating` isn't `false`.
 
-use fluent_ast::Pattern;
-use fluent_bundle::{EnglishPlurals, FluentResource, TextTransform};
 use crate::asking::Asked;
 use crate::bundle::{Bundle, is_added, pattern_in, read};
 use crate::json::text_in;
@@ -15,6 +13,8 @@ use crate::settings::Settings;
 use crate::trees::pattern_of;
 use crate::values::arguments_of;
 use crate::wanted::Wanted;
+use fluent_ast::Pattern;
+use fluent_bundle::{EnglishPlurals, FluentResource, TextTransform};
 use serde_json::Value as Json;
 use std::alloc::{AllocError, Global};
 
