@@ -3,12 +3,24 @@
 use crate::own::{Brackets, Function, Token};
 use fluent_ast::Pattern;
 use fluent_bundle::{
-    AddResourceError, EnglishPlurals, FluentBundle, FluentResource, ResourceError,
+    AddResourceError, EnglishPlurals, FluentBundle, FluentResource, NoCustom, NoFormatter,
+    NoFunction, NoTransform, ResourceError,
 };
 use std::alloc::{AllocError, Global};
 
 /// A bundle of English plurals, and of what the program brings.
 pub type Bundle<'r, 's> = FluentBundle<'r, 's, EnglishPlurals, Token, Function, Brackets>;
+
+/// A bundle of English plurals, of a program that brings nothing.
+pub type Plain<'r, 's> = FluentBundle<
+    'r,
+    's,
+    EnglishPlurals,
+    NoCustom,
+    NoFunction,
+    NoFormatter,
+    NoTransform,
+>;
 
 /// A resource, also where parts of its source are no entries. The only error is that memory runs out.
 pub fn read(alloc: Global, source: &str) -> Result<FluentResource<'_>, AllocError> {

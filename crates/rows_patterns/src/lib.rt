@@ -5,6 +5,7 @@
 pub mod asking;
 pub mod bundle;
 pub mod json;
+mod made;
 pub mod own;
 pub mod patterns;
 pub mod pieces;
@@ -12,7 +13,6 @@ mod rows;
 mod scopes;
 pub mod settings;
 pub mod told;
-pub mod trees;
 pub mod values;
 pub mod wanted;
 
@@ -21,11 +21,7 @@ use rows::Rows;
 use rows_common::{tell, try_lines};
 
 /// The files of rows.
-const FILES: [&str; 3] = [
-    "patterns/rows.jsonl",
-    "patterns/own.jsonl",
-    "patterns/trees.jsonl",
-];
+const FILES: [&str; 2] = ["patterns/rows.jsonl", "patterns/own.jsonl"];
 
 /// Tries the rows of all files, and the calls of a scope.
 pub fn try_all(rt: &HostRuntime) -> Result<()> {
@@ -33,6 +29,7 @@ pub fn try_all(rt: &HostRuntime) -> Result<()> {
         let tally = try_lines(rt, file, Rows)?;
         tell(rt, file, "rows", tally)?;
     }
+    tell(rt, "made", "patterns", made::try_made(rt.alloc()))?;
     tell(rt, "scopes", "calls", scopes::try_scopes(rt.alloc()))?;
     Ok(())
 }

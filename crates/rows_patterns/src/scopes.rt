@@ -1,25 +1,12 @@
 //! A scope in which a program resolves the placeables of a pattern by itself: what each of its calls gives, tells and counts.
 
-use crate::bundle::read;
+use crate::bundle::{Plain, read};
 use fluent_ast::{CallArguments, Expression, InlineExpression, Pattern, PatternElement};
 use fluent_bundle::resolver::errors::ReferenceKind;
 use fluent_bundle::resolver::{ResolverError, Scope};
-use fluent_bundle::{
-    EnglishPlurals, FluentBundle, FluentError, FluentResource, FluentValue, NoCustom, NoFormatter,
-    NoFunction, NoTransform,
-};
+use fluent_bundle::{EnglishPlurals, FluentError, FluentResource, FluentValue, NoCustom};
 use rows_common::Tally;
 use std::alloc::{AllocError, Global};
-
-type Bundle<'r, 's> = FluentBundle<
-    'r,
-    's,
-    EnglishPlurals,
-    NoCustom,
-    NoFunction,
-    NoFormatter,
-    NoTransform,
->;
 
 const SOURCE: &str =
     "b = { -b.c ->\n   *[d] e\n }\nx = { \"x\" }\nf = { F(1, v: 2) }\ny = { \"y\" }\n";
@@ -50,7 +37,7 @@ fn try_calls_in(
     resource: &FluentResource<'_>,
     chain: &FluentResource<'_>,
 ) -> Result<Tally, AllocError> {
-    let mut bundle = Bundle::new(alloc, Vec::new(alloc), EnglishPlurals);
+    let mut bundle = Plain::new(alloc, Vec::new(alloc), EnglishPlurals);
     if bundle.add_resource(resource).is_err() || bundle.add_resource(chain).is_err() {
         return Err(AllocError);
     }
@@ -58,7 +45,7 @@ fn try_calls_in(
 }
 
 /// The same, where the bundle is made.
-fn try_calls_on(alloc: Global, bundle: &Bundle<'_, '_>) -> Result<Tally, AllocError> {
+fn try_calls_on(alloc: Global, bundle: &Plain<'_, '_>) -> Result<Tally, AllocError> {
     let mut tally = Tally::new();
     tally.add(are_kinds(alloc, bundle)?);
     tally.add(is_missed(alloc, bundle)?);
@@ -71,12 +58,12 @@ fn try_calls_on(alloc: Global, bundle: &Bundle<'_, '_>) -> Result<Tally, AllocEr
 }
 
 /// The value of a message.
-fn value_of<'r, 's>(bundle: &Bundle<'r, 's>, id: &str) -> Option<&'r Pattern<&'s str>> {
+fn value_of<'r, 's>(bundle: &Plain<'r, 's>, id: &str) -> Option<&'r Pattern<&'s str>> {
     bundle.get_message(id)?.value()
 }
 
 /// The expression that the value of a message begins with.
-fn expression_of<'r, 's>(bundle: &Bundle<'r, 's>, id: &str) -> Option<&'r Expression<&'s str>> {
+fn expression_of<'r, 's>(bundle: &Plain<'r, 's>, id: &str) -> Option<&'r Expression<&'s str>> {
     match value_of(bundle, id)?.elements.first()? {
         PatternElement::Placeable { expression } => Some(expression),
         PatternElement::TextElement { value: _ } => None,
@@ -84,7 +71,7 @@ fn expression_of<'r, 's>(bundle: &Bundle<'r, 's>, id: &str) -> Option<&'r Expres
 }
 
 /// The same, or the selector of a select.
-fn inline_of<'r, 's>(bundle: &Bundle<'r, 's>, id: &str) -> Option<&'r InlineExpression<&'s str>> {
+fn inline_of<'r, 's>(bundle: &Plain<'r, 's>, id: &str) -> Option<&'r InlineExpression<&'s str>> {
     match expression_of(bundle, id)? {
         Expression::Inline(inline) => Some(inline),
         Expression::Select {
@@ -95,7 +82,7 @@ fn inline_of<'r, 's>(bundle: &Bundle<'r, 's>, id: &str) -> Option<&'r InlineExpr
 }
 
 /// The arguments of the function in the value of a message.
-fn arguments_of<'r, 's>(bundle: &Bundle<'r, 's>, id: &str) -> Option<&'r CallArguments<&'s str>> {
+fn arguments_of<'r, 's>(bundle: &Plain<'r, 's>, id: &str) -> Option<&'r CallArguments<&'s str>> {
     match inline_of(bundle, id)? {
         InlineExpression::FunctionReference { id: _, arguments } => Some(arguments),
         _ => None,
@@ -103,7 +90,7 @@ fn arguments_of<'r, 's>(bundle: &Bundle<'r, 's>, id: &str) -> Option<&'r CallArg
 }
 
 /// Whether the attribute of a term refers to that, and a text to nothing.
-fn are_kinds(alloc: Global, bundle: &Bundle<'_, '_>) -> Result<bool, AllocError> {
+fn are_kinds(alloc: Global, bundle: &Plain<'_, '_>) -> Result<bool, AllocError> {
     let (Some(term), Some(text)) = (inline_of(bundle, "b"), inline_of(bundle, "x")) else {
         return Ok(false);
     };
@@ -117,7 +104,7 @@ fn are_kinds(alloc: Global, bundle: &Bundle<'_, '_>) -> Result<bool, AllocError>
 }
 
 /// Whether what stands for an attribute that isn't there is written, and told.
-fn is_missed(alloc: Global, bundle: &Bundle<'_, '_>) -> Result<bool, AllocError> {
+fn is_missed(alloc: Global, bundle: &Plain<'_, '_>) -> Result<bool, AllocError> {
     let mut errors = Vec::new(alloc);
     let is_written = is_missed_with(alloc, bundle, &mut errors)?;
     Ok(is_written && is_one(alloc, &errors, "Unknown attribute: -b.c")?)
@@ -126,7 +113,7 @@ fn is_missed(alloc: Global, bundle: &Bundle<'_, '_>) -> Result<bool, AllocError>
 /// The same, with a list of errors.
 fn is_missed_with(
     alloc: Global,
-    bundle: &Bundle<'_, '_>,
+    bundle: &Plain<'_, '_>,
     errors: &mut Vec<FluentError>,
 ) -> Result<bool, AllocError> {
     let Some(term) = inline_of(bundle, "b") else {
@@ -152,7 +139,7 @@ fn is_one(alloc: Global, errors: &[FluentError], text: &str) -> Result<bool, All
 }
 
 /// Whether the arguments of a function are found.
-fn are_arguments(bundle: &Bundle<'_, '_>) -> Result<bool, AllocError> {
+fn are_arguments(bundle: &Plain<'_, '_>) -> Result<bool, AllocError> {
     let mut scope = Scope::new(bundle, None, None);
     let (positional, named) = scope.get_arguments(arguments_of(bundle, "f"))?;
     let (one, two) = (FluentValue::from(1), FluentValue::from(2));
@@ -164,7 +151,7 @@ fn are_arguments(bundle: &Bundle<'_, '_>) -> Result<bool, AllocError> {
 }
 
 /// Whether a number is shown as its text, by each call.
-fn is_shown(alloc: Global, bundle: &Bundle<'_, '_>) -> Result<bool, AllocError> {
+fn is_shown(alloc: Global, bundle: &Plain<'_, '_>) -> Result<bool, AllocError> {
     let value = FluentValue::<NoCustom>::from(5);
     let scope = Scope::new(bundle, None, None);
     let mut text = String::new(alloc);
@@ -179,7 +166,7 @@ fn is_shown(alloc: Global, bundle: &Bundle<'_, '_>) -> Result<bool, AllocError> 
 }
 
 /// Whether a placeable that the program opens is written, and isn't counted.
-fn is_tracked(alloc: Global, bundle: &Bundle<'_, '_>) -> Result<bool, AllocError> {
+fn is_tracked(alloc: Global, bundle: &Plain<'_, '_>) -> Result<bool, AllocError> {
     let (Some(pattern), Some(expression)) = (value_of(bundle, "y"), expression_of(bundle, "y"))
     else {
         return Ok(false);
@@ -193,7 +180,7 @@ fn is_tracked(alloc: Global, bundle: &Bundle<'_, '_>) -> Result<bool, AllocError
 }
 
 /// Whether of messages that refer to each other a hundred are opened, and one more is counted.
-fn is_bounded(alloc: Global, bundle: &Bundle<'_, '_>) -> Result<bool, AllocError> {
+fn is_bounded(alloc: Global, bundle: &Plain<'_, '_>) -> Result<bool, AllocError> {
     let (Some(pattern), Some(inline)) = (value_of(bundle, "m0"), inline_of(bundle, "n")) else {
         return Ok(false);
     };
@@ -211,7 +198,7 @@ fn is_bounded(alloc: Global, bundle: &Bundle<'_, '_>) -> Result<bool, AllocError
 }
 
 /// Whether an error is put in the list of a scope, if it has one.
-fn is_told(alloc: Global, bundle: &Bundle<'_, '_>) -> Result<bool, AllocError> {
+fn is_told(alloc: Global, bundle: &Plain<'_, '_>) -> Result<bool, AllocError> {
     let mut errors = Vec::new(alloc);
     add_error(bundle, Some(&mut errors))?;
     add_error(bundle, None)?;
@@ -220,7 +207,7 @@ fn is_told(alloc: Global, bundle: &Bundle<'_, '_>) -> Result<bool, AllocError> {
 
 /// Adds an error to a scope with this list.
 fn add_error(
-    bundle: &Bundle<'_, '_>,
+    bundle: &Plain<'_, '_>,
     errors: Option<&mut Vec<FluentError>>,
 ) -> Result<(), AllocError> {
     let mut scope = Scope::new(bundle, None, errors);

@@ -1,10 +1,8 @@
 //! Rows of numbers: which texts are numbers, what numbers are written as, their integers, operands, categories and options.
 
 mod conversions;
-mod merged;
-pub mod names;
+mod copies;
 pub mod operands;
-mod sources;
 mod written;
 
 use rows_common::Row;
@@ -33,13 +31,11 @@ pub enum Rows {
     Categories,
     /// Which numbers differ.
     Differing,
-    /// What options are once others are merged into them.
-    Merged,
-    /// Which options, with a number, equal their copies.
+    /// Which numbers, with their options, equal their copies.
     Copied,
 }
 
-pub const FILES: [(&str, Rows); 12] = [
+pub const FILES: [(&str, Rows); 11] = [
     ("values/parts.txt", Rows::Parts),
     ("values/cut.txt", Rows::Cut),
     ("values/back.txt", Rows::Back),
@@ -50,7 +46,6 @@ pub const FILES: [(&str, Rows); 12] = [
     ("values/operands.txt", Rows::Operands),
     ("values/categories.txt", Rows::Categories),
     ("values/differing.txt", Rows::Differing),
-    ("values/merged.txt", Rows::Merged),
     ("values/copied.txt", Rows::Copied),
 ];
 
@@ -68,8 +63,7 @@ impl Rows {
             Rows::Operands => operands::are_operands(row),
             Rows::Categories => operands::are_categories(row),
             Rows::Differing => written::are_differing(row),
-            Rows::Merged => merged::is_merged(alloc, row),
-            Rows::Copied => merged::is_copied(alloc, row),
+            Rows::Copied => copies::is_copied(alloc, row),
         }
     }
 }
