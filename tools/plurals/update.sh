@@ -5,7 +5,7 @@ set -eu
 here=$(cd "$(dirname "$0")" && pwd)
 top=$here/../..
 data=$(ls -d "$here"/cldr-* | sort -V | tail -n 1)
-rows=$top/crates/all_rows/data/values/plurals.txt
+rows=$top/tests/more_rows/data/plurals.txt
 python3 -B "$here/generate.py" "$data" "${data##*cldr-}" "$top/crates/fluent_plurals"
 python3 -B "$here/samples.py" "$data" > "$rows"
 cp "$data/LICENSE-UNICODE" "$top/crates/fluent_plurals/LICENSE-UNICODE"

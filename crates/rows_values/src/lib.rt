@@ -5,8 +5,8 @@
 //! more, so the same counts are printed with any one allocation refused.
 #![tactic(auto)]
 
-mod numbers;
-mod values;
+pub mod numbers;
+pub mod values;
 
 use anyhow::Result;
 use rows_common::{Lines, Row, tell, try_lines};
