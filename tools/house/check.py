@@ -4,12 +4,12 @@
     tools/house/check.py [--sources|--calls] [ROOT]
 
 Each block of code in a page is cut from an example, and each in the doc comment of a public crate from an example or another
-crate that the gate proves, unless its fence is `no_run`: such a block was only tried. Each public type that programs use has
-a block. Each link leads to a file and a heading that are there, and so does each path in `crates` that a page names; each page
-that a comment names is there; no line of prose in a page is wider than 120 columns; no page has words that the glossary
-leaves out, and no comment of the code has "behind" for "after"; each call in a shell block of a page prints what follows it
-there; each public call that can fail says how, under `# Errors`; no clause is longer than 200 characters, and at most 30 are
-longer than 120; each file that names the version names the same one.
+crate that the gate proves or tries, unless its fence is `no_run`: such a block was only tried once. Each public type that
+programs use has a block. Each link leads to a file and a heading that are there, and so does each path in `crates` that a
+page names; each page that a comment names is there; no line of prose in a page is wider than 120 columns; no page has words
+that the glossary leaves out, and no comment of the code has "behind" for "after"; each call in a shell block of a page prints
+what follows it there; each public call that can fail says how, under `# Errors`; no clause is longer than 200 characters, and
+at most 30 are longer than 120; each file that names the version names the same one.
 
 Prints what isn't so, then how many of these checks passed and failed, and ends with 1 if one failed. The calls of shell
 blocks need the built program, `crates/ftl/out/ftl`: without it they are skipped. `--calls` runs them alone, and `--sources`
@@ -52,7 +52,8 @@ NAMING = ['crates/*/src/**/*.rt', 'crates/*/specs/**/*.antt', 'crates/*/*.h', 'c
           'bench/**/*.py']
 # Where a block of code is cut from, by the language of its fence. In a doc comment a fence names none, or is `no_run`.
 EXAMPLES = {
-    '': [f'crates/{crate}/src/**/*.rt' for crate in ('example*', '*_rows', 'rows_*', 'ftl_*', 'fluent_c')],
+    '': [*(f'crates/{crate}/src/**/*.rt' for crate in ('example*', 'rows_*', 'ftl_*', 'fluent_c')),
+         'tests/more_rows/src/**/*.rt.txt'],
     'rust': ['crates/example*/src/**/*.rt', 'bindings/rust/README.md'],
     'c': ['*s/c/*.c'],
     'python': ['examples/python/*.py', 'bindings/python/README.md'],
