@@ -38,7 +38,7 @@ GLOSSARY = ROOT / 'docs/glossary.md'
 CALLED = '''
     fluent_ast fluent_parsed fluent_parser fluent_serializer fluent_text fluent_syntax fluent_json fluent_json_write
     fluent_number fluent_value fluent_plurals fluent_errors fluent_resource fluent_ids fluent_bundle fluent_check fluent_tidy
-    fluent_serve fluent_run fluent_desk fluent_kept fluent_c_calls fluent_c
+    fluent_serve fluent_run fluent_desk fluent_kept fluent_c
 '''.split()
 INNER = {
     'fluent_parsed': ['Collected', 'Dedented', 'Gathered'],

@@ -1,12 +1,10 @@
 //! Answers the request lines of `rows.jsonl` by `fluent_run::run`, over devices in memory that give and take little at a
 //! time or fail, and prints of each kind how many runs there were and how many of them ended in another way than they must.
-//! Readers that don't end are tried with few calls of `read`, and the calls for C on a few sources.
+//! Readers that don't end are tried with few calls of `read`.
 //!
 //! The rows of `memory.jsonl` are tried also where an allocation is refused. The files stand in `crates/all_rows/data/requests`.
 #![tactic(auto)]
 
-mod bundles;
-mod calls;
 mod case;
 mod cuts;
 mod devices;
@@ -19,8 +17,6 @@ mod script;
 mod writes;
 
 use anyhow::Result;
-use bundles::try_bundles;
-use calls::try_calls;
 use endless::try_endless;
 use rows::Tallies;
 use rows_common::tell;
@@ -40,8 +36,6 @@ pub fn try_all(rt: &HostRuntime) -> Result<()> {
         "runs",
         try_endless(rt.alloc()),
     )?;
-    tell(rt, "calls for C", "runs", try_calls(rt.alloc()))?;
-    tell(rt, "bundles for C", "runs", try_bundles(rt.alloc()))?;
     Ok(())
 }
 
