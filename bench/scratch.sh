@@ -5,6 +5,7 @@
 #
 # Puts into FOLDER a copy of this repository's crates and the crate of LINE, as crates.txt would have it, whose sources are
 # SOURCES/*.rt.txt. `rt` proves there what is not proved here.
+# shellcheck disable=SC2154 # root: see above
 scratch_crate() {
     mkdir -p "$1"
     (cd "$root" && tar -cf - --exclude=out HANDLES crates.txt crates) | tar -xf - -C "$1"
