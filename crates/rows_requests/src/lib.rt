@@ -1,6 +1,7 @@
 //! Answers the request lines of `rows.jsonl` by `fluent_run::run`, over devices in memory that give and take little at a
 //! time or fail, and prints of each kind how many runs there were and how many of them ended in another way than they must.
-//! Readers that don't end are tried with few calls of `read`, and the calls for C on a few sources.
+//! Readers that don't end are tried with few calls of `read`, sources that nest deep within a budget of the stack, and the
+//! calls for C on a few sources.
 //!
 //! The rows of `memory.jsonl` are tried also where an allocation is refused. The files stand in `crates/all_rows/data/requests`.
 #![tactic(auto)]
@@ -13,6 +14,7 @@ mod devices;
 mod endless;
 mod json;
 mod memory;
+mod nested;
 mod pieces;
 mod rows;
 mod script;
@@ -22,6 +24,7 @@ use anyhow::Result;
 use bundles::try_bundles;
 use calls::try_calls;
 use endless::try_endless;
+use nested::try_nested;
 use rows::Tallies;
 use rows_common::tell;
 
@@ -40,6 +43,7 @@ pub fn try_all(rt: &HostRuntime) -> Result<()> {
         "runs",
         try_endless(rt.alloc()),
     )?;
+    tell(rt, "nested sources", "runs", try_nested(rt)?)?;
     tell(rt, "calls for C", "runs", try_calls(rt.alloc()))?;
     tell(rt, "bundles for C", "runs", try_bundles(rt.alloc()))?;
     Ok(())
