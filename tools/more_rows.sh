@@ -1,8 +1,9 @@
 #!/usr/bin/env bash
 # Runs the rows of tests/more_rows, which aren't proved: their sources end in .txt, since the toolchain takes a .rt file nowhere but
 # in a crate that the gate proves. Here they become a crate of a scratch copy of the repository, and `rt try` compiles it with all that
-# it uses, with the toolchain's own checks. The last line is 'N passed, M failed', and the status is 1 if anything failed. Words are
-# passed to `rt try`: with `--fail-alloc N` the Nth allocation is refused, and the same counts must come.
+# it uses, with the toolchain's own checks. It must print what tests/more_rows/stdout has. The last line is 'N passed, M failed', and
+# the status is 1 if anything failed. Words are passed to `rt try`: with `--fail-alloc N` the Nth allocation is refused, and the same
+# counts must come.
 set -euo pipefail
 top=$(cd "$(dirname "$0")/.." && pwd)
 work=$(mktemp -d)
@@ -32,6 +33,11 @@ done
 status=0
 rt try --seconds 600 "$@" "${data[@]}" </dev/null >"$work/told" || status=$?
 cat "$work/told"
+if ! diff "$top/tests/more_rows/stdout" "$work/told" >"$work/differences"; then
+    echo "other lines than those of tests/more_rows/stdout:"
+    cat "$work/differences"
+    status=1
+fi
 # A line of a kind ends in 'N things, M wrong'.
 awk -v status="$status" '
     match($0, /[0-9]+ [a-z]+, [0-9]+ wrong$/) {
@@ -40,7 +46,7 @@ awk -v status="$status" '
         failed += words[3]
     }
     END {
-        failed += (status != 0 && failed == 0) || passed == 0
+        failed += status != 0 && failed == 0
         print passed + 0 " passed, " failed + 0 " failed"
         exit failed > 0
     }' "$work/told"

@@ -10,4 +10,4 @@ python3 -B "$here/generate.py" "$data" "${data##*cldr-}" "$top/crates/fluent_plu
 python3 -B "$here/samples.py" "$data" > "$rows"
 cp "$data/LICENSE-UNICODE" "$top/crates/fluent_plurals/LICENSE-UNICODE"
 (cd "$top/crates/fluent_plurals" && rt fmt)
-echo "$(wc -l < "$rows") samples: crates/all_rows/stdout counts them"
+echo "$(wc -l < "$rows") samples: tests/more_rows/stdout counts them"

@@ -1,6 +1,6 @@
 //! Answers the request lines of `rows.jsonl` by `fluent_run::run`, over devices in memory that give and take little at a
 //! time or fail, and prints of each kind how many runs there were and how many of them ended in another way than they must.
-//! Readers that don't end are tried with few calls of `read`.
+//! Readers that don't end are tried with few calls of `read`, and sources that nest deep within a budget of the stack.
 //!
 //! The rows of `memory.jsonl` are tried also where an allocation is refused. The files stand in `crates/all_rows/data/requests`.
 #![tactic(auto)]
@@ -11,6 +11,7 @@ mod devices;
 mod endless;
 mod json;
 mod memory;
+mod nested;
 mod pieces;
 mod rows;
 mod script;
@@ -18,6 +19,7 @@ mod writes;
 
 use anyhow::Result;
 use endless::try_endless;
+use nested::try_nested;
 use rows::Tallies;
 use rows_common::tell;
 
@@ -36,6 +38,7 @@ pub fn try_all(rt: &HostRuntime) -> Result<()> {
         "runs",
         try_endless(rt.alloc()),
     )?;
+    tell(rt, "nested sources", "runs", try_nested(rt)?)?;
     Ok(())
 }
 

@@ -4,6 +4,7 @@
 //! in bytes. Of its `messages` each is nested `levels` deep, and all but the last have a reference to the next innermost.
 //! With the first numbers of `messages` and `levels` the first message is answered, and with the second ones memory runs out.
 
+use crate::json::{count_of, list_in};
 use anyhow::{Context, Result};
 use fluent_run::{Settings, answers_within};
 use fluent_text::stack::StackBudget;
@@ -25,7 +26,7 @@ struct Level<'row> {
 
 /// Tries the rows of `nested.jsonl`.
 pub fn try_nested(rt: &HostRuntime) -> Result<Tally> {
-    let text = fs::read_to_string(rt, "nested.jsonl").context("the rows")?;
+    let text = fs::read_to_string(rt, "requests/nested.jsonl").context("the rows")?;
     let mut tally = Tally::new();
     for line in text.as_str().lines() {
         let row = Value::from_str(rt.alloc(), line).context("a row")?;
@@ -95,16 +96,4 @@ fn answers(alloc: Global, source: &str, budget: StackBudget) -> bool {
         budget,
     )
     .is_ok()
-}
-
-/// The list under a name.
-fn list_in<'row>(row: &'row Value, name: &str) -> Result<&'row [Value]> {
-    let list = row.get(name).and_then(Value::as_array).context("a list")?;
-    Ok(list.as_slice())
-}
-
-/// A number.
-fn count_of(count: &Value) -> Result<usize> {
-    let count = count.as_u64().context("a count")?;
-    Ok(usize::try_from(count).unwrap_or(0))
 }
