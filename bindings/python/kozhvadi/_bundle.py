@@ -21,10 +21,10 @@ from ._values import Formatter, arguments_of, encoded
 
 Paths = Union[str, "os.PathLike[str]", Iterable[Union[str, "os.PathLike[str]"]]]
 
-# What a call takes of the machine's stack beside the budget of a bundle.
+# What a call takes of the machine's stack in addition to the budget of a bundle.
 _BESIDE = 400 * 1024
 
-# A warning shows so many errors.
+# A warning shows this many errors.
 _SHOWN = 3
 
 # A text of one line that is the name of a file or of a locale.
@@ -42,7 +42,7 @@ class Answer(NamedTuple):
 
 
 class _Texts:
-    """The text and the errors of an answer, whose memory another answer takes."""
+    """The text and the errors of an answer, whose memory another answer uses."""
 
     def __init__(self) -> None:
         self.text, self.errors = c.FluentText(), c.FluentText()
@@ -163,7 +163,7 @@ class Bundle:
         array, count = arguments_of(arguments, self._formatter)
         if self._sources is not None:
             self._warn()
-        # An answer that comes up meanwhile, in a signal handler or another thread, has texts of its own.
+        # An answer that comes up meanwhile, in a signal handler or another thread, has other texts.
         texts = self._spare.pop() if self._spare else _Texts()
         try:
             with self._lock:
@@ -275,7 +275,7 @@ def _texts_of(sources: str | Iterable[str]) -> list[bytes]:
     texts = [sources] if isinstance(sources, str) else list(sources)
     for number, text in enumerate(texts, 1):
         if isinstance(text, str) and _NAME.fullmatch(text):
-            raise ValueError(f"source {number} is a name and no source: {text!r}; Bundle.from_files reads files")
+            raise ValueError(f"source {number} is a name, and not a source: {text!r}; Bundle.from_files reads files")
     return [encoded(text, "source", number) for number, text in enumerate(texts, 1)]
 
 
@@ -295,11 +295,11 @@ def _budget(stack: SupportsIndex) -> int:
     try:
         budget = stack.__index__()
     except AttributeError:
-        raise TypeError(f"the budget of the stack is no number of bytes: {type(stack).__name__}") from None
+        raise TypeError(f"the budget of the stack isn't a number of bytes: {type(stack).__name__}") from None
     has = _thread_stack()
     if budget < 0 or budget > max(has - _BESIDE, c.THREAD_STACK):
-        needs = f"this thread has {has} bytes, and needs {_BESIDE} beside it"
-        raise ValueError(f"no budget of the stack: {budget}; {needs}")
+        needs = f"this thread has {has} bytes, and needs {_BESIDE} more"
+        raise ValueError(f"the budget of the stack is too large, or negative: {budget}; {needs}")
     return budget
 
 

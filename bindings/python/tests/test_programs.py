@@ -27,7 +27,7 @@ class Lazy:
 
 
 class Odd(str):
-    """A text with an `encode` of its own."""
+    """A text with another `encode`."""
 
     def encode(self, *_arguments):
         return b"\xff"
@@ -61,20 +61,20 @@ class ObjectsTest(unittest.TestCase):
     def test_wrong_arguments_are_named(self):
         bundle = Bundle(self.source)
         for wrong, kind, words in [
-            (lambda: bundle.format(1), TypeError, "the id is no text: int"),
-            (lambda: bundle.format("a", {"x": 1}), TypeError, "the name of the attribute is no text: dict"),
+            (lambda: bundle.format(1), TypeError, "the id isn't a text: int"),
+            (lambda: bundle.format("a", {"x": 1}), TypeError, "the name of the attribute isn't a text: dict"),
             (lambda: bundle.format("a", x="\ud800"), ValueError, "the argument 'x' can't be written"),
             (lambda: bundle.format("\ud800"), ValueError, "the id can't be written"),
-            (lambda: bundle.format("a", x=Number("")), ValueError, "the argument 'x' is no number"),
+            (lambda: bundle.format("a", x=Number("")), ValueError, "the argument 'x' isn't a number"),
             (lambda: Bundle(b"a = b"), TypeError, "a source is a text, .*: bytes"),
             (lambda: Bundle(Path("en.ftl")), TypeError, "Bundle.from_files reads files: PosixPath"),
             (lambda: Bundle(3), TypeError, "a source is a text"),
-            (lambda: Bundle(["a = b", 3]), TypeError, "source 2 is no text: int"),
-            (lambda: Bundle("locales/en.ftl"), ValueError, "source 1 is a name and no source: 'locales/en.ftl'"),
+            (lambda: Bundle(["a = b", 3]), TypeError, "source 2 isn't a text: int"),
+            (lambda: Bundle("locales/en.ftl"), ValueError, "source 1 is a name, and not a source: 'locales/en.ftl'"),
             (lambda: Bundle(["en-US"]), ValueError, "source 1 is a name"),
-            (lambda: Bundle("a = b", locale=1), TypeError, "the locale is no text: int"),
-            (lambda: Bundle("a = b", stack=1.5), TypeError, "the budget of the stack is no number of bytes: float"),
-            (lambda: Bundle("a = b", stack=2**40), ValueError, "no budget of the stack: 1099511627776"),
+            (lambda: Bundle("a = b", locale=1), TypeError, "the locale isn't a text: int"),
+            (lambda: Bundle("a = b", stack=1.5), TypeError, "the budget of the stack isn't a number of bytes: float"),
+            (lambda: Bundle("a = b", stack=2**40), ValueError, "too large, or negative: 1099511627776"),
             (lambda: copy.copy(bundle), TypeError, "neither copied nor pickled"),
             (lambda: copy.deepcopy(bundle), TypeError, "neither copied nor pickled"),
             (lambda: pickle.dumps(bundle), TypeError, "neither copied nor pickled"),
