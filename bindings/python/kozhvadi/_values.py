@@ -77,7 +77,7 @@ def _real(value: float) -> str | None:
 
 
 def _number(value: object) -> tuple[int, str] | None:
-    """The kind of a number and its text, or `None` for another object. What is too large or isn't a number is a text."""
+    """The kind of a number and its text, or `None` for another object. One that is too large is a text."""
     if isinstance(value, Decimal):
         text = _rounded(value)
     elif isinstance(value, (int, numbers.Integral)):
