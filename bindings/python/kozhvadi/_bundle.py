@@ -8,7 +8,7 @@ import resource
 import threading
 import warnings
 import weakref
-from collections.abc import Iterable
+from collections.abc import Callable, Iterable
 from pathlib import Path
 from types import TracebackType
 from typing import NamedTuple, NoReturn, SupportsIndex, Union
@@ -44,18 +44,14 @@ class Answer(NamedTuple):
 class _Texts:
     """The text and the errors of an answer, whose memory another answer uses."""
 
+    __slots__ = ("text", "errors")
+
     def __init__(self) -> None:
         self.text, self.errors = c.FluentText(), c.FluentText()
 
-    def free(self) -> None:
-        c.library.fluent_free_text(self.text)
-        c.library.fluent_free_text(self.errors)
-
-
-def _freed(handle: c.FluentBundle, spare: list[_Texts]) -> None:
-    c.library.fluent_bundle_free(handle)
-    while spare:
-        spare.pop().free()
+    def __del__(self, free: Callable[[c.FluentText], None] = c.library.fluent_free_text) -> None:
+        free(self.text)
+        free(self.errors)
 
 
 class Bundle:
@@ -131,7 +127,7 @@ class Bundle:
             raise UnknownLocaleError(f"the locale {locale!r} has no plural rules")
         if made != c.READ:
             raise MemoryError(self._too_deep(named))
-        self._free = weakref.finalize(self, _freed, self._handle, self._spare)
+        self._free = weakref.finalize(self, c.library.fluent_bundle_free, self._handle)
 
     def _read(self, texts: list[bytes], tag: bytes, isolating: bool, handle: c.FluentBundle) -> int:
         array, count = c.sources(texts)
@@ -164,26 +160,22 @@ class Bundle:
         if self._sources is not None:
             self._warn()
         # An answer that comes up meanwhile, in a signal handler or another thread, has other texts.
-        texts = self._spare.pop() if self._spare else _Texts()
         try:
-            with self._lock:
-                answered = c.library.fluent_bundle_format(
-                    self._handle, key, len(key), name, len(name), array, count, texts.text, texts.errors
-                )
-            if answered == c.READ:
-                errors = [ResolverError(line) for line in c.lines_of(texts.errors)] if texts.errors.held else []
-                return Answer(c.string_of(texts.text), errors)
-        finally:
-            self._give_back(texts)
+            texts = self._spare.pop()
+        except IndexError:
+            texts = _Texts()
+        with self._lock:
+            answered = c.library.fluent_bundle_format(
+                self._handle, key, len(key), name, len(name), array, count, texts.text, texts.errors
+            )
+        if answered == c.READ:
+            errors = [ResolverError(line) for line in c.lines_of(texts.errors)] if texts.errors.held else []
+            answer = Answer(c.string_of(texts.text), errors)
+            self._spare.append(texts)
+            return answer
         if answered in (c.NO_MESSAGE, c.NO_PATTERN):
             raise MissingMessageError(_missing(id, attribute, answered))
         self._refuse(answered, f"the answer to {id!r}")
-
-    def _give_back(self, texts: _Texts) -> None:
-        if self._free.alive:
-            self._spare.append(texts)
-        else:
-            texts.free()
 
     def has_message(self, id: str) -> bool:
         """Whether there is a message of this id, with a value or with attributes alone."""
@@ -245,6 +237,7 @@ class Bundle:
         """Frees the bundle. It can't be asked then."""
         with self._lock:
             self._free()
+        self._spare.clear()
 
     def __enter__(self) -> Bundle:
         return self
