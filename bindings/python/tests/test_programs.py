@@ -14,6 +14,7 @@ import unittest
 import warnings
 from pathlib import Path
 
+import kozhvadi
 from kozhvadi import Bundle, FluentError, FluentWarning, MissingMessageError, Number, ResolverError
 
 FOLDER = Path(__file__).resolve().parents[1]
@@ -188,7 +189,7 @@ class ProcessTest(unittest.TestCase):
 
         before = signal.signal(signal.SIGALRM, handle)
         self.addCleanup(signal.signal, signal.SIGALRM, before)
-        signal.setitimer(signal.ITIMER_REAL, 0.0005, 0.0005)
+        signal.setitimer(signal.ITIMER_REAL, 0.002, 0.002)
         try:
             ends = time.monotonic() + 0.5
             while time.monotonic() < ends:
@@ -252,6 +253,10 @@ class ProcessTest(unittest.TestCase):
         self.assertEqual(run.returncode, 1)
         self.assertIn("ImportError: the library /nowhere/libfluent_c.so can't be loaded", run.stderr)
         self.assertIn("bindings/python/run.sh", run.stderr)
+
+    def test_the_version_is_that_of_the_package_for_rust(self):
+        manifest = (FOLDER.parent / "rust" / "Cargo.toml").read_text(encoding="utf-8")
+        self.assertIn(f'\nversion = "{kozhvadi.__version__}"\n', manifest)
 
     def test_missing_messages_are_still_errors_of_keys(self):
         with Bundle(self.source) as bundle, self.assertRaises(KeyError) as raised:
