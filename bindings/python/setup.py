@@ -15,5 +15,5 @@ class WithLibrary(Distribution):
 
 
 if not LIBRARY.is_file():
-    raise SystemExit(f"there is no {LIBRARY}: make it by run.sh, beside this file")
+    raise SystemExit(f"there is no {LIBRARY}: make it by run.sh, next to this file")
 setup(distclass=WithLibrary)

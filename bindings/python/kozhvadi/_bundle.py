@@ -8,7 +8,7 @@ import resource
 import threading
 import warnings
 import weakref
-from collections.abc import Iterable
+from collections.abc import Callable, Iterable
 from pathlib import Path
 from types import TracebackType
 from typing import NamedTuple, NoReturn, SupportsIndex, Union
@@ -21,10 +21,10 @@ from ._values import Formatter, arguments_of, encoded
 
 Paths = Union[str, "os.PathLike[str]", Iterable[Union[str, "os.PathLike[str]"]]]
 
-# What a call takes of the machine's stack beside the budget of a bundle.
+# What a call takes of the machine's stack in addition to the budget of a bundle.
 _BESIDE = 400 * 1024
 
-# A warning shows so many errors.
+# A warning shows this many errors.
 _SHOWN = 3
 
 # A text of one line that is the name of a file or of a locale.
@@ -42,20 +42,16 @@ class Answer(NamedTuple):
 
 
 class _Texts:
-    """The text and the errors of an answer, whose memory another answer takes."""
+    """The text and the errors of an answer, whose memory another answer uses."""
+
+    __slots__ = ("text", "errors")
 
     def __init__(self) -> None:
         self.text, self.errors = c.FluentText(), c.FluentText()
 
-    def free(self) -> None:
-        c.library.fluent_free_text(self.text)
-        c.library.fluent_free_text(self.errors)
-
-
-def _freed(handle: c.FluentBundle, spare: list[_Texts]) -> None:
-    c.library.fluent_bundle_free(handle)
-    while spare:
-        spare.pop().free()
+    def __del__(self, free: Callable[[c.FluentText], None] = c.library.fluent_free_text) -> None:
+        free(self.text)
+        free(self.errors)
 
 
 class Bundle:
@@ -131,7 +127,7 @@ class Bundle:
             raise UnknownLocaleError(f"the locale {locale!r} has no plural rules")
         if made != c.READ:
             raise MemoryError(self._too_deep(named))
-        self._free = weakref.finalize(self, _freed, self._handle, self._spare)
+        self._free = weakref.finalize(self, c.library.fluent_bundle_free, self._handle)
 
     def _read(self, texts: list[bytes], tag: bytes, isolating: bool, handle: c.FluentBundle) -> int:
         array, count = c.sources(texts)
@@ -163,27 +159,23 @@ class Bundle:
         array, count = arguments_of(arguments, self._formatter)
         if self._sources is not None:
             self._warn()
-        # An answer that comes up meanwhile, in a signal handler or another thread, has texts of its own.
-        texts = self._spare.pop() if self._spare else _Texts()
+        # An answer that comes up meanwhile, in a signal handler or another thread, has other texts.
         try:
-            with self._lock:
-                answered = c.library.fluent_bundle_format(
-                    self._handle, key, len(key), name, len(name), array, count, texts.text, texts.errors
-                )
-            if answered == c.READ:
-                errors = [ResolverError(line) for line in c.lines_of(texts.errors)] if texts.errors.held else []
-                return Answer(c.string_of(texts.text), errors)
-        finally:
-            self._give_back(texts)
+            texts = self._spare.pop()
+        except IndexError:
+            texts = _Texts()
+        with self._lock:
+            answered = c.library.fluent_bundle_format(
+                self._handle, key, len(key), name, len(name), array, count, texts.text, texts.errors
+            )
+        if answered == c.READ:
+            errors = [ResolverError(line) for line in c.lines_of(texts.errors)] if texts.errors.held else []
+            answer = Answer(c.string_of(texts.text), errors)
+            self._spare.append(texts)
+            return answer
         if answered in (c.NO_MESSAGE, c.NO_PATTERN):
             raise MissingMessageError(_missing(id, attribute, answered))
         self._refuse(answered, f"the answer to {id!r}")
-
-    def _give_back(self, texts: _Texts) -> None:
-        if self._free.alive:
-            self._spare.append(texts)
-        else:
-            texts.free()
 
     def has_message(self, id: str) -> bool:
         """Whether there is a message of this id, with a value or with attributes alone."""
@@ -245,6 +237,7 @@ class Bundle:
         """Frees the bundle. It can't be asked then."""
         with self._lock:
             self._free()
+        self._spare.clear()
 
     def __enter__(self) -> Bundle:
         return self
@@ -275,7 +268,7 @@ def _texts_of(sources: str | Iterable[str]) -> list[bytes]:
     texts = [sources] if isinstance(sources, str) else list(sources)
     for number, text in enumerate(texts, 1):
         if isinstance(text, str) and _NAME.fullmatch(text):
-            raise ValueError(f"source {number} is a name and no source: {text!r}; Bundle.from_files reads files")
+            raise ValueError(f"source {number} is a name, and not a source: {text!r}; Bundle.from_files reads files")
     return [encoded(text, "source", number) for number, text in enumerate(texts, 1)]
 
 
@@ -295,11 +288,11 @@ def _budget(stack: SupportsIndex) -> int:
     try:
         budget = stack.__index__()
     except AttributeError:
-        raise TypeError(f"the budget of the stack is no number of bytes: {type(stack).__name__}") from None
+        raise TypeError(f"the budget of the stack isn't a number of bytes: {type(stack).__name__}") from None
     has = _thread_stack()
     if budget < 0 or budget > max(has - _BESIDE, c.THREAD_STACK):
-        needs = f"this thread has {has} bytes, and needs {_BESIDE} beside it"
-        raise ValueError(f"no budget of the stack: {budget}; {needs}")
+        needs = f"this thread has {has} bytes, and needs {_BESIDE} more"
+        raise ValueError(f"the budget of the stack is too large, or negative: {budget}; {needs}")
     return budget
 
 

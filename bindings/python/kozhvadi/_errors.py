@@ -33,11 +33,11 @@ class _Told(FluentError):
 
 
 class ResolverError(_Told):
-    """An error that came up while a message was formatted, as in `Unknown variable: $name`. You get the text all the same.
+    """An error that came up while a message was formatted, as in `Unknown variable: $name`. You get the text too.
 
     `kind` is "variable", "message", "term" or "function" if what is referred to isn't there, "value" if a message has
-    none, "default" if no variant of a select was chosen, "cycle" if a message refers to itself, and "placeables" if there
-    are too many. `id` is the name, without `$` or `-`, and `attribute` that of an attribute.
+    none, "default" if no variant of a select was chosen, "cycle" if a message refers to itself, and "placeables" if
+    there are too many. `id` is the name, without `$` or `-`, and `attribute` that of an attribute.
 
     >>> error = ResolverError("Unknown attribute: -brand.gender")
     >>> error.kind, error.id, error.attribute
@@ -68,8 +68,8 @@ class SourceError(_Told):
     """An error of a source, or an entry whose id was there before it.
 
     `file` is the name of the source, which is "source 1" for the first if it has no file, and `line` and `column` count
-    from 1. They are `None` for an entry whose id was there: the library doesn't tell its place. `kind` is the name of the
-    error, as in "ExpectedToken", and "Overriding" for such an entry.
+    from 1. They are `None` for an entry whose id was there: the library doesn't report its place. `kind` is the name of
+    the error, as in "ExpectedToken", and "Overriding" for such an entry.
     """
 
     def __init__(
@@ -80,7 +80,7 @@ class SourceError(_Told):
 
 
 def source_error(line: str, sources: list[tuple[str, bytes]]) -> SourceError:
-    """The error that a line of a report is, as in `source 1: bytes 7..8: ExpectedToken`, with its place in the source."""
+    """The error that a line of a report is, as in `source 1: bytes 7..8: ExpectedToken`, with its place."""
     number, _, told = line.removeprefix("source ").partition(": bytes ")
     if not told or not line.startswith("source "):
         return SourceError(line, "Overriding")

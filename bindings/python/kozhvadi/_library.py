@@ -1,4 +1,4 @@
-"""What `fluent_c.h` declares, in the shared library beside this file."""
+"""What `fluent_c.h` declares, in the shared library next to this file."""
 
 from __future__ import annotations
 
@@ -74,7 +74,7 @@ def sources(texts: Sequence[bytes]) -> tuple["ctypes.Array[FluentSource]", int]:
 
 
 def string_of(text: FluentText) -> str:
-    """The text that the library hands out, which is empty if there is none."""
+    """The text that the library returns, which is empty if there is none."""
     return ctypes.string_at(text.bytes, text.len).decode() if text.held and text.len else ""
 
 

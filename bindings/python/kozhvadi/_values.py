@@ -17,7 +17,7 @@ Formatter = Callable[[object], Value]
 # The whole part of a number is below this.
 _TOO_LARGE = 2**64
 
-# A number of the library has at most so many digits after its point.
+# The library's numbers have at most as many digits after the point.
 _DIGITS = Decimal(1).scaleb(-18)
 
 # It rounds a half away from zero, and is exact for what has at most 20 digits before the point and 18 after it.
@@ -36,14 +36,14 @@ class Number(str):
 
 
 def encoded(text: object, what: str, name: object = None) -> bytes:
-    """The bytes of a text, which is called `what`, and by its name if it has one, if it is none."""
+    """The bytes of a text, which is called `what`, and by its name if it has one, if it isn't a text."""
     if isinstance(text, str):
         try:
-            # A subclass may have an `encode` of its own.
+            # A subclass may have another `encode`.
             return str.encode(text)
         except UnicodeEncodeError as error:
             raise ValueError(f"{_called(what, name)} can't be written in UTF-8: {error}") from error
-    raise TypeError(f"{_called(what, name)} is no text: {type(text).__name__}")
+    raise TypeError(f"{_called(what, name)} isn't a text: {type(text).__name__}")
 
 
 def _called(what: str, name: object) -> str:
@@ -56,7 +56,7 @@ def _is_number(text: str) -> bool:
 
 
 def _rounded(value: Decimal) -> str | None:
-    """A decimal with at most 18 digits after its point, or `None` if it is too large or no number."""
+    """A decimal with at most 18 digits after its point, or `None` if it is too large or isn't a number."""
     # Its digits aren't written out if there are too many.
     if not value.is_finite() or value.adjusted() > 20:
         return None
@@ -77,7 +77,7 @@ def _real(value: float) -> str | None:
 
 
 def _number(value: object) -> tuple[int, str] | None:
-    """The kind of a number and its text, or `None` for another object. What is too large or no number is a text."""
+    """The kind of a number and its text, or `None` for another object. One that is too large is a text."""
     if isinstance(value, Decimal):
         text = _rounded(value)
     elif isinstance(value, (int, numbers.Integral)):
@@ -95,7 +95,7 @@ def _text(name: str, value: str) -> tuple[int, str]:
     if not isinstance(value, Number):
         return c.TEXT, value
     if not _is_number(value):
-        raise ValueError(f"the argument {name!r} is no number that can be shown: {str.__str__(value)!r}")
+        raise ValueError(f"the argument {name!r} isn't a number that can be shown: {str.__str__(value)!r}")
     return c.DECIMAL, value
 
 

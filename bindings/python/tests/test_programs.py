@@ -14,6 +14,7 @@ import unittest
 import warnings
 from pathlib import Path
 
+import kozhvadi
 from kozhvadi import Bundle, FluentError, FluentWarning, MissingMessageError, Number, ResolverError
 
 FOLDER = Path(__file__).resolve().parents[1]
@@ -27,7 +28,7 @@ class Lazy:
 
 
 class Odd(str):
-    """A text with an `encode` of its own."""
+    """A text with another `encode`."""
 
     def encode(self, *_arguments):
         return b"\xff"
@@ -61,20 +62,20 @@ class ObjectsTest(unittest.TestCase):
     def test_wrong_arguments_are_named(self):
         bundle = Bundle(self.source)
         for wrong, kind, words in [
-            (lambda: bundle.format(1), TypeError, "the id is no text: int"),
-            (lambda: bundle.format("a", {"x": 1}), TypeError, "the name of the attribute is no text: dict"),
+            (lambda: bundle.format(1), TypeError, "the id isn't a text: int"),
+            (lambda: bundle.format("a", {"x": 1}), TypeError, "the name of the attribute isn't a text: dict"),
             (lambda: bundle.format("a", x="\ud800"), ValueError, "the argument 'x' can't be written"),
             (lambda: bundle.format("\ud800"), ValueError, "the id can't be written"),
-            (lambda: bundle.format("a", x=Number("")), ValueError, "the argument 'x' is no number"),
+            (lambda: bundle.format("a", x=Number("")), ValueError, "the argument 'x' isn't a number"),
             (lambda: Bundle(b"a = b"), TypeError, "a source is a text, .*: bytes"),
             (lambda: Bundle(Path("en.ftl")), TypeError, "Bundle.from_files reads files: PosixPath"),
             (lambda: Bundle(3), TypeError, "a source is a text"),
-            (lambda: Bundle(["a = b", 3]), TypeError, "source 2 is no text: int"),
-            (lambda: Bundle("locales/en.ftl"), ValueError, "source 1 is a name and no source: 'locales/en.ftl'"),
+            (lambda: Bundle(["a = b", 3]), TypeError, "source 2 isn't a text: int"),
+            (lambda: Bundle("locales/en.ftl"), ValueError, "source 1 is a name, and not a source: 'locales/en.ftl'"),
             (lambda: Bundle(["en-US"]), ValueError, "source 1 is a name"),
-            (lambda: Bundle("a = b", locale=1), TypeError, "the locale is no text: int"),
-            (lambda: Bundle("a = b", stack=1.5), TypeError, "the budget of the stack is no number of bytes: float"),
-            (lambda: Bundle("a = b", stack=2**40), ValueError, "no budget of the stack: 1099511627776"),
+            (lambda: Bundle("a = b", locale=1), TypeError, "the locale isn't a text: int"),
+            (lambda: Bundle("a = b", stack=1.5), TypeError, "the budget of the stack isn't a number of bytes: float"),
+            (lambda: Bundle("a = b", stack=2**40), ValueError, "too large, or negative: 1099511627776"),
             (lambda: copy.copy(bundle), TypeError, "neither copied nor pickled"),
             (lambda: copy.deepcopy(bundle), TypeError, "neither copied nor pickled"),
             (lambda: pickle.dumps(bundle), TypeError, "neither copied nor pickled"),
@@ -188,7 +189,7 @@ class ProcessTest(unittest.TestCase):
 
         before = signal.signal(signal.SIGALRM, handle)
         self.addCleanup(signal.signal, signal.SIGALRM, before)
-        signal.setitimer(signal.ITIMER_REAL, 0.0005, 0.0005)
+        signal.setitimer(signal.ITIMER_REAL, 0.002, 0.002)
         try:
             ends = time.monotonic() + 0.5
             while time.monotonic() < ends:
@@ -252,6 +253,10 @@ class ProcessTest(unittest.TestCase):
         self.assertEqual(run.returncode, 1)
         self.assertIn("ImportError: the library /nowhere/libfluent_c.so can't be loaded", run.stderr)
         self.assertIn("bindings/python/run.sh", run.stderr)
+
+    def test_the_version_is_that_of_the_package_for_rust(self):
+        manifest = (FOLDER.parent / "rust" / "Cargo.toml").read_text(encoding="utf-8")
+        self.assertIn(f'\nversion = "{kozhvadi.__version__}"\n', manifest)
 
     def test_missing_messages_are_still_errors_of_keys(self):
         with Bundle(self.source) as bundle, self.assertRaises(KeyError) as raised:

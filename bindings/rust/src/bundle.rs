@@ -24,7 +24,7 @@ use std::sync::{Arc, OnceLock};
 pub struct FluentBundle<R = FluentResource> {
     /// The locales that [`FluentBundle::new`] was given, as texts. The plural rules stay those that it chose.
     pub locales: Vec<String>,
-    /// The first of the locales that has plural rules, or the empty one, which has those of English.
+    /// The first of the locales that has plural rules, or the empty one, whose rules are those of English.
     rules: String,
     isolating: bool,
     resources: Vec<Added<R>>,
@@ -233,7 +233,7 @@ impl<R: Borrow<FluentResource>> FluentBundle<R> {
         None
     }
 
-    /// The bundle that the library keeps, which is made now if it isn't there.
+    /// The bundle that the library keeps, which is made if it isn't there.
     fn kept(&self) -> &Kept {
         self.kept.get_or_init(|| {
             let last_counts = self.added(true).any(FluentResource::has_doubles)

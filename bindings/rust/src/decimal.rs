@@ -60,7 +60,7 @@ impl Decimal {
         }
     }
 
-    /// The text, with at least so many of 18 digits after a point, which is there if a number of digits is.
+    /// The text, with at least this many of 18 digits after the point. The point is there if `least` is.
     pub(crate) fn text(self, least: Option<usize>) -> String {
         let mut text = String::new();
         if self.is_negative {

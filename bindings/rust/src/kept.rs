@@ -20,7 +20,7 @@ pub(crate) enum Refusal {
 /// One call at a time may use it, so it is under a lock, which no call of a program's own code holds.
 pub(crate) struct Kept(Mutex<Asked>);
 
-/// The bundle, with the text and the errors of the last answer, whose memory the next one takes.
+/// The bundle, with the text and the errors of the last answer, whose memory the next one uses.
 struct Asked {
     handle: c::FluentBundle,
     text: Text,
@@ -38,7 +38,7 @@ impl Kept {
             sources.iter().map(|source| c::FluentSource { text: source.as_ptr(), len: source.len() }).collect();
         let mut handle =
             c::FluentBundle { held: false, sources: ptr::null_mut(), read: ptr::null_mut(), desk: ptr::null_mut() };
-        // SAFETY: each pointer is that of a slice of the length beside it, and the handle holds no bundle yet.
+        // SAFETY: each pointer is that of a slice of the length next to it, and the handle holds no bundle yet.
         let made = unsafe {
             c::fluent_bundle_new(
                 sources.as_ptr(),
@@ -55,11 +55,11 @@ impl Kept {
     }
 
     fn asked(&self) -> MutexGuard<'_, Asked> {
-        // What is under the lock is whole between any two calls of the library.
+        // Between any two calls of the library, what is under the lock is as a call leaves it.
         self.0.lock().unwrap_or_else(PoisonError::into_inner)
     }
 
-    /// Hands the text of a pattern on, and the lines of its errors. `took` may take the text, and doesn't ask the
+    /// Passes the text of a pattern on, and the lines of its errors. `took` may take the text, and doesn't ask the
     /// bundle.
     pub(crate) fn format<T>(
         &self,
@@ -69,8 +69,8 @@ impl Kept {
     ) -> Result<T, Refusal> {
         let Asked { handle, text, errors } = &mut *self.asked();
         let (id, attribute) = (pattern.id(), pattern.attribute());
-        // SAFETY: each pointer is that of a slice of the length beside it, and the handle holds a bundle, which is lent
-        // by `&mut`.
+        // SAFETY: each pointer is that of a slice of the length next to it, and the handle holds a bundle, which is
+        // lent by `&mut`.
         let answered = args.with_c(|arguments| unsafe {
             c::fluent_bundle_format(
                 handle,
@@ -91,7 +91,7 @@ impl Kept {
         }
     }
 
-    /// Gives a text back whose memory the next answer takes.
+    /// Returns a text whose memory the next answer uses.
     pub(crate) fn give_back(&self, text: Text) {
         self.asked().text = text;
     }

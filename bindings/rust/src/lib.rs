@@ -2,7 +2,7 @@
 //!
 //! This package has the names and the manners of the crate `fluent-bundle`, so that a program which formats messages
 //! changes its `use` lines and little else. The texts come from a library whose every answer is proved; this package
-//! only hands them over.
+//! only passes them on.
 //!
 //! - [`FluentResource`] holds a source: messages and terms.
 //! - [`FluentBundle`] holds resources, and formats their messages.

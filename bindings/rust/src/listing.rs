@@ -29,7 +29,7 @@ impl Entry {
             Some(id) => (EntryKind::Term, id),
             None => (EntryKind::Message, name),
         };
-        // A value that begins on a line of its own is before the attributes.
+        // A value that begins on the next line is before the attributes.
         let has_value = !value.is_empty() || lines.next().is_some_and(|line| !line.starts_with("    ."));
         Some(Entry { kind, id: id.into(), has_value, attributes })
     }
@@ -41,10 +41,10 @@ impl Entry {
 pub(crate) struct Written(Text);
 
 impl Written {
-    /// Writes the tree of a source, or gives `None` if the library was refused memory for it.
+    /// Writes the tree of a source, or returns `None` if the library was refused memory for it.
     pub(crate) fn of(source: &str) -> Option<Written> {
         let mut text = Text::none();
-        // SAFETY: the pointer is that of a slice of the length beside it.
+        // SAFETY: the pointer is that of a slice of the length next to it.
         let answered = unsafe { c::fluent_write(source.as_ptr(), source.len(), false, text.place()) };
         (answered == c::FLUENT_READ).then_some(Written(text))
     }

@@ -13,15 +13,15 @@ use std::str::FromStr;
 enum Amount {
     /// A decimal, exactly.
     Decimal(Decimal),
-    /// A float that is no number, or has an absolute value of 2^64 or more.
+    /// A float that isn't a number, or has an absolute value of 2^64 or more.
     Float(f64),
 }
 
 /// A number: an integer or a decimal, exactly, and how it is shown.
 ///
 /// A decimal has at most 18 digits after the point, and a whole part below 2^64. A float is rounded to that: the digits
-/// are those that Rust shows, so `1.0` is 1 and `0.1` is 0.1. A float that is no number, or too large, is shown as Rust
-/// shows it, and chooses variants as a text.
+/// are those that Rust shows, so `1.0` is 1 and `0.1` is 0.1. A float that isn't a number, or is too large, is shown as
+/// Rust shows it, and chooses variants as a text.
 #[derive(Clone, Debug, PartialEq)]
 pub struct FluentNumber {
     amount: Amount,
@@ -35,13 +35,13 @@ pub struct ParseNumberError;
 
 impl fmt::Display for ParseNumberError {
     fn fmt(&self, f: &mut fmt::Formatter<'_>) -> fmt::Result {
-        f.write_str("the text is no decimal, or has more than 18 digits after its point or 2^64 or more before it")
+        f.write_str("the text isn't a decimal, or has more than 18 digits after its point or 2^64 or more before it")
     }
 }
 
 impl Error for ParseNumberError {}
 
-/// How a number is handed to the library.
+/// How a number is passed to the library.
 pub(crate) enum Given {
     Signed(i64),
     Unsigned(u64),
@@ -81,7 +81,7 @@ impl FluentNumber {
         })
     }
 
-    /// The number, as it is handed to the library.
+    /// The number, as it is passed to the library.
     pub(crate) fn given(&self) -> Given {
         let decimal = match self.amount {
             Amount::Float(value) => return Given::Text(value.to_string()),

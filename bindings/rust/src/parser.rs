@@ -98,7 +98,7 @@ error_kinds! {
     DuplicatedNamedArgument,
     /// A backslash is before a character that it can't escape.
     UnknownEscapeSequence,
-    /// An escape is no Unicode scalar value.
+    /// An escape isn't a Unicode scalar value.
     InvalidUnicodeEscapeSequence,
     /// A closing brace closes nothing.
     UnbalancedClosingBrace,

@@ -6,7 +6,7 @@ use kozhvadi::{
 };
 use kozhvadi::{EntryKind, FluentValue, ReferenceKind, ResolverError};
 use std::fmt;
-use std::sync::OnceLock;
+use std::sync::{Arc, OnceLock};
 
 fn resource(source: &str) -> FluentResource {
     FluentResource::try_new(source.to_owned()).expect("The source has an error.")
@@ -61,6 +61,28 @@ fn locales_are_there() {
     let bundle: FluentBundle = FluentBundle::new(vec!["plx", "pl", "en"]);
     assert_eq!(bundle.locales, ["plx", "pl", "en"]);
     assert_eq!(FluentBundle::<FluentResource>::default().locales, ["en"]);
+}
+
+#[test]
+fn bundles_share_resources() {
+    let shared = Arc::new(resource("-t = T\na = { -t }\n"));
+    let other = Arc::new(resource("a = Other\nt = A message\nNUMBER = A number\n-t = U\n"));
+    let text = |bundle: &FluentBundle<Arc<FluentResource>>, id: &str| {
+        let pattern = bundle.get_message(id).and_then(|message| message.value())?;
+        Some(bundle.format_pattern(pattern, None, &mut vec![]).into_owned())
+    };
+    let mut first = FluentBundle::new(vec!["en"]);
+    first.add_resource(Arc::clone(&shared)).expect("There is nothing.");
+    assert_eq!(text(&first, "a").as_deref(), Some("T"));
+    let errors = first.add_resource(Arc::clone(&other)).expect_err("There are such ids.");
+    let shown: Vec<String> = errors.iter().map(FluentError::to_string).collect();
+    let expected = ["message: \"a\"", "message: \"t\"", "message: \"NUMBER\"", "term: \"t\""];
+    assert_eq!(shown, expected.map(|entry| format!("Attempt to override an existing {entry}.")));
+    assert_eq!((text(&first, "a").as_deref(), text(&first, "t")), (Some("T"), None));
+    let mut last = FluentBundle::new(vec!["en"]);
+    last.add_resource_overriding(other);
+    last.add_resource_overriding(shared);
+    assert_eq!((text(&last, "a").as_deref(), text(&last, "t")), (Some("T"), None));
 }
 
 #[test]
