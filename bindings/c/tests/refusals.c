@@ -58,7 +58,7 @@ static bool is_unchanged(const struct Kept *kept, const struct Kept *before) {
         && is_same(&kept->errors, &before->errors, ERRORS_BEFORE) && kept->bundle.desk == before->bundle.desk;
 }
 
-/* Makes a call whose allocation after so many others is refused. Gives whether one was, by `refused`. */
+/* Makes a call whose allocation after `count` others is refused. Gives by `refused` whether there was such an allocation. */
 static bool is_right(uint32_t (*call)(struct Kept *), bool is_held, long count, bool *refused) {
     struct Kept kept = {.counts = {.messages = 90}};
     if (make(&kept) != FLUENT_READ || (is_held && format(&kept) != FLUENT_READ))

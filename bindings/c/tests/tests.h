@@ -35,14 +35,14 @@ bool holds(const struct FluentText *text, struct Bytes bytes);
 /* Whether a text is what it was: the same bytes at the same address, or no text as before. `bytes` are those that it had. */
 bool is_same(const struct FluentText *text, const struct FluentText *before, struct Bytes bytes);
 
-/* A message `a` whose value is in so many placeables, one in the other, in memory that lasts until the next call. */
+/* A message `a` whose value is in this number of placeables, one in the other, in memory that lasts until the next call. */
 struct Bytes nested(unsigned levels);
 /* The most levels that the usual budget of the stack has room for. */
 #define MOST_LEVELS 1429
 
 /* The blocks of memory that are in use. */
 long blocks_in_use(void);
-/* From now on the allocation after so many others is refused, once. */
+/* Refuses one allocation: the one that comes after `count` others. */
 void refuse_after(long count);
 /* Whether it was. None is refused from now on. */
 bool was_refused(void);
