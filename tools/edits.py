@@ -26,6 +26,7 @@ import subprocess
 import sys
 import tempfile
 import time
+from collections import deque
 from concurrent.futures import ThreadPoolExecutor
 from dataclasses import dataclass
 from pathlib import Path
@@ -241,13 +242,17 @@ def tried(edits, base, repository):
         return [('bad: the crate is not proved as it stands', said) for _ in edits]
     if not edits[0].applies():
         return [(f'bad: its old text is not once in {edits[0].path}', '')]
-    found = tried_at_once(edits, repository)
+    return tried_at_once(edits, repository)
+
+
+def left_open(edits, found):
+    """What has to be tried again of edits that were tried in one check: each by itself, or halves if none was read."""
     if len(edits) == 1:
-        return found
+        return []
     if all(result == NOT_READ for result, _ in found):
         half = len(edits) // 2
-        return tried(edits[:half], base, repository) + tried(edits[half:], base, repository)
-    return [it if it[0] == REFUSED else tried([edit], base, repository)[0] for edit, it in zip(edits, found)]
+        return [edits[:half], edits[half:]]
+    return [[edit] for edit, (result, _) in zip(edits, found) if result != REFUSED]
 
 
 def default_jobs():
@@ -266,10 +271,17 @@ def results(edits, used, top, given):
     with ThreadPoolExecutor(given.jobs) as pool:
         here = {crate: Repository(crate, Path(top, crate, 'it')) for crate in edits}
         bases = {crate: pool.submit(it.prepare, used[crate]) for crate, it in here.items()}
-        tries = [(one, pool.submit(tried, one, bases[crate], here[crate]))
-                 for crate, found in edits.items() for one in rounds(found, given.together)]
-        for one, future in tries:
-            yield from zip(one, future.result())
+
+        def begun(one):
+            return one, pool.submit(tried, one, bases[one[0].crate], here[one[0].crate])
+
+        tries = deque(begun(one) for found in edits.values() for one in rounds(found, given.together))
+        while tries:
+            one, future = tries.popleft()
+            found = future.result()
+            again = left_open(one, found)
+            tries.extend(map(begun, again))
+            yield from (it for it in zip(one, found) if all(it[0] not in part for part in again))
 
 
 def main():
