@@ -73,6 +73,7 @@ VERSIONS = {
     'docs/reference/protocol.md': r'`ftl (\d[^`]*)`',
 }
 VERSIONS_IF_THERE = {
+    'README.md': r'\bkozhvadi-(\d[\d.]*\d)-',
     'bindings/python/pyproject.toml': r'^version = "([^"]+)"',
     'bindings/python/kozhvadi/__init__.py': r"^__version__ = ['\"]([^'\"]+)",
 }
