@@ -30,7 +30,7 @@ impl<'p, S: Drop, T: Texts<S>> Parser<'p, S, T> {
     ///
     /// # Errors
     /// [`Fault::Refused`] if no entry stands here; the parser then stands at the place of the refusal.
-    /// [`Fault::Memory`] if memory runs out.
+    /// [`Fault::Memory`] if memory runs out, or what is there nests past the budget of the stack.
     #[tactic(auto, using(crate::proofs::Failing::handed), unfolding(fluent_grammar::specs::Reading::entry_at))]
     pub fn get_entry(&mut self) -> Result<Entry<S>, Fault>
         ensures gives { Reads (entry_view S T.text) self.old self.new result entry_at }
@@ -184,7 +184,8 @@ impl<'p, S: Drop, T: Texts<S>> Parser<'p, S, T> {
     /// Production `Attribute`, from the start of its line on.
     ///
     /// # Errors
-    /// [`Fault`] if no attribute is there, or memory runs out; the parser then stands where reading stopped.
+    /// [`Fault`] if no attribute is there, memory runs out, or the value nests past the budget of the stack; the parser
+    /// then stands where reading stopped.
     #[tactic(auto, using(crate::proofs::Failing::handed, fluent_tokens::proofs::Counted::cuts), unfolding(crate::specs::Entries::attribute_by))]
     pub fn get_attribute(&mut self) -> Result<Attribute<S>, Fault>
         requires dot { w.begins_with w.dot (w.skip_spaces self.old.rest.now) ≡ true }

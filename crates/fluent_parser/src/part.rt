@@ -21,11 +21,12 @@ impl<'p, S: Drop, T: Texts<S>> Parser<'p, S, T> {
     ghost use Rattle.fluent_parsed.specs.Collected.{TakesEntries, TakesErrors};
 
     /// Reads the part that begins here, and puts it after those that were collected. `apart` says whether a blank line
-    /// stands before it. Behind a refused entry, reading goes on at the first place that may begin another: at or after
+    /// stands before it. After a refused entry, reading goes on at the first place that may begin another: at or after
     /// the place of the refusal, at column 0, before a letter, `-` or `#`.
     ///
     /// # Errors
-    /// [`AllocError`] if memory runs out; the part may be there without its error.
+    /// [`AllocError`] if memory runs out, or the part nests past the budget of the stack; the part may be
+    /// there without its error.
     pub fn get_part(&mut self, collected: &mut Collected<S>, apart: bool) -> Result<(), AllocError>
         requires some { 0 < length self.old.rest.now }
         requires closed { self.old.stack.taken ≡ 0 }

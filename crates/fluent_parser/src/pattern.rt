@@ -46,7 +46,7 @@ impl<'p, S: Drop, T: Texts<S>> Parser<'p, S, T> {
     ///
     /// # Errors
     /// [`Fault::Refused`] if a piece of the pattern is refused; the parser then stands at the place of the refusal.
-    /// [`Fault::Memory`] if memory runs out.
+    /// [`Fault::Memory`] if memory runs out, or what is there nests past the budget of the stack.
     #[cycle(parser)]
     pub fn get_pattern(&mut self) -> Result<Option<Pattern<S>>, Fault>
         ensures gives { Reads (option_map (pattern_view S T.text)) self.old self.new result

@@ -44,7 +44,7 @@ impl<'p, S: Drop, T: Texts<S>> Parser<'p, S, T> {
     ///
     /// # Errors
     /// [`Fault::Refused`] if these are no variants, or not exactly one is the default; the parser then stands at the place of the refusal.
-    /// [`Fault::Memory`] if memory runs out.
+    /// [`Fault::Memory`] if memory runs out, or what is there nests past the budget of the stack.
     #[cycle(parser)]
     pub fn get_variants(&mut self) -> Result<Vec<Variant<S>>, Fault>
         ensures gives { Reads (λ vs. variants_view S T.text vs.items) self.old self.new result
