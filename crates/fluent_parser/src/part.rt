@@ -25,9 +25,11 @@ impl<'p, S: Drop, T: Texts<S>> Parser<'p, S, T> {
     /// the place of the refusal, at column 0, before a letter, `-` or `#`.
     ///
     /// # Errors
-    /// [`AllocError`] if memory runs out; the part may be there without its error.
+    /// [`AllocError`] if memory runs out, or the part nests past the budget of the stack; the part may be
+    /// there without its error.
     pub fn get_part(&mut self, collected: &mut Collected<S>, apart: bool) -> Result<(), AllocError>
         requires some { 0 < length self.old.rest.now }
+        requires closed { self.old.stack.taken ≡ 0 }
         ensures entries { OnOk result (TakesEntries S T.text collected.old collected.new
             (next_piece self.old apart)) }
         ensures errors { OnOk result (TakesErrors S collected.old collected.new
@@ -36,6 +38,7 @@ impl<'p, S: Drop, T: Texts<S>> Parser<'p, S, T> {
             ≡ behind_piece self.old.rest.now (entry_at self.old.rest.now)) }
         ensures less { OnOk result (length self.new.rest.now < length self.old.rest.now) }
         ensures text { self.new.text.now ≡ self.old.text.now }
+        ensures closed { self.new.stack.taken ≡ 0 }
     {
         let start = self.rest();
         let slice_start = self.place();

@@ -38,6 +38,8 @@ impl Progress<'_, '_> {
     pub fn within(alloc: Global, errors: Option<Vec<FluentError>>, budget: StackBudget) -> Self
         ensures state { state result ≡ fresh (option_map (λ es. map bundle_view es.items) errors) }
         ensures path { path_of result ≡ [] }
+        ensures closed { result.stack.taken ≡ 0 }
+        ensures budget { result.stack.budget ≡ budget }
     {
         Progress {
             errors,
@@ -87,6 +89,7 @@ impl Progress<'_, '_> {
             ≡ with_error (resolver_view error) (state self.old)) }
         ensures refused { OnErr result (state self.new ≡ state self.old) }
         ensures path { self.new.path ≡ self.old.path }
+        ensures stack { self.new.stack ≡ self.old.stack }
     {
         if let Some(errors) = &mut self.errors {
             errors.push(FluentError::ResolverError(error))?;
@@ -99,6 +102,7 @@ impl Progress<'_, '_> {
         ensures counted { state self.new ≡ after (state self.old)
             (entering (done true (state self.old).budget)) }
         ensures path { self.new.path ≡ self.old.path }
+        ensures stack { self.new.stack ≡ self.old.stack }
     {
         self.entered = self.entered.saturating_add(1);
     }
@@ -113,6 +117,7 @@ impl Progress<'_, '_> {
             opens) }
         ensures refused { OnErr result (state self.new ≡ state self.old) }
         ensures path { self.new.path ≡ self.old.path }
+        ensures stack { self.new.stack ≡ self.old.stack }
     {
         if self.placeables < MOST_PLACEABLES {
             self.placeables += 1;
