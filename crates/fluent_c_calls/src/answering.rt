@@ -9,7 +9,7 @@ ghost use Rattle.fluent_c_calls.specs.declared.answering.Refusal.TheVariants.{Me
 use crate::text::FluentText;
 use crate::{FLUENT_NO_MEMORY, FLUENT_NOT_UTF8, FLUENT_READ, FLUENT_UNKNOWN_LOCALE};
 use fluent_plurals::LanguagePlurals;
-use fluent_run::{Settings, answers_within};
+use fluent_run::{Settings, answers};
 use fluent_text::stack::StackBudget;
 use simdutf8::basic::from_utf8;
 use std::alloc::{AllocError, Global};
@@ -136,7 +136,7 @@ fn answered(
         return Err(Refusal::UnknownLocale);
     };
     let stack = StackBudget::THREAD;
-    let answers = answers_within(alloc, &sources, settings, &plurals, requests, stack)?;
+    let answers = answers(alloc, &sources, settings, &plurals, requests, stack)?;
     Ok(FluentText::of(alloc, answers)?)
 }
 
