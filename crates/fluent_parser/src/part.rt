@@ -21,7 +21,7 @@ impl<'p, S: Drop, T: Texts<S>> Parser<'p, S, T> {
     ghost use Rattle.fluent_parsed.specs.Collected.{TakesEntries, TakesErrors};
 
     /// Reads the part that begins here, and puts it after those that were collected. `apart` says whether a blank line
-    /// stands before it. Behind a refused entry, reading goes on at the first place that may begin another: at or after
+    /// stands before it. After a refused entry, reading goes on at the first place that may begin another: at or after
     /// the place of the refusal, at column 0, before a letter, `-` or `#`.
     ///
     /// # Errors

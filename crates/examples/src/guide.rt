@@ -1,5 +1,4 @@
 //! The code that the README and the guide quote, run once.
-#![tactic(auto)]
 
 mod damaged;
 mod missing;
@@ -23,7 +22,7 @@ checkout = Check out
     .title = Pay for { $count } items
 ";
 
-fn main(rt: HostRuntime) -> Result<()> {
+pub fn main(rt: HostRuntime) -> Result<()> {
     readme::show(&rt)?;
     porting::show(&rt)?;
 

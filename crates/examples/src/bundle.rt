@@ -1,5 +1,4 @@
 //! Builds a bundle from a source, with a function and a type of values of the program's own, and prints some of its texts.
-#![tactic(auto)]
 
 mod catalog;
 mod day;
@@ -31,7 +30,7 @@ mail = { $count ->
 /// What the program asks for its texts.
 type Bundle<'r, 's> = FluentBundle<'r, 's, EnglishPlurals, Day, IsOpen, NoFormatter, NoTransform>;
 
-fn main(rt: HostRuntime) -> Result<()> {
+pub fn main(rt: HostRuntime) -> Result<()> {
     let resource = FluentResource::try_new(rt.alloc(), SOURCE)?;
     show(&rt, &resource)?;
     show_catalog(&rt)?;

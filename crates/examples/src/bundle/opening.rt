@@ -1,9 +1,9 @@
 //! A function of the program's own.
 
 ghost use Rattle.std.specs.Prelude.{◌≡◌, if◌then◌else◌, ◌==◌, codes};
-ghost use Rattle.example_bundle.specs.Days.{is_open};
+ghost use Rattle.examples.specs.Days.{is_open};
 
-use crate::day::Day;
+use super::day::Day;
 use fluent_bundle::{FluentArgs, FluentFunction, FluentValue};
 use std::alloc::{AllocError, Global};
 use std::borrow::CowStr;

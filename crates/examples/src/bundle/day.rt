@@ -2,7 +2,7 @@
 
 ghost use Rattle.std.specs.Prelude.{◌≡◌, ◌==◌};
 ghost use Rattle.std.proofs.Common.{rules};
-ghost use Rattle.example_bundle.specs.Days.{name_of};
+ghost use Rattle.examples.specs.Days.{name_of};
 
 use fluent_bundle::types::FluentType;
 use std::alloc::{AllocError, Global};

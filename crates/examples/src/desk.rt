@@ -1,5 +1,4 @@
 //! Checks a damaged source, tidies it, and asks it for a text: before and after it is the same one.
-#![tactic(auto)]
 
 use anyhow::Result;
 use fluent_desk::{Settings, answers, check, clean, export, import, normalize};
@@ -13,7 +12,7 @@ g@Rb@ge
 key2={ $x }
 ";
 
-fn main(rt: HostRuntime) -> Result<()> {
+pub fn main(rt: HostRuntime) -> Result<()> {
     let alloc = rt.alloc();
 
     // What is wrong with it.

@@ -1,5 +1,4 @@
 //! A first bundle: a source, two of its messages, and a value.
-#![tactic(auto)]
 
 use anyhow::{Context, Result};
 use fluent_bundle::{FluentArgs, FluentResource, LanguageBundle};
@@ -9,7 +8,7 @@ hello-world = Hello, world!
 intro = Welcome, { $name }.
 ";
 
-fn main(rt: HostRuntime) -> Result<()> {
+pub fn main(rt: HostRuntime) -> Result<()> {
     let alloc = rt.alloc();
 
     // 1. Read a source. The resource borrows it.

@@ -1,6 +1,5 @@
 //! Reads a Fluent source, gives one of its messages another text, and prints the source again: comments, terms and all that was
 //! not touched stand as before.
-#![tactic(auto)]
 
 use anyhow::{Result, bail};
 use fluent_syntax::ast::{Entry, Pattern, PatternElement, Resource};
@@ -18,7 +17,7 @@ welcome = Welcome to { -brand }, { $name }.
 farewell = Goodbye.
 ";
 
-fn main(rt: HostRuntime) -> Result<()> {
+pub fn main(rt: HostRuntime) -> Result<()> {
     let mut resource = read(rt.alloc(), SOURCE)?;
     let changed = set_value(rt.alloc(), &mut resource, "farewell", "See you soon.")?;
     println!(rt; "{changed} changed")?;
