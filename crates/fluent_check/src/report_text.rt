@@ -16,11 +16,7 @@ use std::alloc::{AllocError, Global};
 /// # Errors
 /// [`AllocError`] if memory runs out; nothing is kept. It also means that placeables, calls and selects of a source
 /// are nested so deep that reading them would take more than the budget.
-pub fn check_text(
-    alloc: Global,
-    sources: &[&str],
-    stack: StackBudget,
-) -> Result<String, AllocError>
+pub fn check_text(alloc: Global, sources: &[&str], stack: StackBudget) -> Result<String, AllocError>
     ensures { IfOk result (λ text. string_bytes text ≡ report_text (texts sources.now)) }
 {
     let report = report_on(alloc, sources, stack)?;

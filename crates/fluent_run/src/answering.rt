@@ -89,9 +89,8 @@ pub fn run_before_exit<M: MemoizerKind, R: Source, W: Sink>(
         R.Source reader.old reader.new W.Sink writer.old writer.new result }
 {
     tidied_sources_keep_answers::<NoCustom, NoFunction>();
-    let stack = StackBudget::PROGRAM;
-    let resources = parse_sources(alloc, sources, stack)?;
-    let desk = Desk::new(alloc, &resources, settings, plurals, stack)?;
+    let resources = parse_sources(alloc, sources, StackBudget::PROGRAM)?;
+    let desk = Desk::new(alloc, &resources, settings, plurals, StackBudget::PROGRAM)?;
     let outcome = serve(alloc, &desk, reader, writer, READS);
     mem::forget(desk);
     mem::forget(resources);

@@ -17,7 +17,8 @@ use std::alloc::{AllocError, Global};
 /// let settings = Settings { isolating: false, overriding: false };
 /// let plurals = LanguagePlurals::root();
 /// let requests = "key2\tx=3\n".as_bytes();
-/// let before = answers(alloc, &[SOURCE], settings, &plurals, requests, StackBudget::PROGRAM)?;
+/// let stack = StackBudget::PROGRAM;
+/// let before = answers(alloc, &[SOURCE], settings, &plurals, requests, stack)?;
 /// ```
 ///
 /// # Errors

@@ -61,8 +61,8 @@ returns g c =
     record {
       answered =
           run-answered m plurals settings sources g.R.Source c.args.reader.now c.serve-outcome.new.reader g.W.Sink c.args.writer.now c.serve-outcome.new.writer c.serve-outcome.result _ same
-      (λ others steps input. c.tidied_sources_keep_answers.ensures (texts sources) others steps (m.category_of plurals) (m.stringified plurals (Unit {0}) no_text) (settings_view settings) input)
-      c.serve-outcome.ensures.served c.serve-outcome.ensures.end;
+          (λ others steps input. c.tidied_sources_keep_answers.ensures (texts sources) others steps (m.category_of plurals) (m.stringified plurals (Unit {0}) no_text) (settings_view settings) input)
+          c.serve-outcome.ensures.served c.serve-outcome.ensures.end;
       end = c.serve-outcome.ensures.end;
       reads = c.serve-outcome.ensures.reads;
       writes = c.serve-outcome.ensures.writes;
