@@ -1,4 +1,4 @@
-//! The text that says why command-line arguments aren't a command.
+//! The text that says why command-line arguments ask for nothing.
 
 ghost use Rattle.std.specs.Prelude.{Some};
 ghost use Rattle.ftl_arguments.specs.ErrorTexts.{words_text};

@@ -16,12 +16,12 @@ use clap::error::ErrorKind;
 use clap::{ArgMatches, Error};
 use std::alloc::{AllocError, Global};
 
-/// Why command-line arguments aren't a command.
+/// Why command-line arguments ask for nothing.
 #[derive(Debug, PartialEq, Eq, Drop)]
 pub enum WordsError {
     /// Memory ran out.
     Memory,
-    /// They aren't a command of the program.
+    /// They are no command of the program, and no request for help or for the version.
     Bad,
 }
 

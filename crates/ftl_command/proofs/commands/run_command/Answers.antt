@@ -85,7 +85,7 @@ returns-in-Ok-Version-clause-help g c =
 pub returns-in-Err-Bad-clause-help : goal.returns-in-Err-Bad-clause-help
 returns-in-Err-Bad-clause-help g c = record {
   text = tt;
-  version = λ alone. absurd (c.in-Err-Bad.ensures.not_version cc alone);
+  version = λ alone. absurd ((c.in-Err-Bad.ensures.not_version cc) alone);
   not_help = λ is. c.in-Err-Bad.ensures.not_help cc;
   not_version = λ is. c.in-Err-Bad.ensures.not_version cc;
 }
