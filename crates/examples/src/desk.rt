@@ -1,7 +1,7 @@
 //! Checks a damaged source, tidies it, and asks it for a text: before and after it is the same one.
 
 use anyhow::Result;
-use fluent_desk::{Settings, answers, check, clean, export, import, normalize};
+use fluent_desk::{Settings, StackBudget, answers, check, clean, export, import, normalize};
 use fluent_plurals::LanguagePlurals;
 
 const SOURCE: &str = "\
@@ -38,8 +38,9 @@ pub fn main(rt: HostRuntime) -> Result<()> {
     };
     let plurals = LanguagePlurals::root();
     let requests = "key2\tx=3\n".as_bytes();
-    let before = answers(alloc, &[SOURCE], settings, &plurals, requests)?;
-    let after = answers(alloc, &[&normal], settings, &plurals, requests)?;
+    let stack = StackBudget::PROGRAM;
+    let before = answers(alloc, &[SOURCE], settings, &plurals, requests, stack)?;
+    let after = answers(alloc, &[&normal], settings, &plurals, requests, stack)?;
     println!(rt; "{}", before == after)?;
     Ok(())
 }

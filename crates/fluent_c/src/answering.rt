@@ -10,7 +10,7 @@ ghost use Rattle.fluent_c.specs.declared.answering.Refusal.TheVariants.{Memory, 
 use crate::text::FluentText;
 use crate::{FLUENT_NO_MEMORY, FLUENT_NOT_UTF8, FLUENT_READ, FLUENT_UNKNOWN_LOCALE};
 use fluent_plurals::LanguagePlurals;
-use fluent_run::{Settings, answers_within};
+use fluent_run::{Settings, answers};
 use fluent_text::stack::StackBudget;
 use simdutf8::basic::from_utf8;
 use std::alloc::{AllocError, Global};
@@ -135,7 +135,7 @@ fn answered(
         return Err(Refusal::UnknownLocale);
     };
     let stack = StackBudget::THREAD;
-    let answers = answers_within(alloc, &sources, settings, &plurals, requests, stack)?;
+    let answers = answers(alloc, &sources, settings, &plurals, requests, stack)?;
     Ok(FluentText::of(alloc, answers)?)
 }
 

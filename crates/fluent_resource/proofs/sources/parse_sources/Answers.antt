@@ -4,7 +4,7 @@ use Rattle.std.proofs.lemmas.Simd.{map-map}
 use Rattle.fluent_grammar.specs.Tiling.{runtime_tree}
 use Rattle.fluent_resource.specs.ResourceView.{entries_view}
 use Rattle.fluent_resource.proofs.Loops.{map-next}
-use Rattle.fluent_resource.proofs.sources.parse_sources_within.Goals as goal
+use Rattle.fluent_resource.proofs.sources.parse_sources.Goals as goal
 
 pub loop-source-preserved : goal.loop-source-preserved
 loop-source-preserved c =

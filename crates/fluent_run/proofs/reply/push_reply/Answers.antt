@@ -5,7 +5,7 @@ use Rattle.fluent_serve.proofs.Outcomes.{on_ok_map}
 use Rattle.fluent_serve.specs.AnswerView.{head_of}
 use Rattle.fluent_run.proofs.Replies.{frame-told}
 use Rattle.fluent_run.specs.ReplyView.{error_texts}
-use Rattle.fluent_run.proofs.reply.push_told.Goals as goal
+use Rattle.fluent_run.proofs.reply.push_reply.Goals as goal
 
 pub returns-clause-ok : goal.returns-clause-ok
 returns-clause-ok c =
