@@ -23,7 +23,7 @@ def metadata(version):
         'Name: kozhvadi\n'
         f'Version: {version}\n'
         'Summary: Fluent messages from a proved library\n'
-        'Requires-Python: >=3.9\n'
+        'Requires-Python: >=3.10\n'
     ).encode()
 
 
