@@ -53,14 +53,17 @@ fn cleaned(answer: Result<String, CleanError>) -> Result<Outcome, AllocError> {
     }
 }
 
+/// What `clean` gives.
 pub fn clean_source(alloc: Global, source: &str) -> Result<Outcome, AllocError> {
     cleaned(clean(alloc, source))
 }
 
+/// What `join` gives.
 pub fn join_sources(alloc: Global, sources: &[&str]) -> Result<Outcome, AllocError> {
     cleaned(join(alloc, sources))
 }
 
+/// What `normalize` gives.
 pub fn normalize_source(alloc: Global, source: &str) -> Result<Outcome, AllocError> {
     match normalize(alloc, source) {
         Ok(text) => Ok(Outcome::Text(text)),
@@ -79,6 +82,7 @@ pub fn export_source(alloc: Global, source: &str) -> Result<Outcome, AllocError>
     }
 }
 
+/// What `import` gives.
 pub fn import_value(alloc: Global, value: &Value) -> Result<Outcome, AllocError> {
     match import(alloc, value) {
         Ok(text) => Ok(Outcome::Text(text)),

@@ -6,7 +6,7 @@
 #![tactic(auto)]
 
 pub mod numbers;
-pub mod values;
+mod values;
 
 use anyhow::Result;
 use rows_common::{Lines, Row, tell, try_lines};
