@@ -246,13 +246,15 @@ def tried(edits, base, repository):
 
 
 def left_open(edits, found):
-    """What has to be tried again of edits that were tried in one check: each by itself, or halves if none was read."""
-    if len(edits) == 1:
+    """What has to be tried again of edits that were tried in one check: the rest, and halves if none was refused.
+
+    Where a function calls one that is refused, the prover may not come to its own goals.
+    """
+    rest = [edit for edit, (result, _) in zip(edits, found) if result != REFUSED]
+    if not rest or len(edits) == 1:
         return []
-    if all(result == NOT_READ for result, _ in found):
-        half = len(edits) // 2
-        return [edits[:half], edits[half:]]
-    return [[edit] for edit, (result, _) in zip(edits, found) if result != REFUSED]
+    half = len(rest) // 2
+    return [rest] if len(rest) < len(edits) else [rest[:half], rest[half:]]
 
 
 def default_jobs():
