@@ -2,5 +2,5 @@ pub mod Lists
 pub mod Trees
 pub mod FilesFound
 pub mod Counted
-pub mod Translated
+pub mod Found
 mod NamedFiles

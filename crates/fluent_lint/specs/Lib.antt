@@ -3,8 +3,7 @@ pub mod Known
 pub mod FileTiles
 pub mod Found
 pub mod Reports
-pub mod KnownRules
+pub mod KnownIds
 pub mod Missing
-pub mod Translation
 pub mod LintReport
 pub mod LintView

@@ -33,7 +33,7 @@ trees_in read = map entries_of read.trees.items
 abbrev pub errors_in : ReadFiles → List (List ErrorView)
 errors_in read = map errors_view read.errors.items
 
--- what was read of these files
-pub record IsReadOf (files : List File) (read : ReadFiles) : Type 0 where
-  pub trees : trees_in read ≡ map bare_tree (sources_of files)
-  pub errors : errors_in read ≡ map errors_told (sources_of files)
+-- what was read is that of the files
+pub record IsRead (read : ReadFiles) : Type 0 where
+  pub trees : trees_in read ≡ map bare_tree (sources_of read.files.now)
+  pub errors : errors_in read ≡ map errors_told (sources_of read.files.now)

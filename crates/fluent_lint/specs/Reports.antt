@@ -1,20 +1,21 @@
 -- Reports of files.
-use Rattle.std.specs.Prelude.{◌≡◌, Bool, List, [], string_bytes}
-use Rattle.lint_files.specs.PartFindings.{findings_of_files}
-use Rattle.lint_finding.specs.declared.records.File.{File}
-use Rattle.lint_report.specs.View.{shown_width}
-use Rattle.lint_findings.specs.Findings as f
-use Rattle.lint_findings.specs.Findings.{FileFinding, Rules, findings, findings_with_reference}
-use Rattle.lint_findings.specs.Output as out
-use Rattle.lint_findings.specs.Report.{has_failed, shown}
-use Rattle.lint_findings.specs.Summary.{Summary, summaries}
-use Rattle.fluent_grammar.specs.Words.{Text}
-use Rattle.fluent_lint.specs.FileTiles.{files_view}
+use Rattle.std.specs.Prelude.{◌≡◌, List, string_bytes}
+use Rattle.fluent_lint.specs.FileTiles.{files_of, files_view}
+use Rattle.fluent_lint.specs.Found.{found_by}
+use Rattle.fluent_lint.specs.LintReport.{all_findings, all_summaries}
 use Rattle.fluent_lint.specs.declared.reports.Options.{Options}
 use Rattle.fluent_lint.specs.declared.reports.Output.{Output}
 use Rattle.fluent_lint.specs.declared.reports.Report.{Report}
-use Rattle.lint_report.specs.Formats.{format_view}
+use Rattle.fluent_lint.specs.declared.tiles.FileTiles.{FileTiles}
 use Rattle.fluent_resource.specs.Sources.{texts}
+use Rattle.lint_finding.specs.declared.records.File.{File}
+use Rattle.lint_findings.specs.Findings as f
+use Rattle.lint_findings.specs.Findings.{FileFinding, Rules}
+use Rattle.lint_findings.specs.Output as out
+use Rattle.lint_findings.specs.Report.{has_failed, shown}
+use Rattle.lint_findings.specs.Summary.{Summary, summaries}
+use Rattle.lint_report.specs.Formats.{format_view}
+use Rattle.lint_report.specs.View.{shown_width}
 
 abbrev pub options_view : Options → f.Options
 options_view o = record { functions = texts o.functions.now; plurals = o.plurals }
@@ -24,33 +25,24 @@ pub record IsReportOf (found : List FileFinding) (ss : List Summary) (output : O
   pub text : string_bytes report.text ≡ out.output (format_view output.format) shown_width (shown output.notes found) ss
   pub failed : report.has_failed ≡ has_failed output.strict found
 
--- the report of these files, by these rules
-abbrev pub IsReportBy : Rules → List File → Output → Report → Type 0
-IsReportBy rules fs output report = IsReportOf (findings_of_files rules [] (files_view fs)) [] output report
+-- the counts of these files with a reference, by all findings
+abbrev pub summaries_of : List FileFinding → List FileTiles → List FileTiles → List Summary
+summaries_of all references files = summaries (files_view (files_of references)) (files_view (files_of files)) all
 
--- ---- a catalog by itself
+-- the same, but for none without files of a reference
+abbrev pub counts_of : List FileFinding → List FileTiles → List FileTiles → List Summary
+counts_of all references files = all_summaries (files_view (files_of references)) (files_view (files_of files)) all
 
-abbrev pub catalog_findings : Options → List File → List FileFinding
-catalog_findings o fs = findings (options_view o) (files_view fs)
+-- the report of all findings of the files of a catalog and of its reference, with their counts
+abbrev pub IsReportWith : List FileFinding → List File → List File → Output → Report → Type 0
+IsReportWith all references files output report = IsReportOf all (all_summaries (files_view references) (files_view files) all) output report
 
-abbrev pub catalog_report : Options → Output → List File → Text
-catalog_report o w fs = out.output (format_view w.format) shown_width (shown w.notes (catalog_findings o fs)) []
+-- by these rules
+abbrev pub IsReportBy : Rules → List File → List File → Output → Report → Type 0
+IsReportBy rules references files output report =
+    IsReportWith (found_by rules (files_view references) (files_view files)) references files output report
 
-abbrev pub catalog_fails : Options → Output → List File → Bool
-catalog_fails o w fs = has_failed w.strict (catalog_findings o fs)
-
--- ---- a catalog with its reference
-
-abbrev pub translation_findings : Options → List File → List File → List FileFinding
-translation_findings o rs fs = findings_with_reference (options_view o) (files_view rs) (files_view fs)
-
--- the counts at its end
-abbrev pub translation_summaries : Options → List File → List File → List Summary
-translation_summaries o rs fs = summaries (files_view rs) (files_view fs) (translation_findings o rs fs)
-
-abbrev pub translation_report : Options → Output → List File → List File → Text
-translation_report o w rs fs =
-    out.output (format_view w.format) shown_width (shown w.notes (translation_findings o rs fs)) (translation_summaries o rs fs)
-
-abbrev pub translation_fails : Options → Output → List File → List File → Bool
-translation_fails o w rs fs = has_failed w.strict (translation_findings o rs fs)
+-- by what is known of the program and of the language
+abbrev pub IsReportOn : Options → Output → List File → List File → Report → Type 0
+IsReportOn o output references files report =
+    IsReportWith (all_findings (options_view o) (files_view references) (files_view files)) references files output report

@@ -4,7 +4,7 @@
 ghost use Rattle.std.specs.Prelude.{◌≡◌, All, IfOk, map};
 ghost use Rattle.lint_finding.specs.View.{findings_view};
 ghost use Rattle.fluent_lint.specs.FileTiles.{AreTilesOf, files_of, files_view};
-ghost use Rattle.fluent_lint.specs.Translation.{counts_of};
+ghost use Rattle.fluent_lint.specs.Reports.{counts_of, summaries_of};
 ghost use Rattle.lint_report.specs.ReportView.{summary_view};
 ghost use Rattle.lint_report.specs.Counted as counted;
 ghost use Rattle.lint_report.specs.Counted.{IsCounted};
@@ -15,11 +15,12 @@ use lint_finding::FileFindings;
 use lint_report::{FileMessages, Summary, summaries};
 use std::alloc::{AllocError, Global};
 
-/// The counts of the files of a catalog, and then those of its reference, by all findings of the catalog.
+/// The counts of the files of a catalog, and then those of its reference, by all findings of the catalog. Without files
+/// of a reference there are none.
 ///
 /// # Errors
 /// [`AllocError`] if memory runs out; nothing is kept.
-pub fn counts_of_files<'s>(
+pub fn counts_by_reference<'s>(
     alloc: Global,
     references: &[FileTiles<'_, 's>],
     files: &[FileTiles<'_, 's>],
@@ -29,6 +30,24 @@ pub fn counts_of_files<'s>(
     requires files { All AreTilesOf files.now }
     ensures { IfOk result (λ cs. map summary_view cs.items
         ≡ counts_of (findings_view found.now) references.now files.now) }
+{
+    match references {
+        [] => Ok(Vec::new(alloc)),
+        [_, ..] => counts_of_files(alloc, references, files, found),
+    }
+}
+
+/// The counts with a reference.
+fn counts_of_files<'s>(
+    alloc: Global,
+    references: &[FileTiles<'_, 's>],
+    files: &[FileTiles<'_, 's>],
+    found: &[FileFindings],
+) -> Result<Vec<Summary<'s>>, AllocError>
+    requires references { All AreTilesOf references.now }
+    requires files { All AreTilesOf files.now }
+    ensures { IfOk result (λ cs. map summary_view cs.items
+        ≡ summaries_of (findings_view found.now) references.now files.now) }
 {
     let references = counted_files(alloc, references)?;
     let files = counted_files(alloc, files)?;

@@ -2,29 +2,48 @@
 #![tactic(auto)]
 
 ghost use Rattle.std.specs.Prelude.{[], All, IfOk, OnOk};
-ghost use Rattle.lint_files.specs.RulesView.{HasSameIds, rules_view};
+ghost use Rattle.lint_files.specs.RulesView.{rules_view};
 ghost use Rattle.lint_entries.specs.First.{AreFirst};
 ghost use Rattle.fluent_lint.specs.FileTiles.{AreTilesOf};
-ghost use Rattle.fluent_lint.specs.Found.{AddsFiles, AreFoundIn, DeclaresFile, IsFoundInFile};
+ghost use Rattle.fluent_lint.specs.Found.{AddsFiles, AreAllFound, AreFoundIn, DeclaresFile, IsFoundInFile};
 
+use crate::missing::push_missing_messages;
 use crate::tiles::FileTiles;
-use lint_entries::{Declarations, Endless};
-use lint_files::{Comparison, Rules, file_findings, syntax_findings};
+use lint_entries::Declarations;
+use lint_files::{Rules, file_findings, syntax_findings};
 use lint_finding::{FileFindings, Finding};
 use std::alloc::{AllocError, Global};
+
+/// All findings by these rules: those of the files of a catalog, and then the messages of its reference that it hasn't.
+///
+/// # Errors
+/// [`AllocError`] if memory runs out; nothing is kept.
+pub fn all_findings<'s>(
+    alloc: Global,
+    rules: &Rules<'_, '_, 's>,
+    references: &[FileTiles<'_, 's>],
+    files: &[FileTiles<'_, 's>],
+) -> Result<Vec<FileFindings<'s>>, AllocError>
+    requires references { All AreTilesOf references.now }
+    requires files { All AreTilesOf files.now }
+    ensures { IfOk result (AreAllFound (rules_view rules.now) references.now files.now) }
+{
+    let mut found = catalog_findings(alloc, rules, files)?;
+    push_missing_messages(alloc, rules.catalog.endless.ids, references, &mut found)?;
+    Ok(found)
+}
 
 /// The findings of the files of a catalog, by these rules.
 ///
 /// # Errors
 /// [`AllocError`] if memory runs out; nothing is kept.
-pub fn catalog_findings<'s, E: Endless<()>, C: Comparison>(
+fn catalog_findings<'s>(
     alloc: Global,
-    rules: &Rules<'_, '_, 's, E, C>,
+    rules: &Rules<'_, '_, 's>,
     files: &[FileTiles<'_, 's>],
 ) -> Result<Vec<FileFindings<'s>>, AllocError>
-    requires same_ids { HasSameIds E.ids rules.now }
     requires tiles { All AreTilesOf files.now }
-    ensures { IfOk result (AreFoundIn (rules_view C.compared rules.now) files.now) }
+    ensures { IfOk result (AreFoundIn (rules_view rules.now) files.now) }
 {
     let mut found = Vec::new(alloc);
     let declarations = Declarations::new(alloc);
@@ -33,17 +52,16 @@ pub fn catalog_findings<'s, E: Endless<()>, C: Comparison>(
 }
 
 /// Adds the findings of files, after these declarations.
-fn push_files<'s, E: Endless<()>, C: Comparison>(
+fn push_files<'s>(
     alloc: Global,
-    rules: &Rules<'_, '_, 's, E, C>,
+    rules: &Rules<'_, '_, 's>,
     files: &[FileTiles<'_, 's>],
     before: Declarations<'s>,
     found: &mut Vec<FileFindings<'s>>,
 ) -> Result<(), AllocError>
-    requires same_ids { HasSameIds E.ids rules.now }
     requires tiles { All AreTilesOf files.now }
     requires none { AreFirst before [] }
-    ensures { OnOk result (AddsFiles (rules_view C.compared rules.now) files.now found.old found.new) }
+    ensures { OnOk result (AddsFiles (rules_view rules.now) files.now found.old found.new) }
 {
     let mut declarations = before;
     for file in files {
@@ -57,16 +75,15 @@ fn push_files<'s, E: Endless<()>, C: Comparison>(
 }
 
 /// The findings of a file, after the declarations of others. Its own declarations are added to those.
-fn findings_of_file<'s, E: Endless<()>, C: Comparison>(
+fn findings_of_file<'s>(
     alloc: Global,
-    rules: &Rules<'_, '_, 's, E, C>,
+    rules: &Rules<'_, '_, 's>,
     file: &FileTiles<'_, 's>,
     declarations: &mut Declarations<'s>,
 ) -> Result<Vec<Finding>, AllocError>
-    requires same_ids { HasSameIds E.ids rules.now }
     requires tiles { AreTilesOf file.now }
     ensures declared { OnOk result (DeclaresFile declarations.old declarations.new file.now.file) }
-    ensures findings { IfOk result (IsFoundInFile (rules_view C.compared rules.now) declarations.old file.now.file) }
+    ensures findings { IfOk result (IsFoundInFile (rules_view rules.now) declarations.old file.now.file) }
 {
     let syntax = syntax_findings(alloc, file.file.source, file.errors)?;
     let findings = file_findings(alloc, rules, file.file, &file.tiles, syntax, declarations)?;

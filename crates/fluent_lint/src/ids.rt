@@ -9,6 +9,7 @@ ghost use Rattle.fluent_resource.specs.Sources.{texts};
 
 use fluent_ast::Resource;
 use fluent_ids::{AddFunctionError, FluentIds};
+use lint_finding::CatalogIds;
 use std::alloc::{AllocError, Global};
 
 /// What the ids of a catalog stand for: first `NUMBER` and these functions, then those that its reference calls, and then
@@ -21,7 +22,7 @@ pub fn catalog_ids<'r, 's>(
     functions: &[&str],
     called: &[&str],
     trees: &'r [Resource<&'s str>],
-) -> Result<FluentIds<'r, 's, ()>, AllocError>
+) -> Result<CatalogIds<'r, 's>, AllocError>
     ensures { IfOk result (λ ids. IsIdsOf ids (texts functions.now ++ texts called.now) (trees_by_id trees.now)) }
 {
     let mut ids = FluentIds::new(alloc);
@@ -35,7 +36,7 @@ pub fn catalog_ids<'r, 's>(
 }
 
 /// Adds `NUMBER` to no ids.
-fn add_number(ids: &mut FluentIds<'_, '_, ()>) -> Result<(), AllocError>
+fn add_number(ids: &mut CatalogIds<'_, '_>) -> Result<(), AllocError>
     requires { ids_view _ ids.old ≡ [] }
     ensures { OnOk result (ids_view _ ids.new ≡ number_pair ∷ []) }
 {
@@ -47,7 +48,7 @@ fn add_number(ids: &mut FluentIds<'_, '_, ()>) -> Result<(), AllocError>
 }
 
 /// Adds these functions, each unless its id is taken.
-fn add_functions(ids: &mut FluentIds<'_, '_, ()>, functions: &[&str]) -> Result<(), AllocError>
+fn add_functions(ids: &mut CatalogIds<'_, '_>, functions: &[&str]) -> Result<(), AllocError>
     ensures { OnOk result (AddsFunctions functions.now ids.old ids.new) }
 {
     for id in functions {
@@ -57,7 +58,7 @@ fn add_functions(ids: &mut FluentIds<'_, '_, ()>, functions: &[&str]) -> Result<
 }
 
 /// Adds a function, unless its id is taken.
-fn add_function(ids: &mut FluentIds<'_, '_, ()>, id: &str) -> Result<(), AllocError>
+fn add_function(ids: &mut CatalogIds<'_, '_>, id: &str) -> Result<(), AllocError>
     ensures { OnOk result (ids_view _ ids.new ≡ with_id false (ids_view _ ids.old) (id.now, function tt)) }
 {
     match ids.add_function(id, ()) {

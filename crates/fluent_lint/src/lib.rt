@@ -1,9 +1,8 @@
 //! All findings of the files of a catalog, and their report.
 //!
-//! [`report_findings`] is what `ftl lint` calls: it reads every file once, and takes time that is linear in the sources.
-//! With a reference it calls [`report_findings_with_reference`], which reads every file once, too. A chain of n messages of
-//! which each refers to the next takes n² steps then, as the definition lists for each message all that it leads to.
-//! [`lint_sources`] makes the report of the files' texts, as a command line asks for it.
+//! [`report_findings`] is what `ftl lint` calls: it reads every file once, and takes time that is linear in the sources. But
+//! with a reference, a chain of n messages of which each refers to the next takes n² steps, as the definition lists for
+//! each message all that it leads to. [`lint_sources`] makes the report of the files' texts, as a command line asks for it.
 //!
 //! `Findings.antt` of `lint_findings` says which findings there are, `specs/LintReport.antt` which report; and
 //! `docs/reference/lint.md` has the rules in plain words.
@@ -12,13 +11,12 @@
 mod counts;
 mod findings;
 mod ids;
+mod known;
 mod linting;
 mod missing;
 mod read;
 mod reports;
 mod tiles;
-mod translation;
 
 pub use linting::lint_sources;
 pub use reports::{Options, Output, Report, report_findings};
-pub use translation::report_findings_with_reference;

@@ -5,7 +5,7 @@ ghost use Rattle.ftl_arguments.specs.Meaning.{texts};
 ghost use Rattle.fluent_lint.specs.LintReport.{named_files};
 ghost use Rattle.fluent_lint.specs.LintView.{report_asked, report_on_files, report_view};
 
-use crate::{Options, Output, Report, report_findings, report_findings_with_reference};
+use crate::{Options, Output, Report, report_findings};
 use fluent_plurals::LanguagePlurals;
 use ftl_arguments::Lint;
 use lint_finding::File;
@@ -68,9 +68,5 @@ fn report_on(
         notes: lint.notes,
         strict: lint.strict,
     };
-    if references.is_empty() {
-        report_findings(alloc, &options, output, files)
-    } else {
-        report_findings_with_reference(alloc, &options, output, references, files)
-    }
+    report_findings(alloc, &options, output, references, files)
 }

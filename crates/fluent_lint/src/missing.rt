@@ -7,9 +7,8 @@ ghost use Rattle.fluent_lint.specs.FileTiles.{AreTilesOf};
 ghost use Rattle.fluent_lint.specs.Missing.{AddsMissing};
 
 use crate::tiles::FileTiles;
-use fluent_ids::FluentIds;
 use lint_comparison::missing_findings;
-use lint_finding::FileFindings;
+use lint_finding::{CatalogIds, FileFindings};
 use std::alloc::{AllocError, Global};
 
 /// Adds the messages of the files of a reference that a catalog with these ids hasn't, file by file.
@@ -18,7 +17,7 @@ use std::alloc::{AllocError, Global};
 /// [`AllocError`] if memory runs out; some may be added then.
 pub fn push_missing_messages<'s>(
     alloc: Global,
-    ids: &FluentIds<'_, '_, ()>,
+    ids: &CatalogIds<'_, '_>,
     references: &[FileTiles<'_, 's>],
     found: &mut Vec<FileFindings<'s>>,
 ) -> Result<(), AllocError>

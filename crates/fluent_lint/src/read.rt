@@ -4,7 +4,7 @@
 ghost use Rattle.std.specs.Prelude.{◌≡◌, ◌++◌, [], ◌∷◌, IfOk, OnOk, map};
 ghost use Rattle.fluent_ast.specs.Borrowed.{entries_of, entry_of};
 ghost use Rattle.lint_entries.specs.AttributePlaces.{uncommented};
-ghost use Rattle.fluent_lint.specs.Reading.{bare_tree, IsReadOf, errors_in, errors_told, errors_view, trees_in};
+ghost use Rattle.fluent_lint.specs.Reading.{bare_tree, IsRead, errors_in, errors_told, errors_view, trees_in};
 ghost use Rattle.fluent_parsed.specs.ErrorView.{error_view};
 
 use fluent_ast::{Entry, Resource};
@@ -12,20 +12,23 @@ use fluent_parser::{Error, ParserError, parse};
 use lint_finding::File;
 use std::alloc::{AllocError, Global};
 
-/// The trees of files, without the comments above messages and terms, and the errors of each file.
+/// Files with their trees, without the comments above messages and terms, and with the errors of each file.
 #[derive(Drop)]
-pub struct ReadFiles<'s> {
+pub struct ReadFiles<'f, 's> {
+    pub files: &'f [File<'s>],
     pub trees: Vec<Resource<&'s str>>,
     pub errors: Vec<Vec<ParserError>>,
 }
 
-impl<'s> ReadFiles<'s> {
-    /// Of no files. It doesn't allocate.
-    fn new(alloc: Global) -> Self
+impl<'f, 's> ReadFiles<'f, 's> {
+    /// Nothing of these files. It doesn't allocate.
+    fn new(alloc: Global, files: &'f [File<'s>]) -> Self
+        ensures files { result.files.now ≡ files.now }
         ensures trees { trees_in result ≡ [] }
         ensures errors { errors_in result ≡ [] }
     {
         ReadFiles {
+            files,
             trees: Vec::new(alloc),
             errors: Vec::new(alloc),
         }
@@ -33,6 +36,7 @@ impl<'s> ReadFiles<'s> {
 
     /// Reads one more source.
     fn read(&mut self, alloc: Global, source: &'s str) -> Result<(), AllocError>
+        ensures files { self.new.files.now ≡ self.old.files.now }
         ensures trees { OnOk result (trees_in self.new ≡ trees_in self.old ++ bare_tree source.now ∷ []) }
         ensures errors { OnOk result (errors_in self.new ≡ errors_in self.old ++ errors_told source.now ∷ []) }
     {
@@ -49,6 +53,7 @@ impl<'s> ReadFiles<'s> {
         mut tree: Resource<&'s str>,
         errors: Vec<ParserError>,
     ) -> Result<(), AllocError>
+        ensures files { self.new.files.now ≡ self.old.files.now }
         ensures trees { OnOk result (trees_in self.new
             ≡ trees_in self.old ++ map uncommented (entries_of tree.entry) ∷ []) }
         ensures errors { OnOk result (errors_in self.new ≡ errors_in self.old ++ errors_view errors ∷ []) }
@@ -86,10 +91,14 @@ fn drop_comment(entry: &mut Entry<&str>)
 /// # Errors
 /// [`AllocError`] if memory runs out, or a file nests so deep that reading it would take more of the machine's stack
 /// than [`StackBudget::PROGRAM`](fluent_parser::StackBudget::PROGRAM); nothing is kept.
-pub fn read_files<'s>(alloc: Global, files: &[File<'s>]) -> Result<ReadFiles<'s>, AllocError>
-    ensures { IfOk result (IsReadOf files.now) }
+pub fn read_files<'f, 's>(
+    alloc: Global,
+    files: &'f [File<'s>],
+) -> Result<ReadFiles<'f, 's>, AllocError>
+    ensures files { IfOk result (λ read. read.files.now ≡ files.now) }
+    ensures read { IfOk result IsRead }
 {
-    let mut read = ReadFiles::new(alloc);
+    let mut read = ReadFiles::new(alloc, files);
     for file in files {
         read.read(alloc, file.source)?;
     }

@@ -4,7 +4,7 @@
 ghost use Rattle.std.specs.Prelude.{◌≡◌, All, IfOk, map};
 ghost use Rattle.fluent_ast.specs.Borrowed.{entries_of};
 ghost use Rattle.fluent_lint.specs.FileTiles.{AreTilesOf, files_of};
-ghost use Rattle.fluent_lint.specs.Reading.{IsReadOf, bare_tree};
+ghost use Rattle.fluent_lint.specs.Reading.{IsRead, bare_tree};
 ghost use Rattle.lint_entries.specs.TileView.{AreErrorsOf};
 
 use crate::read::ReadFiles;
@@ -22,26 +22,19 @@ pub struct FileTiles<'r, 's> {
     pub errors: &'r [ParserError],
 }
 
-/// The tiles of files, and what was read of them.
-#[derive(Clone, Copy)]
-pub struct TiledFiles<'r, 's> {
-    pub tiles: &'r [FileTiles<'r, 's>],
-    pub read: &'r ReadFiles<'s>,
-}
-
 /// The tiles of files, by what was read of them.
 ///
 /// # Errors
 /// [`AllocError`] if memory runs out; nothing is kept.
 pub fn tiles_of_files<'r, 's>(
     alloc: Global,
-    files: &[File<'s>],
-    read: &'r ReadFiles<'s>,
+    read: &'r ReadFiles<'_, 's>,
 ) -> Result<Vec<FileTiles<'r, 's>>, AllocError>
-    requires { IsReadOf files.now read.now }
-    ensures files { IfOk result (λ tiled. files_of tiled.items ≡ files.now) }
+    requires { IsRead read.now }
+    ensures files { IfOk result (λ tiled. files_of tiled.items ≡ read.now.files.now) }
     ensures tiles { IfOk result (λ tiled. All AreTilesOf tiled.items) }
 {
+    let files = read.files;
     let mut tiled = Vec::with_capacity(alloc, files.len())?;
     for (index, file) in files.iter().enumerate() {
         let tiles = tiles_of_file(alloc, *file, &read.trees[index], &read.errors[index])?;

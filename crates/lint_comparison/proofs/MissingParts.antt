@@ -13,7 +13,7 @@ use Rattle.fluent_meaning.specs.Ids.{Ids}
 use Rattle.lint_entries.specs.Kept.{kept_tiles, part_of_tile, parts}
 use Rattle.lint_comparison.specs.Missing.{missing_in, missing_of_part}
 
-module _ {F : Type 0} (ids : Ids F) where
+module _ (ids : Ids (Unit {0})) where
   of_tiles : (source : Text) (ts : List Tile) → flat_map (missing_of_part ids source) (map part_of_tile (kept_tiles ts)) ≡ flat_map (missing_findings ids source) ts
   of_tiles source [] = refl
   of_tiles source (entry_tile at s (t.message m) ∷ ts) = ap (λ l. missing_findings ids source (entry_tile at s (t.message m)) ++ l) (of_tiles source ts)

@@ -16,7 +16,7 @@ use Rattle.lint_comparison.specs.declared.reached.Reached.{Reached}
 use Rattle.lint_comparison.proofs.Rounds.{round, rounds, rounds_begin, done_stays, Follows, one_more, one_followed, enough}
 use Rattle.lint_comparison.proofs.Unions.{among_here, union-append, union_begins}
 
-module _ {F : Type 0} (ids : Ids F) where
+module _ (ids : Ids (Unit {0})) where
   -- the messages and the variables that what an id stands for names
   abbrev pub refers : Text → List Text
   refers id = messages_in (references_of (find ids id))
@@ -31,22 +31,22 @@ module _ {F : Type 0} (ids : Ids F) where
 
 -- ---- the rounds of the definition are enough
 
-abbrev keys_of : {F : Type 0} → Ids F → List Text
+abbrev keys_of : Ids (Unit {0}) → List Text
 keys_of ids = map (λ p. p.0) ids
 
 or_parts : (a b : Bool) → (a || b) ≡ false → (a ≡ false) × (b ≡ false)
 or_parts true b e = absurd cc
 or_parts false b e = (refl, e)
 
-not_found_by : {F : Type 0} (id k : Text) (v : Meaning F) (o : Option (Meaning F)) (others : List Text) → is_among id (k ∷ others) ≡ false → o ≡ None → (b : Bool) → is_at (order id) k ≡ b → cond b (Some v) o ≡ None
+not_found_by : (id k : Text) (v : Meaning (Unit {0})) (o : Option (Meaning (Unit {0}))) (others : List Text) → is_among id (k ∷ others) ≡ false → o ≡ None → (b : Bool) → is_at (order id) k ≡ b → cond b (Some v) o ≡ None
 not_found_by id k v o others none later true at = absurd (let there : is_among id (id ∷ others) ≡ false = ap (λ x. is_among id (x ∷ others)) (key_is id k at) ∙ none in let here = among_here id others in cc)
 not_found_by id k v o others none later false at = later
 
-not_found : {F : Type 0} (ids : Ids F) (id : Text) → is_among id (keys_of ids) ≡ false → find ids id ≡ None
+not_found : (ids : Ids (Unit {0})) (id : Text) → is_among id (keys_of ids) ≡ false → find ids id ≡ None
 not_found [] id none = refl
 not_found (p ∷ ps) id none = not_found_by id p.0 p.1 (find ps id) (keys_of ps) none (not_found ps id (or_parts (bytes_eq p.0 id) (is_among id (keys_of ps)) none).1) (is_at (order id) p.0) refl
 
-module _ {F : Type 0} (ids : Ids F) (id : Text) where
+module _ (ids : Ids (Unit {0})) (id : Text) where
   by_rounds : messages_of ids id ≡ rounds (refers ids) (length ids) (id ∷ [])
   by_rounds = are_rounds ids (length ids) (id ∷ [])
 
@@ -59,7 +59,7 @@ module _ {F : Type 0} (ids : Ids F) (id : Text) where
 -- ---- one message at a time
 
 -- The first messages that are known were followed, and following the others finds all that a message refers to.
-pub record IsReaching {F : Type 0} (ids : Ids F) (id : Text) (reached : Reached) (next : ℕ) : Type 0 where
+pub record IsReaching (ids : Ids (Unit {0})) (id : Text) (reached : Reached) (next : ℕ) : Type 0 where
   pub known : List Text
   pub variables : List Text
   pub has : HasReached reached known variables
@@ -77,7 +77,7 @@ take_front : (front rest : List Text) (x : Text) → take (suc (length front)) (
 take_front [] rest x = refl
 take_front (y ∷ front) rest x = ap (λ zs. y ∷ zs) (take_front front rest x)
 
-module _ {F : Type 0} (ids : Ids F) (id : Text) where
+module _ (ids : Ids (Unit {0})) (id : Text) where
   pub reaching_first : (reached : Reached) → HasReached reached (id ∷ []) [] → IsReaching ids id reached 0
   reaching_first reached has = record { known = id ∷ []; variables = []; has = has; leads = refl; followed = refl; shown = refl; inside = omega arith }
 

@@ -89,22 +89,22 @@ message_gets a b c m as' same first second =
 
 -- ---- what an id stands for
 
-message_referred : {F : Type 0} (o : Option (Meaning F)) (m : t.Message) → message_in o ≡ Some m → references_of o ≡ message_references m
+message_referred : (o : Option (Meaning (Unit {0}))) (m : t.Message) → message_in o ≡ Some m → references_of o ≡ message_references m
 message_referred None m e = absurd cc
 message_referred (Some (message n)) m e = let same : n ≡ m = cc in ap message_references same
 message_referred (Some (term n)) m e = absurd cc
 message_referred (Some (function f)) m e = absurd cc
 message_referred (Some number_function) m e = absurd cc
 
-none_referred : {F : Type 0} (o : Option (Meaning F)) → message_in o ≡ None → references_of o ≡ []
+none_referred : (o : Option (Meaning (Unit {0}))) → message_in o ≡ None → references_of o ≡ []
 none_referred None e = refl
 none_referred (Some (message n)) e = absurd cc
 none_referred (Some (term n)) e = refl
 none_referred (Some (function f)) e = refl
 none_referred (Some number_function) e = refl
 
-pub found_gets : {F : Type 0} (a b : Reached) (o : Option (Meaning F)) (m : t.Message) → message_in o ≡ Some m → GetsReferences a (message_references m) b → GetsReferences a (references_of o) b
+pub found_gets : (a b : Reached) (o : Option (Meaning (Unit {0}))) (m : t.Message) → message_in o ≡ Some m → GetsReferences a (message_references m) b → GetsReferences a (references_of o) b
 found_gets a b o m is gets = same_references a b (message_references m) (references_of o) (sym (message_referred o m is)) gets
 
-pub not_found_gets : {F : Type 0} (a : Reached) (o : Option (Meaning F)) → message_in o ≡ None → GetsReferences a (references_of o) a
+pub not_found_gets : (a : Reached) (o : Option (Meaning (Unit {0}))) → message_in o ≡ None → GetsReferences a (references_of o) a
 not_found_gets a o is = same_references a a [] (references_of o) (sym (none_referred o is)) (λ ms vs has. has)

@@ -12,11 +12,11 @@ use Rattle.fluent_grammar.specs.Words.{Text}
 use Rattle.fluent_meaning.specs.Ids.{Ids}
 
 -- the findings of an entry of a catalog with this reference, in this source
-abbrev pub AreFoundIn : {F : Type 0} → Ids F → Ids F → Text → t.Entry → Text → Vec Finding Global → Type 0
+abbrev pub AreFoundIn : Ids (Unit {0}) → Ids (Unit {0}) → Text → t.Entry → Text → Vec Finding Global → Type 0
 AreFoundIn ids reference source e s found = map finding_view found.items ≡ c.message_findings ids reference source e s
 
 -- of an entry of the reference, at any offset
-abbrev pub IsMissingIn : {F : Type 0} → Ids F → Text → t.Entry → Text → Option Finding → Type 0
+abbrev pub IsMissingIn : Ids (Unit {0}) → Text → t.Entry → Text → Option Finding → Type 0
 IsMissingIn ids source e s found = (at : ℕ) → map finding_view (option_to_list found) ≡ c.missing_findings ids source (entry_tile at s e)
 
 -- ---- of differences of the message of an id at the front of a text

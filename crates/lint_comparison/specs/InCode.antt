@@ -24,25 +24,25 @@ use Rattle.lint_comparison.specs.Found.{AreFindingsOf, AreFoundIn}
 
 -- ---- by ids of a catalog and of its reference
 
-module _ (F : Type 0) (ids : FluentIds F) where
+module _ (ids : FluentIds (Unit {0})) where
   -- the variables that the message of an id is shown with
   abbrev pub variables_by : Text → List Text
-  variables_by id = c.variables_of (ids_view F ids) id
+  variables_by id = c.variables_of (ids_view (Unit {0}) ids) id
 
-module _ (F : Type 0) (ids reference : FluentIds F) where
+module _ (ids reference : FluentIds (Unit {0})) where
   abbrev pub differences_by : Text → List c.Difference
-  differences_by id = c.differences (ids_view F ids) (ids_view F reference) id
+  differences_by id = c.differences (ids_view (Unit {0}) ids) (ids_view (Unit {0}) reference) id
 
   -- of the message of an id in both
   abbrev pub message_differences_by : Text → Message (Bor Text) → Message (Bor Text) → List c.Difference
-  message_differences_by id message other = c.message_differences (ids_view F ids) (ids_view F reference) id (message_of message) (message_of other)
+  message_differences_by id message other = c.message_differences (ids_view (Unit {0}) ids) (ids_view (Unit {0}) reference) id (message_of message) (message_of other)
 
   abbrev pub variable_differences_by : Text → List c.Difference
-  variable_differences_by id = variable_differences (variables_by F ids id) (variables_by F reference id)
+  variable_differences_by id = variable_differences (variables_by ids id) (variables_by reference id)
 
   -- the findings of a message at the front of a text, in this source
   abbrev pub AreFoundOf : Text → Message (Bor Text) → Text → Vec Finding Global → Type 0
-  AreFoundOf source message text found = AreFoundIn (ids_view F ids) (ids_view F reference) source (t.message (message_of message)) text found
+  AreFoundOf source message text found = AreFoundIn (ids_view (Unit {0}) ids) (ids_view (Unit {0}) reference) source (t.message (message_of message)) text found
 
 -- ---- of messages
 

@@ -9,3 +9,4 @@ pub mod Found
 pub mod InCode
 pub mod Missing
 pub mod Calls
+pub mod ComparedBy

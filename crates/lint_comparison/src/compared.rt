@@ -14,22 +14,22 @@ use crate::names::Names;
 use crate::same::is_same_message;
 use crate::variables::variables_of;
 use fluent_ast::{Message, Pattern};
-use fluent_ids::{FluentIds, GetEntry};
-use lint_finding::Difference;
+use fluent_ids::GetEntry;
+use lint_finding::{CatalogIds, Difference};
 use std::alloc::{AllocError, Global};
 
 /// How an id of a catalog differs from that of the reference.
 ///
 /// # Errors
 /// [`AllocError`] if memory runs out; nothing is kept.
-pub fn differences<'i, 's: 'i, F>(
+pub fn differences<'i, 's: 'i>(
     alloc: Global,
-    ids: &FluentIds<'_, 's, F>,
-    reference: &FluentIds<'_, 's, F>,
+    ids: &CatalogIds<'_, 's>,
+    reference: &CatalogIds<'_, 's>,
     id: &'i str,
 ) -> Result<Vec<Difference<'i>>, AllocError>
     ensures { IfOk result (λ found. map difference_view found.items
-        ≡ differences_by F ids.now reference.now id.now) }
+        ≡ differences_by ids.now reference.now id.now) }
 {
     let mut found = Vec::new(alloc);
     push_differences(alloc, ids, reference, id, &mut found)?;
@@ -37,14 +37,14 @@ pub fn differences<'i, 's: 'i, F>(
 }
 
 /// Adds them.
-fn push_differences<'i, 's: 'i, F>(
+fn push_differences<'i, 's: 'i>(
     alloc: Global,
-    ids: &FluentIds<'_, 's, F>,
-    reference: &FluentIds<'_, 's, F>,
+    ids: &CatalogIds<'_, 's>,
+    reference: &CatalogIds<'_, 's>,
     id: &'i str,
     found: &mut Vec<Difference<'i>>,
 ) -> Result<(), AllocError>
-    ensures { OnOk result (Adds found.old found.new (differences_by F ids.now reference.now id.now)) }
+    ensures { OnOk result (Adds found.old found.new (differences_by ids.now reference.now id.now)) }
 {
     let message = ids.get_entry_message(id);
     let other = reference.get_entry_message(id);
@@ -59,17 +59,17 @@ fn push_differences<'i, 's: 'i, F>(
 }
 
 /// Adds those of a message that both have.
-fn push_of_both<'i, 's: 'i, F>(
+fn push_of_both<'i, 's: 'i>(
     alloc: Global,
-    ids: &FluentIds<'_, 's, F>,
-    reference: &FluentIds<'_, 's, F>,
+    ids: &CatalogIds<'_, 's>,
+    reference: &CatalogIds<'_, 's>,
     id: &'i str,
     message: &Message<&'s str>,
     other: &Message<&'s str>,
     found: &mut Vec<Difference<'i>>,
 ) -> Result<(), AllocError>
     ensures { OnOk result (Adds found.old found.new
-        (message_differences_by F ids.now reference.now id.now message.now other.now)) }
+        (message_differences_by ids.now reference.now id.now message.now other.now)) }
 {
     push_of_message(alloc, message, other, found)?;
     push_variables(alloc, ids, reference, id, found)?;
@@ -109,29 +109,29 @@ fn push_value(
 }
 
 /// Adds those of the variables.
-fn push_variables<'i, 's: 'i, F>(
+fn push_variables<'i, 's: 'i>(
     alloc: Global,
-    ids: &FluentIds<'_, 's, F>,
-    reference: &FluentIds<'_, 's, F>,
+    ids: &CatalogIds<'_, 's>,
+    reference: &CatalogIds<'_, 's>,
     id: &'i str,
     found: &mut Vec<Difference<'i>>,
 ) -> Result<(), AllocError>
     ensures { OnOk result (Adds found.old found.new
-        (variable_differences_by F ids.now reference.now id.now)) }
+        (variable_differences_by ids.now reference.now id.now)) }
 {
     let variables = variables_of(alloc, ids, id)?;
     push_variables_by(alloc, &variables, reference, id, found)
 }
 
 /// Adds those of these variables of the message of the catalog.
-fn push_variables_by<'i, 's: 'i, F>(
+fn push_variables_by<'i, 's: 'i>(
     alloc: Global,
     variables: &Names<'i>,
-    reference: &FluentIds<'_, 's, F>,
+    reference: &CatalogIds<'_, 's>,
     id: &'i str,
     found: &mut Vec<Difference<'i>>,
 ) -> Result<(), AllocError>
-    ensures { OnOk result (AddsVariablesBy variables.now (variables_by F reference.now id.now)
+    ensures { OnOk result (AddsVariablesBy variables.now (variables_by reference.now id.now)
         found.old found.new) }
 {
     let others = variables_of(alloc, reference, id)?;

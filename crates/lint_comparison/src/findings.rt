@@ -15,8 +15,7 @@ ghost use Rattle.fluent_ids.specs.IdsView.{ids_view};
 use crate::compared::differences;
 use crate::places::Places;
 use fluent_ast::Message;
-use fluent_ids::FluentIds;
-use lint_finding::{Difference, Finding};
+use lint_finding::{CatalogIds, Difference, Finding};
 use std::alloc::{AllocError, Global};
 
 /// How a message of a catalog differs from that of the reference, as findings. The text is the source from the message
@@ -24,16 +23,16 @@ use std::alloc::{AllocError, Global};
 ///
 /// # Errors
 /// [`AllocError`] if memory runs out; nothing is kept.
-pub fn message_findings<'s, F>(
+pub fn message_findings<'s>(
     alloc: Global,
-    ids: &FluentIds<'_, 's, F>,
-    reference: &FluentIds<'_, 's, F>,
+    ids: &CatalogIds<'_, 's>,
+    reference: &CatalogIds<'_, 's>,
     source: &str,
     message: &Message<&str>,
     text: &[u8],
 ) -> Result<Vec<Finding>, AllocError>
     requires { IsEntryAt (t.message (message_of message.now)) text.now }
-    ensures { IfOk result (AreFoundOf F ids.now reference.now source.now message.now text.now) }
+    ensures { IfOk result (AreFoundOf ids.now reference.now source.now message.now text.now) }
 {
     let found = differences(alloc, ids, reference, message.id.name)?;
     if found.is_empty() {
@@ -47,14 +46,14 @@ pub fn message_findings<'s, F>(
 ///
 /// # Errors
 /// [`AllocError`] if memory runs out; nothing is kept.
-pub fn missing_finding<F>(
+pub fn missing_finding(
     alloc: Global,
-    ids: &FluentIds<'_, '_, F>,
+    ids: &CatalogIds<'_, '_>,
     source: &str,
     message: &Message<&str>,
     text: &[u8],
 ) -> Result<Option<Finding>, AllocError>
-    ensures { IfOk result (IsMissingIn (ids_view F ids.now) source.now
+    ensures { IfOk result (IsMissingIn (ids_view _ ids.now) source.now
         (t.message (message_of message.now)) text.now) }
 {
     let id = message.id.name;

@@ -1,7 +1,7 @@
 //! The messages that the reference has and the catalog hasn't.
 #![tactic(auto)]
 
-ghost use Rattle.std.specs.Prelude.{◌≡◌, IfOk, OnOk, map, option_to_list};
+ghost use Rattle.std.specs.Prelude.{◌≡◌, IfOk, OnOk, map};
 ghost use Rattle.lint_entries.specs.Made.{Adds};
 ghost use Rattle.lint_finding.specs.View.{finding_view};
 ghost use Rattle.fluent_ids.specs.IdsView.{ids_view};
@@ -11,9 +11,8 @@ ghost use Rattle.lint_entries.specs.TileView.{tile_view};
 
 use crate::missing_finding;
 use fluent_ast::Entry;
-use fluent_ids::FluentIds;
-use lint_entries::Tile;
-use lint_finding::Finding;
+use lint_entries::{Tile, push_found};
+use lint_finding::{CatalogIds, Finding};
 use std::alloc::{AllocError, Global};
 
 /// The findings of the messages of a source of the reference that a catalog with these ids hasn't. The tiles are those
@@ -21,14 +20,14 @@ use std::alloc::{AllocError, Global};
 ///
 /// # Errors
 /// [`AllocError`] if memory runs out; nothing is kept.
-pub fn missing_findings<F>(
+pub fn missing_findings(
     alloc: Global,
-    ids: &FluentIds<'_, '_, F>,
+    ids: &CatalogIds<'_, '_>,
     source: &str,
     tiles: &[Tile<'_, '_>],
 ) -> Result<Vec<Finding>, AllocError>
     requires { map tile_view tiles.now ≡ parts source.now }
-    ensures { IfOk result (λ found. map finding_view found.items ≡ missing_in (ids_view F ids.now) source.now) }
+    ensures { IfOk result (λ found. map finding_view found.items ≡ missing_in (ids_view _ ids.now) source.now) }
 {
     let mut found = Vec::new(alloc);
     for tile in tiles {
@@ -38,37 +37,24 @@ pub fn missing_findings<F>(
 }
 
 /// Adds that of a tile, if it is a message that the catalog hasn't.
-fn push_missing<F>(
+fn push_missing(
     alloc: Global,
-    ids: &FluentIds<'_, '_, F>,
+    ids: &CatalogIds<'_, '_>,
     source: &str,
     tile: &Tile<'_, '_>,
     found: &mut Vec<Finding>,
 ) -> Result<(), AllocError>
     ensures { OnOk result (Adds found.old found.new
-        (missing_of_part (ids_view F ids.now) source.now (tile_view tile.now))) }
+        (missing_of_part (ids_view _ ids.now) source.now (tile_view tile.now))) }
 {
     match tile {
         Tile::Entry(entry, text) => match entry {
             Entry::Message(message) => {
                 let missing = missing_finding(alloc, ids, source, message, text)?;
-                push_if_missing(missing, found)
+                push_found(missing, found)
             }
             _ => Ok(()),
         },
         Tile::Junk => Ok(()),
-    }
-}
-
-/// Adds a finding, if there is one.
-fn push_if_missing(missing: Option<Finding>, found: &mut Vec<Finding>) -> Result<(), AllocError>
-    ensures { OnOk result (Adds found.old found.new (map finding_view (option_to_list missing))) }
-{
-    match missing {
-        Some(finding) => {
-            found.push(finding)?;
-            Ok(())
-        }
-        None => Ok(()),
     }
 }

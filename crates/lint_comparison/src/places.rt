@@ -15,9 +15,9 @@ ghost use Rattle.lint_nodes.specs.OccurrenceView.{IsPatternAt, occurrence_view};
 
 use crate::first_places::FirstPlaces;
 use fluent_ast::{Attribute, InlineExpression, Message, Pattern};
-use lint_entries::text::{after_equals, skip, skip_blank_block, skip_spaces};
+use lint_entries::text::{after_equals, skip_blank_block, skip_spaces};
 use lint_finding::Difference;
-use lint_nodes::{Node, Occurrence, empty_pattern_rest, pattern_occurrences};
+use lint_nodes::{Node, Occurrence, empty_pattern_rest, pattern_occurrences, skip};
 use std::alloc::{AllocError, Global};
 
 /// The first places of the attributes and of the variables of a message.

@@ -12,7 +12,8 @@ ghost use Rattle.lint_nodes.specs.NodeView.{node_view};
 
 use crate::names::Names;
 use fluent_ast::{Attribute, InlineExpression, Message, Pattern};
-use fluent_ids::{FluentIds, GetEntry};
+use fluent_ids::GetEntry;
+use lint_finding::CatalogIds;
 use lint_nodes::{Node, pattern_nodes};
 use std::alloc::{AllocError, Global};
 
@@ -40,13 +41,13 @@ impl<'s> Reached<'s> {
     ///
     /// # Errors
     /// [`AllocError`] if memory runs out; some may be added then.
-    pub fn add_referred<'r: 's, F>(
+    pub fn add_referred<'r: 's>(
         &mut self,
-        ids: &FluentIds<'_, 'r, F>,
+        ids: &CatalogIds<'_, 'r>,
         id: &str,
     ) -> Result<(), AllocError>
         ensures { OnOk result
-            (GetsReferences self.old (references_of (find (ids_view F ids.now) id.now)) self.new) }
+            (GetsReferences self.old (references_of (find (ids_view _ ids.now) id.now)) self.new) }
     {
         match ids.get_entry_message(id) {
             Some(message) => self.add_message(message),

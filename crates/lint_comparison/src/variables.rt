@@ -8,19 +8,19 @@ ghost use Rattle.fluent_ids.specs.IdsView.{ids_view};
 
 use crate::names::Names;
 use crate::reached::Reached;
-use fluent_ids::FluentIds;
+use lint_finding::CatalogIds;
 use std::alloc::{AllocError, Global};
 
 /// The variables of a message and of all that it refers to, at any remove.
 ///
 /// # Errors
 /// [`AllocError`] if memory runs out; nothing is kept.
-pub fn variables_of<'i, 's: 'i, F>(
+pub fn variables_of<'i, 's: 'i>(
     alloc: Global,
-    ids: &FluentIds<'_, 's, F>,
+    ids: &CatalogIds<'_, 's>,
     id: &'i str,
 ) -> Result<Names<'i>, AllocError>
-    ensures { IfOk result (λ names. HasNames names (c.variables_of (ids_view F ids.now) id.now)) }
+    ensures { IfOk result (λ names. HasNames names (c.variables_of (ids_view _ ids.now) id.now)) }
 {
     let mut reached = Reached::new(alloc);
     reached.messages.add(id)?;

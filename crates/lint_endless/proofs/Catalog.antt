@@ -49,7 +49,7 @@ there_pattern : (e : Unresolved) (o : Option Elements) → target_pattern (there
 there_pattern e None = refl
 there_pattern e (Some es) = refl
 
-module _ {F : Type 0} (ids : Ids F) (seen : List Text) (id : Text) where
+module _ (ids : Ids (Unit {0})) (seen : List Text) (id : Text) where
   among_true : (t : Bool) (i : Text) (a : Option Text) → is_among i (seen ++ id ∷ []) ≡ true → entered_among ids (seen ++ id ∷ []) t i a ≡ entered ids t i a
   among_true t i a e = ap (λ b. if b then entered ids t i a else None) e
 
@@ -84,25 +84,25 @@ module _ {F : Type 0} (ids : Ids F) (seen : List Text) (id : Text) where
   off_by true false own e = refl
   off_by false c own e = refl
 
-  message_own : (m : t.Message) (o : Option (Meaning F)) → o ≡ Some (message m) → (a : Option Text) → own_pattern m.value m.attributes a ≡ target_pattern (message_target id a o)
-  message_own m o e None = sym (ap (λ (x : Option (Meaning F)). target_pattern (message_target id None x)) e ∙ there_pattern _ m.value)
-  message_own m o e (Some y) = sym (ap (λ (x : Option (Meaning F)). target_pattern (message_target id (Some y) x)) e ∙ there_pattern _ (attribute_named y m.attributes))
+  message_own : (m : t.Message) (o : Option (Meaning (Unit {0}))) → o ≡ Some (message m) → (a : Option Text) → own_pattern m.value m.attributes a ≡ target_pattern (message_target id a o)
+  message_own m o e None = sym (ap (λ (x : Option (Meaning (Unit {0}))). target_pattern (message_target id None x)) e ∙ there_pattern _ m.value)
+  message_own m o e (Some y) = sym (ap (λ (x : Option (Meaning (Unit {0}))). target_pattern (message_target id (Some y) x)) e ∙ there_pattern _ (attribute_named y m.attributes))
 
-  term_own : (m : t.Term) (o : Option (Meaning F)) → o ≡ Some (term m) → (a : Option Text) → own_pattern (Some m.value) m.attributes a ≡ target_pattern (term_target id a o)
-  term_own m o e None = sym (ap (λ (x : Option (Meaning F)). target_pattern (term_target id None x)) e)
-  term_own m o e (Some y) = sym (ap (λ (x : Option (Meaning F)). target_pattern (term_target id (Some y) x)) e ∙ there_pattern _ (attribute_named y m.attributes))
+  term_own : (m : t.Term) (o : Option (Meaning (Unit {0}))) → o ≡ Some (term m) → (a : Option Text) → own_pattern (Some m.value) m.attributes a ≡ target_pattern (term_target id a o)
+  term_own m o e None = sym (ap (λ (x : Option (Meaning (Unit {0}))). target_pattern (term_target id None x)) e)
+  term_own m o e (Some y) = sym (ap (λ (x : Option (Meaning (Unit {0}))). target_pattern (term_target id (Some y) x)) e ∙ there_pattern _ (attribute_named y m.attributes))
 
   at_id : (P : Text → Type 0) (i : Text) → bytes_eq id i ≡ true → P id → P i
   at_id P i e h = rw (← same_text id i (sym e)) h
 
   -- a message of this id
   message_here : (m : t.Message) → find ids id ≡ Some (message m) → (t : Bool) (a : Option Text) → (if same_bool false t && true then own_pattern m.value m.attributes a else None) ≡ entered ids t id a
-  message_here m found true a = sym (ap (λ (o : Option (Meaning F)). target_pattern (term_target id a o)) found)
+  message_here m found true a = sym (ap (λ (o : Option (Meaning (Unit {0}))). target_pattern (term_target id a o)) found)
   message_here m found false a = message_own m (find ids id) found a
 
   term_here : (m : t.Term) → find ids id ≡ Some (term m) → (t : Bool) (a : Option Text) → (if same_bool true t && true then own_pattern (Some m.value) m.attributes a else None) ≡ entered ids t id a
   term_here m found true a = term_own m (find ids id) found a
-  term_here m found false a = sym (ap (λ (o : Option (Meaning F)). target_pattern (message_target id a o)) found)
+  term_here m found false a = sym (ap (λ (o : Option (Meaning (Unit {0}))). target_pattern (message_target id a o)) found)
 
   entry_more : (s : Bool) (v : Option Elements) (as' : List t.Attribute) → ((t : Bool) (a : Option Text) → (if same_bool s t && true then own_pattern v as' a else None) ≡ entered ids t id a) →
       (t : Bool) (i : Text) (a : Option Text) → or_else (entered_among ids seen t i a) (if same_bool s t && bytes_eq id i then own_pattern v as' a else None) ≡ entered_among ids (seen ++ id ∷ []) t i a
@@ -136,7 +136,7 @@ module _ {F : Type 0} (ids : Ids F) (seen : List Text) (id : Text) where
       by false e = ap (λ b. if b then entered ids t i a else None) (sym (among_more i seen id ∙ ap (λ b. is_among i seen || b) e ∙ or_false (is_among i seen)))
 
 -- the patterns of what is found are among those of the ids
-pub found_known : {F : Type 0} (ids : Ids F) (id : Text) (m : Meaning F) → find ids id ≡ Some m → All (λ es. is_pattern_among es (all_patterns ids) ≡ true) (meaning_patterns m)
+pub found_known : (ids : Ids (Unit {0})) (id : Text) (m : Meaning (Unit {0})) → find ids id ≡ Some m → All (λ es. is_pattern_among es (all_patterns ids) ≡ true) (meaning_patterns m)
 found_known ids id m found =
     at_value (λ es. is_pattern_among es (all_patterns ids) ≡ true) meaning_patterns id m ids found
     (All-weaker (Contains (all_patterns ids)) (λ es. is_pattern_among es (all_patterns ids) ≡ true) (λ es c. list_any-from_Contains same-equivalence es (all_patterns ids) c) (all_patterns ids) (All-contains_itself (all_patterns ids)))

@@ -42,55 +42,54 @@ apart id k e true h =
     let there : bytes_eq k id ≡ true = ap (bytes_eq k) same ∙ texts_ties k k ∙ (ap (λ x. is_at (order x) k) (sym same) ∙ h) in
     sym there ∙ e
 
-module _ {F : Type 0} where
-  abbrev keys : List (Text × Meaning F) → List Text
-  keys pairs = map (λ p. p.0) pairs
+abbrev keys : List (Text × Meaning (Unit {0})) → List Text
+keys pairs = map (λ p. p.0) pairs
 
-  not_found : (id : Text) (pairs : List (Text × Meaning F)) → is_among id (keys pairs) ≡ false → find pairs id ≡ None
-  not_found id [] e = refl
-  not_found id (p ∷ pairs) e =
-      ap (λ b. cond b (Some p.1) (find pairs id)) (apart id p.0 (neither_first (bytes_eq p.0 id) (is_among id (keys pairs)) e) (is_at (order id) p.0) refl)
-      ∙ not_found id pairs (neither_second (bytes_eq p.0 id) (is_among id (keys pairs)) e)
+not_found : (id : Text) (pairs : List (Text × Meaning (Unit {0}))) → is_among id (keys pairs) ≡ false → find pairs id ≡ None
+not_found id [] e = refl
+not_found id (p ∷ pairs) e =
+    ap (λ b. cond b (Some p.1) (find pairs id)) (apart id p.0 (neither_first (bytes_eq p.0 id) (is_among id (keys pairs)) e) (is_at (order id) p.0) refl)
+    ∙ not_found id pairs (neither_second (bytes_eq p.0 id) (is_among id (keys pairs)) e)
 
-  first_by : (b : Bool) (m : Meaning F) (o : Option (Meaning F)) → is_entry (Some m) ≡ false → is_entry o ≡ false → is_entry (cond b (Some m) o) ≡ false
-  first_by true m o first later = first
-  first_by false m o first later = later
+first_by : (b : Bool) (m : Meaning (Unit {0})) (o : Option (Meaning (Unit {0}))) → is_entry (Some m) ≡ false → is_entry o ≡ false → is_entry (cond b (Some m) o) ≡ false
+first_by true m o first later = first
+first_by false m o first later = later
 
-  after_functions : (functions : Ids F) → AreFunctions functions → (more : Ids F) (id : Text) → is_entry (find more id) ≡ false → is_entry (find (functions ++ more) id) ≡ false
-  after_functions [] are more id e = e
-  after_functions (p ∷ functions) are more id e =
-      first_by (is_at (order id) p.0) p.1 (find (functions ++ more) id) (All-head (λ (q : Text × Meaning F). is_entry (Some q.1) ≡ false) p functions are)
-      (after_functions functions (All-tail (λ (q : Text × Meaning F). is_entry (Some q.1) ≡ false) p functions are) more id e)
+after_functions : (functions : Ids (Unit {0})) → AreFunctions functions → (more : Ids (Unit {0})) (id : Text) → is_entry (find more id) ≡ false → is_entry (find (functions ++ more) id) ≡ false
+after_functions [] are more id e = e
+after_functions (p ∷ functions) are more id e =
+    first_by (is_at (order id) p.0) p.1 (find (functions ++ more) id) (All-head (λ (q : Text × Meaning (Unit {0})). is_entry (Some q.1) ≡ false) p functions are)
+    (after_functions functions (All-tail (λ (q : Text × Meaning (Unit {0})). is_entry (Some q.1) ≡ false) p functions are) more id e)
 
-  -- pairs that were put in after functions
-  put_in : (functions : Ids F) → AreFunctions functions → (pairs : List (Text × Meaning F)) (declared : List Text) → keys pairs ≡ declared → (id : Text) → is_among id declared ≡ false →
-      is_entry (find (functions ++ pairs) id) ≡ false
-  put_in functions are pairs declared same id e = after_functions functions are pairs id (ap is_entry (not_found id pairs (ap (is_among id) same ∙ e)))
+-- pairs that were put in after functions
+put_in : (functions : Ids (Unit {0})) → AreFunctions functions → (pairs : List (Text × Meaning (Unit {0}))) (declared : List Text) → keys pairs ≡ declared → (id : Text) → is_among id declared ≡ false →
+    is_entry (find (functions ++ pairs) id) ≡ false
+put_in functions are pairs declared same id e = after_functions functions are pairs id (ap is_entry (not_found id pairs (ap (is_among id) same ∙ e)))
 
 -- the ids that entries are put in under
-keys_declared : (F : Type 0) (es : List t.Entry) → keys {F = F} (entries_by_id es) ≡ declared_ids es
-keys_declared F [] = refl
-keys_declared F (t.message m ∷ es) = ap (λ ids. m.id ∷ ids) (keys_declared F es)
-keys_declared F (t.term m ∷ es) = ap (λ ids. m.id ∷ ids) (keys_declared F es)
-keys_declared F (t.comment c ∷ es) = keys_declared F es
-keys_declared F (t.group_comment c ∷ es) = keys_declared F es
-keys_declared F (t.resource_comment c ∷ es) = keys_declared F es
-keys_declared F (t.junk s ∷ es) = keys_declared F es
+keys_declared : (es : List t.Entry) → keys (entries_by_id es) ≡ declared_ids es
+keys_declared [] = refl
+keys_declared (t.message m ∷ es) = ap (λ ids. m.id ∷ ids) (keys_declared es)
+keys_declared (t.term m ∷ es) = ap (λ ids. m.id ∷ ids) (keys_declared es)
+keys_declared (t.comment c ∷ es) = keys_declared es
+keys_declared (t.group_comment c ∷ es) = keys_declared es
+keys_declared (t.resource_comment c ∷ es) = keys_declared es
+keys_declared (t.junk s ∷ es) = keys_declared es
 
-abbrev by_id : (F : Type 0) → Resource (Bor Text) → List (Text × Meaning F)
-by_id F x = entries_by_id (entries_of x)
+abbrev by_id : Resource (Bor Text) → List (Text × Meaning (Unit {0}))
+by_id x = entries_by_id (entries_of x)
 
-keys_of_trees : (F : Type 0) (trees : List (Resource (Bor Text))) → keys (flat_map (by_id F) trees) ≡ ids_of_trees trees
-keys_of_trees F [] = refl
-keys_of_trees F (x ∷ trees) =
-    map-append (λ (p : Text × Meaning F). p.0) (by_id F x) (flat_map (by_id F) trees)
-    ∙ (ap (λ ids. ids ++ keys (flat_map (by_id F) trees)) (keys_declared F (entries_of x)) ∙ ap (λ ids. declared_ids (entries_of x) ++ ids) (keys_of_trees F trees))
+keys_of_trees : (trees : List (Resource (Bor Text))) → keys (flat_map by_id trees) ≡ ids_of_trees trees
+keys_of_trees [] = refl
+keys_of_trees (x ∷ trees) =
+    map-append (λ (p : Text × Meaning (Unit {0})). p.0) (by_id x) (flat_map by_id trees)
+    ∙ (ap (λ ids. ids ++ keys (flat_map by_id trees)) (keys_declared (entries_of x)) ∙ ap (λ ids. declared_ids (entries_of x) ++ ids) (keys_of_trees trees))
 
 -- ids that were put in: functions first, and then the entries of trees
-pub declared_in_trees : {F : Type 0} (functions : Ids F) (trees : List (Resource (Bor Text))) → AreFunctions functions →
+pub declared_in_trees : (functions : Ids (Unit {0})) (trees : List (Resource (Bor Text))) → AreFunctions functions →
     AreDeclaredIn (with_ids false functions (flat_map (λ tree. entries_by_id (entries_of tree)) trees)) trees
-declared_in_trees {F} functions trees are id e =
-    ap is_entry (first_stays functions (flat_map (by_id F) trees) id) ∙ put_in functions are (flat_map (by_id F) trees) (ids_of_trees trees) (keys_of_trees F trees) id e
+declared_in_trees functions trees are id e =
+    ap is_entry (first_stays functions (flat_map by_id trees) id) ∙ put_in functions are (flat_map by_id trees) (ids_of_trees trees) (keys_of_trees trees) id e
 
 -- ---- the ids of a catalog
 
@@ -134,7 +133,7 @@ module _ (reading : Text → List t.Entry) (keeps : (source : Text) → declared
   declared_by functions sources trees same id e =
       ap is_entry (first_stays (number_pair ∷ []) (map named_function functions ++ entries_by_id (lists sources)) id)
       ∙ put_in (named_functions functions) (are_functions functions) (entries_by_id (lists sources)) (ids_of_trees trees)
-      (keys_declared (Unit {0}) (lists sources) ∙ declared_lists sources trees same) id e
+      (keys_declared (lists sources) ∙ declared_lists sources trees same) id e
 
 -- the ids of a catalog of sources, in whose order these are the trees
 pub declared_in_sources : (functions sources : List Text) (trees : List (Resource (Bor Text))) → map entries_of trees ≡ map tree sources → AreDeclaredIn (catalog_ids functions sources) trees
@@ -147,14 +146,14 @@ declared_in_runtime =
 
 -- ---- what ids that aren't declared name
 
-message_none : {F : Type 0} (i : Text) (a : Option Text) (o : Option (Meaning F)) → is_entry o ≡ false → target_pattern (message_target i a o) ≡ None
+message_none : (i : Text) (a : Option Text) (o : Option (Meaning (Unit {0}))) → is_entry o ≡ false → target_pattern (message_target i a o) ≡ None
 message_none i a None e = refl
 message_none i a (Some number_function) e = refl
 message_none i a (Some (function f)) e = refl
 message_none i a (Some (message m)) e = absurd cc
 message_none i a (Some (term m)) e = refl
 
-term_none : {F : Type 0} (i : Text) (a : Option Text) (o : Option (Meaning F)) → is_entry o ≡ false → target_pattern (term_target i a o) ≡ None
+term_none : (i : Text) (a : Option Text) (o : Option (Meaning (Unit {0}))) → is_entry o ≡ false → target_pattern (term_target i a o) ≡ None
 term_none i a None e = refl
 term_none i a (Some number_function) e = refl
 term_none i a (Some (function f)) e = refl
@@ -162,6 +161,6 @@ term_none i a (Some (message m)) e = refl
 term_none i a (Some (term m)) e = absurd cc
 
 -- an id that isn't declared names no pattern
-pub no_others : {F : Type 0} (ids : Ids F) (declared : List Text) → AreAmong ids declared → (t : Bool) (i : Text) (a : Option Text) → is_among i declared ≡ false → entered ids t i a ≡ None
+pub no_others : (ids : Ids (Unit {0})) (declared : List Text) → AreAmong ids declared → (t : Bool) (i : Text) (a : Option Text) → is_among i declared ≡ false → entered ids t i a ≡ None
 no_others ids declared among true i a e = term_none i a (find ids i) (among i e)
 no_others ids declared among false i a e = message_none i a (find ids i) (among i e)

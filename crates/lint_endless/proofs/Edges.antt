@@ -20,7 +20,7 @@ targets : (target : Target) → target_patterns target ≡ option_to_list (targe
 targets (there es) = refl
 targets (missing e) = refl
 
-module _ {F : Type 0} (ids : Ids F) (others : List Elements) (indices : Indices) (ps : List Elements) (holds : Holds others indices ps (entered ids)) where
+module _ (ids : Ids (Unit {0})) (others : List Elements) (indices : Indices) (ps : List Elements) (holds : Holds others indices ps (entered ids)) where
   -- the pattern at an index
   abbrev found : Option ℕ → List Elements
   found o = option_to_list (option_map (pattern_at ps) o)

@@ -3,7 +3,7 @@ pub mod Held
 pub mod Owned
 pub mod Catalog
 pub mod Declared
-pub mod Circles
+pub mod EndlessMarks
 pub mod NodeReferences
 pub mod Whole
 pub mod Edges

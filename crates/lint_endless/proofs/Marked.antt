@@ -13,14 +13,14 @@ use Rattle.lint_endless.specs.declared.indices.Indices.{Indices}
 use Rattle.lint_endless.specs.Holding.{Holds, entered, pattern_at}
 use Rattle.lint_endless.specs.Marks.{is_marked, AreBelow, SayWhatIsEntered}
 use Rattle.lint_endless.specs.ReferenceGraph.{reference_index, next_indices, graph_by}
-use Rattle.lint_endless.proofs.Circles.{marked_is_endless, ending_is_not}
+use Rattle.lint_endless.proofs.EndlessMarks.{marked_is_endless, ending_is_not}
 use Rattle.lint_endless.proofs.Edges as graph
 
 or_false : (b : Bool) → (b || false) ≡ b
 or_false true = refl
 or_false false = refl
 
-module _ {F : Type 0} (ids : Ids F) (indices : Indices) (ps : List Elements) (holds : Holds (all_patterns ids) indices ps (entered ids)) where
+module _ (ids : Ids (Unit {0})) (indices : Indices) (ps : List Elements) (holds : Holds (all_patterns ids) indices ps (entered ids)) where
   long : length (graph_by indices ps) ≡ length ps
   long = length-map ps (next_indices indices)
 

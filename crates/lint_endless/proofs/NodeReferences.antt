@@ -10,7 +10,7 @@ use Rattle.fluent_meaning.specs.Substitution.{term_target}
 use Rattle.lint_findings.specs.References.{elements_references, expression_references, variants_references, inline_references, maybe_references, arguments_references, inlines_references, nameds_references, reference_patterns, target_patterns}
 use Rattle.lint_findings.specs.Nodes.{Node, expression, select, repeated_key, elements_nodes, expression_nodes, variants_nodes, inline_nodes, maybe_nodes, arguments_nodes, inlines_nodes, nameds_nodes, is_literal}
 
-module _ {F : Type 0} (meaning : Text → Option (Meaning F)) where
+module _ (meaning : Text → Option (Meaning (Unit {0}))) where
   abbrev pub node_patterns : Node → List Elements
   node_patterns (expression i) = reference_patterns meaning i
   node_patterns (select i vs) = []

@@ -7,7 +7,7 @@ use Rattle.lint_endless.specs.declared.entered.EnteredPatterns.{EnteredPatterns}
 use Rattle.lint_endless.specs.Holding.{Holds, HasPatternsOf, patterns_of, entered, entered_among}
 use Rattle.lint_endless.proofs.Owned.{renamed}
 
-module _ {F : Type 0} (ids : Ids F) (seen : List Text) (others : (t : Bool) (i : Text) (a : Option Text) → is_among i seen ≡ false → entered ids t i a ≡ None) where
+module _ (ids : Ids (Unit {0})) (seen : List Text) (others : (t : Bool) (i : Text) (a : Option Text) → is_among i seen ≡ false → entered ids t i a ≡ None) where
   all_by : (b : Bool) (t : Bool) (i : Text) (a : Option Text) → is_among i seen ≡ b → (if b then entered ids t i a else None) ≡ entered ids t i a
   all_by true t i a e = refl
   all_by false t i a e = sym (others t i a e)

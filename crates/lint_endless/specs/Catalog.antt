@@ -13,7 +13,7 @@ abbrev pub ids_of_trees : List (Resource (Bor Text)) → List Text
 ids_of_trees trees = flat_map (λ tree. declared_ids (entries_of tree)) trees
 
 -- whether an id stands for a message or a term
-abbrev pub is_entry : {F : Type 0} → Option (Meaning F) → Bool
+abbrev pub is_entry : Option (Meaning (Unit {0})) → Bool
 is_entry None = false
 is_entry (Some number_function) = false
 is_entry (Some (function f)) = false
@@ -21,13 +21,13 @@ is_entry (Some (message m)) = true
 is_entry (Some (term m)) = true
 
 -- each id that stands for a message or a term is one of these
-abbrev pub AreAmong : {F : Type 0} → Ids F → List Text → Type 0
+abbrev pub AreAmong : Ids (Unit {0}) → List Text → Type 0
 AreAmong ids declared = (id : Text) → is_among id declared ≡ false → is_entry (find ids id) ≡ false
 
 -- each id that stands for a message or a term is declared in one of these trees
-abbrev pub AreDeclaredIn : {F : Type 0} → Ids F → List (Resource (Bor Text)) → Type 0
+abbrev pub AreDeclaredIn : Ids (Unit {0}) → List (Resource (Bor Text)) → Type 0
 AreDeclaredIn ids trees = AreAmong ids (ids_of_trees trees)
 
 -- these ids stand for functions
-abbrev pub AreFunctions : {F : Type 0} → Ids F → Type 0
+abbrev pub AreFunctions : Ids (Unit {0}) → Type 0
 AreFunctions ids = All (λ pair. is_entry (Some pair.1) ≡ false) ids

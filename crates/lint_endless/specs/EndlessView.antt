@@ -4,5 +4,5 @@ use Rattle.fluent_meaning.specs.Ids.{Ids}
 use Rattle.lint_endless.specs.declared.endless.EndlessPatterns.{EndlessPatterns}
 
 -- the ids of the catalog
-abbrev pub ids_of : (F : Type 0) → EndlessPatterns F → Ids F
-ids_of F endless = ids_view F endless.ids.now
+abbrev pub ids_of : EndlessPatterns → Ids (Unit {0})
+ids_of endless = ids_view (Unit {0}) endless.ids.now

@@ -60,12 +60,12 @@ target_pattern (there es) = Some es
 target_pattern (missing e) = None
 
 -- the pattern that a reference by these names enters
-abbrev pub entered : {F : Type 0} → Ids F → Named
+abbrev pub entered : Ids (Unit {0}) → Named
 entered ids true i a = target_pattern (term_target i a (find ids i))
 entered ids false i a = target_pattern (message_target i a (find ids i))
 
 -- those of these ids
-abbrev pub entered_among : {F : Type 0} → Ids F → List Text → Named
+abbrev pub entered_among : Ids (Unit {0}) → List Text → Named
 entered_among ids seen t i a = if is_among i seen then entered ids t i a else None
 
 abbrev pub declared_ids : List t.Entry → List Text
@@ -76,7 +76,7 @@ abbrev pub patterns_of : List EnteredPattern → List Elements
 patterns_of ps = map (λ p. elements_of p.pattern.now) ps
 
 -- The patterns of a catalog are listed that references to these ids enter.
-pub record HasPatternsOf {F : Type 0} (ids : Ids F) (found : EnteredPatterns) (seen : List Text) : Type 0 where
+pub record HasPatternsOf (ids : Ids (Unit {0})) (found : EnteredPatterns) (seen : List Text) : Type 0 where
   pub seen_ids : (i : Text) → contains_by (λ k. bytes_eq i k.now) found.seen ≡ is_among i seen
   pub holds : Holds (all_patterns ids) found.indices (patterns_of found.patterns.items) (entered_among ids seen)
 
@@ -96,7 +96,7 @@ GetsEntry old new is_term id value attributes = (others : List Elements) (named 
 -- ---- what calls add
 
 -- the patterns that references to more ids enter
-abbrev pub GetsIds : {F : Type 0} → Ids F → EnteredPatterns → EnteredPatterns → List Text → Type 0
+abbrev pub GetsIds : Ids (Unit {0}) → EnteredPatterns → EnteredPatterns → List Text → Type 0
 GetsIds ids old new more = (seen : List Text) → HasPatternsOf ids old seen → HasPatternsOf ids new (seen ++ more)
 
 -- those of an entry with this value and these attributes

@@ -3,7 +3,8 @@
 
 ghost use Rattle.std.specs.Prelude.{◌≡◌, IfOk, length};
 ghost use Rattle.lint_endless.specs.Holding.{patterns_of};
-ghost use Rattle.lint_endless.specs.Marks.{AreBelow, SayWhatIsEntered};
+ghost use Rattle.lint_endless.specs.Marks.{AreBelow, SayWhatIsEntered, is_entered};
+ghost use Rattle.fluent_ast.specs.Borrowed.{inline_of};
 ghost use Rattle.lint_endless.specs.ReferenceGraph.{graph_by};
 ghost use Rattle.lint_endless.specs.Graph.{AreEndless, IsGraph};
 ghost use Rattle.fluent_ids.specs.IdsView.{ids_view};
@@ -13,8 +14,7 @@ use crate::graph::reference_graph;
 use crate::indices::Indices;
 use crate::lead_into_circles;
 use fluent_ast::{InlineExpression, Resource};
-use fluent_ids::FluentIds;
-use lint_entries::Endless;
+use lint_finding::CatalogIds;
 use std::alloc::{AllocError, Global};
 
 /// The patterns of a catalog whose references never end, by the names of the references that enter them.
@@ -26,19 +26,19 @@ use std::alloc::{AllocError, Global};
 /// }
 /// ```
 #[derive(Drop)]
-pub struct EndlessPatterns<'c, 'r, 's, F> {
-    /// Only contracts speak of them.
-    ids: &'c FluentIds<'r, 's, F>,
+pub struct EndlessPatterns<'c, 'r, 's> {
+    /// What the ids of the catalog stand for.
+    pub ids: &'c CatalogIds<'r, 's>,
     /// What the ids refer to.
     _trees: &'r [Resource<&'s str>],
     indices: Indices<'s>,
     /// At the index of each pattern, whether its references never end.
     marks: Vec<bool>,
     ghost below: { AreBelow (length marks.items) indices },
-    ghost right: { SayWhatIsEntered (ids_view F ids.now) indices marks.items },
+    ghost right: { SayWhatIsEntered (ids_view _ ids.now) indices marks.items },
 }
 
-impl<'c, 'r, 's, F> EndlessPatterns<'c, 'r, 's, F> {
+impl<'c, 'r, 's> EndlessPatterns<'c, 'r, 's> {
     ghost use Rattle.lint_endless.specs.Catalog.{AreDeclaredIn};
     ghost use Rattle.lint_endless.specs.EndlessView.{ids_of};
 
@@ -49,11 +49,11 @@ impl<'c, 'r, 's, F> EndlessPatterns<'c, 'r, 's, F> {
     /// [`AllocError`] if memory runs out; nothing is kept.
     pub fn new(
         alloc: Global,
-        ids: &'c FluentIds<'r, 's, F>,
+        ids: &'c CatalogIds<'r, 's>,
         trees: &'r [Resource<&'s str>],
     ) -> Result<Self, AllocError>
-        requires { AreDeclaredIn (ids_view F ids.now) trees.now }
-        ensures { IfOk result (λ endless. ids_of F endless ≡ ids_view F ids.now) }
+        requires { AreDeclaredIn (ids_view _ ids.now) trees.now }
+        ensures { IfOk result (λ endless. ids_of endless ≡ ids_view _ ids.now) }
     {
         let entered = EnteredPatterns::of(alloc, ids, trees)?;
         let marks = endless_marks(alloc, &entered.indices, &entered.patterns)?;
@@ -65,12 +65,11 @@ impl<'c, 'r, 's, F> EndlessPatterns<'c, 'r, 's, F> {
             marks,
         })
     }
-}
 
-impl<F> Endless<F> for EndlessPatterns<'_, '_, '_, F> {
-    ghost ids = { λ endless. ids_view F endless.ids.now };
-
-    fn is_entered(&self, reference: &InlineExpression<&str>) -> bool {
+    /// Whether a reference enters a pattern whose references never end.
+    pub fn is_entered(&self, reference: &InlineExpression<&str>) -> bool
+        ensures { result ≡ is_entered (ids_of self.now) (inline_of reference.now) }
+    {
         match self.indices.of_reference(reference) {
             Some(index) => self.marks[index],
             None => false,

@@ -9,8 +9,9 @@ ghost use Rattle.fluent_ids.specs.IdsView.{ids_view};
 
 use crate::indices::Indices;
 use fluent_ast::{Attribute, Pattern, Resource};
-use fluent_ids::{Entry, FluentIds};
-use lint_entries::declared_id;
+use fluent_ids::Entry;
+use lint_finding::CatalogIds;
+use lint_nodes::declared_id;
 use std::alloc::{AllocError, Global};
 use std::collections::HashSet;
 
@@ -41,8 +42,8 @@ pub struct EnteredPatterns<'r, 's> {
 
 impl<'r, 's> EnteredPatterns<'r, 's> {
     /// No patterns, of a catalog with these ids. It doesn't allocate.
-    pub fn new<F>(alloc: Global, ids: &FluentIds<'r, 's, F>) -> Self
-        ensures { HasPatternsOf (ids_view F ids.now) result [] }
+    pub fn new(alloc: Global, ids: &CatalogIds<'r, 's>) -> Self
+        ensures { HasPatternsOf (ids_view _ ids.now) result [] }
     {
         EnteredPatterns {
             indices: Indices::new(alloc),
@@ -55,13 +56,13 @@ impl<'r, 's> EnteredPatterns<'r, 's> {
     ///
     /// # Errors
     /// [`AllocError`] if memory runs out; nothing is kept.
-    pub fn of<F>(
+    pub fn of(
         alloc: Global,
-        ids: &FluentIds<'r, 's, F>,
+        ids: &CatalogIds<'r, 's>,
         trees: &[Resource<&'s str>],
     ) -> Result<Self, AllocError>
         ensures { IfOk result (λ entered.
-            HasPatternsOf (ids_view F ids.now) entered (ids_of_trees trees.now)) }
+            HasPatternsOf (ids_view _ ids.now) entered (ids_of_trees trees.now)) }
     {
         let mut entered = EnteredPatterns::new(alloc, ids);
         for tree in trees {
@@ -75,12 +76,12 @@ impl<'r, 's> EnteredPatterns<'r, 's> {
     ///
     /// # Errors
     /// [`AllocError`] if memory runs out; some may be added then.
-    pub fn add_resource<F>(
+    pub fn add_resource(
         &mut self,
-        ids: &FluentIds<'r, 's, F>,
+        ids: &CatalogIds<'r, 's>,
         resource: &Resource<&'s str>,
     ) -> Result<(), AllocError>
-        ensures { OnOk result (GetsIds (ids_view F ids.now) self.old self.new
+        ensures { OnOk result (GetsIds (ids_view _ ids.now) self.old self.new
             (declared_ids (entries_of resource.now))) }
     {
         for entry in &resource.body {
@@ -92,8 +93,8 @@ impl<'r, 's> EnteredPatterns<'r, 's> {
     }
 
     /// Adds those that references to an id enter.
-    fn add<F>(&mut self, ids: &FluentIds<'r, 's, F>, id: &'s str) -> Result<(), AllocError>
-        ensures { OnOk result (GetsIds (ids_view F ids.now) self.old self.new (id.now ∷ [])) }
+    fn add(&mut self, ids: &CatalogIds<'r, 's>, id: &'s str) -> Result<(), AllocError>
+        ensures { OnOk result (GetsIds (ids_view _ ids.now) self.old self.new (id.now ∷ [])) }
     {
         if !self.seen.insert(id)? {
             return Ok(());

@@ -3,13 +3,13 @@
 
 ghost use Rattle.std.specs.Prelude.{◌≡◌, Bool, None, Option, OnOk, option_map};
 ghost use Rattle.fluent_grammar.specs.Words.{Text};
-ghost use Rattle.fluent_ast.specs.Borrowed.{inline_of, name_of as bytes_of_name};
+ghost use Rattle.fluent_ast.specs.Borrowed.{inline_of};
 ghost use Rattle.lint_endless.specs.IndicesView.{GetsIndex, index_of};
 ghost use Rattle.lint_endless.specs.ReferenceGraph.{node_index, reference_index};
 ghost use Rattle.lint_nodes.specs.NodeView.{node_view};
 
-use fluent_ast::{Identifier, InlineExpression};
-use lint_nodes::Node;
+use fluent_ast::InlineExpression;
+use lint_nodes::{Node, name_of};
 use std::alloc::{AllocError, Global};
 use std::collections::HashMap;
 
@@ -79,15 +79,5 @@ impl<'s> Indices<'s> {
     {
         self.by_name.insert((is_term, id, attribute), index)?;
         Ok(())
-    }
-}
-
-/// The name of an attribute, if it is there.
-fn name_of<'n>(attribute: &Option<Identifier<&'n str>>) -> Option<&'n str>
-    ensures { option_map (λ s. s.now) result ≡ option_map bytes_of_name attribute.now }
-{
-    match attribute {
-        Some(name) => Some(name.name),
-        None => None,
     }
 }

@@ -12,13 +12,14 @@ use Rattle.lint_findings.specs.SyntaxErrors.{in_backticks}
 use Rattle.lint_findings.specs.FlawHints.{is_endless, never_ends, endless_hint}
 use Rattle.lint_findings.specs.Nodes.{Node, expression, repeated_key, is_literal, elements_nodes, expression_nodes, variants_nodes, inline_nodes, maybe_nodes, arguments_nodes, inlines_nodes, nameds_nodes}
 use Rattle.lint_findings.specs.References.{reference_patterns, elements_references, expression_references, variants_references, inline_references, maybe_references, arguments_references, inlines_references, nameds_references}
-use Rattle.lint_entries.specs.FirstEndless.{first_or, is_entered, entered, first_entered}
+use Rattle.lint_endless.specs.Marks.{is_entered}
+use Rattle.lint_entries.specs.FirstEndless.{first_or, entered, first_entered}
 
 first_assoc : (a b c : Option Text) → first_or (first_or a b) c ≡ first_or a (first_or b c)
 first_assoc None b c = refl
 first_assoc (Some x) b c = refl
 
-module _ {F : Type 0} (ids : Ids F) where
+module _ (ids : Ids (Unit {0})) where
   abbrev pub first_reference : List Inline → Option Text
   first_reference [] = None
   first_reference (i ∷ is) = first_or (entered ids (expression i)) (first_reference is)

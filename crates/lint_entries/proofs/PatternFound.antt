@@ -18,7 +18,7 @@ use Rattle.lint_findings.proofs.OccurrencesAreTheNodes.{occurrences_are_the_node
 use Rattle.lint_entries.specs.FirstEndless.{first_entered, endless_at}
 use Rattle.lint_entries.proofs.FirstIsHint.{goes, never_ends_by, hint_by}
 
-module _ {F : Type 0} (ids : Ids F) (plurals : Option LanguagePlurals) (source owner name : Text) where
+module _ (ids : Ids (Unit {0})) (plurals : Option LanguagePlurals) (source owner name : Text) where
   abbrev with_hint : Option Text → Finding
   with_hint hint = record {
     offset = length source - length name;
@@ -42,7 +42,7 @@ module _ {F : Type 0} (ids : Ids F) (plurals : Option LanguagePlurals) (source o
     nodes_part at (o ∷ os) = ap (λ xs. of_occurrence o ++ xs) (nodes_part at os)
 
     -- of lists to which first the finding of the references, and then those of the occurrences are added
-    pub pattern_added : (s rest : Text) → pattern_read s ≡ got es rest → (attribute : Option Text) (other : Ids F) → other ≡ ids → (os : List Occurrence) → os ≡ occurrences s → (ns : List Node) → ns ≡ nodes os → (x y z : List Finding) →
+    pub pattern_added : (s rest : Text) → pattern_read s ≡ got es rest → (attribute : Option Text) (other : Ids (Unit {0})) → other ≡ ids → (os : List Occurrence) → os ≡ occurrences s → (ns : List Node) → ns ≡ nodes os → (x y z : List Finding) →
         y ≡ x ++ endless_at source owner name (first_entered other ns) → z ≡ y ++ flat_map of_occurrence os →
         z ≡ x ++ pattern_findings ids plurals source owner (record { attribute = attribute; name_at = name; pattern_at = s }) es
     pattern_added s rest read attribute other same os there ns are x y z first later =

@@ -1,5 +1,5 @@
 -- What each call adds to the findings.
-use Rattle.std.specs.Prelude.{◌≡◌, List, [], map, Option, OnOk, Result, Vec, option_map}
+use Rattle.std.specs.Prelude.{◌≡◌, List, [], map, Option, OnOk, Result, Vec}
 use Rattle.std.specs.Global.{Global}
 use denote.Ref.{Bor}
 use Rattle.fluent_ast.specs.Borrowed.{attributes_of, elements_of}
@@ -31,31 +31,31 @@ abbrev pub LeavesAfter : Elements → Text → Text → Type 0
 LeavesAfter es s rest = pattern_read s ≡ got es rest
 
 -- the findings of a pattern with a name at this place, in the source from its first byte on
-abbrev pub AddsPattern : (F : Type 0) → Catalog F → Place → Text → Pattern (Bor Text) → Vec Finding Global → Vec Finding Global → Type 0
-AddsPattern F catalog name s pattern old new = Adds old new (pattern_found F catalog name s (elements_of pattern))
+abbrev pub AddsPattern : Catalog → Place → Text → Pattern (Bor Text) → Vec Finding Global → Vec Finding Global → Type 0
+AddsPattern catalog name s pattern old new = Adds old new (pattern_found catalog name s (elements_of pattern))
 
 -- those of a value, which may be none
-abbrev pub AddsValue : (F : Type 0) → Catalog F → Place → Text → Option (Pattern (Bor Text)) → Vec Finding Global → Vec Finding Global → Type 0
-AddsValue F catalog name s value old new = Adds old new (value_found F catalog name s (option_map elements_of value))
+abbrev pub AddsValue : Catalog → Place → Text → Option Elements → Vec Finding Global → Vec Finding Global → Type 0
+AddsValue catalog name s value old new = Adds old new (value_found catalog name s value)
 
 -- those of the attributes of an entry at this place, in the source from the line of the first one on
-abbrev pub AddsAttributes : (F : Type 0) → Catalog F → Place → List (Attribute (Bor Text)) → Text → Vec Finding Global → Vec Finding Global → Type 0
-AddsAttributes F catalog entry attributes s old new = Adds old new (attributes_found F catalog entry [] (attributes_of attributes) s)
+abbrev pub AddsAttributes : Catalog → Place → List (Attribute (Bor Text)) → Text → Vec Finding Global → Vec Finding Global → Type 0
+AddsAttributes catalog entry attributes s old new = Adds old new (attributes_found catalog entry [] (attributes_of attributes) s)
 
 -- the finding of a pattern with these occurrences and a name at this place, if its references never end
-abbrev pub endless_among : {F : Type 0} → Ids F → Place → List Occurrence → List f.Finding
+abbrev pub endless_among : Ids (Unit {0}) → Place → List Occurrence → List f.Finding
 endless_among ids name occurrences = endless_found name (first_entered ids (nodes_of occurrences))
 
 -- those of a node at a place, in a pattern with these elements
-abbrev pub AddsNode : (F : Type 0) → Catalog F → Elements → Place → Node → Vec Finding Global → Vec Finding Global → Type 0
-AddsNode F catalog es place node old new = Adds old new (node_found F catalog es place (node_view node))
+abbrev pub AddsNode : Catalog → Elements → Place → Node → Vec Finding Global → Vec Finding Global → Type 0
+AddsNode catalog es place node old new = Adds old new (node_found catalog es place (node_view node))
 
 -- If all went well: those of occurrences in a source, whatever pattern they are in.
-abbrev pub AddsOccurrences : (F : Type 0) {A E : Type 0} → Result A E → Catalog F → Text → Label → List Occurrence → Vec Finding Global → Vec Finding Global → Type 0
-AddsOccurrences F result catalog source label occurrences old new =
-    (es : Elements) → OnOk result (Adds old new (occurrences_found F catalog source label es (map occurrence_view occurrences)))
+abbrev pub AddsOccurrences : {A E : Type 0} → Result A E → Catalog → Text → Label → List Occurrence → Vec Finding Global → Vec Finding Global → Type 0
+AddsOccurrences result catalog source label occurrences old new =
+    (es : Elements) → OnOk result (Adds old new (occurrences_found catalog source label es (map occurrence_view occurrences)))
 
 -- If all went well: those of the flaws of a node at a place, whatever pattern it is in.
-abbrev pub AddsFlaws : (F : Type 0) {A E : Type 0} → Result A E → FluentIds F → Place → Node → Vec Finding Global → Vec Finding Global → Type 0
-AddsFlaws F result ids place node old new =
-    (plurals : Option LanguagePlurals) (es : Elements) → OnOk result (Adds old new (flaw_findings F ids plurals es place (node_view node)))
+abbrev pub AddsFlaws : {A E : Type 0} → Result A E → FluentIds (Unit {0}) → Place → Node → Vec Finding Global → Vec Finding Global → Type 0
+AddsFlaws result ids place node old new =
+    (plurals : Option LanguagePlurals) (es : Elements) → OnOk result (Adds old new (flaw_findings ids plurals es place (node_view node)))

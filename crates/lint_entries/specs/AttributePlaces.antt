@@ -1,5 +1,8 @@
 -- Where the patterns of an entry are read, by its tree.
 use Rattle.std.specs.Prelude.{◌≡◌, List, [], ◌∷◌, drop, Option, Some, None}
+use denote.Ref.{Bor}
+use Rattle.fluent_ast.specs.Borrowed.{entry_of}
+use Rattle.fluent_ast.specs.declared.Entry.{Entry}
 use Rattle.fluent_grammar.specs.Words.{Text, skip_spaces, skip_blank_block}
 use Rattle.fluent_grammar.specs.Refusal.{Reading, got, refused}
 use Rattle.fluent_grammar.specs.Tree as t
@@ -45,6 +48,10 @@ abbrev pub uncommented : t.Entry → t.Entry
 uncommented (t.message m) = t.message (record m { comment = None })
 uncommented (t.term m) = t.term (record m { comment = None })
 uncommented e = e
+
+-- as code has it
+abbrev pub bare_entry : Entry (Bor Text) → t.Entry
+bare_entry e = uncommented (entry_of e)
 
 -- an entry is read at the front of a text and leaves this rest
 abbrev pub LeavesRest : t.Entry → Text → Text → Type 0

@@ -2,15 +2,13 @@
 use Rattle.std.specs.Prelude.{List, [], ◌∷◌, ◌++◌, Some, if◌then◌else◌, Vec}
 use Rattle.std.specs.Global.{Global}
 use denote.Ref.{Bor}
-use Rattle.fluent_grammar.specs.Words.{Text, is_among, skip_spaces}
+use Rattle.fluent_grammar.specs.Words.{Text, is_among}
 use Rattle.fluent_grammar.specs.Tree as t
-use Rattle.lint_findings.specs.EntryFindings as e
 use Rattle.lint_findings.specs.Finding.{Finding}
-use Rattle.lint_findings.specs.Occurrences.{pattern_read}
 use Rattle.lint_finding.specs.declared.records.Finding as code
-use Rattle.fluent_ids.specs.IdsView.{ids_view}
 use Rattle.fluent_meaning.specs.Fallback.{with_attribute}
-use Rattle.lint_entries.specs.AttributePlaces.{attribute_value, read_rest}
+use Rattle.lint_entries.specs.CatalogView.{ids_in}
+use Rattle.lint_entries.specs.EntryParts.{attributes_at}
 use Rattle.lint_entries.specs.HasNames.{HasNames}
 use Rattle.lint_entries.specs.Made.{Adds, made_of}
 use Rattle.lint_entries.specs.declared.catalog.Catalog.{Catalog}
@@ -38,13 +36,7 @@ place_of_attribute entry name at = record {
 abbrev pub label_with : Place → Text → Text
 label_with entry name = with_attribute (entry.label.sign.now ++ entry.label.id.now) (Some name)
 
-module _ (F : Type 0) (catalog : Catalog F) where
-  -- the findings of attributes of an entry, after those with these names, from the line of the first one on
-  abbrev pub attributes_found : Place → List Text → List t.Attribute → Text → List Finding
-  attributes_found entry before [] s = []
-  attributes_found entry before (a ∷ as') s =
-      e.attribute_findings (ids_view F catalog.ids.now) catalog.plurals entry.source.now (label_with entry a.id) before
-      (record { attribute = Some a.id; name_at = skip_spaces s; pattern_at = attribute_value s }) (Some a.id)
-      ++ (e.pattern_findings (ids_view F catalog.ids.now) catalog.plurals entry.source.now (label_with entry a.id)
-      (record { attribute = Some a.id; name_at = skip_spaces s; pattern_at = attribute_value s }) a.value
-      ++ attributes_found entry (a.id ∷ before) as' (read_rest (pattern_read (attribute_value s))))
+-- the findings of attributes of an entry, after those with these names, from the line of the first one on
+abbrev pub attributes_found : Catalog → Place → List Text → List t.Attribute → Text → List Finding
+attributes_found catalog entry before as' s =
+    attributes_at (ids_in catalog) catalog.plurals entry.source.now (entry.label.sign.now ++ entry.label.id.now) before as' s

@@ -38,13 +38,13 @@ abbrev pub IsSame : Declarations → Declarations → Type 0
 IsSame old new = (id : Text) → first_location new id ≡ first_location old id
 
 -- what has an id already, in words, after these declarations
-abbrev pub taken_text : {F : Type 0} → Ids F → List Declaration → Text → Option Text
+abbrev pub taken_text : Ids (Unit {0}) → List Declaration → Text → Option Text
 taken_text functions before id =
     if is_some (first_declaration id before) || is_some (find functions id)
     then Some (d.duplicate_text id (first_declaration id before))
     else None
 
-abbrev pub IsDuplicateAfter : {F : Type 0} → Ids F → Declarations → Text → Option Text → Type 0
+abbrev pub IsDuplicateAfter : Ids (Unit {0}) → Declarations → Text → Option Text → Type 0
 IsDuplicateAfter functions known id text = (before : List Declaration) → AreFirst known before → text ≡ taken_text functions before id
 
 -- the finding by the declarations that are known, if there is one
@@ -53,5 +53,5 @@ HasFindingAfter known findings found =
     (before : List Declaration) → AreFirst known before → map finding_view (option_to_list found) ≡ findings before
 
 -- the finding of an entry with this id at an offset, after the declarations that are known, if there is one
-abbrev pub HasDuplicateFinding : {F : Type 0} → Declarations → Ids F → Entry → ℕ → Text → Option code.Finding → Type 0
+abbrev pub HasDuplicateFinding : Declarations → Ids (Unit {0}) → Entry → ℕ → Text → Option code.Finding → Type 0
 HasDuplicateFinding known functions e at id = HasFindingAfter known (λ before. d.duplicate_findings functions before e at id)

@@ -1,28 +1,21 @@
 -- The first reference of a pattern that enters one whose references never end.
-use Rattle.std.specs.Prelude.{◌-◌, Bool, if◌then◌else◌, List, [], ◌∷◌, ◌++◌, length, Option, Some, None, codes}
-use Rattle.std.specs.List.{list_any}
+use Rattle.std.specs.Prelude.{◌-◌, if◌then◌else◌, List, [], ◌∷◌, ◌++◌, length, Option, Some, None, codes}
 use Rattle.fluent_grammar.specs.Words.{Text}
-use Rattle.fluent_grammar.specs.Tree.{Inline}
 use Rattle.fluent_meaning.specs.Fallback.{inline_fallback}
-use Rattle.fluent_meaning.specs.Ids.{Ids, find}
+use Rattle.fluent_meaning.specs.Ids.{Ids}
 use Rattle.lint_findings.specs.Finding.{Finding, error}
-use Rattle.lint_findings.specs.FlawHints.{is_endless}
+use Rattle.lint_endless.specs.Marks.{is_entered}
 use Rattle.lint_findings.specs.Nodes.{Node, expression, select, repeated_key}
-use Rattle.lint_findings.specs.References.{reference_patterns}
 use Rattle.lint_findings.specs.SyntaxErrors.{in_backticks}
 
 abbrev pub first_or : Option Text → Option Text → Option Text
 first_or None later = later
 first_or (Some x) later = Some x
 
-module _ {F : Type 0} (ids : Ids F) where
-  -- whether a reference enters a pattern whose references never end
-  abbrev pub is_entered : Inline → Bool
-  is_entered i = list_any (is_endless ids) (reference_patterns (find ids) i)
-
+module _ (ids : Ids (Unit {0})) where
   -- a node as it is written, if it is such a reference
   abbrev pub entered : Node → Option Text
-  entered (expression i) = if is_entered i then Some (inline_fallback i) else None
+  entered (expression i) = if is_entered ids i then Some (inline_fallback i) else None
   entered (select i vs) = None
   entered (repeated_key k) = None
 

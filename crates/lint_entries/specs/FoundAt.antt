@@ -14,6 +14,7 @@ use Rattle.lint_nodes.specs.NodeView.{node_view}
 use Rattle.fluent_number.specs.declared.plural.PluralCategory.{PluralCategory}
 use Rattle.fluent_plurals.specs.declared.plurals.LanguagePlurals.{LanguagePlurals}
 use Rattle.lint_nodes.specs.declared.occurrence.Occurrence.{Occurrence}
+use Rattle.lint_entries.specs.CatalogView.{ids_in}
 use Rattle.lint_entries.specs.FirstEndless.{endless_at}
 use Rattle.lint_entries.specs.Labels.{label_text}
 use Rattle.lint_entries.specs.Made.{made_of}
@@ -27,9 +28,9 @@ abbrev pub nodes_of : List Occurrence → List n.Node
 nodes_of os = map (λ (x : Occurrence). node_view x.node) os
 
 -- of the flaws of a node at a place, in a pattern with these elements
-abbrev pub flaw_findings : (F : Type 0) → FluentIds F → Option LanguagePlurals → Elements → Place → n.Node → List Finding
-flaw_findings F ids plurals es place node =
-    map (e.flaw_finding (ids_view F ids) plurals place.source.now es (label_text place.label) place.at.now) (e.node_flaws (ids_view F ids) node)
+abbrev pub flaw_findings : FluentIds (Unit {0}) → Option LanguagePlurals → Elements → Place → n.Node → List Finding
+flaw_findings ids plurals es place node =
+    map (e.flaw_finding (ids_view (Unit {0}) ids) plurals place.source.now es (label_text place.label) place.at.now) (e.node_flaws (ids_view (Unit {0}) ids) node)
 
 -- the finding at a place that a category is missing
 abbrev pub category_finding : Place → PluralCategory → Finding
@@ -56,21 +57,21 @@ escape_findings place node = map (escape_finding place) (e.node_escapes node)
 abbrev pub endless_found : Place → Option Text → List Finding
 endless_found place first = endless_at place.source.now (label_text place.label) place.at.now first
 
-module _ (F : Type 0) (catalog : Catalog F) where
+module _ (catalog : Catalog) where
   -- of a node at a place, in a pattern with these elements
   abbrev pub node_found : Elements → Place → n.Node → List Finding
   node_found es place node =
-      e.node_findings (ids_view F catalog.ids.now) catalog.plurals place.source.now es (label_text place.label) place.at.now node
+      e.node_findings (ids_in catalog) catalog.plurals place.source.now es (label_text place.label) place.at.now node
 
   -- of occurrences in a source, in a pattern with these elements
   abbrev pub occurrences_found : Text → Label → Elements → List o.Occurrence → List Finding
   occurrences_found source label es os =
-      flat_map (λ (x : o.Occurrence). e.node_findings (ids_view F catalog.ids.now) catalog.plurals source es (label_text label) x.at x.node) os
+      flat_map (λ (x : o.Occurrence). e.node_findings (ids_in catalog) catalog.plurals source es (label_text label) x.at x.node) os
 
   -- of a pattern with a name at this place, in the source from its first byte on
   abbrev pub pattern_found : Place → Text → Elements → List Finding
   pattern_found name pattern_at es =
-      e.pattern_findings (ids_view F catalog.ids.now) catalog.plurals name.source.now (label_text name.label)
+      e.pattern_findings (ids_in catalog) catalog.plurals name.source.now (label_text name.label)
       (record { attribute = None; name_at = name.at.now; pattern_at = pattern_at }) es
 
   -- of the value of a message with a name at this place, if it has one

@@ -5,6 +5,9 @@ pub mod FirstEndless
 pub mod FoundAt
 pub mod AttributePlaces
 pub mod HasNames
+pub mod EntryParts
+pub mod CatalogView
+pub mod PartsView
 pub mod AttributesFound
 pub mod Found
 pub mod Added

@@ -15,7 +15,7 @@ use Rattle.lint_entries.specs.declared.finding.Place.{Place}
 use Rattle.lint_entries.specs.declared.problem.Problem.{Problem}
 
 -- a finding stands for that of a flaw of a node, whatever pattern the node is in
-abbrev pub IsFlawFinding : {F : Type 0} → Ids F → Place → Flaw → Finding → Type 0
+abbrev pub IsFlawFinding : Ids (Unit {0}) → Place → Flaw → Finding → Type 0
 IsFlawFinding ids place flaw made = (plurals : Option LanguagePlurals) (es : Elements) →
     finding_view made ≡ e.flaw_finding ids plurals place.source.now es (label_text place.label) place.at.now flaw
 

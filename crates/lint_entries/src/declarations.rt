@@ -11,8 +11,7 @@ use crate::duplicate::Duplicate;
 use crate::entries::label;
 use crate::location::Location;
 use fluent_ast::Entry;
-use fluent_ids::FluentIds;
-use lint_finding::{Finding, Severity};
+use lint_finding::{CatalogIds, Finding, Severity};
 use std::alloc::{AllocError, Global};
 use std::collections::HashMap;
 
@@ -63,14 +62,14 @@ impl<'a> Declarations<'a> {
     ///
     /// # Errors
     /// [`AllocError`] if memory runs out; nothing is kept.
-    pub fn finding<F>(
+    pub fn finding(
         &self,
-        functions: &FluentIds<'_, '_, F>,
+        functions: &CatalogIds<'_, '_>,
         entry: &Entry<&str>,
         id: &str,
         offset: usize,
     ) -> Result<Option<Finding>, AllocError>
-        ensures { IfOk result (HasDuplicateFinding self.now (ids_view F functions.now)
+        ensures { IfOk result (HasDuplicateFinding self.now (ids_view _ functions.now)
             (entry_of entry.now) offset id.now) }
     {
         let Some(duplicate) = self.duplicate(functions, id) else {
@@ -89,12 +88,8 @@ impl<'a> Declarations<'a> {
     }
 
     /// What has this id already.
-    fn duplicate<'b, F>(
-        &'b self,
-        functions: &FluentIds<'_, '_, F>,
-        id: &'b str,
-    ) -> Option<Duplicate<'b>>
-        ensures { IsDuplicateAfter (ids_view F functions.now) self.now id.now
+    fn duplicate<'b>(&'b self, functions: &CatalogIds<'_, '_>, id: &'b str) -> Option<Duplicate<'b>>
+        ensures { IsDuplicateAfter (ids_view _ functions.now) self.now id.now
             (option_map duplicate_text result) }
     {
         if let Some(location) = self.first.get(id) {

@@ -1,24 +1,25 @@
 //! References that never end.
 #![tactic(auto)]
 
-ghost use Rattle.std.specs.Prelude.{◌≡◌, map, option_map};
+ghost use Rattle.std.specs.Prelude.{◌≡◌, option_map};
+ghost use Rattle.lint_endless.specs.EndlessView.{ids_of};
 ghost use Rattle.lint_entries.specs.FirstEndless as first;
 ghost use Rattle.lint_entries.specs.FoundAt.{nodes_of};
 ghost use Rattle.lint_entries.specs.Labels.{label_text};
 ghost use Rattle.lint_nodes.specs.NodeView.{node_view};
 
-use crate::catalog::Endless;
-use crate::label::{Label, name_of};
+use crate::label::Label;
 use fluent_ast::InlineExpression;
-use lint_nodes::{Node, Occurrence};
+use lint_endless::EndlessPatterns;
+use lint_nodes::{Node, Occurrence, name_of};
 
 /// The first reference that enters a pattern whose references never end.
-pub fn first_entered<'s, F, E: Endless<F>>(
-    endless: &E,
+pub fn first_entered<'s>(
+    endless: &EndlessPatterns<'_, '_, '_>,
     occurrences: &[Occurrence<'_, 's, '_>],
 ) -> Option<Label<'s>>
     ensures { option_map label_text result
-        ≡ first.first_entered (E.ids endless.now) (nodes_of occurrences.now) }
+        ≡ first.first_entered (ids_of endless.now) (nodes_of occurrences.now) }
 {
     for occurrence in occurrences {
         if let Some(reference) = entered(endless, occurrence.node) {
@@ -29,9 +30,9 @@ pub fn first_entered<'s, F, E: Endless<F>>(
 }
 
 /// A node as it is written, if it is such a reference.
-fn entered<'s, F, E: Endless<F>>(endless: &E, node: Node<'_, 's>) -> Option<Label<'s>>
+fn entered<'s>(endless: &EndlessPatterns<'_, '_, '_>, node: Node<'_, 's>) -> Option<Label<'s>>
     ensures { option_map label_text result
-        ≡ first.entered (E.ids endless.now) (node_view node.entry) }
+        ≡ first.entered (ids_of endless.now) (node_view node.entry) }
 {
     let Node::Expression(reference) = node else {
         return None;

@@ -1,23 +1,12 @@
-//! The ids of entries.
+//! The labels of entries.
 #![tactic(auto)]
 
-ghost use Rattle.std.specs.Prelude.{◌≡◌, IfOk, option_map, string_bytes};
+ghost use Rattle.std.specs.Prelude.{◌≡◌, IfOk, string_bytes};
 ghost use Rattle.fluent_ast.specs.Borrowed.{entry_of};
-ghost use Rattle.lint_findings.specs.DuplicateIds.{id_of, label_of};
+ghost use Rattle.lint_findings.specs.DuplicateIds.{label_of};
 
 use fluent_ast::Entry;
 use std::alloc::{AllocError, Global};
-
-/// The id of an entry, a term's without its minus. Only messages and terms have one.
-pub fn declared_id<'s>(entry: &Entry<&'s str>) -> Option<&'s str>
-    ensures { option_map (λ s. s.now) result ≡ id_of (entry_of entry.now) }
-{
-    match entry {
-        Entry::Message(message) => Some(message.id.name),
-        Entry::Term(term) => Some(term.id.name),
-        _ => None,
-    }
-}
 
 /// The id of an entry, a term's with its minus.
 ///

@@ -1,178 +1,118 @@
 //! The findings of an entry.
 #![tactic(auto)]
 
-ghost use Rattle.std.specs.Prelude.{◌≡◌, IfOk, OnOk, option_map};
-ghost use Rattle.fluent_ast.specs.Borrowed.{attributes_of, elements_of, message_of, term_of};
+ghost use Rattle.std.specs.Prelude.{◌≡◌, IfOk, OnOk};
+ghost use Rattle.fluent_ast.specs.Borrowed.{attributes_of};
 ghost use Rattle.lint_entries.specs.Added.{AddsAttributes, AddsValue, LeavesAfter};
-ghost use Rattle.lint_entries.specs.AttributePlaces.{AreAttributes, AreAttributesAt, IsEntryAt, LeavesRest, value_elements};
+ghost use Rattle.lint_entries.specs.AttributePlaces.{AreAttributes, IsEntryAt, bare_entry, value_elements};
 ghost use Rattle.lint_entries.specs.AttributesFound.{AddsIfTaken, place_of_attribute};
 ghost use Rattle.lint_entries.specs.Found.{IsFoundIn};
 ghost use Rattle.lint_entries.specs.HasNames.{GetsName};
-ghost use Rattle.lint_entries.specs.Made.{Adds};
-ghost use Rattle.fluent_grammar.specs.Tree as t;
-ghost use Rattle.fluent_ids.specs.IdsView.{ids_view};
+ghost use Rattle.lint_entries.specs.PartsView.{AreFoundOf, AreReadAt, value_of};
 ghost use Rattle.lint_nodes.specs.OccurrenceView.{IsPatternAt};
 
-use crate::catalog::{Catalog, Endless};
+use crate::catalog::Catalog;
+use crate::entry_parts::EntryParts;
 use crate::finding::{Place, problem_finding};
 use crate::label::Label;
 use crate::names::Names;
 use crate::pattern::push_pattern;
 use crate::problem::Problem;
-use crate::text::{after_equals, skip, skip_blank_block, skip_spaces};
-use fluent_ast::{Attribute, Message, Pattern, Term};
+use crate::text::{after_equals, skip_blank_block, skip_spaces};
+use fluent_ast::{Attribute, Entry, Pattern};
 use lint_finding::Finding;
-use lint_nodes::empty_pattern_rest;
+use lint_nodes::{empty_pattern_rest, skip};
 use std::alloc::{AllocError, Global};
 
-/// The findings of an entry, and the source after it.
-#[derive(Drop)]
-pub struct EntryFindings<'t> {
-    pub findings: Vec<Finding>,
-    pub rest: &'t [u8],
-}
-
-/// The findings of a message, but for its id. The text is the source from the message on.
+/// The findings of a message or a term, but for its id; of other entries there are none. The text is the source from the
+/// entry on.
 ///
 /// # Errors
 /// [`AllocError`] if memory runs out; nothing is kept.
-pub fn message_findings<'s, 't, F, E: Endless<F>>(
+pub fn entry_findings<'s>(
     alloc: Global,
-    catalog: &Catalog<'_, '_, 's, F>,
-    endless: &E,
+    catalog: &Catalog<'_, '_, 's>,
     source: &str,
-    message: &Message<&'s str>,
-    text: &'t [u8],
-) -> Result<EntryFindings<'t>, AllocError>
-    requires same_ids { E.ids endless.now ≡ ids_view F catalog.now.ids.now }
-    requires there { IsEntryAt (t.message (message_of message.now)) text.now }
-    ensures findings { IfOk result (IsFoundIn F catalog.now source.now (t.message (message_of message.now)) text.now) }
-    ensures rest { IfOk result (λ found. LeavesRest (t.message (message_of message.now)) text.now found.rest.now) }
+    entry: &Entry<&'s str>,
+    text: &[u8],
+) -> Result<Vec<Finding>, AllocError>
+    requires { IsEntryAt (bare_entry entry.now) text.now }
+    ensures { IfOk result (IsFoundIn catalog.now source.now (bare_entry entry.now) text.now) }
+{
+    match EntryParts::of(entry) {
+        Some(parts) => parts_findings(alloc, catalog, source, &parts, text),
+        None => Ok(Vec::new(alloc)),
+    }
+}
+
+/// The findings of the parts of an entry.
+fn parts_findings<'s>(
+    alloc: Global,
+    catalog: &Catalog<'_, '_, 's>,
+    source: &str,
+    parts: &EntryParts<'_, 's>,
+    text: &[u8],
+) -> Result<Vec<Finding>, AllocError>
+    requires { AreReadAt parts.now text.now }
+    ensures { IfOk result (AreFoundOf catalog.now source.now parts.now text.now) }
 {
     let entry = Place {
         source,
         at: text,
         label: Label {
-            sign: "",
-            id: message.id.name,
+            sign: parts.sign,
+            id: parts.id,
             attribute: None,
         },
     };
     let mut findings = Vec::new(alloc);
-    let value = after_equals(text);
-    let rest = push_value(
-        alloc,
-        catalog,
-        endless,
-        &entry,
-        &message.value,
-        value,
-        &mut findings,
-    )?;
+    let value = after_equals(skip(text, parts.sign.len()));
+    let rest = push_value(alloc, catalog, &entry, parts.value, value, &mut findings)?;
     let attributes = skip_blank_block(rest);
-    let rest = push_attributes(
+    push_attributes(
         alloc,
         catalog,
-        endless,
         &entry,
-        &message.attributes,
+        parts.attributes,
         attributes,
         &mut findings,
     )?;
-    Ok(EntryFindings { findings, rest })
+    Ok(findings)
 }
 
-/// The findings of a term, but for its id. The text is the source from the term on, with its minus.
-///
-/// # Errors
-/// [`AllocError`] if memory runs out; nothing is kept.
-pub fn term_findings<'s, 't, F, E: Endless<F>>(
-    alloc: Global,
-    catalog: &Catalog<'_, '_, 's, F>,
-    endless: &E,
-    source: &str,
-    term: &Term<&'s str>,
-    text: &'t [u8],
-) -> Result<EntryFindings<'t>, AllocError>
-    requires same_ids { E.ids endless.now ≡ ids_view F catalog.now.ids.now }
-    requires there { IsEntryAt (t.term (term_of term.now)) text.now }
-    ensures findings { IfOk result (IsFoundIn F catalog.now source.now (t.term (term_of term.now)) text.now) }
-    ensures rest { IfOk result (λ found. LeavesRest (t.term (term_of term.now)) text.now found.rest.now) }
-{
-    let entry = Place {
-        source,
-        at: text,
-        label: Label {
-            sign: "-",
-            id: term.id.name,
-            attribute: None,
-        },
-    };
-    let mut findings = Vec::new(alloc);
-    let value = after_equals(skip(text, 1));
-    let rest = push_pattern(
-        alloc,
-        catalog,
-        endless,
-        &entry,
-        &term.value,
-        value,
-        &mut findings,
-    )?;
-    let attributes = skip_blank_block(rest);
-    let rest = push_attributes(
-        alloc,
-        catalog,
-        endless,
-        &entry,
-        &term.attributes,
-        attributes,
-        &mut findings,
-    )?;
-    Ok(EntryFindings { findings, rest })
-}
-
-/// Adds the findings of the value of a message, which may have none. The text is the source from the value on. Returns
+/// Adds the findings of the value of an entry, which may have none. The text is the source from the value on. Returns
 /// what follows it.
-fn push_value<'s, 't, F, E: Endless<F>>(
+fn push_value<'s, 't>(
     alloc: Global,
-    catalog: &Catalog<'_, '_, 's, F>,
-    endless: &E,
-    message: &Place<'_, '_, 's>,
-    value: &Option<Pattern<&'s str>>,
+    catalog: &Catalog<'_, '_, 's>,
+    entry: &Place<'_, '_, 's>,
+    value: Option<&Pattern<&'s str>>,
     text: &'t [u8],
     findings: &mut Vec<Finding>,
 ) -> Result<&'t [u8], AllocError>
-    requires same_ids { E.ids endless.now ≡ ids_view F catalog.now.ids.now }
-    requires there { IsPatternAt text.now (value_elements (option_map elements_of value.now)) }
-    ensures rest { IfOk result (λ rest.
-        LeavesAfter (value_elements (option_map elements_of value.now)) text.now rest.now) }
+    requires { IsPatternAt text.now (value_elements (value_of value)) }
+    ensures rest { IfOk result (λ rest. LeavesAfter (value_elements (value_of value.entry)) text.now rest.now) }
     ensures added { OnOk result
-        (AddsValue F catalog.now message.now text.now value.now findings.old findings.new) }
+        (AddsValue catalog.now entry.now text.now (value_of value.entry) findings.old findings.new) }
 {
     match value {
-        Some(pattern) => push_pattern(alloc, catalog, endless, message, pattern, text, findings),
+        Some(pattern) => push_pattern(alloc, catalog, entry, pattern, text, findings),
         None => Ok(empty_pattern_rest(text)),
     }
 }
 
-/// Adds the findings of the attributes of an entry. The text is the source from the line of the first one on. Returns
-/// what follows the last one.
-fn push_attributes<'s, 't, F, E: Endless<F>>(
+/// Adds the findings of the attributes of an entry. The text is the source from the line of the first one on.
+fn push_attributes<'s>(
     alloc: Global,
-    catalog: &Catalog<'_, '_, 's, F>,
-    endless: &E,
+    catalog: &Catalog<'_, '_, 's>,
     entry: &Place<'_, '_, 's>,
     attributes: &[Attribute<&'s str>],
-    text: &'t [u8],
+    text: &[u8],
     findings: &mut Vec<Finding>,
-) -> Result<&'t [u8], AllocError>
-    requires same_ids { E.ids endless.now ≡ ids_view F catalog.now.ids.now }
-    requires there { AreAttributes (attributes_of attributes.now) text.now }
-    ensures rest { IfOk result (λ rest. AreAttributesAt (attributes_of attributes.now) text.now
-        rest.now) }
-    ensures added { OnOk result
-        (AddsAttributes F catalog.now entry.now attributes.now text.now findings.old findings.new) }
+) -> Result<(), AllocError>
+    requires { AreAttributes (attributes_of attributes.now) text.now }
+    ensures { OnOk result
+        (AddsAttributes catalog.now entry.now attributes.now text.now findings.old findings.new) }
 {
     let mut names = Names::new(alloc);
     let mut rest = text;
@@ -181,17 +121,9 @@ fn push_attributes<'s, 't, F, E: Endless<F>>(
         let place = attribute_place(entry, attribute.id.name, at);
         push_if_taken(alloc, &place, attribute.id.name, &mut names, findings)?;
         let value = after_equals(skip(at, 1));
-        rest = push_pattern(
-            alloc,
-            catalog,
-            endless,
-            &place,
-            &attribute.value,
-            value,
-            findings,
-        )?;
+        rest = push_pattern(alloc, catalog, &place, &attribute.value, value, findings)?;
     }
-    Ok(rest)
+    Ok(())
 }
 
 /// The place of an attribute of an entry.

@@ -1,8 +1,8 @@
 //! How findings are made.
 #![tactic(auto)]
 
-ghost use Rattle.std.specs.Prelude.{◌≡◌, ◌-◌, IfOk, length, option_map, string_bytes};
-ghost use Rattle.lint_entries.specs.Made.{IsFlawFinding, made_of};
+ghost use Rattle.std.specs.Prelude.{◌≡◌, ◌-◌, IfOk, OnOk, length, map, option_map, option_to_list, string_bytes};
+ghost use Rattle.lint_entries.specs.Made.{Adds, IsFlawFinding, made_of};
 ghost use Rattle.lint_finding.specs.View.{finding_view};
 ghost use Rattle.lint_flaws.specs.FlawView.{flaw_view};
 ghost use Rattle.lint_flaws.specs.HintText.{hint_text};
@@ -11,8 +11,7 @@ ghost use Rattle.lint_entries.specs.Problems.{direction_text};
 
 use crate::label::Label;
 use crate::problem::{Direction, Problem};
-use fluent_ids::FluentIds;
-use lint_finding::Finding;
+use lint_finding::{CatalogIds, Finding};
 use lint_flaws::{Flaw, Hint};
 use std::alloc::{AllocError, Global};
 
@@ -37,13 +36,13 @@ impl Place<'_, '_, '_> {
 ///
 /// # Errors
 /// [`AllocError`] if memory runs out; nothing is kept.
-pub fn flaw_finding<'s, F>(
+pub fn flaw_finding<'s>(
     alloc: Global,
-    ids: &FluentIds<'_, 's, F>,
+    ids: &CatalogIds<'_, 's>,
     place: &Place<'_, '_, 's>,
     flaw: Flaw<'_, 's>,
 ) -> Result<Finding, AllocError>
-    ensures { IfOk result (IsFlawFinding (ids_view F ids.now) place.now (flaw_view flaw.entry)) }
+    ensures { IfOk result (IsFlawFinding (ids_view _ ids.now) place.now (flaw_view flaw.entry)) }
 {
     let entry = place.label.to_string(alloc)?;
     let text = flaw.to_string(alloc)?;
@@ -101,5 +100,21 @@ fn direction_of(
     match direction {
         Some(direction) => Ok(Some(direction.to_string(alloc)?)),
         None => Ok(None),
+    }
+}
+
+/// Adds a finding, if there is one.
+///
+/// # Errors
+/// [`AllocError`] if memory runs out; nothing is added then.
+pub fn push_found(found: Option<Finding>, findings: &mut Vec<Finding>) -> Result<(), AllocError>
+    ensures { OnOk result (Adds findings.old findings.new (map finding_view (option_to_list found))) }
+{
+    match found {
+        Some(finding) => {
+            findings.push(finding)?;
+            Ok(())
+        }
+        None => Ok(()),
     }
 }

@@ -1,11 +1,9 @@
 //! Labels of entries and attributes.
 #![tactic(auto)]
 
-ghost use Rattle.std.specs.Prelude.{◌≡◌, Some, option_map};
-ghost use Rattle.fluent_ast.specs.Borrowed.{name_of as bytes_of_name};
+ghost use Rattle.std.specs.Prelude.{Some};
 ghost use Rattle.lint_entries.specs.Labels.{label_text};
 
-use fluent_ast::Identifier;
 use std::fmt;
 
 /// An entry or one of its attributes, as `-brand.case`.
@@ -25,15 +23,5 @@ impl fmt::Display for Label<'_> {
             Some(name) => write!(f, "{}{}.{name}", self.sign, self.id),
             None => write!(f, "{}{}", self.sign, self.id),
         }
-    }
-}
-
-/// The name of an attribute, if it is there.
-pub fn name_of<'s>(attribute: &Option<Identifier<&'s str>>) -> Option<&'s str>
-    ensures { option_map (λ s. s.now) result ≡ option_map bytes_of_name attribute.now }
-{
-    match attribute {
-        Some(name) => Some(name.name),
-        None => None,
     }
 }

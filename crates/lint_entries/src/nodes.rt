@@ -12,9 +12,8 @@ use crate::catalog::Catalog;
 use crate::finding::{Place, flaw_finding, problem_finding};
 use crate::label::Label;
 use crate::problem::Problem;
-use fluent_ids::FluentIds;
 use fluent_plurals::LanguagePlurals;
-use lint_finding::Finding;
+use lint_finding::{CatalogIds, Finding};
 use lint_flaws::{node_categories, node_escapes, node_flaw};
 use lint_nodes::{Node, Occurrence};
 use std::alloc::{AllocError, Global};
@@ -23,15 +22,15 @@ use std::alloc::{AllocError, Global};
 ///
 /// # Errors
 /// [`AllocError`] if memory runs out; `findings` then holds its old findings and some of these.
-pub fn push_occurrences<'s, F>(
+pub fn push_occurrences<'s>(
     alloc: Global,
-    catalog: &Catalog<'_, '_, 's, F>,
+    catalog: &Catalog<'_, '_, 's>,
     source: &str,
     label: Label<'s>,
     occurrences: &[Occurrence<'_, 's, '_>],
     findings: &mut Vec<Finding>,
 ) -> Result<(), AllocError>
-    ensures { AddsOccurrences F result catalog.now source.now label.entry occurrences.now
+    ensures { AddsOccurrences result catalog.now source.now label.entry occurrences.now
         findings.old findings.new }
 {
     for occurrence in occurrences {
@@ -46,29 +45,29 @@ pub fn push_occurrences<'s, F>(
 }
 
 /// Adds the findings of a node at a place: its flaw, the plural categories that it lacks, and its invalid escapes.
-fn push_node<'s, F>(
+fn push_node<'s>(
     alloc: Global,
-    catalog: &Catalog<'_, '_, 's, F>,
+    catalog: &Catalog<'_, '_, 's>,
     place: &Place<'_, '_, 's>,
     node: Node<'_, 's>,
     findings: &mut Vec<Finding>,
 ) -> Result<(), AllocError>
     ensures { (es : Elements) → OnOk result
-        (AddsNode F catalog.now es place.now node.entry findings.old findings.new) }
+        (AddsNode catalog.now es place.now node.entry findings.old findings.new) }
 {
-    push_flaw(alloc, catalog.ids, place, node, findings)?;
+    push_flaw(alloc, catalog.endless.ids, place, node, findings)?;
     push_categories(alloc, catalog.plurals, place, node, findings)?;
     push_escapes(alloc, place, node, findings)
 }
 
-fn push_flaw<'s, F>(
+fn push_flaw<'s>(
     alloc: Global,
-    ids: &FluentIds<'_, 's, F>,
+    ids: &CatalogIds<'_, 's>,
     place: &Place<'_, '_, 's>,
     node: Node<'_, 's>,
     findings: &mut Vec<Finding>,
 ) -> Result<(), AllocError>
-    ensures { AddsFlaws F result ids.now place.now node.entry findings.old findings.new }
+    ensures { AddsFlaws result ids.now place.now node.entry findings.old findings.new }
 {
     if let Some(flaw) = node_flaw(ids, node) {
         findings.push(flaw_finding(alloc, ids, place, flaw)?)?;

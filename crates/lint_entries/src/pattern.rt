@@ -1,14 +1,14 @@
 //! The findings of a pattern.
 #![tactic(auto)]
 
-ghost use Rattle.std.specs.Prelude.{◌≡◌, IfOk, OnOk};
+ghost use Rattle.std.specs.Prelude.{IfOk, OnOk};
 ghost use Rattle.fluent_ast.specs.Borrowed.{elements_of};
 ghost use Rattle.lint_entries.specs.Added.{AddsPattern, LeavesAfter, endless_among};
+ghost use Rattle.lint_entries.specs.CatalogView.{ids_in};
 ghost use Rattle.lint_entries.specs.Made.{Adds};
-ghost use Rattle.fluent_ids.specs.IdsView.{ids_view};
 ghost use Rattle.lint_nodes.specs.OccurrenceView.{IsPatternAt};
 
-use crate::catalog::{Catalog, Endless};
+use crate::catalog::Catalog;
 use crate::endless::first_entered;
 use crate::finding::{Place, problem_finding};
 use crate::nodes::push_occurrences;
@@ -23,23 +23,21 @@ use std::alloc::{AllocError, Global};
 ///
 /// # Errors
 /// [`AllocError`] if memory runs out; `findings` then holds its old findings and some of these.
-pub fn push_pattern<'s, 't, F, E: Endless<F>>(
+pub fn push_pattern<'s, 't>(
     alloc: Global,
-    catalog: &Catalog<'_, '_, 's, F>,
-    endless: &E,
+    catalog: &Catalog<'_, '_, 's>,
     name: &Place<'_, '_, 's>,
     pattern: &Pattern<&'s str>,
     text: &'t [u8],
     findings: &mut Vec<Finding>,
 ) -> Result<&'t [u8], AllocError>
-    requires same_ids { E.ids endless.now ≡ ids_view F catalog.now.ids.now }
-    requires there { IsPatternAt text.now (elements_of pattern.now) }
+    requires { IsPatternAt text.now (elements_of pattern.now) }
     ensures rest { IfOk result (λ rest. LeavesAfter (elements_of pattern.now) text.now rest.now) }
     ensures added { OnOk result
-        (AddsPattern F catalog.now name.now text.now pattern.now findings.old findings.new) }
+        (AddsPattern catalog.now name.now text.now pattern.now findings.old findings.new) }
 {
     let found = pattern_occurrences(alloc, pattern, text)?;
-    push_endless(alloc, endless, name, &found.occurrences, findings)?;
+    push_endless(alloc, catalog, name, &found.occurrences, findings)?;
     push_occurrences(
         alloc,
         catalog,
@@ -52,17 +50,17 @@ pub fn push_pattern<'s, 't, F, E: Endless<F>>(
 }
 
 /// Adds the finding that the references of a pattern with these occurrences never end, if they don't.
-fn push_endless<'s, F, E: Endless<F>>(
+fn push_endless<'s>(
     alloc: Global,
-    endless: &E,
+    catalog: &Catalog<'_, '_, 's>,
     name: &Place<'_, '_, 's>,
     occurrences: &[Occurrence<'_, 's, '_>],
     findings: &mut Vec<Finding>,
 ) -> Result<(), AllocError>
     ensures { OnOk result (Adds findings.old findings.new
-        (endless_among (E.ids endless.now) name.now occurrences.now)) }
+        (endless_among (ids_in catalog.now) name.now occurrences.now)) }
 {
-    if let Some(reference) = first_entered(endless, occurrences) {
+    if let Some(reference) = first_entered(catalog.endless, occurrences) {
         findings.push(problem_finding(alloc, name, Problem::Endless(reference))?)?;
     }
     Ok(())

@@ -8,9 +8,9 @@ ghost use Rattle.lint_entries.specs.Added.{LeavesAfter};
 ghost use Rattle.fluent_grammar.specs.Tree as t;
 ghost use Rattle.lint_nodes.specs.OccurrenceView.{IsPatternAt};
 
-use crate::text::{after_equals, skip, skip_blank_block, skip_spaces};
+use crate::text::{after_equals, skip_blank_block, skip_spaces};
 use fluent_ast::{Attribute, Message, Pattern, Term};
-use lint_nodes::{empty_pattern_rest, pattern_occurrences};
+use lint_nodes::{empty_pattern_rest, pattern_occurrences, skip};
 use std::alloc::{AllocError, Global};
 
 /// What follows a message. The text is the source from the message on.

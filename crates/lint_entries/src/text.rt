@@ -1,18 +1,12 @@
 //! What follows the words of an entry.
 #![tactic(auto, using(fluent_tokens::proofs::Counted::cuts))]
 
-ghost use Rattle.std.specs.Prelude.{◌≡◌, drop};
+ghost use Rattle.std.specs.Prelude.{◌≡◌};
 ghost use Rattle.lint_findings.specs.Occurrences as o;
 ghost use Rattle.fluent_grammar.specs.Words as w;
 
 use fluent_tokens as words;
-
-/// What follows the first bytes, if there are so many.
-pub fn skip(text: &[u8], count: usize) -> &[u8]
-    ensures { result.now ≡ drop count text.now }
-{
-    &text[count.min(text.len())..]
-}
+use lint_nodes::skip;
 
 /// What follows the spaces at the front.
 pub fn skip_spaces(text: &[u8]) -> &[u8]

@@ -7,10 +7,10 @@ ghost use Rattle.lint_entries.specs.Walks.{IsNext, Passes, SkipsJunk, StartsAt};
 
 use crate::rest::{message_rest, term_rest};
 use crate::start::next_start;
-use crate::text::skip;
 use crate::tile::Tile;
 use fluent_ast::Entry;
 use fluent_parsed::ParserError;
+use lint_nodes::skip;
 use std::alloc::{AllocError, Global};
 use std::slice;
 

@@ -2,15 +2,12 @@
 use Rattle.std.specs.Prelude.{◌≡◌, ◌-◌, Bool, List, [], ◌∷◌, ◌++◌, if◌then◌else◌, length, map, Vec}
 use Rattle.std.specs.Global.{Global}
 use Rattle.std.specs.Vec.Iter.{into_iter_items}
-use denote.Ref.{Bor}
-use Rattle.fluent_ast.specs.Borrowed.{entry_of}
-use Rattle.fluent_ast.specs.declared.Entry.{Entry}
 use Rattle.lint_files.specs.PartFindings.{declared_by, declared_by_parts, entry_findings_at, findings_of_parts}
 use Rattle.lint_files.specs.declared.cursor.Cursor.{Cursor}
 use Rattle.lint_files.specs.declared.entry.Placed.{Placed}
 use Rattle.lint_entries.specs.First.{AreFirst}
 use Rattle.lint_entries.specs.declared.declarations.Declarations.{Declarations}
-use Rattle.lint_entries.specs.AttributePlaces.{IsEntryAt, uncommented}
+use Rattle.lint_entries.specs.AttributePlaces.{IsEntryAt, bare_entry}
 use Rattle.lint_entries.specs.Made.{Adds}
 use Rattle.lint_finding.specs.View.{file_view, finding_view}
 use Rattle.lint_finding.specs.declared.records.File.{File}
@@ -27,10 +24,6 @@ use Rattle.lint_entries.specs.TileView.{tile_view}
 use Rattle.lint_entries.specs.declared.tile.Tile.{Tile}
 
 -- ---- an entry
-
--- without the comment above it
-abbrev pub bare_entry : Entry (Bor Text) → t.Entry
-bare_entry e = uncommented (entry_of e)
 
 -- The entry is read at its place.
 pub record IsPlaced (placed : Placed) : Type 0 where

@@ -3,13 +3,12 @@
 
 ghost use Rattle.std.specs.Prelude.{◌≡◌, All, IfOk, OnOk, map};
 ghost use Rattle.lint_files.specs.Pushes.{AddsSyntax, AddsTile, AddsTiles, DeclaresTile, DeclaresTiles, IsAt, IsCursorIn, IsFoundAfter, MovesTo};
-ghost use Rattle.lint_files.specs.RulesView.{HasSameIds, rules_view};
+ghost use Rattle.lint_files.specs.RulesView.{rules_view};
 ghost use Rattle.lint_entries.specs.TileView.{IsReadPart, tile_view};
 
-use crate::comparison::Comparison;
 use crate::entry::{Placed, push_entry};
 use crate::rules::Rules;
-use lint_entries::{Declarations, Endless, Tile};
+use lint_entries::{Declarations, Tile};
 use lint_finding::{File, Finding, Place};
 use std::alloc::{AllocError, Global};
 use std::vec;
@@ -19,18 +18,17 @@ use std::vec;
 ///
 /// # Errors
 /// [`AllocError`] if memory runs out; some declarations may be added then.
-pub fn file_findings<'s, E: Endless<()>, C: Comparison>(
+pub fn file_findings<'s>(
     alloc: Global,
-    rules: &Rules<'_, '_, 's, E, C>,
+    rules: &Rules<'_, '_, 's>,
     file: File<'s>,
     tiles: &[Tile<'_, 's>],
     syntax: Vec<Finding>,
     declarations: &mut Declarations<'s>,
 ) -> Result<Vec<Finding>, AllocError>
-    requires same_ids { HasSameIds E.ids rules.now }
     requires read { All IsReadPart (map tile_view tiles.now) }
     ensures declared { OnOk result (DeclaresTiles declarations.old declarations.new file.entry tiles.now) }
-    ensures findings { IfOk result (IsFoundAfter (rules_view C.compared rules.now) declarations.old file.entry
+    ensures findings { IfOk result (IsFoundAfter (rules_view rules.now) declarations.old file.entry
         tiles.now syntax) }
 {
     let mut findings = Vec::new(alloc);
@@ -77,21 +75,20 @@ impl<'s> Cursor<'s> {
     }
 
     /// Adds the findings of the next tile.
-    fn push_tile<E: Endless<()>, C: Comparison>(
+    fn push_tile(
         &mut self,
         alloc: Global,
-        rules: &Rules<'_, '_, 's, E, C>,
+        rules: &Rules<'_, '_, 's>,
         tile: &Tile<'_, 's>,
         declarations: &mut Declarations<'s>,
         findings: &mut Vec<Finding>,
     ) -> Result<(), AllocError>
-        requires same_ids { HasSameIds E.ids rules.now }
         requires read { IsReadPart (tile_view tile.now) }
         requires place { IsCursorIn self.old }
         ensures place { OnOk result (IsCursorIn self.new) }
         ensures file { OnOk result (self.new.file ≡ self.old.file) }
         ensures declared { OnOk result (DeclaresTile declarations.old declarations.new self.old.file tile.now) }
-        ensures findings { OnOk result (AddsTile (rules_view C.compared rules.now) self.old self.new tile.now
+        ensures findings { OnOk result (AddsTile (rules_view rules.now) self.old self.new tile.now
             declarations.old findings.old findings.new) }
     {
         match tile {
@@ -111,19 +108,18 @@ impl<'s> Cursor<'s> {
 }
 
 /// Adds the findings of tiles.
-fn push_tiles<'s, E: Endless<()>, C: Comparison>(
+fn push_tiles<'s>(
     alloc: Global,
-    rules: &Rules<'_, '_, 's, E, C>,
+    rules: &Rules<'_, '_, 's>,
     start: Cursor<'s>,
     tiles: &[Tile<'_, 's>],
     declarations: &mut Declarations<'s>,
     findings: &mut Vec<Finding>,
 ) -> Result<(), AllocError>
-    requires same_ids { HasSameIds E.ids rules.now }
     requires read { All IsReadPart (map tile_view tiles.now) }
     requires place { IsCursorIn start }
     ensures declared { OnOk result (DeclaresTiles declarations.old declarations.new start.entry.file tiles.now) }
-    ensures findings { OnOk result (AddsTiles (rules_view C.compared rules.now) start.entry tiles.now
+    ensures findings { OnOk result (AddsTiles (rules_view rules.now) start.entry tiles.now
         declarations.old findings.old findings.new) }
 {
     let mut cursor = start;

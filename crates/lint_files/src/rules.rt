@@ -1,17 +1,15 @@
 //! How findings are made.
-#![tactic(auto)]
 
-use fluent_ids::FluentIds;
+use lint_comparison::Reference;
 use lint_entries::Catalog;
+use lint_finding::CatalogIds;
 
 /// How the findings of a catalog are made.
-#[derive(Drop)]
-pub struct Rules<'c, 'r, 's, E, C> {
+#[derive(Clone, Copy)]
+pub struct Rules<'c, 'r, 's> {
     /// The functions, which no entry may have the id of.
-    pub functions: &'c FluentIds<'r, 's, ()>,
-    pub catalog: &'c Catalog<'c, 'r, 's, ()>,
-    /// The references that never end.
-    pub endless: &'c E,
-    /// What else is found of an entry that counts.
-    pub comparison: &'c C,
+    pub functions: &'c CatalogIds<'r, 's>,
+    pub catalog: Catalog<'c, 'r, 's>,
+    /// What entries that count are compared with, if there is a reference.
+    pub reference: Option<Reference<'c, 'r, 's>>,
 }

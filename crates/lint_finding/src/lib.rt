@@ -2,15 +2,18 @@
 //!
 //! A [`Finding`] stands in a [`File`]; [`FileFindings`] are those of one file. A [`Place`] is the line and the column of an
 //! offset. A [`Difference`] is how a message differs from that of the reference with the same id, in words.
+//! [`CatalogIds`] are what the ids of a catalog stand for.
 //!
 //! `crates/lint_findings` defines which findings a catalog has, and `specs/View.antt` says which of its records each type
 //! here stands for. `docs/reference/lint.md` lists the codes.
 #![tactic(auto)]
 
 mod difference;
+mod ids;
 mod places;
 mod records;
 
 pub use difference::Difference;
+pub use ids::CatalogIds;
 pub use places::Place;
 pub use records::{File, FileFindings, Finding, Severity};

@@ -2,13 +2,13 @@
 #![tactic(auto)]
 
 ghost use Rattle.std.specs.Prelude.{◌≡◌, Some};
-ghost use Rattle.fluent_ast.specs.Borrowed.{key_of};
-ghost use Rattle.lint_findings.specs.FlawWords.{flaw_code, flaw_severity, flaw_text, key_text as text_of_key};
+ghost use Rattle.lint_findings.specs.FlawWords.{flaw_code, flaw_severity, flaw_text};
 ghost use Rattle.lint_finding.specs.View.{severity_view};
 ghost use Rattle.lint_flaws.specs.FlawView.{flaw_view};
 
 use fluent_ast::VariantKey;
 use lint_finding::Severity;
+use lint_nodes::key_text;
 use std::fmt;
 
 /// What is wrong with a node of a pattern, whatever the arguments of a request are. Its text is that of
@@ -114,14 +114,5 @@ impl fmt::Display for Flaw<'_, '_> {
                 key_text(key)
             ),
         }
-    }
-}
-
-fn key_text<'s>(key: &VariantKey<&'s str>) -> &'s str
-    ensures { result.now ≡ text_of_key (key_of key.now) }
-{
-    match key {
-        VariantKey::Identifier { name } => name,
-        VariantKey::NumberLiteral { value } => value,
     }
 }

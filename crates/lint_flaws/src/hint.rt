@@ -11,7 +11,8 @@ ghost use Rattle.fluent_ids.specs.IdsView.{ids_view};
 ghost use Rattle.fluent_meaning.specs.Ids.{find};
 
 use crate::flaw::Flaw;
-use fluent_ids::{Entry, FluentIds};
+use fluent_ids::Entry;
+use lint_finding::CatalogIds;
 use std::fmt;
 
 /// What may be the cause of a flaw. Its text is that of `docs/reference/lint.md`.
@@ -45,9 +46,9 @@ impl fmt::Display for Hint<'_> {
 
 impl<'a, 's> Flaw<'a, 's> {
     /// The hint of a flaw, in a catalog with these ids.
-    pub fn hint<F>(&self, ids: &FluentIds<'_, 's, F>) -> Option<Hint<'s>>
+    pub fn hint(&self, ids: &CatalogIds<'_, 's>) -> Option<Hint<'s>>
         ensures { (es : Elements) → option_map hint_text result
-            ≡ flaw_hint (ids_view F ids.now) es (flaw_view self.now) }
+            ≡ flaw_hint (ids_view _ ids.now) es (flaw_view self.now) }
     {
         match self {
             Flaw::UnknownMessage { id, .. } => message_hint(ids, id),
@@ -60,8 +61,8 @@ impl<'a, 's> Flaw<'a, 's> {
 }
 
 /// If a message of this id is missing.
-fn message_hint<'s, F>(ids: &FluentIds<'_, 's, F>, id: &'s str) -> Option<Hint<'s>>
-    ensures { option_map hint_text result ≡ message_hint id.now (find (ids_view F ids.now) id.now) }
+fn message_hint<'s>(ids: &CatalogIds<'_, 's>, id: &'s str) -> Option<Hint<'s>>
+    ensures { option_map hint_text result ≡ message_hint id.now (find (ids_view _ ids.now) id.now) }
 {
     match ids.get(id) {
         None => Some(Hint::Variable(id)),
@@ -71,8 +72,8 @@ fn message_hint<'s, F>(ids: &FluentIds<'_, 's, F>, id: &'s str) -> Option<Hint<'
 }
 
 /// If a term of this id is missing.
-fn term_hint<'s, F>(ids: &FluentIds<'_, 's, F>, id: &'s str) -> Option<Hint<'s>>
-    ensures { option_map hint_text result ≡ term_hint id.now (find (ids_view F ids.now) id.now) }
+fn term_hint<'s>(ids: &CatalogIds<'_, 's>, id: &'s str) -> Option<Hint<'s>>
+    ensures { option_map hint_text result ≡ term_hint id.now (find (ids_view _ ids.now) id.now) }
 {
     match ids.get(id) {
         Some(Entry::Message(_)) => Some(Hint::Message(id)),
@@ -81,9 +82,9 @@ fn term_hint<'s, F>(ids: &FluentIds<'_, 's, F>, id: &'s str) -> Option<Hint<'s>>
 }
 
 /// If the message of this id has no value.
-fn value_hint<'s, F>(ids: &FluentIds<'_, 's, F>, id: &str) -> Option<Hint<'s>>
+fn value_hint<'s>(ids: &CatalogIds<'_, 's>, id: &str) -> Option<Hint<'s>>
     ensures { option_map hint_text result
-        ≡ value_hint (as_message (find (ids_view F ids.now) id.now)) }
+        ≡ value_hint (as_message (find (ids_view _ ids.now) id.now)) }
 {
     let Some(Entry::Message((_, message))) = ids.get(id) else {
         return None;

@@ -1,9 +1,9 @@
 //! The flaw of a node.
 #![tactic(auto)]
 
-ghost use Rattle.std.specs.Prelude.{◌≡◌, map, not, option_copied, option_map, is_some};
+ghost use Rattle.std.specs.Prelude.{◌≡◌, map, not, option_copied, is_some};
 ghost use Rattle.std.specs.Option.{option_to_list};
-ghost use Rattle.fluent_ast.specs.Borrowed.{attributes_of, inline_of, name_of, variants_of};
+ghost use Rattle.fluent_ast.specs.Borrowed.{attributes_of, inline_of, variants_of};
 ghost use Rattle.lint_findings.specs.EntryFindings.{node_flaws};
 ghost use Rattle.lint_findings.specs.References.{function_error, reference_error};
 ghost use Rattle.lint_flaws.specs.FlawView.{IsFlawOf, IsFlawAt, flaw_view};
@@ -14,14 +14,15 @@ ghost use Rattle.fluent_meaning.specs.Substitution.{message_target, term_target}
 ghost use Rattle.lint_nodes.specs.NodeView.{node_view};
 
 use crate::flaw::Flaw;
-use fluent_ast::{Attribute, Identifier, InlineExpression, Variant};
-use fluent_ids::{Entry, FluentIds};
-use lint_nodes::Node;
+use fluent_ast::{Attribute, InlineExpression, Variant};
+use fluent_ids::Entry;
+use lint_finding::CatalogIds;
+use lint_nodes::{Node, name_of};
 
 /// What is wrong with a node of a pattern, in a catalog with these ids. A node has one flaw at most.
-pub fn node_flaw<'a, 's, F>(ids: &FluentIds<'_, 's, F>, node: Node<'a, 's>) -> Option<Flaw<'a, 's>>
+pub fn node_flaw<'a, 's>(ids: &CatalogIds<'_, 's>, node: Node<'a, 's>) -> Option<Flaw<'a, 's>>
     ensures { map flaw_view (option_to_list result)
-        ≡ node_flaws (ids_view F ids.now) (node_view node.entry) }
+        ≡ node_flaws (ids_view _ ids.now) (node_view node.entry) }
 {
     match node {
         Node::Expression(expression) => reference_flaw(ids, expression),
@@ -49,12 +50,12 @@ fn has_default(variants: &[Variant<&str>]) -> bool
 }
 
 /// What a reference lacks.
-fn reference_flaw<'a, 's, F>(
-    ids: &FluentIds<'_, 's, F>,
+fn reference_flaw<'a, 's>(
+    ids: &CatalogIds<'_, 's>,
     expression: &'a InlineExpression<&'s str>,
 ) -> Option<Flaw<'a, 's>>
     ensures { IsFlawOf result
-        (reference_error (find (ids_view F ids.now)) (inline_of expression.now)) }
+        (reference_error (find (ids_view _ ids.now)) (inline_of expression.now)) }
 {
     match expression {
         InlineExpression::FunctionReference { id, .. } => function_flaw(ids, id.name),
@@ -72,8 +73,8 @@ fn reference_flaw<'a, 's, F>(
 }
 
 /// What a call of a function of this name lacks.
-fn function_flaw<'a, 's, F>(ids: &FluentIds<'_, 's, F>, id: &'s str) -> Option<Flaw<'a, 's>>
-    ensures { IsFlawOf result (function_error id.now (find (ids_view F ids.now) id.now)) }
+fn function_flaw<'a, 's>(ids: &CatalogIds<'_, 's>, id: &'s str) -> Option<Flaw<'a, 's>>
+    ensures { IsFlawOf result (function_error id.now (find (ids_view _ ids.now) id.now)) }
 {
     match ids.get(id) {
         Some(Entry::Function(_) | Entry::Number) => None,
@@ -82,13 +83,13 @@ fn function_flaw<'a, 's, F>(ids: &FluentIds<'_, 's, F>, id: &'s str) -> Option<F
 }
 
 /// What a reference to this message, or to this attribute of it, lacks.
-fn message_flaw<'a, 's, F>(
-    ids: &FluentIds<'_, 's, F>,
+fn message_flaw<'a, 's>(
+    ids: &CatalogIds<'_, 's>,
     id: &'s str,
     attribute: Option<&'s str>,
 ) -> Option<Flaw<'a, 's>>
     ensures { IsFlawAt result
-        (message_target id.now (option_copied attribute.entry) (find (ids_view F ids.now) id.now)) }
+        (message_target id.now (option_copied attribute.entry) (find (ids_view _ ids.now) id.now)) }
 {
     let unknown = Flaw::UnknownMessage { id, attribute };
     let Some(Entry::Message((_, message))) = ids.get(id) else {
@@ -103,13 +104,13 @@ fn message_flaw<'a, 's, F>(
 }
 
 /// What a reference to this term, or to this attribute of it, lacks.
-fn term_flaw<'a, 's, F>(
-    ids: &FluentIds<'_, 's, F>,
+fn term_flaw<'a, 's>(
+    ids: &CatalogIds<'_, 's>,
     id: &'s str,
     attribute: Option<&'s str>,
 ) -> Option<Flaw<'a, 's>>
     ensures { IsFlawAt result
-        (term_target id.now (option_copied attribute.entry) (find (ids_view F ids.now) id.now)) }
+        (term_target id.now (option_copied attribute.entry) (find (ids_view _ ids.now) id.now)) }
 {
     let unknown = Flaw::UnknownTerm { id, attribute };
     let Some(Entry::Term((_, term))) = ids.get(id) else {
@@ -131,13 +132,4 @@ fn has_attribute(attributes: &[Attribute<&str>], name: &str) -> bool
         }
     }
     false
-}
-
-fn name_of<'s>(attribute: &Option<Identifier<&'s str>>) -> Option<&'s str>
-    ensures { option_map (λ s. s.now) result ≡ option_map name_of attribute.now }
-{
-    match attribute {
-        Some(name) => Some(name.name),
-        None => None,
-    }
 }

@@ -3,10 +3,13 @@
 //! [`pattern_nodes`] lists the references, literals and selects of a pattern, and the keys that a select has twice, in the
 //! order in which they are written. [`pattern_occurrences`] goes through the tree of a pattern and its source together: the
 //! tree says which part is next, and the source where it ends. So each byte is looked at once, and nothing is read again.
+//! [`declared_id`], [`name_of`] and [`key_text`] are the names in a tree.
+//!
 //! `Nodes.antt` and `Occurrences.antt` of `lint_findings` say which nodes and occurrences a pattern has.
 #![tactic(auto)]
 
 mod keys;
+mod names;
 mod nodes;
 mod occurrence;
 mod texts;
@@ -14,5 +17,7 @@ mod walk;
 mod words;
 
 pub use keys::Keys;
+pub use names::{declared_id, key_text, name_of};
 pub use nodes::{Node, pattern_nodes};
 pub use occurrence::{Found, Occurrence, empty_pattern_rest, pattern_occurrences};
+pub use words::skip;

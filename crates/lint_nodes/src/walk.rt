@@ -4,12 +4,12 @@
 
 ghost use Rattle.std.specs.Prelude.{◌≡◌, [], IfOk, OnOk, option_map};
 ghost use Rattle.fluent_ast.specs.Borrowed.{arguments_of, elements_of, expression_of, inline_of, key_of, maybe_arguments_of, name_of, named_of, positional_of, variants_of};
-ghost use Rattle.lint_findings.specs.FlawWords.{key_text as text_of_key};
 ghost use Rattle.lint_nodes.specs.HasKeys.{GetsKey};
 ghost use Rattle.lint_nodes.specs.OccurrenceView.{Adds, AddsIfRepeated};
 ghost use Rattle.lint_nodes.specs.Rests as rests;
 ghost use Rattle.lint_nodes.specs.TreeOccurrences as tree;
 
+use crate::names::key_text;
 use crate::occurrence::Occurrence;
 use crate::texts::{after_texts, first_placeable};
 use crate::words::{
@@ -235,14 +235,5 @@ fn after_attribute<'t>(attribute: &Option<Identifier<&str>>, text: &'t [u8]) -> 
     match attribute {
         Some(name) => after_name(skip(text, 1), name.name),
         None => text,
-    }
-}
-
-fn key_text<'s>(key: &VariantKey<&'s str>) -> &'s str
-    ensures { result.now ≡ text_of_key (key_of key.now) }
-{
-    match key {
-        VariantKey::Identifier { name } => name,
-        VariantKey::NumberLiteral { value } => value,
     }
 }

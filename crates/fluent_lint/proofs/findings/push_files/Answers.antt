@@ -8,11 +8,11 @@ use Rattle.fluent_lint.proofs.FilesFound.{one_found}
 use Rattle.fluent_lint.proofs.findings.push_files.Goals as goal
 
 pub loop-file-init : goal.loop-file-init
-loop-file-init g c = ([], c.requires.none, refl)
+loop-file-init c = ([], c.requires.none, refl)
 
 pub loop-file-preserved : goal.loop-file-preserved
-loop-file-preserved g c =
-    let rules = rules_view g.C.Comparison.compared c.args.rules.now in
+loop-file-preserved c =
+    let rules = rules_view c.args.rules.now in
     let item = c.file-item.result in
     let inv = c.loop-file.invariant in (
       inv.0 ++ declared_in (file_view item.file),
@@ -22,8 +22,8 @@ loop-file-preserved g c =
     )
 
 pub returns : goal.returns
-returns g c =
-    let rules = rules_view g.C.Comparison.compared c.args.rules.now in
+returns c =
+    let rules = rules_view c.args.rules.now in
     let inv = c.loop-file.invariant in
     let now = findings_view c.loop-file.found.items in
     sym (append-nil now)

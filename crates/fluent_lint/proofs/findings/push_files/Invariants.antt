@@ -8,8 +8,8 @@ use Rattle.fluent_lint.specs.FileTiles.{files_of, files_view}
 use Rattle.fluent_lint.proofs.findings.push_files.Given as goal
 
 abbrev pub invariant-loop-file : goal.invariant-loop-file
-invariant-loop-file g l =
-    let rules = rules_view g.C.Comparison.compared l.rules in
+invariant-loop-file l =
+    let rules = rules_view l.rules in
     (before : List Declaration) × AreFirst l.declarations before
     × (findings_view l.found.items ++ findings_of_files rules before (files_view (files_of (drop l.file-index l.files)))
     ≡ findings_view l.initial.found.items ++ findings_of_files rules [] (files_view (files_of l.files)))

@@ -1,14 +1,28 @@
-use Rattle.std.proofs.Common.{◌∙◌, [], ap, subst, sym}
+use Rattle.std.proofs.Common.{◌∙◌, List, subst, sym}
 use Rattle.std.specs.Prelude.{IfOk}
-use Rattle.fluent_lint.specs.FileTiles.{files_of}
-use Rattle.fluent_lint.specs.Reading.{IsReadOf}
-use Rattle.fluent_lint.specs.Reports.{IsReportOf, catalog_findings}
+use Rattle.fluent_ids.specs.IdsView.{ids_view}
+use Rattle.lint_endless.specs.Catalog.{AreDeclaredIn}
+use Rattle.lint_files.specs.RulesView.{compare_with}
+use Rattle.lint_findings.specs.Findings.{FileFinding}
+use Rattle.fluent_lint.specs.FileTiles.{files_view}
+use Rattle.fluent_lint.specs.Reports.{IsReportWith, options_view}
+use Rattle.fluent_lint.proofs.Found.{all_found, known_declared}
 use Rattle.fluent_lint.proofs.reports.report_of_read.Goals as goal
 
-pub report_of_tiles-requires-clause-read : goal.report_of_tiles-requires-clause-read
-report_of_tiles-requires-clause-read c =
-    subst (λ fs. IsReadOf fs c.args.read.now) (sym (ap files_of c.deref.ensures.value ∙ c.in_ok-tiles.ensures.files)) c.requires
+pub new-requires : goal.new-requires
+new-requires c =
+    let known = c.in_ok-known.known in
+    let ids = ids_view (Unit {0}) known.ids in
+    let files = c.args.files.now in
+    subst (λ trees. AreDeclaredIn ids trees) (sym c.deref.ensures.value)
+    (known_declared (options_view c.args.options.now) (files_view c.args.references.now.files.now) files.files.now files.trees.items c.requires.files.trees ids c.in_ok-known.ensures.ids)
 
 pub returns : goal.returns
 returns c =
-    subst (λ fs. IfOk c.report_of_tiles.result (IsReportOf (catalog_findings c.args.options.now fs) [] c.args.output)) (ap files_of c.deref.ensures.value ∙ c.in_ok-tiles.ensures.files) c.report_of_tiles.ensures
+    let known = c.in_ok-known.known in
+    let references = c.args.references.now.files.now in
+    let files = c.args.files.now.files.now in
+    subst (λ (found : List FileFinding). IfOk c.report_by_rules.result (IsReportWith found references files c.args.output))
+    (all_found (options_view c.args.options.now) (files_view files) references (ids_view (Unit {0}) known.functions) (ids_view (Unit {0}) known.ids) (ids_view (Unit {0}) known.reference)
+    (compare_with c.comparison.result) c.in_ok-known.ensures.functions c.in_ok-known.ensures.ids c.in_ok-known.ensures.reference c.comparison.ensures)
+    c.report_by_rules.ensures

@@ -4,5 +4,5 @@ use Rattle.fluent_ids.specs.IdsView.{ids_view}
 use Rattle.lint_comparison.proofs.compared.push_variables.Goals as goal
 
 pub returns : goal.returns
-returns g c =
-    on_ok_weaker c.push_variables_by.result (λ adds. adds (variables_of (ids_view g.row.F.Denot c.args.ids.now) c.args.id.now) c.in_ok-variables.ensures) c.push_variables_by.ensures
+returns c =
+    on_ok_weaker c.push_variables_by.result (λ adds. adds (variables_of (ids_view (Unit {0}) c.args.ids.now) c.args.id.now) c.in_ok-variables.ensures) c.push_variables_by.ensures

@@ -5,8 +5,8 @@ use Rattle.lint_comparison.proofs.ComparedParts.{variables_added}
 use Rattle.lint_comparison.proofs.compared.push_variables_by.Goals as goal
 
 pub returns : goal.returns
-returns g c =
-    let vs = variables_of (ids_view g.row.F.Denot c.args.reference.now) c.args.id.now in
+returns c =
+    let vs = variables_of (ids_view (Unit {0}) c.args.reference.now) c.args.id.now in
     on_ok_weaker c.push_new-2.result
     (λ adds xs has. variables_added _ _ _ c.args.variables.now c.in_ok-others.others xs vs c.deref.result.now c.deref-2.result.now has c.in_ok-others.ensures c.deref.ensures.value c.deref-2.ensures.value
     (c.in_ok-push_new.ensures vs c.in_ok-others.ensures) (adds xs has))

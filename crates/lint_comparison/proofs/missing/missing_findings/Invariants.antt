@@ -7,4 +7,4 @@ use Rattle.lint_entries.specs.TileView.{tile_view}
 use Rattle.lint_comparison.proofs.missing.missing_findings.Given as goal
 
 abbrev pub invariant-loop-tile : goal.invariant-loop-tile
-invariant-loop-tile g l = map finding_view l.found.items ≡ flat_map (missing_of_part (ids_view g.row.F.Denot l.ids) l.source) (map tile_view (take l.tile-index l.tiles))
+invariant-loop-tile l = map finding_view l.found.items ≡ flat_map (missing_of_part (ids_view (Unit {0}) l.ids) l.source) (map tile_view (take l.tile-index l.tiles))

@@ -5,7 +5,7 @@ use Rattle.lint_comparison.proofs.Reaching.{IsReaching}
 use Rattle.lint_comparison.proofs.variables.variables_of.Given as goal
 
 abbrev pub invariant-loop-next : goal.invariant-loop-next
-invariant-loop-next g l = IsReaching (ids_view g.row.F.Denot l.ids) l.id l.reached l.next
+invariant-loop-next l = IsReaching (ids_view (Unit {0}) l.ids) l.id l.reached l.next
 
 abbrev pub decreases-loop-next : goal.decreases-loop-next
-decreases-loop-next g l = length (messages_of (ids_view g.row.F.Denot l.ids) l.id) - l.next
+decreases-loop-next l = length (messages_of (ids_view (Unit {0}) l.ids) l.id) - l.next

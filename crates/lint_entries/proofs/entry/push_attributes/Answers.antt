@@ -9,20 +9,19 @@ use Rattle.lint_entries.proofs.Pushed.{next, none_left}
 use Rattle.lint_entries.proofs.entry.push_attributes.Goals as goal
 
 pub loop-attribute-init : goal.loop-attribute-init
-loop-attribute-init g c = (λ rest there. there, ([], c.new-names.ensures, refl))
+loop-attribute-init c = (λ rest there. there, ([], c.new-names.ensures, refl))
 
-pub push_pattern-requires-clause-there : goal.push_pattern-requires-clause-there
-push_pattern-requires-clause-there g c =
+pub push_pattern-requires : goal.push_pattern-requires
+push_pattern-requires c =
     let items = c.args.attributes.now in
     let s = c.loop-attribute.rest.now in
-    let rest = c.requires.there.0 in
+    let rest = c.requires.0 in
     let one_next = next attribute_of items c.loop-attribute.attribute-index c.attribute-item.result c.loop-attribute-test.true c.attribute-item.is in
-    let there = subst (λ l. AreAttributesAt l s rest) one_next (c.loop-attribute.invariant.0 rest c.requires.there.1) in
+    let there = subst (λ l. AreAttributesAt l s rest) one_next (c.loop-attribute.invariant.0 rest c.requires.1) in
     (there.0, ap pattern_read (value_there c.after_equals-value.result.now c.skip.result.now c.skip_spaces-at.result.now s c.after_equals-value.ensures c.skip.ensures c.skip_spaces-at.ensures) ∙ there.1)
 
 pub loop-attribute-preserved : goal.loop-attribute-preserved
-loop-attribute-preserved g c =
-    let F = g.row.F.Denot in
+loop-attribute-preserved c =
     let catalog = c.args.catalog.now in
     let entry = c.args.entry.now in
     let items = c.args.attributes.now in
@@ -41,24 +40,16 @@ loop-attribute-preserved g c =
       (
         item.id.name.now ∷ before,
         c.in_ok-push_if_taken.ensures.names before c.loop-attribute.invariant.1.1,
-        one_added F catalog entry a tail before s u c.after_equals-value.result.now item.id.name c.skip_spaces-at.result c.attribute_place-place.result old
+        one_added catalog entry a tail before s u c.after_equals-value.result.now item.id.name c.skip_spaces-at.result c.attribute_place-place.result old
             (map finding_view c.push_if_taken.new.findings.items) (map finding_view c.push_pattern.new.findings.items)
             refl c.skip_spaces-at.ensures c.attribute_place-place.ensures value read (c.in_ok-push_if_taken.ensures.added before c.loop-attribute.invariant.1.1) c.in_ok-rest.ensures.added
-            ∙ ap (λ l. old ++ attributes_found F catalog entry before l s) (sym one_next) ∙ c.loop-attribute.invariant.1.2,
+            ∙ ap (λ l. old ++ attributes_found catalog entry before l s) (sym one_next) ∙ c.loop-attribute.invariant.1.2,
       ),
     )
 
-pub returns-clause-rest : goal.returns-clause-rest
-returns-clause-rest g c =
-    let s = c.loop-attribute.rest.now in
-    let rest = c.requires.there.0 in
-    let none = none_left attribute_of c.args.attributes.now c.loop-attribute.attribute-index c.loop-attribute-test.false in
-    let at_end = subst (λ l. AreAttributesAt l s rest) none (c.loop-attribute.invariant.0 rest c.requires.there.1) in
-    subst (AreAttributesAt (attributes_of c.args.attributes.now) c.args.text.now) (sym at_end) c.requires.there.1
-
-pub returns-clause-added : goal.returns-clause-added
-returns-clause-added g c =
+pub returns : goal.returns
+returns c =
     let now = map finding_view c.loop-attribute.findings.items in
     let before = c.loop-attribute.invariant.1.0 in
     let none = none_left attribute_of c.args.attributes.now c.loop-attribute.attribute-index c.loop-attribute-test.false in
-    sym (append-nil now) ∙ ap (λ l. now ++ attributes_found g.row.F.Denot c.args.catalog.now c.args.entry.now before l c.loop-attribute.rest.now) (sym none) ∙ c.loop-attribute.invariant.1.2
+    sym (append-nil now) ∙ ap (λ l. now ++ attributes_found c.args.catalog.now c.args.entry.now before l c.loop-attribute.rest.now) (sym none) ∙ c.loop-attribute.invariant.1.2

@@ -9,8 +9,8 @@ use Rattle.lint_entries.proofs.Pushed.{one_flaw, pushed}
 use Rattle.lint_entries.proofs.nodes.push_flaw.Goals as goal
 
 pub returns-in_ok-push : goal.returns-in_ok-push
-returns-in_ok-push g c = λ plurals es.
-    let ids = ids_view g.row.F.Denot c.args.ids.now in
+returns-in_ok-push c = λ plurals es.
+    let ids = ids_view (Unit {0}) c.args.ids.now in
     let place = c.args.place.now in
     let flaw = c.in-Some.flaw in
     let made = e.flaw_finding ids plurals place.source.now es (label_text place.label) place.at.now in

@@ -7,11 +7,11 @@ use Rattle.lint_entries.proofs.Pushed.{three_added}
 use Rattle.lint_entries.proofs.nodes.push_node.Goals as goal
 
 pub returns : goal.returns
-returns g c = λ es.
+returns c = λ es.
     let catalog = c.args.catalog.now in
     let place = c.args.place.now in
     let node = node_view c.args.node in
     on_ok_weaker c.push_escapes.result
-    (three_added (map finding_view c.args.findings.now.items) (flaw_findings g.row.F.Denot catalog.ids.now catalog.plurals es place node) (category_findings catalog.plurals place node) (escape_findings place node)
+    (three_added (map finding_view c.args.findings.now.items) (flaw_findings catalog.endless.now.ids.now catalog.plurals es place node) (category_findings catalog.plurals place node) (escape_findings place node)
     (c.in_ok-push_flaw.ensures catalog.plurals es) c.in_ok-push_categories.ensures)
     c.push_escapes.ensures

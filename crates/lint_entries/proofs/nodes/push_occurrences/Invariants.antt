@@ -6,7 +6,6 @@ use Rattle.lint_entries.specs.FoundAt.{occurrences_found}
 use Rattle.lint_entries.proofs.nodes.push_occurrences.Given as goal
 
 abbrev pub invariant-loop-occurrence : goal.invariant-loop-occurrence
-invariant-loop-occurrence g l = (es : Elements) →
-    let F = g.row.F.Denot in
-    map finding_view l.findings.items ++ occurrences_found F l.catalog l.source l.fn.label es (map occurrence_view (drop l.occurrence-index l.occurrences))
-    ≡ map finding_view l.initial.findings.items ++ occurrences_found F l.catalog l.source l.fn.label es (map occurrence_view l.occurrences)
+invariant-loop-occurrence l = (es : Elements) →
+    map finding_view l.findings.items ++ occurrences_found l.catalog l.source l.fn.label es (map occurrence_view (drop l.occurrence-index l.occurrences))
+    ≡ map finding_view l.initial.findings.items ++ occurrences_found l.catalog l.source l.fn.label es (map occurrence_view l.occurrences)

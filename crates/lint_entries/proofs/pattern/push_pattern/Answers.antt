@@ -1,8 +1,8 @@
-use Rattle.std.proofs.Common.{◌∙◌, None, ap, map, sym}
+use Rattle.std.proofs.Common.{◌∙◌, None, ap, map, refl, sym}
 use Rattle.fluent_ast.specs.Borrowed.{elements_of}
 use Rattle.lint_finding.specs.View.{finding_view}
-use Rattle.fluent_ids.specs.IdsView.{ids_view}
 use Rattle.lint_nodes.specs.OccurrenceView.{occurrence_view}
+use Rattle.lint_entries.specs.CatalogView.{ids_in}
 use Rattle.lint_entries.specs.FoundAt.{nodes_of}
 use Rattle.lint_entries.specs.Labels.{label_text}
 use Rattle.lint_entries.proofs.CodeNodes.{nodes_are}
@@ -10,14 +10,13 @@ use Rattle.lint_entries.proofs.PatternFound.{pattern_added}
 use Rattle.lint_entries.proofs.pattern.push_pattern.Goals as goal
 
 pub returns-clause-added : goal.returns-clause-added
-returns-clause-added g c =
-    let F = g.row.F.Denot in
+returns-clause-added c =
     let catalog = c.args.catalog.now in
     let name = c.args.name.now in
     let es = elements_of c.args.pattern.now in
     let found = c.in_ok-found.found.occurrences.items in
     let walked = c.deref-2.result.now in
-    pattern_added (ids_view F catalog.ids.now) catalog.plurals name.source.now (label_text name.label) name.at.now es c.args.text.now c.requires.there.0 c.requires.there.1 None (g.E.Endless.ids c.args.endless.now) c.requires.same_ids
+    pattern_added (ids_in catalog) catalog.plurals name.source.now (label_text name.label) name.at.now es c.args.text.now c.requires.0 c.requires.1 None (ids_in catalog) refl
     (map occurrence_view walked) (ap (map occurrence_view) c.deref-2.ensures.value ∙ c.in_ok-found.ensures.occurrences) (nodes_of c.deref.result.now) (ap nodes_of (c.deref.ensures.value ∙ sym c.deref-2.ensures.value) ∙ nodes_are walked)
     (map finding_view c.args.findings.now.items) (map finding_view c.push_endless.new.findings.items) (map finding_view c.push_occurrences.new.findings.items)
     c.in_ok-push_endless.ensures (c.in_ok-push_occurrences.ensures es)

@@ -12,7 +12,7 @@ use Rattle.lint_files.proofs.TilesPushed.{one_declared}
 use Rattle.lint_files.proofs.cursor.push_tiles.Goals as goal
 
 pub push_tile-requires-clause-read : goal.push_tile-requires-clause-read
-push_tile-requires-clause-read g c =
+push_tile-requires-clause-read c =
     let tiles = c.args.tiles.now in
     let i = c.loop-tile.tile-index in
     let item = c.tile-item.result in
@@ -20,8 +20,8 @@ push_tile-requires-clause-read g c =
     (c.requires.read i (tile_view item) (omega (arith, length-map tiles tile_view, c.loop-tile-test.true)))
 
 pub loop-tile-preserved : goal.loop-tile-preserved
-loop-tile-preserved g c =
-    let rules = rules_view g.C.Comparison.compared c.args.rules.now in
+loop-tile-preserved c =
+    let rules = rules_view c.args.rules.now in
     let tiles = c.args.tiles.now in
     let i = c.loop-tile.tile-index in
     let item = c.tile-item.result in
@@ -50,6 +50,6 @@ loop-tile-preserved g c =
     )
 
 pub returns-clause-declared : goal.returns-clause-declared
-returns-clause-declared g c = λ before first.
+returns-clause-declared c = λ before first.
     subst (AreFirst c.loop-tile.declarations) (ap (λ l. before ++ declared_by_parts (file_view c.args.start.file) (map tile_view l)) (take_all c.loop-tile.tile-index c.args.tiles.now c.loop-tile-test.false))
     (c.loop-tile.invariant.2 before first).0

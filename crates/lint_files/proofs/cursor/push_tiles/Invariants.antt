@@ -9,8 +9,8 @@ use Rattle.lint_entries.specs.TileView.{tile_view}
 use Rattle.lint_files.proofs.cursor.push_tiles.Given as goal
 
 abbrev pub invariant-loop-tile : goal.invariant-loop-tile
-invariant-loop-tile g l =
-    let rules = rules_view g.C.Comparison.compared l.rules in
+invariant-loop-tile l =
+    let rules = rules_view l.rules in
     let start = l.initial.cursor in
     let done = declared_by_parts (file_view start.file) (map tile_view (take l.tile-index l.tiles)) in
     IsCursorIn l.cursor

@@ -1,7 +1,7 @@
 use Rattle.std.proofs.Common.{◌≡◌, ◌++◌, map, drop}
 use Rattle.fluent_ast.specs.View.{named_view, nameds_of}
 use Rattle.lint_findings.specs.Escapes.{named_escapes}
-use Rattle.lint_flaws.proofs.nodes.push_named.Given as goal
+use Rattle.lint_flaws.proofs.escape_nodes.push_named.Given as goal
 
 abbrev pub invariant-loop-argument : goal.invariant-loop-argument
 invariant-loop-argument l =

@@ -4,7 +4,7 @@ use Rattle.lint_findings.specs.JsonReport.{json_line}
 use Rattle.lint_findings.specs.Summary.{summary_data}
 use Rattle.lint_report.specs.ReportView.{summary_view}
 use Rattle.lint_report.proofs.Items.{pieces_at_last}
-use Rattle.lint_report.proofs.summaries.push_json_summaries.Goals as goal
+use Rattle.lint_report.proofs.summary.push_json_summaries.Goals as goal
 
 pub returns : goal.returns
 returns c =

@@ -3,7 +3,7 @@ use Rattle.std.proofs.lemmas.List.Folds.{flat_map-map}
 use Rattle.lint_findings.specs.Summary.{summary_line}
 use Rattle.lint_report.specs.ReportView.{summary_view}
 use Rattle.lint_report.proofs.Items.{pieces_at_last}
-use Rattle.lint_report.proofs.summaries.push_summary_lines.Goals as goal
+use Rattle.lint_report.proofs.summary.push_summary_lines.Goals as goal
 
 pub returns : goal.returns
 returns c =

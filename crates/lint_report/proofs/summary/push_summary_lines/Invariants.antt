@@ -2,7 +2,7 @@ use Rattle.std.proofs.Common.{string_bytes}
 use Rattle.lint_findings.specs.Summary.{summary_line}
 use Rattle.lint_report.specs.ReportView.{summary_view}
 use Rattle.lint_report.proofs.Items.{PiecesSoFar}
-use Rattle.lint_report.proofs.summaries.push_summary_lines.Given as goal
+use Rattle.lint_report.proofs.summary.push_summary_lines.Given as goal
 
 abbrev pub invariant-loop-summary : goal.invariant-loop-summary
 invariant-loop-summary l =

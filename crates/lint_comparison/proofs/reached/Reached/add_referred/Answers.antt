@@ -8,10 +8,10 @@ use Rattle.lint_comparison.proofs.References.{found_gets, not_found_gets}
 use Rattle.lint_comparison.proofs.reached.Reached.add_referred.Goals as goal
 
 pub returns-in-Some : goal.returns-in-Some
-returns-in-Some g c =
+returns-in-Some c =
     on_ok_weaker c.add_message.result
-    (found_gets c.args.self.now c.add_message.new.self (find (ids_view g.row.F.Denot c.args.ids.now) c.args.id.now) (message_of c.in-Some.message.now) (sym c.get_entry_message.ensures ∙ ap lent_message c.in-Some.is))
+    (found_gets c.args.self.now c.add_message.new.self (find (ids_view (Unit {0}) c.args.ids.now) c.args.id.now) (message_of c.in-Some.message.now) (sym c.get_entry_message.ensures ∙ ap lent_message c.in-Some.is))
     c.add_message.ensures
 
 pub returns-in-None : goal.returns-in-None
-returns-in-None g c = not_found_gets c.args.self.now (find (ids_view g.row.F.Denot c.args.ids.now) c.args.id.now) (sym c.get_entry_message.ensures ∙ ap lent_message c.in-None.is)
+returns-in-None c = not_found_gets c.args.self.now (find (ids_view (Unit {0}) c.args.ids.now) c.args.id.now) (sym c.get_entry_message.ensures ∙ ap lent_message c.in-None.is)

@@ -12,8 +12,8 @@ use Rattle.lint_endless.proofs.Whole.{whole}
 use Rattle.lint_endless.proofs.endless.EndlessPatterns.new.Goals as goal
 
 pub endless_marks-requires : goal.endless_marks-requires
-endless_marks-requires g c =
-    let ids = ids_view g.row.F.Denot c.args.ids.now in
+endless_marks-requires c =
+    let ids = ids_view (Unit {0}) c.args.ids.now in
     let declared = ids_of_trees c.args.trees.now in
     let found = c.in_ok-entered.entered in
     let holds : Holds (all_patterns ids) found.indices (patterns_of found.patterns.items) (entered ids) = whole ids declared (no_others ids declared c.requires) found c.in_ok-entered.ensures in
@@ -21,8 +21,8 @@ endless_marks-requires g c =
     (is_graph ids found.indices (patterns_of found.patterns.items) holds)
 
 pub invariant_of-result : goal.invariant_of-result
-invariant_of-result g c =
-    let ids = ids_view g.row.F.Denot c.args.ids.now in
+invariant_of-result c =
+    let ids = ids_view (Unit {0}) c.args.ids.now in
     let declared = ids_of_trees c.args.trees.now in
     let found = c.in_ok-entered.entered in
     let ps = patterns_of found.patterns.items in

@@ -22,28 +22,28 @@ found_copied : (o : Option (Bor (Pattern (Bor Text)))) → elements_found o ≡ 
 found_copied None = refl
 found_copied (Some p) = refl
 
-a_function : {F : Type 0} (ids : Ids F) (id : Text) (f : F) → find ids id ≡ Some (function f) → (t : Bool) (a : Option Text) → entered ids t id a ≡ None
+a_function : (ids : Ids (Unit {0})) (id : Text) (f : Unit {0}) → find ids id ≡ Some (function f) → (t : Bool) (a : Option Text) → entered ids t id a ≡ None
 a_function ids id f e true a = rw e
 a_function ids id f e false a = rw e
 
-a_number : {F : Type 0} (ids : Ids F) (id : Text) → find ids id ≡ Some number_function → (t : Bool) (a : Option Text) → entered ids t id a ≡ None
+a_number : (ids : Ids (Unit {0})) (id : Text) → find ids id ≡ Some number_function → (t : Bool) (a : Option Text) → entered ids t id a ≡ None
 a_number ids id e true a = rw e
 a_number ids id e false a = rw e
 
 -- an id that names nothing
-nothing : {F : Type 0} (ids : Ids F) (id : Text) → find ids id ≡ None → (t : Bool) (a : Option Text) → entered ids t id a ≡ None
+nothing : (ids : Ids (Unit {0})) (id : Text) → find ids id ≡ None → (t : Bool) (a : Option Text) → entered ids t id a ≡ None
 nothing ids id e true a = rw e
 nothing ids id e false a = rw e
 
 pub returns-in-Some-Message : goal.returns-in-Some-Message
-returns-in-Some-Message g c =
-    let ids = ids_view g.row.F.Denot c.args.ids.now in
+returns-in-Some-Message c =
+    let ids = ids_view (Unit {0}) c.args.ids.now in
     let old = c.args.self.now in
     let id = c.args.id.now in
     let m = message_of c.in-Some-Message.message.now in
-    let meaning : Meaning g.row.F.Denot = message m in
+    let meaning : Meaning (Unit {0}) = message m in
     let found : find ids id ≡ Some meaning =
-    sym c.get.ensures ∙ ap (λ o. option_map (meaning_of g.row.F.Denot) (option_copied o)) c.in-Some-Message.is ∙ ap (λ e. Some (meaning_of g.row.F.Denot e)) c.in-Some-Message.field-0-is in
+    sym c.get.ensures ∙ ap (λ o. option_map (meaning_of (Unit {0})) (option_copied o)) c.in-Some-Message.is ∙ ap (λ e. Some (meaning_of (Unit {0}) e)) c.in-Some-Message.field-0-is in
     let value : elements_found c.as_ref.result ≡ m.value = found_copied c.as_ref.result ∙ ap (option_map elements_of) c.as_ref.ensures.value in
     let attributes : attributes_of c.deref.result.now ≡ m.attributes = ap attributes_of c.deref.ensures.value in
     let Then : EnteredPatterns → Option Elements → List t.Attribute → Type 0 = λ new v as'. GetsEntry (record { indices = old.indices; patterns = old.patterns; seen = c.insert.new.self }) new false id v as' in
@@ -58,14 +58,14 @@ returns-in-Some-Message g c =
     c.add_entry.ensures.patterns
 
 pub returns-in-Some-Term : goal.returns-in-Some-Term
-returns-in-Some-Term g c =
-    let ids = ids_view g.row.F.Denot c.args.ids.now in
+returns-in-Some-Term c =
+    let ids = ids_view (Unit {0}) c.args.ids.now in
     let old = c.args.self.now in
     let id = c.args.id.now in
     let m = term_of c.in-Some-Term.term.now in
-    let meaning : Meaning g.row.F.Denot = term m in
+    let meaning : Meaning (Unit {0}) = term m in
     let found : find ids id ≡ Some meaning =
-    sym c.get.ensures ∙ ap (λ o. option_map (meaning_of g.row.F.Denot) (option_copied o)) c.in-Some-Term.is ∙ ap (λ e. Some (meaning_of g.row.F.Denot e)) c.in-Some-Term.field-0-is in
+    sym c.get.ensures ∙ ap (λ o. option_map (meaning_of (Unit {0})) (option_copied o)) c.in-Some-Term.is ∙ ap (λ e. Some (meaning_of (Unit {0}) e)) c.in-Some-Term.field-0-is in
     let new = c.add_entry-in-Some-Term.new.self in
     let attributes : attributes_of c.deref-in-Some-Term.result.now ≡ m.attributes = ap attributes_of c.deref-in-Some-Term.ensures.value in
     let Then : List t.Attribute → Type 0 = λ as'. GetsEntry (record { indices = old.indices; patterns = old.patterns; seen = c.insert.new.self }) new true id (Some m.value) as' in
@@ -80,34 +80,34 @@ returns-in-Some-Term g c =
     c.add_entry-in-Some-Term.ensures.patterns
 
 pub returns-in-None : goal.returns-in-None
-returns-in-None g c = λ seen has.
-    let ids = ids_view g.row.F.Denot c.args.ids.now in
+returns-in-None c = λ seen has.
+    let ids = ids_view (Unit {0}) c.args.ids.now in
     let old = c.args.self.now in
-    let found : find ids c.args.id.now ≡ None = sym c.get.ensures ∙ ap (λ o. option_map (meaning_of g.row.F.Denot) (option_copied o)) c.in-None.is in
+    let found : find ids c.args.id.now ≡ None = sym c.get.ensures ∙ ap (λ o. option_map (meaning_of (Unit {0})) (option_copied o)) c.in-None.is in
     record {
       seen_ids = seen_more old.seen c.insert.new.self c.args.id seen c.in_ok-insert.ensures.updates.0 has.seen_ids;
       holds = renamed (all_patterns ids) old.indices (patterns_of old.patterns.items) (entered_among ids seen) (entered_among ids (seen ++ c.args.id.now ∷ [])) (none_more ids seen c.args.id.now (nothing ids c.args.id.now found)) has.holds;
     }
 
 pub returns-in-Some-Function : goal.returns-in-Some-Function
-returns-in-Some-Function g c = λ seen has.
-    let ids = ids_view g.row.F.Denot c.args.ids.now in
+returns-in-Some-Function c = λ seen has.
+    let ids = ids_view (Unit {0}) c.args.ids.now in
     let old = c.args.self.now in
-    let meaning : Meaning g.row.F.Denot = function c.in-Some-Function.field-0-0 in
+    let meaning : Meaning (Unit {0}) = function c.in-Some-Function.field-0-0 in
     let found : find ids c.args.id.now ≡ Some meaning =
-    sym c.get.ensures ∙ ap (λ o. option_map (meaning_of g.row.F.Denot) (option_copied o)) c.in-Some-Function.is ∙ ap (λ e. Some (meaning_of g.row.F.Denot e)) c.in-Some-Function.field-0-is in
+    sym c.get.ensures ∙ ap (λ o. option_map (meaning_of (Unit {0})) (option_copied o)) c.in-Some-Function.is ∙ ap (λ e. Some (meaning_of (Unit {0}) e)) c.in-Some-Function.field-0-is in
     record {
       seen_ids = seen_more old.seen c.insert.new.self c.args.id seen c.in_ok-insert.ensures.updates.0 has.seen_ids;
       holds = renamed (all_patterns ids) old.indices (patterns_of old.patterns.items) (entered_among ids seen) (entered_among ids (seen ++ c.args.id.now ∷ [])) (none_more ids seen c.args.id.now (a_function ids c.args.id.now c.in-Some-Function.field-0-0 found)) has.holds;
     }
 
 pub returns-in-Some-Number : goal.returns-in-Some-Number
-returns-in-Some-Number g c = λ seen has.
-    let ids = ids_view g.row.F.Denot c.args.ids.now in
+returns-in-Some-Number c = λ seen has.
+    let ids = ids_view (Unit {0}) c.args.ids.now in
     let old = c.args.self.now in
-    let meaning : Meaning g.row.F.Denot = number_function in
+    let meaning : Meaning (Unit {0}) = number_function in
     let found : find ids c.args.id.now ≡ Some meaning =
-    sym c.get.ensures ∙ ap (λ o. option_map (meaning_of g.row.F.Denot) (option_copied o)) c.in-Some-Number.is ∙ ap (λ e. Some (meaning_of g.row.F.Denot e)) c.in-Some-Number.field-0-is in
+    sym c.get.ensures ∙ ap (λ o. option_map (meaning_of (Unit {0})) (option_copied o)) c.in-Some-Number.is ∙ ap (λ e. Some (meaning_of (Unit {0}) e)) c.in-Some-Number.field-0-is in
     record {
       seen_ids = seen_more old.seen c.insert.new.self c.args.id seen c.in_ok-insert.ensures.updates.0 has.seen_ids;
       holds = renamed (all_patterns ids) old.indices (patterns_of old.patterns.items) (entered_among ids seen) (entered_among ids (seen ++ c.args.id.now ∷ [])) (none_more ids seen c.args.id.now (a_number ids c.args.id.now found)) has.holds;

@@ -10,8 +10,8 @@ use Rattle.lint_endless.proofs.entered.EnteredPatterns.add_resource.Goals as goa
 use Rattle.lint_endless.proofs.entered.EnteredPatterns.add_resource.Goals.{in-Some+in_ok-add, in_default}
 
 pub loop-entry-preserved : goal.loop-entry-preserved
-loop-entry-preserved g c = λ seen has.
-    let ids = ids_view g.row.F.Denot c.args.ids.now in
+loop-entry-preserved c = λ seen has.
+    let ids = ids_view (Unit {0}) c.args.ids.now in
     let xs = c.deref-entry-items.result.now in
     let i = c.loop-entry.entry-index in
     let item = c.entry-item.result in
@@ -28,7 +28,7 @@ loop-entry-preserved g c = λ seen has.
     ]
 
 pub returns : goal.returns
-returns g c = λ seen has.
-    let ids = ids_view g.row.F.Denot c.args.ids.now in
+returns c = λ seen has.
+    let ids = ids_view (Unit {0}) c.args.ids.now in
     let P : List (Entry (Bor Text)) → Type 0 = λ es. HasPatternsOf ids c.loop-entry.self (seen ++ declared_ids (map entry_of es)) in
     subst P (take_all c.loop-entry.entry-index c.deref-entry-items.result.now c.loop-entry-test.false ∙ c.deref-entry-items.ensures.value) (c.loop-entry.invariant seen has)

@@ -7,6 +7,6 @@ use Rattle.lint_endless.proofs.entered.EnteredPatterns.add_resource.Given as goa
 
 -- the ids of the entries so far were added
 abbrev pub invariant-loop-entry : goal.invariant-loop-entry
-invariant-loop-entry g l =
-    (seen : List Text) → HasPatternsOf (ids_view g.row.F.Denot l.ids) l.fn.self seen →
-    HasPatternsOf (ids_view g.row.F.Denot l.ids) l.self (seen ++ declared_ids (map entry_of (take l.entry-index l.entry-items)))
+invariant-loop-entry l =
+    (seen : List Text) → HasPatternsOf (ids_view (Unit {0}) l.ids) l.fn.self seen →
+    HasPatternsOf (ids_view (Unit {0}) l.ids) l.self (seen ++ declared_ids (map entry_of (take l.entry-index l.entry-items)))

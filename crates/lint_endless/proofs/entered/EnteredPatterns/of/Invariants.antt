@@ -6,4 +6,4 @@ use Rattle.lint_endless.proofs.entered.EnteredPatterns.of.Given as goal
 
 -- those of the trees so far were added
 abbrev pub invariant-loop-tree : goal.invariant-loop-tree
-invariant-loop-tree g l = HasPatternsOf (ids_view g.row.F.Denot l.ids) l.entered (ids_of_trees (take l.tree-index l.trees))
+invariant-loop-tree l = HasPatternsOf (ids_view (Unit {0}) l.ids) l.entered (ids_of_trees (take l.tree-index l.trees))

@@ -6,8 +6,8 @@ use Rattle.lint_files.proofs.TilesPushed.{junk_added}
 use Rattle.lint_files.proofs.cursor.Cursor.push_tile.Goals as goal
 
 pub returns-in-Junk-clause-findings : goal.returns-in-Junk-clause-findings
-returns-in-Junk-clause-findings g c =
-    let rules = rules_view g.C.Comparison.compared c.args.rules.now in
+returns-in-Junk-clause-findings c =
+    let rules = rules_view c.args.rules.now in
     let old = c.args.self.now in
     let new = c.push_syntax.new.self in
     on_ok_weaker c.push_syntax.result

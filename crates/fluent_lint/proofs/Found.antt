@@ -1,0 +1,88 @@
+-- What is known and found of a catalog and of its reference.
+use Rattle.std.proofs.Common.{◌≡◌, ◌∙◌, List, [], ◌∷◌, ◌++◌, map, sym, ap, subst, append-nil, Bor}
+use Rattle.std.specs.List.{flat_map}
+use Rattle.fluent_ast.specs.Borrowed.{entries_of}
+use Rattle.fluent_ast.specs.declared.Resource.{Resource}
+use Rattle.lint_files.proofs.TilesFound.{tiles_found}
+use Rattle.lint_endless.specs.Catalog.{AreDeclaredIn}
+use Rattle.lint_finding.specs.declared.records.File as code
+use Rattle.lint_findings.specs.ComparisonFindings.{message_findings}
+use Rattle.lint_findings.specs.Files.{File}
+use Rattle.lint_files.specs.PartFindings.{findings_of_files}
+use Rattle.lint_findings.specs.Finding.{Finding}
+use Rattle.lint_findings.specs.Findings.{Options, Rules, called_functions, catalog_rules, findings, findings_of_tiles, findings_with_reference, known_functions, known_ids, sources, tiles_in, translation_rules}
+use Rattle.lint_findings.specs.Flaws.{catalog_ids}
+use Rattle.fluent_grammar.specs.Tree as t
+use Rattle.fluent_grammar.specs.Words.{Text}
+use Rattle.fluent_meaning.specs.Ids.{Ids}
+use Rattle.lint_comparison.proofs.MissingParts.{missing_found}
+use Rattle.fluent_lint.specs.FileTiles.{files_view}
+use Rattle.fluent_lint.specs.Known.{by_ids, trees_by_id}
+use Rattle.fluent_lint.specs.Missing.{missing_in_files}
+use Rattle.fluent_lint.specs.Reading.{bare_tree, sources_of}
+use Rattle.fluent_lint.specs.Found.{found_by}
+use Rattle.fluent_lint.specs.LintReport.{all_findings}
+use Rattle.fluent_lint.proofs.Trees.{are_declared, ids_are, sources_viewed}
+
+-- the functions that the sources of a reference call are those that its files call
+pub called_are : (references : List code.File) (called : List Text) → called ≡ called_functions (sources_of references) → called ≡ called_functions (sources (files_view references))
+called_are references called are = are ∙ ap called_functions (sym (sources_viewed references))
+
+module _ (options : Options) (references : List File) (files : List code.File) (trees : List (Resource (Bor Text))) (read : map entries_of trees ≡ map bare_tree (sources_of files)) where
+  -- the ids of files are those of their trees
+  pub known_are : (called : List Text) → called ≡ called_functions (sources references) → by_ids (options.functions ++ called) (trees_by_id trees) ≡ known_ids options references (files_view files)
+  known_are called are = ids_are (options.functions ++ called) files trees read ∙ ap (λ names. catalog_ids (options.functions ++ names) (sources (files_view files))) are
+
+  -- each message and each term that such an id stands for is in one of the trees
+  pub known_declared : (ids : Ids (Unit {0})) → ids ≡ known_ids options references (files_view files) → AreDeclaredIn ids trees
+  known_declared ids are =
+      let known = known_functions options references in
+      subst (λ these. AreDeclaredIn these trees) (ids_are known files trees read ∙ sym are) (are_declared known trees)
+
+-- ---- findings
+
+abbrev compare_by : Ids (Unit {0}) → Ids (Unit {0}) → List code.File → Text → t.Entry → Text → List Finding
+compare_by ids reference [] = λ source e s. []
+compare_by ids reference (r ∷ rs) = message_findings ids reference
+
+module _ (options : Options) (files : List File) where
+  abbrev rules_by : Ids (Unit {0}) → Ids (Unit {0}) → (Text → t.Entry → Text → List Finding) → Rules
+  rules_by functions ids compare = record { functions = functions; ids = ids; plurals = options.plurals; compare = compare }
+
+  abbrev known : List File → List File → Ids (Unit {0})
+  known references of = known_ids options references of
+
+  -- by the ids that are known, of a catalog by itself
+  alone : found_by (rules_by (known [] []) (known [] files) (λ source e s. [])) [] files ≡ findings options files
+  alone =
+      append-nil (findings_of_files (rules_by (known [] []) (known [] files) (λ source e s. [])) [] files)
+      ∙ ap (λ names. findings_of_files (rules_by (catalog_ids names []) (catalog_ids names (sources files)) (λ source e s. [])) [] files) (append-nil options.functions)
+      ∙ sym (tiles_found (catalog_rules options files) files [])
+
+  -- and with a reference
+  compared : (references : List File) →
+      found_by (rules_by (known references []) (known references files) (message_findings (known references files) (known references references))) references files
+      ≡ findings_with_reference options references files
+  compared references =
+      let rules = translation_rules options references files in
+      ap (λ found. found ++ missing_in_files (known references files) references) (sym (tiles_found rules files []))
+      ∙ ap (λ found. findings_of_tiles rules [] (flat_map tiles_in files) ++ found) (sym (missing_found (known references files) references))
+
+  by_known : (references : List code.File) →
+      found_by (rules_by (known (files_view references) []) (known (files_view references) files) (compare_by (known (files_view references) files) (known (files_view references) (files_view references)) references)) (files_view references) files
+      ≡ all_findings options (files_view references) files
+  by_known [] = alone
+  by_known (r ∷ rs) = compared (files_view (r ∷ rs))
+
+  -- By the ids that are known, these are all findings of the files with the reference, if it has files.
+  pub all_found : (references : List code.File) (functions ids reference : Ids (Unit {0})) (compare : Text → t.Entry → Text → List Finding) →
+      functions ≡ known (files_view references) [] → ids ≡ known (files_view references) files → reference ≡ known (files_view references) (files_view references) →
+      compare ≡ compare_by ids reference references →
+      found_by (rules_by functions ids compare) (files_view references) files ≡ all_findings options (files_view references) files
+  all_found references functions ids reference compare functions_are ids_are reference_is compares =
+      let rs = files_view references in
+      ap (λ these. found_by (rules_by functions ids these) rs files) compares
+      ∙ ap (λ these. found_by (rules_by these ids (compare_by ids reference references)) rs files) functions_are
+      ∙ ap (λ these. found_by (rules_by (known rs []) these (compare_by these reference references)) rs files) ids_are
+      ∙ ap (λ these. found_by (rules_by (known rs []) (known rs files) (compare_by (known rs files) these references)) rs files) reference_is
+      ∙ by_known references

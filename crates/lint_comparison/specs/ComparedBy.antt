@@ -1,0 +1,11 @@
+-- What is found of an entry by a reference.
+use Rattle.std.specs.Prelude.{List}
+use Rattle.fluent_grammar.specs.Tree as t
+use Rattle.fluent_grammar.specs.Words.{Text}
+use Rattle.fluent_ids.specs.IdsView.{ids_view}
+use Rattle.lint_comparison.specs.declared.reference.Reference.{Reference}
+use Rattle.lint_findings.specs.ComparisonFindings as f
+use Rattle.lint_findings.specs.Finding.{Finding}
+
+abbrev pub compared_by : Reference → Text → t.Entry → Text → List Finding
+compared_by reference = f.message_findings (ids_view (Unit {0}) reference.ids.now) (ids_view (Unit {0}) reference.reference.now)
