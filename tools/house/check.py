@@ -9,7 +9,7 @@ programs use has a block. Each link leads to a file and a heading that are there
 page names; each page that a comment names is there; no line of prose in a page is wider than 120 columns; no page has words
 that the glossary leaves out, and no comment of the code has "behind" for "after"; each call in a shell block of a page prints
 what follows it there; each public call that can fail says how, under `# Errors`; no clause is longer than 200 characters, and
-at most 32 are longer than 120; each file that names the version names the same one.
+at most 33 are longer than 120; each file that names the version names the same one.
 
 Prints what isn't so, then how many of these checks passed and failed, and ends with 1 if one failed. The calls of shell
 blocks need the built program, `crates/ftl/out/ftl`: without it they are skipped. `--calls` runs them alone, and `--sources`
@@ -29,7 +29,7 @@ PAGES = [page for files in ('*.md', 'docs/**/*.md', 'crates/*/CALLING.md') for p
 SOURCES = sorted(ROOT.glob('crates/*/src/**/*.rt'))
 # Crates of rows and examples: nobody calls them.
 PRIVATE = re.compile(r'^(example|rows_|all_rows)')
-LONGEST_CLAUSE, LONG_CLAUSE, LONG_CLAUSES = 200, 120, 32
+LONGEST_CLAUSE, LONG_CLAUSE, LONG_CLAUSES = 200, 120, 33
 WIDEST = 120
 PROGRAM = ROOT / 'crates/ftl/out/ftl'
 GLOSSARY = ROOT / 'docs/glossary.md'
