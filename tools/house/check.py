@@ -9,7 +9,8 @@ programs use has a block. Each link leads to a file and a heading that are there
 page names; each page that a comment names is there; no line of prose in a page is wider than 120 columns; no page has words
 that the glossary leaves out, and no comment of the code has "behind" for "after"; each call in a shell block of a page prints
 what follows it there; each public call that can fail says how, under `# Errors`; no clause is longer than 200 characters, and
-at most 33 are longer than 120; each file that names the version names the same one.
+at most 33 are longer than 120; each file that names the version names the same one; the counts of crates and functions in
+the pages on proofs are those of the sources, and each law that is named is there.
 
 Prints what isn't so, then how many of these checks passed and failed, and ends with 1 if one failed. The calls of shell
 blocks need the built program, `crates/ftl/out/ftl`: without it they are skipped. `--calls` runs them alone, and `--sources`
@@ -47,6 +48,10 @@ INNER = {
     'fluent_text': ['Texts', 'Slices', 'StackBudget'],
     'fluent_kept': ['Bundle', 'Loose', 'Question', 'Answer', 'Sources'],
 }
+# The cycles of functions that call each other, with the words in which `proofs.md` says how many these are.
+COUNTED = {'parser': 'fifteen', 'resolving': 'eighteen'}
+NUMBERS = """zero one two three four five six seven eight nine ten eleven twelve thirteen fourteen fifteen sixteen seventeen
+    eighteen nineteen twenty""".split()
 # What names pages by their paths in comments.
 NAMING = ['crates/*/src/**/*.rt', 'crates/*/specs/**/*.antt', 'crates/*/*.h', 'crates/*/CALLING.md', 'bench/**/*.sh',
           'bench/**/*.py']
@@ -365,11 +370,46 @@ def long_clauses():
         yield f'{long} clauses are longer than {LONG_CLAUSE} characters'
 
 
+def uses():
+    """Each crate of crates.txt with those that it uses, directly or not."""
+    lines = [line.partition('#')[0].strip() for line in (ROOT / 'crates.txt').read_text().split('\n')]
+    named = {line.split()[0].rstrip(':'): line.partition(':')[2].split() for line in lines if line}
+
+    def below(crate):
+        direct = [name for name in named[crate] if name in named]
+        return {*direct}.union(*map(below, direct))
+
+    return {crate: below(crate) for crate in named}
+
+
+def cycle_length(name):
+    return sum(path.read_text().count(f'#[cycle({name})') for path in SOURCES)
+
+
+def wrong_counts():
+    """Counts in the pages that the sources don't have, and laws that no crate has."""
+    used = uses()
+    proofs, proved = ROOT / 'docs/inside/proofs.md', ROOT / 'docs/inside/proved.md'
+    for crate, count in re.findall(r'^\| `(\w+)` \| (\d+) \|$', proofs.read_text(), re.M):
+        above = sum(crate in below for below in used.values())
+        if above != int(count):
+            yield f'{place_of(proofs)}: {above} crates use {crate}, and not {count}'
+    for cycle, word in COUNTED.items():
+        if cycle_length(cycle) != NUMBERS.index(word):
+            yield f'{place_of(proofs)}: {cycle_length(cycle)} functions are in the cycle {cycle}, and not {word}'
+    for laws, crates in re.findall(r'^\|.*\| (laws? .*) \| (`\w+`.*) \|$', proved.read_text(), re.M):
+        folders = [ROOT / 'crates' / crate / 'src' for crate in re.findall(r'`(\w+)`', crates)]
+        source = '\n'.join(path.read_text() for folder in folders for path in folder.rglob('*.rt'))
+        for law in re.findall(r'`([\w:]+)`', laws.partition(';')[0].partition(':')[0]):
+            if f"fn {law.rpartition('::')[2]}" not in source:
+                yield f'{place_of(proved)}: no crate of {crates} has a law {law}'
+
+
 def checks():
     """The checks that are asked for."""
     if '--calls' not in OPTIONS:
         yield from (wrong_quotes, types_without_examples, wrong_links, wide_prose, wrong_words, wrong_comments,
-                    silent_calls, long_clauses, other_versions)
+                    silent_calls, long_clauses, other_versions, wrong_counts)
     if '--sources' in OPTIONS:
         return
     if PROGRAM.exists():
