@@ -1,7 +1,8 @@
 #!/bin/sh
 # Runs the proved program `ftl` on these words, in the caller's folder and on its streams, and ends with its status.
-# Takes the program that this script, `rt run` or the gate built. If there is none, or a source of it is younger, proves and
-# builds it first, and says on a terminal how far that is. Ends with 126 if that fails.
+# Takes the program that this script, `rt run` or the gate built. If there is none, or a source of it is younger, says so,
+# proves and builds it, and says on a terminal how far that is. Ends with 126 if that fails. With `--no-build` as its first
+# word it takes the program as it is.
 set -eu
 
 root=$(dirname -- "$(readlink -f -- "$0")")
@@ -33,14 +34,19 @@ crates() {
         }' "$root/crates.txt"
 }
 
-# Whether the program is there, and no source of its crates is younger.
-is_built() (
+# Why the program has to be built: there is none, or a source of its crates is younger. Nothing if it needn't be.
+why_build() (
     cd "$root/crates"
+    if [ ! -x "$program" ]; then
+        echo "the program isn't built"
+        return
+    fi
     since=$built
     [ -e "$since" ] || since=$program
     # shellcheck disable=SC2046 # no name of a crate has a space
     set -- $(crates | sed 's|.*|&/src &/specs &/proofs|')
-    [ -x "$program" ] && [ -z "$(find ../crates.txt "$@" -newer "$since" 2>/dev/null)" ]
+    younger=$(find ../crates.txt "$@" -newer "$since" 2>/dev/null | head -n 1)
+    [ -z "$younger" ] || echo "crates/$younger is younger than the program" | sed 's|^crates/\.\./||'
 )
 
 memory_left() {
@@ -72,19 +78,20 @@ watch() {
     while kill -0 "$$" 2>/dev/null; do
         proved=$(grep '^== ' "$1" | grep -cv summary || :)
         minutes=$((($(date +%s) - begun) / 60))
-        printf '\rftl: proving and building the program, once: %s of %s crates, %s minutes ' "$proved" "$2" "$minutes"
+        printf '\rftl: %s of %s crates, %s minutes ' "$proved" "$2" "$minutes"
         sleep 1
     done
 }
 
-# Proves and builds the program if there is room for it.
+# Proves and builds the program, for this reason, if there is room for it.
 provide() {
     count=$(crates | wc -l)
-    command -v rt >/dev/null || fail "the program isn't built, and there is no command rt to prove its $count crates"
+    command -v rt >/dev/null ||
+        fail "$1, and there is no command rt to prove its $count crates; a release has the program itself: README.md, 'Get it'"
     memory=$(memory_left) disk=$(disk_left)
     if [ "$memory" -lt "$memory_needed" ] || [ "$disk" -lt "$disk_needed" ]; then
-        fail "the program isn't built; to prove its $count crates takes $memory_needed GB of memory and $disk_needed GB of disk," \
-            "and $memory and $disk are free"
+        fail "$1; to prove its $count crates takes $memory_needed GB of memory and $disk_needed GB of disk," \
+            "and $memory and $disk are free; a first look takes two minutes, without the proofs: README.md, 'Get it'"
     fi
 
     log=$(mktemp)
@@ -92,6 +99,8 @@ provide() {
     trap 'rm -f "$log"; [ -z "$watcher" ] || kill "$watcher" 2>/dev/null' EXIT
     trap 'exit 130' INT
     trap 'exit 143' TERM
+    echo "ftl: $1, so its $count crates are proved first, once; the log is $log" >&2
+    [ ! -x "$program" ] || echo "ftl: with --no-build as its first word, ftl takes the program as it is" >&2
     if [ -t 2 ]; then
         watch "$log" "$count" >&2 &
         watcher=$!
@@ -111,7 +120,13 @@ provide() {
     trap - EXIT INT TERM
 }
 
-is_built || provide
+if [ "${1-}" = --no-build ]; then
+    shift
+    [ -x "$program" ] || fail "the program isn't built; a first look takes two minutes, without the proofs: README.md, 'Get it'"
+else
+    why=$(why_build)
+    [ -z "$why" ] || provide "$why"
+fi
 
 # Placeables that nest deep take stack: as much of it as the system lets this process have.
 ulimit -s "$(ulimit -H -s)" 2>/dev/null || :

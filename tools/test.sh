@@ -1,5 +1,6 @@
 #!/usr/bin/env bash
-# The merge gate: proves and builds everything, runs the rows, holds the pages against the sources, and runs the bindings.
+# The merge gate, in stages: what needs no build, then rt ci, which proves and builds everything and runs the rows, then what
+# runs over the built program and library.
 # Its last line is 'N passed, M failed', and it ends with 1 if anything failed.
 set -uo pipefail
 cd "$(dirname "$0")/.."
@@ -35,19 +36,42 @@ count_with() {
     fi
 }
 
+skip() {
+    echo "== $1: skipped, since rt ci failed"
+    ((skipped += 1))
+}
+
+# Whether each file of the crates is in the toolchain's layout, as one check.
+layout() {
+    local kit status=0
+    kit=$(dirname "$(dirname "$(readlink -f "$(command -v rt)")")")
+    find crates -path '*/out' -prune -o \( -name '*.rt' -o -name '*.antt' \) -print0 |
+        xargs -0 "$kit/bin/rattle" fmt --check || status=1
+    echo "$((1 - status)) passed, $status failed"
+    return "$status"
+}
+
 # The libraries that an earlier gate left: rt ci would put them back in the place of its own, which the bindings stand on.
 for library in crates/*/out/rlib; do
     [[ -e $library/stamp ]] || rm -rf "$library"
 done
 
+count_with python3 tools/house/check.py --sources
+count_with python3 tools/plurals/compare.py
+count layout
+before=$failed
 count rt ci
-if ((failed == 0)); then
+if ((failed == before)); then
+    count_with python3 tools/house/check.py --calls
+    count_with python3 tools/rows.py
+    count tools/more_rows.sh
     count tools/bindings.sh
+    count tools/stranger.sh
 else
-    echo "== tools/bindings.sh: skipped, since rt ci failed"
-    ((skipped += 1))
+    for stage in 'the calls of pages' tools/rows.py tools/more_rows.sh tools/bindings.sh tools/stranger.sh; do
+        skip "$stage"
+    done
 fi
-count_with python3 tools/house/check.py
 
 ((skipped > 0)) && echo "$skipped skipped"
 echo "$passed passed, $failed failed"

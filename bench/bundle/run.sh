@@ -7,11 +7,13 @@
 #   run.sh VENDOR [SOURCE]
 #
 # VENDOR is a folder of vendored crates with fluent-bundle, unic-langid and what these stand on, and SOURCE a Fluent source without
-# damage. It needs rt and cargo, and no network.
+# damage. Our half is the program in ours/, which is proved and built for it. It needs rt and cargo, and no network.
 set -eu
 [ $# -ge 1 ] || { sed -n '2,11s/^# \{0,1\}//p' "$0" >&2; exit 2; }
 here=$(cd "$(dirname "$0")" && pwd)
+root=$(cd "$here/../.." && pwd)
 vendor=$(cd "$1" && pwd)
+. "$root/bench/scratch.sh"
 built=$(mktemp -d)
 trap 'rm -rf "$built"' EXIT
 [ $# -eq 1 ] || cp "$2" "$built/source.ftl"
@@ -19,16 +21,17 @@ cp -R "$here/Cargo.toml" "$here/src" "$built"
 cp "$here/../syntax/src/clock.rs" "$built/src"
 (cd "$built" && cargo build --quiet --release --offline --target-dir target \
     --config 'source.crates-io.replace-with="vendor"' --config "source.vendor.directory='$vendor'")
+scratch_crate "$built/scratch" 'bench_bundle: fluent_ast fluent_bundle anyhow' "$here/ours"
+crate=$built/scratch/crates/bench_bundle
 
 # both MODE FILE..: what ours and the Rust crate's took, and the bytes of their texts, a line a file.
 both() {
-    (cd "$here/../../crates/bench_bundle" && rt run -- "$@" >"$built/ours" 2>"$built/log") ||
-        { cat "$built/log" >&2; exit 1; }
+    (cd "$crate" && rt run -- "$@" >"$built/ours" 2>"$built/log") || { cat "$built/log" >&2; exit 1; }
     "$built/target/release/bundles" "$@" >"$built/rust"
     paste -d ' ' "$built/ours" "$built/rust"
 }
 
-# A name a line on its input, the lines of `both` behind it, and by how much the times are to be divided for nanoseconds.
+# A name a line on its input, the lines of `both` after it, and by how much the times are to be divided for nanoseconds.
 ratios() {
     paste -d ':' - "$1" | awk -F : -v times="$2" '{
         split($2, took, " ")

@@ -1,13 +1,17 @@
 #!/bin/sh
 # Reads and writes a million mixed decimals by fluent_number and by Rust's f64 on the same texts, and prints the ratios:
-# Rust's time by ours. It needs rt, rustc and a C compiler.
+# Rust's time by ours. The calls that it times are those of the crate in ours/, which is built for it.
+# It needs rt, rustc and a C compiler.
 set -eu
 here=$(cd "$(dirname "$0")" && pwd)
-crate=$here/../../crates/bench_number
+root=$(cd "$here/../.." && pwd)
 kit=$(dirname "$(dirname "$(readlink -f "$(command -v rt)")")")
-(cd "$crate" && rt lib >/dev/null)
+. "$root/bench/scratch.sh"
 built=$(mktemp -d)
 trap 'rm -rf "$built"' EXIT
+scratch_crate "$built/scratch" 'bench_number staticlib: fluent_number' "$here/ours"
+crate=$built/scratch/crates/bench_number
+(cd "$crate" && rt lib >"$built/log" 2>&1) || { cat "$built/log" >&2; exit 1; }
 rustc --edition 2021 -O -C target-cpu=x86-64-v2 -o "$built/number" "$here/src/main.rs" \
     -L native="$crate/out" -l static=bench_number -L native="$kit/c" -l static=libc_c
 "$built/number"

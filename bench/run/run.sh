@@ -1,7 +1,7 @@
 #!/bin/sh
 # Answers the same requests by the program `ftl` and by one over the Rust crate fluent-bundle, compares the bytes that they write,
-# and prints the ratios of their processor times, start to end, and of one request line: above 1 ftl is faster. Behind them
-# stands the peak memory of both.
+# and prints the ratios of their processor times, start to end, and of one request line: above 1 ftl is faster. After
+# them is the peak memory of both.
 #
 #   run.sh VENDOR SOURCE REQUESTS
 #

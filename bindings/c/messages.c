@@ -1,4 +1,4 @@
-/* Shows the messages of a mail program: reads them once, and asks for each when it is needed.
+/* Shows the messages of a mail program: counts them, reads them once, and asks for each when it is needed.
  *
  * Build and run it by run.sh beside this file.
  */
@@ -36,6 +36,12 @@ static struct FluentArgument integer_argument(const char *name, int64_t integer)
         .name = bytes_of(name), .name_len = strlen(name), .text = bytes_of(""), .integer = integer, .kind = FLUENT_INTEGER};
 }
 
+/* How many messages a source has. */
+static size_t count_messages(const char *source) {
+    struct FluentCounts counts = {0};
+    return fluent_parse(bytes_of(source), strlen(source), &counts) == FLUENT_READ ? counts.messages : 0;
+}
+
 static uint32_t read_messages(struct Messages *messages, const char *source) {
     const struct FluentSource sources[] = {{bytes_of(source), strlen(source)}};
     const char *locale = "en-GB";
@@ -70,6 +76,7 @@ int main(void) {
     struct Messages messages = {{0}, {0}, {0}};
     if (read_messages(&messages, SOURCE) != FLUENT_READ)
         return 1;
+    printf("%zu messages\n", count_messages(SOURCE));
     const struct FluentArgument jane[] = {text_argument("name", "Jane")};
     const struct FluentArgument three[] = {integer_argument("count", 3)};
     print_message(&messages, "hello-world", "", NULL, 0);

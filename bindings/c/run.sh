@@ -1,6 +1,7 @@
 #!/bin/sh
 # Builds the C programs of this folder over the static library, runs them, and compares what they print: that of README.md with
-# what the page says, and messages.c with `expected`.
+# what the page says, messages.c with `expected`, and the tests of `tests` with theirs. The tests count the blocks of memory that are
+# left; they are built with the sanitizers if the compiler has them, and else run under valgrind if it is there.
 set -eu
 here=$(cd "$(dirname "$0")" && pwd)
 root=$(cd "$here/../.." && pwd)
@@ -16,3 +17,21 @@ for program in first messages; do
 done
 grep -qF "\`$(cat "$built/first.printed")\`" "$here/README.md"
 diff "$here/expected" "$built/messages.printed"
+
+# Builds the tests with these flags.
+build_tests() {
+    cc -std=c11 -O1 -g -Wall -Wextra "$@" -I "$header" -Wl,--wrap=malloc -Wl,--wrap=realloc -Wl,--wrap=free \
+        -o "$built/tests" "$here"/tests/*.c -L "$library" -lfluent_c -L "$kit" -llibc_c
+}
+
+echo 'int main(void) { return 0; }' >"$built/none.c"
+if cc -fsanitize=address,undefined -o "$built/none" "$built/none.c" 2>/dev/null && "$built/none"; then
+    build_tests -fsanitize=address,undefined -fno-sanitize-recover=undefined
+    "$built/tests" >"$built/tests.printed" || { cat "$built/tests.printed"; exit 1; }
+else
+    build_tests
+    checker=$(command -v valgrind >/dev/null && echo 'valgrind --quiet --error-exitcode=1 --leak-check=full' || echo)
+    $checker "$built/tests" >"$built/tests.printed" || { cat "$built/tests.printed"; exit 1; }
+fi
+cat "$built/tests.printed"
+diff "$here/tests/expected" "$built/tests.printed"

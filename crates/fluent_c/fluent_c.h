@@ -6,8 +6,8 @@
  * isn't null.
  *
  * Each call that returns a number returns one of those below, and its comment says which. If it isn't FLUENT_READ, what
- * you passed for the result is unchanged. A call frees all that it allocates, except for a text that it hands out and
- * a bundle that it makes.
+ * you passed for the result is unchanged: a text still has the same bytes at the same address. A call frees all that it
+ * allocates, except for a text that it hands out and a bundle that it makes.
  *
  * A thread with a stack of 2 MB can make each call. If the placeables, calls and selects of a source or of an answer nest
  * so deep that they would take more than 1.5 MB of stack, the call returns FLUENT_NO_MEMORY; fluent_bundle_new_within makes
@@ -163,7 +163,8 @@ uint32_t fluent_bundle_new_within(
 );
 
 /* The kinds of arguments: a text; a number, written as a decimal such as "3" or "1.50", which keeps its digits after
- * the point; a signed and an unsigned integer. */
+ * the point; a signed and an unsigned integer. A text stays a text, whatever it looks like: "3" is no number here,
+ * though it is one in a request line of fluent_answer. */
 #define FLUENT_TEXT 0
 #define FLUENT_DECIMAL 1
 #define FLUENT_INTEGER 2

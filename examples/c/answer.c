@@ -44,9 +44,9 @@ static unsigned print_answers(const char *at, const char *end) {
             continue;
         }
         /* The line feed after the numbers ends them. */
-        char *behind;
-        size_t bytes = strtoull(at + 3, &behind, 10);
-        size_t errors = strtoull(behind, NULL, 10);
+        char *after;
+        size_t bytes = strtoull(at + 3, &after, 10);
+        size_t errors = strtoull(after, NULL, 10);
         at += head;
         printf("%.*s\n", (int)bytes, at);
         at += bytes + 1;

@@ -1,17 +1,20 @@
 #!/usr/bin/env python3
 """Holds the pages and the doc comments against the sources.
 
-    tools/house/check.py [ROOT]
+    tools/house/check.py [--sources|--calls] [ROOT]
 
 Each block of code in a page is cut from an example, and each in the doc comment of a public crate from an example or another
-crate that the gate proves, unless its fence is `no_run`: such a block was only tried. Each public type that programs use has
-a block. Each link leads to a file and a heading that are there, and each page that a comment names is there; no line of prose
-in a page is wider than 120 columns; no page has words that the glossary leaves out; each call in a shell block of a page
-prints what follows it there; each public call that can fail says how, under `# Errors`; no clause is longer than 200
-characters, and at most 30 are longer than 120.
+crate that the gate proves or tries, unless its fence is `no_run`: such a block was only tried once. Each public type that
+programs use has a block. Each link leads to a file and a heading that are there, and so does each path in `crates` that a
+page names; each page that a comment names is there; no line of prose in a page is wider than 120 columns; no page has words
+that the glossary leaves out, and no comment of the code has "behind" for "after"; each call in a shell block of a page prints
+what follows it there; each public call that can fail says how, under `# Errors`; no clause is longer than 200 characters, and
+at most 33 are longer than 120; each file that names the version names the same one; the counts of crates and functions in
+the pages on proofs are those of the sources, and each law that is named is there.
 
-Prints what isn't so, then how many public types there are, and how many of these eight checks passed and failed, and ends
-with 1 if one failed. The calls need the built program, `crates/ftl/out/ftl`: without it they are skipped.
+Prints what isn't so, then how many of these checks passed and failed, and ends with 1 if one failed. The calls of shell
+blocks need the built program, `crates/ftl/out/ftl`: without it they are skipped. `--calls` runs them alone, and `--sources`
+all other checks, which need no build.
 """
 import re
 import shutil
@@ -20,37 +23,64 @@ import sys
 import tempfile
 from pathlib import Path
 
-ROOT = Path(sys.argv[1] if len(sys.argv) > 1 else Path(__file__).parents[2]).resolve()
+OPTIONS = [word for word in sys.argv[1:] if word.startswith('--')]
+FOLDERS = [word for word in sys.argv[1:] if not word.startswith('--')]
+ROOT = Path(FOLDERS[0] if FOLDERS else Path(__file__).parents[2]).resolve()
 PAGES = [page for files in ('*.md', 'docs/**/*.md', 'crates/*/CALLING.md') for page in sorted(ROOT.glob(files))]
 SOURCES = sorted(ROOT.glob('crates/*/src/**/*.rt'))
-# Crates of rows, benchmarks and examples are programs of their own: nobody calls them.
-PRIVATE = re.compile(r'^(example_|rows_|all_rows|bench_)')
-LONGEST_CLAUSE, LONG_CLAUSE, LONG_CLAUSES = 200, 120, 30
+# Crates of rows and examples: nobody calls them.
+PRIVATE = re.compile(r'^(example|rows_|all_rows)')
+LONGEST_CLAUSE, LONG_CLAUSE, LONG_CLAUSES = 200, 120, 33
 WIDEST = 120
 PROGRAM = ROOT / 'crates/ftl/out/ftl'
 GLOSSARY = ROOT / 'docs/glossary.md'
 # The crates that programs call, with those whose types they pass on, and the types of these that only crates of this
 # repository use.
 CALLED = '''
-    fluent_ast fluent_parsed fluent_parser fluent_serializer fluent_unicode fluent_text fluent_syntax fluent_json
-    fluent_json_read fluent_json_write fluent_number fluent_value fluent_plurals fluent_errors fluent_resource fluent_ids
-    fluent_bundle fluent_check fluent_tidy fluent_serve fluent_run fluent_desk fluent_kept fluent_c_calls fluent_c
+    fluent_ast fluent_parsed fluent_parser fluent_serializer fluent_text fluent_syntax fluent_json fluent_json_write
+    fluent_number fluent_value fluent_plurals fluent_errors fluent_resource fluent_ids fluent_bundle fluent_check fluent_tidy
+    fluent_serve fluent_run fluent_desk fluent_kept fluent_c
 '''.split()
 INNER = {
-    'fluent_parsed': ['Collected'],
+    'fluent_parsed': ['Collected', 'Dedented', 'Gathered'],
+    'fluent_json_write': ['Object'],
     'fluent_run': ['Desk'],
-    'fluent_text': ['Texts', 'Slices'],
+    'fluent_text': ['Texts', 'Slices', 'StackBudget'],
     'fluent_kept': ['Bundle', 'Loose', 'Question', 'Answer', 'Sources'],
 }
+# The cycles of functions that call each other, with the words in which `proofs.md` says how many these are.
+COUNTED = {'parser': 'fifteen', 'resolving': 'eighteen'}
+NUMBERS = """zero one two three four five six seven eight nine ten eleven twelve thirteen fourteen fifteen sixteen seventeen
+    eighteen nineteen twenty""".split()
 # What names pages by their paths in comments.
 NAMING = ['crates/*/src/**/*.rt', 'crates/*/specs/**/*.antt', 'crates/*/*.h', 'crates/*/CALLING.md', 'bench/**/*.sh',
           'bench/**/*.py']
 # Where a block of code is cut from, by the language of its fence. In a doc comment a fence names none, or is `no_run`.
 EXAMPLES = {
-    '': [f'crates/{crate}/src/**/*.rt' for crate in ('example_*', '*_rows', '*_vectors', 'rows_*', 'ftl_*', 'fluent_c')],
-    'rust': ['crates/example_*/src/**/*.rt', 'bindings/rust/README.md'],
+    '': [*(f'crates/{crate}/src/**/*.rt' for crate in ('example*', 'rows_*', 'ftl_*', 'fluent_c')),
+         'tests/more_rows/src/**/*.rt.txt'],
+    'rust': ['crates/example*/src/**/*.rt', 'bindings/rust/README.md'],
     'c': ['*s/c/*.c'],
     'python': ['examples/python/*.py', 'bindings/python/README.md'],
+}
+# What parts a program's `main.rt` from its module in the crate `examples`: a line of root files, and that its `main` is called.
+OF_ROOT_FILE = re.compile(r'^#!\[tactic\(auto\)\]$|^pub (?=fn main\()')
+# Paths in `crates` that are there once a reader has made them.
+OF_READER = re.compile(r'^crates/hello/|/out\b')
+# Where "behind" doesn't mean "after".
+GOOD_BEHIND = re.compile(r'\b(?:left|leaves?|far|call)\b[^.;]*?\bbehind\b')
+# Where the version is named. The first match counts: in the changelog that is the topmost release. What only some checkouts
+# have may name none.
+VERSIONS = {
+    'crates/ftl_arguments/src/version.rt': r'VERSION: &str = "([^"]+)"',
+    'bindings/rust/Cargo.toml': r'^version = "([^"]+)"',
+    'CHANGELOG.md': r'^## (\d\S*)',
+    'docs/reference/protocol.md': r'`ftl (\d[^`]*)`',
+}
+VERSIONS_IF_THERE = {
+    'README.md': r'\bkozhvadi-(\d[\d.]*\d)-',
+    'bindings/python/pyproject.toml': r'^version = "([^"]+)"',
+    'bindings/python/kozhvadi/__init__.py': r"^__version__ = ['\"]([^'\"]+)",
 }
 
 
@@ -100,7 +130,8 @@ def without_comments(lines):
 
 def squeezed(lines):
     """Code without its comments and its layout, which a formatter chooses."""
-    return re.sub(r'\s+', '', '\n'.join(without_comments(lines))).replace(',)', ')').replace(',}', '}')
+    code = '\n'.join(OF_ROOT_FILE.sub('', line) for line in without_comments(lines))
+    return re.sub(r'\s+', '', code).replace(',)', ')').replace(',}', '}')
 
 
 def stretches(block):
@@ -156,6 +187,9 @@ def wrong_links():
                     yield f'{place_of(page, number)}: no such file: {link}'
                 elif heading and heading not in headings(target):
                     yield f'{place_of(page, number)}: no such heading: {link}'
+            for name in re.findall(r'`(crates/[a-z_]+[\w./-]*)`', line):
+                if not OF_READER.search(name) and not (ROOT / name).exists():
+                    yield f'{place_of(page, number)}: no such file: {name}'
     for path in (path for files in NAMING for path in sorted(ROOT.glob(files))):
         for name in re.findall(r'\bdocs/[\w/-]+\.md\b', path.read_text()):
             if not (ROOT / name).exists():
@@ -182,6 +216,33 @@ def wrong_words():
         for number, line in prose_of(page) if page != GLOSSARY else ():
             for word in left_out.findall(re.sub(r'`[^`]*`|\]\([^)]*\)', '', line)):
                 yield f'{place_of(page, number)}: the glossary leaves out "{word}"'
+
+
+def wrong_comments():
+    for path in SOURCES:
+        for number, line in enumerate(path.read_text().split('\n'), 1):
+            comment = re.search(r'(?:^|\s)//[/!]?(.*)', line)
+            if comment and re.search(r'\bbehind\b', GOOD_BEHIND.sub('', comment.group(1)), re.I):
+                yield f'{place_of(path, number)}: the glossary leaves out "behind"'
+
+
+def versions_named():
+    """The version that each file names, as (place, version)."""
+    for name, pattern in {**VERSIONS, **VERSIONS_IF_THERE}.items():
+        path = ROOT / name
+        named = re.search(pattern, path.read_text(), re.M) if path.exists() else None
+        if named or name in VERSIONS:
+            yield name, named.group(1) if named else None
+
+
+def other_versions():
+    versions = dict(versions_named())
+    first = next(iter(versions))
+    for name, version in versions.items():
+        if version is None:
+            yield f'{name}: no version is named'
+        elif version != versions[first]:
+            yield f'{name}: version {version}, but {first} has {versions[first]}'
 
 
 def calls_of(block):
@@ -309,18 +370,64 @@ def long_clauses():
         yield f'{long} clauses are longer than {LONG_CLAUSE} characters'
 
 
-def main():
-    failed, checks = 0, [wrong_quotes, types_without_examples, wrong_links, wide_prose, wrong_words, silent_calls, long_clauses]
+def uses():
+    """Each crate of crates.txt with those that it uses, directly or not."""
+    lines = [line.partition('#')[0].strip() for line in (ROOT / 'crates.txt').read_text().split('\n')]
+    named = {line.split()[0].rstrip(':'): line.partition(':')[2].split() for line in lines if line}
+
+    def below(crate):
+        direct = [name for name in named[crate] if name in named]
+        return {*direct}.union(*map(below, direct))
+
+    return {crate: below(crate) for crate in named}
+
+
+def cycle_length(name):
+    return sum(path.read_text().count(f'#[cycle({name})') for path in SOURCES)
+
+
+def wrong_counts():
+    """Counts in the pages that the sources don't have, and laws that no crate has."""
+    used = uses()
+    proofs, proved = ROOT / 'docs/inside/proofs.md', ROOT / 'docs/inside/proved.md'
+    for crate, count in re.findall(r'^\| `(\w+)` \| (\d+) \|$', proofs.read_text(), re.M):
+        above = sum(crate in below for below in used.values())
+        if above != int(count):
+            yield f'{place_of(proofs)}: {above} crates use {crate}, and not {count}'
+    for cycle, word in COUNTED.items():
+        if cycle_length(cycle) != NUMBERS.index(word):
+            yield f'{place_of(proofs)}: {cycle_length(cycle)} functions are in the cycle {cycle}, and not {word}'
+    for laws, crates in re.findall(r'^\|.*\| (laws? .*) \| (`\w+`.*) \|$', proved.read_text(), re.M):
+        folders = [ROOT / 'crates' / crate / 'src' for crate in re.findall(r'`(\w+)`', crates)]
+        source = '\n'.join(path.read_text() for folder in folders for path in folder.rglob('*.rt'))
+        for law in re.findall(r'`([\w:]+)`', laws.partition(';')[0].partition(':')[0]):
+            if f"fn {law.rpartition('::')[2]}" not in source:
+                yield f'{place_of(proved)}: no crate of {crates} has a law {law}'
+
+
+def checks():
+    """The checks that are asked for."""
+    if '--calls' not in OPTIONS:
+        yield from (wrong_quotes, types_without_examples, wrong_links, wide_prose, wrong_words, wrong_comments,
+                    silent_calls, long_clauses, other_versions, wrong_counts)
+    if '--sources' in OPTIONS:
+        return
     if PROGRAM.exists():
-        checks.append(wrong_outputs)
+        yield wrong_outputs
     else:
         print(f'{place_of(PROGRAM)} is not built: the calls of shell blocks are skipped')
-    for check in checks:
+
+
+def main():
+    if set(OPTIONS) - {'--calls', '--sources'}:
+        sys.exit(f'usage: {Path(__file__).name} [--sources|--calls] [ROOT]')
+    passed, failed = 0, 0
+    for check in checks():
         faults = list(check())
         print(*faults, sep='\n', end='\n' if faults else '')
         failed += bool(faults)
-    print(f'{len(list(public_types()))} public types, {len(list(types_without_examples()))} of them without an example')
-    print(f'{len(checks) - failed} passed, {failed} failed')
+        passed += not faults
+    print(f'{passed} passed, {failed} failed')
     sys.exit(failed > 0)
 
 

@@ -5,9 +5,9 @@ set -eu
 here=$(cd "$(dirname "$0")" && pwd)
 top=$here/../..
 data=$(ls -d "$here"/cldr-* | sort -V | tail -n 1)
-rows=$top/crates/all_rows/data/values/plurals.txt
+rows=$top/tests/more_rows/data/plurals.txt
 python3 -B "$here/generate.py" "$data" "${data##*cldr-}" "$top/crates/fluent_plurals"
 python3 -B "$here/samples.py" "$data" > "$rows"
 cp "$data/LICENSE-UNICODE" "$top/crates/fluent_plurals/LICENSE-UNICODE"
 (cd "$top/crates/fluent_plurals" && rt fmt)
-echo "$(wc -l < "$rows") samples: crates/all_rows/stdout counts them"
+echo "$(wc -l < "$rows") samples: tests/more_rows/stdout counts them"

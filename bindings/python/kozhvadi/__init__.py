@@ -5,14 +5,29 @@
 'Welcome, Jane.'
 """
 
-from ._bundle import (
-    Answer,
-    Bundle,
+from ._bundle import Answer, Bundle
+from ._errors import (
     FluentError,
+    FluentWarning,
     MissingMessageError,
-    Number,
+    ResolverError,
+    SourceError,
     UnknownLocaleError,
-    Value,
 )
+from ._values import Formatter, Number, Value
 
-__all__ = ["Answer", "Bundle", "FluentError", "MissingMessageError", "Number", "UnknownLocaleError", "Value"]
+__version__ = "0.1.0"
+
+__all__ = [
+    "Answer",
+    "Bundle",
+    "FluentError",
+    "FluentWarning",
+    "Formatter",
+    "MissingMessageError",
+    "Number",
+    "ResolverError",
+    "SourceError",
+    "UnknownLocaleError",
+    "Value",
+]

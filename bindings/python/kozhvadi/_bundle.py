@@ -2,97 +2,72 @@
 
 from __future__ import annotations
 
-import ctypes
+import os
+import re
+import resource
 import threading
+import warnings
 import weakref
-from collections.abc import Iterable
-from decimal import Decimal
+from collections.abc import Callable, Iterable
+from pathlib import Path
 from types import TracebackType
-from typing import NamedTuple, Union
+from typing import NamedTuple, NoReturn, SupportsIndex, Union
 
 from . import _library as c
+from ._errors import FluentError, FluentWarning, MissingMessageError, ResolverError, SourceError, UnknownLocaleError
+from ._errors import source_error
+from ._locks import new_lock
+from ._values import Formatter, arguments_of, encoded
 
-Value = Union[str, int, float, Decimal]
+Paths = Union[str, "os.PathLike[str]", Iterable[Union[str, "os.PathLike[str]"]]]
 
+# What a call takes of the machine's stack in addition to the budget of a bundle.
+_BESIDE = 400 * 1024
 
-class Number(str):
-    """A number as it is written, such as "1.50": it chooses variants as a number, and is shown as it is written."""
+# A warning shows this many errors.
+_SHOWN = 3
 
-
-class FluentError(Exception):
-    """What a bundle can't do."""
-
-
-class UnknownLocaleError(FluentError, ValueError):
-    """The locale has no plural rules."""
-
-
-class MissingMessageError(FluentError, KeyError):
-    """There is no such message, or it has no value, or no such attribute."""
-
-    def __str__(self) -> str:
-        return str(self.args[0])
+# A text of one line that is the name of a file or of a locale.
+_NAME = re.compile(r"[^\n=#]*\.ftl|[A-Za-z]{2,3}(?:[-_][A-Za-z0-9]+)*")
 
 
 class Answer(NamedTuple):
     """The text of a message, and its errors. You get the text even if there are errors."""
 
     text: str
-    errors: list[str]
+    errors: list[ResolverError]
 
     def __str__(self) -> str:
         return self.text
 
 
-def _decimal(value: float | Decimal) -> str:
-    """A number as the library reads it: no exponent."""
-    return format(Decimal(repr(value)) if isinstance(value, float) else value, "f")
+class _Texts:
+    """The text and the errors of an answer, whose memory another answer uses."""
 
+    __slots__ = ("text", "errors")
 
-def _argument(name: str, value: Value) -> c.FluentArgument:
-    key = name.encode()
-    argument = c.FluentArgument(name=key, name_len=len(key), text=b"", text_len=0, kind=c.TEXT)
-    if isinstance(value, str):
-        argument.kind = c.DECIMAL if isinstance(value, Number) else c.TEXT
-        text = value.encode()
-    elif isinstance(value, int) and -(2**63) <= value < 2**63:
-        argument.kind, argument.integer = c.INTEGER, value
-        return argument
-    elif isinstance(value, int) and 0 <= value < 2**64:
-        argument.kind, argument.unsigned_integer = c.UNSIGNED, value
-        return argument
-    elif isinstance(value, (int, float, Decimal)):
-        argument.kind = c.DECIMAL
-        text = (str(value) if isinstance(value, int) else _decimal(value)).encode()
-    else:
-        raise TypeError(f"the argument {name!r} is neither a text nor a number: {type(value).__name__}")
-    argument.text, argument.text_len = text, len(text)
-    return argument
+    def __init__(self) -> None:
+        self.text, self.errors = c.FluentText(), c.FluentText()
 
-
-def _taken(text: c.FluentText) -> str:
-    """The text that the library hands out, which is empty if there is none."""
-    return ctypes.string_at(text.bytes, text.len).decode() if text.held and text.len else ""
-
-
-def _lines(text: c.FluentText) -> list[str]:
-    """The lines of a text, each of which ends in a line feed."""
-    return _taken(text).split("\n")[:-1]
-
-
-def _freed(handle: c.FluentBundle, text: c.FluentText, errors: c.FluentText) -> None:
-    c.library.fluent_bundle_free(handle)
-    c.library.fluent_free_text(text)
-    c.library.fluent_free_text(errors)
+    def __del__(self, free: Callable[[c.FluentText], None] = c.library.fluent_free_text) -> None:
+        free(self.text)
+        free(self.errors)
 
 
 class Bundle:
     """Messages and terms of sources, which are read once and kept.
 
-    `locale` names the language whose plural rules choose variants, such as "pl"; English without one. With `isolating` the values
-    of placeables are between marks that keep their direction from that of the text around them. With `overriding` the last entry
-    of an id counts, and else the first. `stack` is how many bytes of the machine's stack a message or a term may take when it is read,
-    and an answer: the usual 1.5 MB suit a thread with 2 MB. What nests deeper raises `MemoryError`.
+    `locale` names the language whose plural rules choose variants, such as "pl"; English without one. With `isolating`
+    the values of placeables are between marks that keep their direction from that of the text around them. With
+    `overriding` the last entry of an id counts, and else the first. `formatter` makes a text or a number of an argument
+    that is neither, such as a date or `None`: `str` if you set none.
+
+    `stack` is how many bytes of the machine's stack a message or a term may take when it is read, and an answer: the
+    usual 1.5 MB suit a thread with 2 MB. What nests deeper raises `MemoryError`. A thread that makes or asks the bundle
+    needs 400 KB more: `ValueError` is raised if the thread that makes it doesn't have them.
+
+    If the sources have errors, the first `format` warns of them by a `FluentWarning`, unless you looked at `errors`
+    before.
     """
 
     def __init__(
@@ -102,77 +77,167 @@ class Bundle:
         locale: str | None = None,
         isolating: bool = True,
         overriding: bool = False,
+        formatter: Formatter = str,
         stack: int = c.THREAD_STACK,
     ) -> None:
-        if not 0 <= stack < 2**63:
-            raise ValueError(f"no budget of the stack: {stack}")
-        texts = [sources] if isinstance(sources, str) else list(sources)
-        encoded = [text.encode() for text in texts]
-        array = (c.FluentSource * max(len(encoded), 1))(*[c.FluentSource(text, len(text)) for text in encoded])
-        tag = (locale or "").encode()
-        self._lock = threading.Lock()
-        self._handle = c.FluentBundle()
-        self._text = c.FluentText()
-        self._errors = c.FluentText()
-        made = c.library.fluent_bundle_new_within(
-            array, len(encoded), tag, len(tag), isolating, overriding, stack, self._handle
-        )
+        texts = _texts_of(sources)
+        named = [(f"source {number}", text) for number, text in enumerate(texts, 1)]
+        self._make(named, locale, isolating, overriding, formatter, stack)
+
+    @classmethod
+    def from_files(
+        cls,
+        paths: Paths,
+        *,
+        locale: str | None = None,
+        isolating: bool = True,
+        overriding: bool = False,
+        formatter: Formatter = str,
+        stack: int = c.THREAD_STACK,
+    ) -> Bundle:
+        """A bundle of files, in their order. They are in UTF-8, and a byte order mark is passed over.
+
+        Raises `OSError` if a file can't be read, and `ValueError` with its name if it isn't UTF-8.
+        """
+        each = [paths] if isinstance(paths, (str, os.PathLike)) else list(paths)
+        bundle = cls.__new__(cls)
+        bundle._make([_file(path) for path in each], locale, isolating, overriding, formatter, stack)
+        return bundle
+
+    def _make(
+        self,
+        named: list[tuple[str, bytes]],
+        locale: str | None,
+        isolating: bool,
+        overriding: bool,
+        formatter: Formatter,
+        stack: SupportsIndex,
+    ) -> None:
+        tag = b"" if locale is None else encoded(locale, "the locale")
+        if not callable(formatter):
+            raise TypeError(f"the formatter can't be called: {type(formatter).__name__}")
+        self._lock, self._handle = new_lock(), c.FluentBundle()
+        self._spare: list[_Texts] = []
+        self._formatter, self._overriding, self._stack = formatter, bool(overriding), _budget(stack)
+        # What `errors` needs, until it was asked.
+        self._sources: list[tuple[str, bytes]] | None = named
+        self._errors: list[SourceError] = []
+        made = self._read([text for _, text in named], tag, bool(isolating), self._handle)
         if made == c.UNKNOWN_LOCALE:
             raise UnknownLocaleError(f"the locale {locale!r} has no plural rules")
         if made != c.READ:
-            raise MemoryError
-        self._free = weakref.finalize(self, _freed, self._handle, self._text, self._errors)
+            raise MemoryError(self._too_deep(named))
+        self._free = weakref.finalize(self, c.library.fluent_bundle_free, self._handle)
 
-    def format(self, id: str, attribute: str | None = None, /, **arguments: Value) -> Answer:
+    def _read(self, texts: list[bytes], tag: bytes, isolating: bool, handle: c.FluentBundle) -> int:
+        array, count = c.sources(texts)
+        made: int = c.library.fluent_bundle_new_within(
+            array, count, tag, len(tag), isolating, self._overriding, self._stack, handle
+        )
+        return made
+
+    def _too_deep(self, named: list[tuple[str, bytes]]) -> str:
+        """Which source can't be read."""
+        for name, text in named:
+            alone = c.FluentBundle()
+            made = self._read([text], b"", True, alone)
+            c.library.fluent_bundle_free(alone)
+            if made != c.READ:
+                return f"{name} nests too deep for {self._stack} bytes of the stack, or memory ran out"
+        return "memory ran out"
+
+    def format(self, id: str, attribute: str | None = None, /, **arguments: object) -> Answer:
         """The text of a message's value, or of its first attribute of a name, for these arguments.
 
-        Raises `MissingMessageError` if there is no such message, value or attribute, and `ValueError` if a number has 2^64 or more
-        before its point, or more than 18 digits after it.
+        A float and a `Decimal` are rounded to 18 digits after the point. One that is `nan`, infinite or too large, with
+        2^64 or more before its point, is a text, and so is such an `int`. Raises `MissingMessageError` if there is no
+        such message, value or attribute, `ValueError` if a `Number` is none or a text can't be written in UTF-8, and
+        `MemoryError` if the answer nests too deep for the stack.
         """
-        given = [_argument(name, value) for name, value in arguments.items()]
-        array = (c.FluentArgument * max(len(given), 1))(*given)
-        key, name = id.encode(), (attribute or "").encode()
+        key = encoded(id, "the id")
+        name = b"" if attribute is None else encoded(attribute, "the name of the attribute")
+        array, count = arguments_of(arguments, self._formatter)
+        if self._sources is not None:
+            self._warn()
+        # An answer that comes up meanwhile, in a signal handler or another thread, has other texts.
+        try:
+            texts = self._spare.pop()
+        except IndexError:
+            texts = _Texts()
         with self._lock:
             answered = c.library.fluent_bundle_format(
-                self._handle, key, len(key), name, len(name), array, len(given), self._text, self._errors
+                self._handle, key, len(key), name, len(name), array, count, texts.text, texts.errors
             )
-            if answered == c.READ:
-                return Answer(_taken(self._text), _lines(self._errors))
+        if answered == c.READ:
+            errors = [ResolverError(line) for line in c.lines_of(texts.errors)] if texts.errors.held else []
+            answer = Answer(c.string_of(texts.text), errors)
+            self._spare.append(texts)
+            return answer
         if answered in (c.NO_MESSAGE, c.NO_PATTERN):
             raise MissingMessageError(_missing(id, attribute, answered))
-        if answered == c.BAD_ARGUMENT:
-            raise ValueError("an argument is no number that can be shown")
-        raise self._refused(answered)
+        self._refuse(answered, f"the answer to {id!r}")
+
+    def has_message(self, id: str) -> bool:
+        """Whether there is a message of this id, with a value or with attributes alone."""
+        found = self._has(encoded(id, "the id"), b"")
+        return found != c.NO_MESSAGE
+
+    def _has(self, id: bytes, attribute: bytes) -> int:
+        """Whether there is a value or an attribute, as a status of the library."""
+        with self._lock:
+            found: int = c.library.fluent_bundle_has(self._handle, id, len(id), attribute, len(attribute))
+        if found not in (c.READ, c.NO_MESSAGE, c.NO_PATTERN):
+            self._refuse(found, "the question")
+        return found
 
     def __contains__(self, key: object) -> bool:
         """Whether there is a message of this id with a value, or with an attribute: `("id", "attribute") in bundle`."""
-        id, attribute = key if isinstance(key, tuple) else (key, "")
-        if not isinstance(id, str) or not isinstance(attribute, str):
+        name, of = key if isinstance(key, tuple) and len(key) == 2 else (key, "")
+        if not isinstance(name, str) or not isinstance(of, str):
             return False
-        name, of = id.encode(), attribute.encode()
-        with self._lock:
-            found = c.library.fluent_bundle_has(self._handle, name, len(name), of, len(of))
-        if found in (c.READ, c.NO_MESSAGE, c.NO_PATTERN):
-            return found == c.READ
-        raise self._refused(found)
+        try:
+            return self._has(str.encode(name), str.encode(of)) == c.READ
+        except UnicodeEncodeError:
+            return False
 
     @property
-    def errors(self) -> list[str]:
-        """What is wrong with the sources: a line for each error, and for each entry whose id was there before it."""
-        report = c.FluentText()
+    def errors(self) -> list[SourceError]:
+        """What is wrong with the sources: each error, and each entry whose id was there before it.
+
+        The sources are read for it once.
+        """
         with self._lock:
-            told = c.library.fluent_bundle_errors(self._handle, report)
-        if told != c.READ:
-            raise self._refused(told)
+            if self._sources is not None:
+                self._errors = self._report(self._sources)
+                self._sources = None
+            return list(self._errors)
+
+    def _report(self, sources: list[tuple[str, bytes]]) -> list[SourceError]:
+        report = c.FluentText()
         try:
-            return _lines(report)
+            told = c.library.fluent_bundle_errors(self._handle, report)
+            if told != c.READ:
+                self._refuse(told, "the report")
+            return [source_error(line, sources) for line in c.lines_of(report)]
         finally:
             c.library.fluent_free_text(report)
+
+    def _warn(self) -> None:
+        """Warns of the errors of the sources, at which nobody has looked."""
+        errors = self.errors
+        if self._overriding:
+            errors = [error for error in errors if error.kind != "Overriding"]
+        if errors:
+            shown = [str(error) for error in errors[:_SHOWN]]
+            if len(errors) > _SHOWN:
+                shown.append(f"and {len(errors) - _SHOWN} more: Bundle.errors has them all")
+            warnings.warn("; ".join(shown), FluentWarning, stacklevel=3)
 
     def close(self) -> None:
         """Frees the bundle. It can't be asked then."""
         with self._lock:
             self._free()
+        self._spare.clear()
 
     def __enter__(self) -> Bundle:
         return self
@@ -185,11 +250,62 @@ class Bundle:
     ) -> None:
         self.close()
 
-    @staticmethod
-    def _refused(status: int) -> Exception:
+    def __reduce__(self) -> NoReturn:
+        raise TypeError("a bundle is neither copied nor pickled: make another one of the sources")
+
+    def _refuse(self, status: int, what: str) -> NoReturn:
         if status == c.NO_BUNDLE:
-            return FluentError("the bundle is closed")
-        return MemoryError()
+            raise FluentError("the bundle is closed")
+        if status == c.NO_MEMORY:
+            raise MemoryError(f"{what} nests too deep for {self._stack} bytes of the stack, or memory ran out")
+        raise FluentError(f"the library refuses {what}: status {status}")
+
+
+def _texts_of(sources: str | Iterable[str]) -> list[bytes]:
+    """The sources in UTF-8."""
+    if isinstance(sources, (bytes, bytearray, memoryview, os.PathLike)) or not isinstance(sources, Iterable):
+        raise TypeError(f"a source is a text, and Bundle.from_files reads files: {type(sources).__name__}")
+    texts = [sources] if isinstance(sources, str) else list(sources)
+    for number, text in enumerate(texts, 1):
+        if isinstance(text, str) and _NAME.fullmatch(text):
+            raise ValueError(f"source {number} is a name, and not a source: {text!r}; Bundle.from_files reads files")
+    return [encoded(text, "source", number) for number, text in enumerate(texts, 1)]
+
+
+def _file(path: str | os.PathLike[str]) -> tuple[str, bytes]:
+    """The name of a file, and its text in UTF-8."""
+    name = os.fspath(path)
+    text = Path(name).read_bytes().removeprefix(b"\xef\xbb\xbf")
+    try:
+        text.decode()
+    except UnicodeDecodeError as error:
+        raise ValueError(f"{name} isn't UTF-8: {error}") from error
+    return name, text
+
+
+def _budget(stack: SupportsIndex) -> int:
+    """A budget of the stack that this thread has."""
+    try:
+        budget = stack.__index__()
+    except AttributeError:
+        raise TypeError(f"the budget of the stack isn't a number of bytes: {type(stack).__name__}") from None
+    has = _thread_stack()
+    if budget < 0 or budget > max(has - _BESIDE, c.THREAD_STACK):
+        needs = f"this thread has {has} bytes, and needs {_BESIDE} more"
+        raise ValueError(f"the budget of the stack is too large, or negative: {budget}; {needs}")
+    return budget
+
+
+def _thread_stack() -> int:
+    """How many bytes of stack this thread has."""
+    is_main = threading.current_thread() is threading.main_thread()
+    if not is_main and threading.stack_size():
+        return threading.stack_size()
+    soft, _ = resource.getrlimit(resource.RLIMIT_STACK)
+    if soft != resource.RLIM_INFINITY:
+        return soft
+    # Without a limit the main thread has what memory there is, and another 2 MB.
+    return 2**63 if is_main else 2 * 2**20
 
 
 def _missing(id: str, attribute: str | None, status: int) -> str:

@@ -1,9 +1,10 @@
-"""What `fluent_c.h` declares, in the shared library beside this file."""
+"""What `fluent_c.h` declares, in the shared library next to this file."""
 
 from __future__ import annotations
 
 import ctypes
 import os
+from collections.abc import Sequence
 from pathlib import Path
 
 READ = 0
@@ -58,10 +59,42 @@ class FluentArgument(ctypes.Structure):
     ]
 
 
-def _load() -> ctypes.CDLL:
+# Values by their names, and how many there are.
+Arguments = tuple["ctypes.Array[FluentArgument]", int]
+
+
+def arguments(given: list[FluentArgument]) -> Arguments:
+    """Arguments in an array, which has a place even if there are none."""
+    return (FluentArgument * max(len(given), 1))(*given), len(given)
+
+
+def sources(texts: Sequence[bytes]) -> tuple["ctypes.Array[FluentSource]", int]:
+    """Sources in an array, which has a place even if there are none."""
+    return (FluentSource * max(len(texts), 1))(*[FluentSource(text, len(text)) for text in texts]), len(texts)
+
+
+def string_of(text: FluentText) -> str:
+    """The text that the library returns, which is empty if there is none."""
+    return ctypes.string_at(text.bytes, text.len).decode() if text.held and text.len else ""
+
+
+def lines_of(text: FluentText) -> list[str]:
+    """The lines of a text, each of which ends in a line feed."""
+    return string_of(text).split("\n")[:-1]
+
+
+def _opened() -> ctypes.CDLL:
     named = os.environ.get("KOZHVADI_LIBRARY")
     path = Path(named) if named else Path(__file__).with_name("libfluent_c.so")
-    library = ctypes.CDLL(str(path))
+    try:
+        return ctypes.CDLL(str(path))
+    except OSError as error:
+        advice = "make it by bindings/python/run.sh, or name another file in KOZHVADI_LIBRARY"
+        raise ImportError(f"the library {path} can't be loaded ({error}): {advice}") from error
+
+
+def _load() -> ctypes.CDLL:
+    library = _opened()
     bundle = ctypes.POINTER(FluentBundle)
     text = ctypes.POINTER(FluentText)
     size = ctypes.c_size_t

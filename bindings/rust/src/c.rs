@@ -2,8 +2,6 @@
 
 pub const FLUENT_READ: u32 = 0;
 pub const FLUENT_NO_MEMORY: u32 = 2;
-pub const FLUENT_UNKNOWN_LOCALE: u32 = 3;
-pub const FLUENT_NO_MESSAGE: u32 = 4;
 
 pub const FLUENT_TEXT: u32 = 0;
 pub const FLUENT_DECIMAL: u32 = 1;
@@ -55,6 +53,7 @@ pub struct FluentArgument {
 
 extern "C" {
     pub fn fluent_parse(text: *const u8, len: usize, counts: *mut FluentCounts) -> u32;
+    pub fn fluent_write(text: *const u8, len: usize, with_junk: bool, made: *mut FluentText) -> u32;
     pub fn fluent_bundle_new(
         sources: *const FluentSource,
         count: usize,
@@ -74,13 +73,6 @@ extern "C" {
         argument_count: usize,
         text: *mut FluentText,
         errors: *mut FluentText,
-    ) -> u32;
-    pub fn fluent_bundle_has(
-        bundle: *mut FluentBundle,
-        id: *const u8,
-        id_len: usize,
-        attribute: *const u8,
-        attribute_len: usize,
     ) -> u32;
     pub fn fluent_bundle_errors(bundle: *mut FluentBundle, report: *mut FluentText) -> u32;
     pub fn fluent_bundle_free(bundle: *mut FluentBundle);

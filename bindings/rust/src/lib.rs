@@ -1,7 +1,8 @@
 //! Fluent is a system for the messages of a program, in which a translation says what its language needs.
 //!
-//! This package has the names and the manners of the crate `fluent-bundle`, so that a program which formats messages changes its `use`
-//! lines and little else. The texts come from a library whose every answer is proved; this package only hands them over.
+//! This package has the names and the manners of the crate `fluent-bundle`, so that a program which formats messages
+//! changes its `use` lines and little else. The texts come from a library whose every answer is proved; this package
+//! only passes them on.
 //!
 //! - [`FluentResource`] holds a source: messages and terms.
 //! - [`FluentBundle`] holds resources, and formats their messages.
@@ -30,9 +31,15 @@
 mod args;
 mod bundle;
 mod c;
+mod decimal;
 mod errors;
-mod known;
+mod kept;
+mod listing;
 mod message;
+mod number;
+mod options;
+mod parser;
+pub mod resolver;
 mod resource;
 mod text;
 mod value;
@@ -44,7 +51,22 @@ struct Page;
 
 pub use args::FluentArgs;
 pub use bundle::FluentBundle;
-pub use errors::{EntryKind, FluentError, ParserError, ResolverError};
+pub use errors::{EntryKind, FluentError};
 pub use message::{FluentAttribute, FluentMessage, Pattern};
+pub use number::FluentNumber;
+pub use parser::{ErrorKind, ParserError};
+pub use resolver::{ReferenceKind, ResolverError};
 pub use resource::FluentResource;
-pub use value::{FluentNumber, FluentValue};
+pub use value::FluentValue;
+
+/// Bundles that threads share: each bundle is one.
+pub mod concurrent {
+    pub use crate::bundle::FluentBundle;
+}
+
+/// Values, and how numbers are shown.
+pub mod types {
+    pub use crate::number::{FluentNumber, ParseNumberError};
+    pub use crate::options::{FluentNumberCurrencyDisplayStyle, FluentNumberOptions, FluentNumberStyle};
+    pub use crate::value::FluentValue;
+}

@@ -11,9 +11,8 @@ use anyhow::{Result, bail};
 use std::env;
 
 /// What there are rows of.
-const GROUPS: [&str; 10] = [
+const GROUPS: [&str; 9] = [
     "syntax", "refused", "values", "bundles", "patterns", "memory", "requests", "tidying", "ftl",
-    "lint",
 ];
 
 fn main(rt: HostRuntime) -> Result<()> {
@@ -49,9 +48,8 @@ fn try_group(rt: &HostRuntime, name: &str) -> Result<()> {
         "patterns" => rows_patterns::try_all(rt),
         "memory" => rows_requests::try_memory(rt),
         "requests" => rows_requests::try_all(rt),
-        "tidying" => rows_tidying::try_all(rt),
+        "tidying" => rows_ftl::try_tidying(rt),
         "ftl" => rows_ftl::try_all(rt),
-        "lint" => rows_ftl::try_lint(rt),
         _ => bail!("there are no rows of this name"),
     }
 }

@@ -6,7 +6,7 @@ ghost use Rattle.fluent_syntax.specs.ForCallers.{listed, owned_entries_of};
 ghost use Rattle.example_callers.specs.Answers.{answers_from};
 
 use fluent_desk::laws::tidied_sources_keep_answers;
-use fluent_desk::{CleanError, Settings, answers, clean};
+use fluent_desk::{CleanError, Settings, StackBudget, answers, clean};
 use fluent_syntax::ast::Resource;
 use fluent_syntax::parser::{Error, parse};
 use fluent_value::{MemoizerKind, NoCustom, NoFunction};
@@ -43,5 +43,6 @@ pub fn cleaned_answers<M: MemoizerKind>(
 {
     tidied_sources_keep_answers::<NoCustom, NoFunction>();
     let text = clean(alloc, source)?;
-    Ok(answers(alloc, &[text.as_str()], settings, plurals, requests)?)
+    let stack = StackBudget::PROGRAM;
+    Ok(answers(alloc, &[text.as_str()], settings, plurals, requests, stack)?)
 }

@@ -20,9 +20,9 @@
 //! println!(rt; "{text}")?; // Hello, world!
 //! ```
 //!
-//! `crates/example_hello` is this program, whole, and `crates/example_bundle` one with a function and a type of its own. Contracts
-//! speak of a bundle through what it holds, the record of `specs/Contents.antt`, and of patterns by the definitions of
-//! `fluent_meaning`. `docs/reference/bundles.md` has the rules in plain words.
+//! `crates/examples/src/hello.rt` is this program, whole, and `bundle.rt` next to it one with a function and a type of its own.
+//! Contracts speak of a bundle through what it holds, the record of `specs/Contents.antt`, and of patterns by the definitions
+//! of `fluent_meaning`. `docs/reference/bundles.md` has the rules in plain words.
 
 pub mod builtins;
 pub mod bundle;

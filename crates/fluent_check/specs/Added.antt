@@ -10,7 +10,7 @@ use Rattle.fluent_ids.specs.IdsView.{ids_view}
 use Rattle.fluent_ids.specs.ResourceEntries.{entries_in}
 use Rattle.fluent_errors.specs.Errors.{Reported}
 use Rattle.fluent_check.specs.ReportView.{notices_view}
-use Rattle.fluent_check.specs.declared.notices.Added.{Added}
+use Rattle.fluent_check.specs.declared.notices.NoticeList.{NoticeList}
 
 -- the messages and terms of a tree, by their ids
 abbrev pub tree_by_id : Resource (Bor Text) → List (Text × Meaning NoFunction)
@@ -21,9 +21,9 @@ abbrev pub trees_by_id : List (Resource (Bor Text)) → List (Text × Meaning No
 trees_by_id trees = flat_map tree_by_id trees
 
 -- the ids that were added
-abbrev pub ids_in : Added → Ids NoFunction
+abbrev pub ids_in : NoticeList → Ids NoFunction
 ids_in added = ids_view NoFunction added.ids
 
 -- the notices that came
-abbrev pub told_in : Added → List Reported
-told_in added = notices_view added.told
+abbrev pub notices_in : NoticeList → List Reported
+notices_in added = notices_view added.notices

@@ -12,5 +12,5 @@ mod report;
 mod report_text;
 mod whole;
 
-pub use report::{Report, check, check_within};
-pub use report_text::{check_text, check_text_within};
+pub use report::{Report, check};
+pub use report_text::check_text;

@@ -2,7 +2,7 @@
 
 ghost use Rattle.std.specs.Prelude.{◌≡◌, ◌++◌, [], ◌∷◌, false, IfOk, OnOk};
 ghost use Rattle.fluent_check.specs.ReportView.{notices_view};
-ghost use Rattle.fluent_check.specs.Added.{tree_by_id, trees_by_id, ids_in, told_in};
+ghost use Rattle.fluent_check.specs.Added.{tree_by_id, trees_by_id, ids_in, notices_in};
 ghost use Rattle.fluent_meaning.specs.Ids.{notices, number_pair, with_ids};
 
 use fluent_ast::Resource;
@@ -13,16 +13,16 @@ use std::alloc::{AllocError, Global};
 
 /// The ids that were added, and the notices that came.
 #[derive(Drop)]
-struct Added<'r, 's> {
+struct NoticeList<'r, 's> {
     ids: FluentIds<'r, 's, NoFunction>,
-    told: Vec<FluentError>,
+    notices: Vec<FluentError>,
 }
 
-impl<'r, 's> Added<'r, 's> {
+impl<'r, 's> NoticeList<'r, 's> {
     /// `NUMBER` alone.
     fn new(alloc: Global) -> Result<Self, AllocError>
         ensures { IfOk result (λ added. (ids_in added ≡ number_pair ∷ [])
-            × (told_in added ≡ [])) }
+            × (notices_in added ≡ [])) }
     {
         let mut ids = FluentIds::new(alloc);
         match ids.add_builtins() {
@@ -30,9 +30,9 @@ impl<'r, 's> Added<'r, 's> {
             Err(AddFunctionError::Overriding(_)) => {}
             Err(AddFunctionError::Memory) => return Err(AllocError),
         }
-        Ok(Added {
+        Ok(NoticeList {
             ids,
-            told: Vec::new(alloc),
+            notices: Vec::new(alloc),
         })
     }
 
@@ -40,12 +40,12 @@ impl<'r, 's> Added<'r, 's> {
     fn add(&mut self, tree: &'r Resource<&'s str>) -> Result<(), AllocError>
         ensures ids { OnOk result (ids_in self.new
             ≡ with_ids false (ids_in self.old) (tree_by_id tree.now)) }
-        ensures told { OnOk result (told_in self.new
-            ≡ told_in self.old ++ notices (ids_in self.old) (tree_by_id tree.now)) }
+        ensures notices { OnOk result (notices_in self.new
+            ≡ notices_in self.old ++ notices (ids_in self.old) (tree_by_id tree.now)) }
     {
         match self.ids.add_resource(tree) {
             Ok(()) => Ok(()),
-            Err(AddResourceError::Overriding(mut notices)) => self.told.append(&mut notices),
+            Err(AddResourceError::Overriding(mut notices)) => self.notices.append(&mut notices),
             Err(AddResourceError::Memory) => Err(AllocError),
         }
     }
@@ -56,12 +56,12 @@ pub(crate) fn notices_of_trees(
     alloc: Global,
     trees: &[Resource<&str>],
 ) -> Result<Vec<FluentError>, AllocError>
-    ensures { IfOk result (λ told. notices_view told
+    ensures { IfOk result (λ found. notices_view found
         ≡ notices (number_pair ∷ []) (trees_by_id trees.now)) }
 {
-    let mut added = Added::new(alloc)?;
+    let mut added = NoticeList::new(alloc)?;
     for tree in trees {
         added.add(tree)?;
     }
-    Ok(added.told)
+    Ok(added.notices)
 }

@@ -1,15 +1,13 @@
 //! The errors and the notices of sources.
 
-ghost use Rattle.std.specs.Prelude.{◌≡◌, IfOk, map};
-ghost use Rattle.fluent_answers.specs.Sources.{notices_of};
-ghost use Rattle.fluent_check.specs.ReportView.{errors_view, errors_told, notices_view};
+ghost use Rattle.std.specs.Prelude.{IfOk};
+ghost use Rattle.fluent_check.specs.ReportView.{IsReportOn};
 ghost use Rattle.fluent_resource.specs.Sources.{texts};
 
 use crate::notices::notices_of_trees;
 use crate::whole::read_whole;
 use fluent_errors::FluentError;
 use fluent_parser::{ParserError, StackBudget};
-use fluent_value::NoFunction;
 use std::alloc::{AllocError, Global};
 
 /// What a check of sources found.
@@ -42,29 +40,20 @@ pub struct Report {
 /// [`AllocError`] if memory runs out; nothing is kept. It also means that placeables, calls and selects of a source
 /// are nested so deep that reading them would take more than the budget of a program, [`StackBudget::PROGRAM`].
 pub fn check(alloc: Global, sources: &[&str]) -> Result<Report, AllocError>
-    ensures errors { IfOk result (λ report. map errors_view report.errors.items
-        ≡ map errors_told (texts sources.now)) }
-    ensures notices { IfOk result (λ report. notices_view report.notices
-        ≡ notices_of NoFunction (texts sources.now)) }
+    ensures { IfOk result (IsReportOn (texts sources.now)) }
 {
-    check_within(alloc, sources, StackBudget::PROGRAM)
+    report_on(alloc, sources, StackBudget::PROGRAM)
 }
 
-/// As [`check`], within this budget of the machine's stack for each message and term.
-///
-/// # Errors
-/// Those of [`check`].
-pub fn check_within(
+/// The same, within this budget of the machine's stack for each message and term.
+pub(crate) fn report_on(
     alloc: Global,
     sources: &[&str],
-    budget: StackBudget,
+    stack: StackBudget,
 ) -> Result<Report, AllocError>
-    ensures errors { IfOk result (λ report. map errors_view report.errors.items
-        ≡ map errors_told (texts sources.now)) }
-    ensures notices { IfOk result (λ report. notices_view report.notices
-        ≡ notices_of NoFunction (texts sources.now)) }
+    ensures { IfOk result (IsReportOn (texts sources.now)) }
 {
-    let read = read_whole(alloc, sources, budget)?;
+    let read = read_whole(alloc, sources, stack)?;
     let notices = notices_of_trees(alloc, &read.trees)?;
     Ok(Report {
         errors: read.errors,

@@ -13,18 +13,18 @@ use std::alloc::{AllocError, Global};
 
 /// The trees of sources, and for each source its errors.
 #[derive(Drop)]
-pub(crate) struct Whole<'s> {
+pub(crate) struct ReadSources<'s> {
     pub(crate) trees: Vec<Resource<&'s str>>,
     pub(crate) errors: Vec<Vec<ParserError>>,
 }
 
-impl<'s> Whole<'s> {
+impl<'s> ReadSources<'s> {
     /// Of no sources.
     fn new(alloc: Global) -> Self
         ensures trees { trees_in result ≡ [] }
         ensures errors { errors_in result ≡ [] }
     {
-        Whole {
+        ReadSources {
             trees: Vec::new(alloc),
             errors: Vec::new(alloc),
         }
@@ -70,11 +70,11 @@ pub(crate) fn read_whole<'s>(
     alloc: Global,
     sources: &[&'s str],
     budget: StackBudget,
-) -> Result<Whole<'s>, AllocError>
+) -> Result<ReadSources<'s>, AllocError>
     ensures trees { IfOk result (λ whole. trees_in whole ≡ map tree (texts sources.now)) }
     ensures errors { IfOk result (λ whole. errors_in whole ≡ map errors_told (texts sources.now)) }
 {
-    let mut whole = Whole::new(alloc);
+    let mut whole = ReadSources::new(alloc);
     for source in sources {
         whole.read(alloc, source, budget)?;
     }

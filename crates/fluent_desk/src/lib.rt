@@ -28,7 +28,9 @@
 //! The calls stand in three crates: `fluent_run` answers, `fluent_check` checks, and `fluent_tidy` tidies.
 
 pub use fluent_check::{Report, check};
-pub use fluent_run::{FromRead, FromWrite, RunError, Settings, Sink, Source, answers, run};
+pub use fluent_run::{
+    FromRead, FromWrite, RunError, Settings, Sink, Source, StackBudget, answers, run,
+};
 pub use fluent_tidy::{
     CleanError, ImportError, NormalizeError, clean, export, import, join, laws, normalize,
 };

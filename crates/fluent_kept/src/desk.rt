@@ -9,7 +9,7 @@ use crate::loose::Loose;
 use crate::question::{Answer, Question};
 use crate::resources::Resources;
 use crate::sources::{Sources, borrow_texts};
-use fluent_check::check_text_within;
+use fluent_check::check_text;
 use fluent_plurals::LanguagePlurals;
 use fluent_run::Desk;
 use fluent_value::{FluentArgs, NoCustom};
@@ -31,7 +31,7 @@ impl<'r, 's> KeptDesk<'r, 's> {
         ensures { IfOk result (IsDeskFor read.now) }
     {
         let sources = read.sources;
-        let desk = Desk::within(
+        let desk = Desk::new(
             alloc,
             &read.list,
             sources.settings,
@@ -93,7 +93,7 @@ impl<'r, 's> KeptDesk<'r, 's> {
             ≡ report_text (catalog_of self.now.sources.now).sources) }
     {
         let texts = borrow_texts(alloc, &self.sources.texts)?;
-        check_text_within(alloc, &texts, self.sources.stack)
+        check_text(alloc, &texts, self.sources.stack)
     }
 
     /// The answer to a question.

@@ -16,12 +16,12 @@ use std::marker::Model;
 ///
 /// A caller in C keeps it, and reads only whether there is one. It isn't `Drop`: [`FluentBundle::clear`] frees what it keeps.
 ///
-/// ```
-/// let mut bundle = FluentBundle::none();
+/// ```c
+/// struct Messages messages = {{0}, {0}, {0}};
 /// ..
-/// bundle_new(alloc, &SOURCES, locale, false, false, bundle)
+/// return fluent_bundle_new(sources, 1, bytes_of(locale), strlen(locale), false, false, &messages->bundle);
 /// ..
-/// bundle_free(alloc, &mut bundle);
+/// fluent_bundle_free(&messages->bundle);
 /// ```
 #[repr(C)]
 pub struct FluentBundle {

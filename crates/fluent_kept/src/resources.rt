@@ -7,7 +7,7 @@ ghost use Rattle.fluent_kept.specs.Catalogs.{IsReadOf, catalog_of};
 
 use crate::loose::Loose;
 use crate::sources::{Sources, borrow_texts};
-use fluent_resource::{FluentResource, parse_sources_within};
+use fluent_resource::{FluentResource, parse_sources};
 use std::alloc::{AllocError, Global};
 
 /// What is read of sources.
@@ -29,7 +29,7 @@ fn read_texts<'s>(
         ≡ map runtime_tree (catalog_of sources.now).sources) }
 {
     let texts = borrow_texts(alloc, &sources.texts)?;
-    parse_sources_within(alloc, &texts, sources.stack)
+    parse_sources(alloc, &texts, sources.stack)
 }
 
 /// What is read of sources, in a box.

@@ -8,18 +8,11 @@ use Rattle.lint_findings.specs.Output as out
 use Rattle.lint_findings.specs.Report as report
 use Rattle.lint_findings.specs.Summary.{Summary, summaries}
 use Rattle.lint_report.specs.View.{shown_width}
-use Rattle.ftl_arguments.specs.Linting as asked
-use Rattle.ftl_arguments.specs.Linting.{Lint, ReportFormat}
+use Rattle.ftl_arguments.specs.Linting.{Lint}
 
 -- files by their names, each with its text
 abbrev pub named_files : List Text → List Text → List File
 named_files names sources = map (λ p. record { name = p.0; source = p.1 }) (zip names sources)
-
-abbrev pub output_format : ReportFormat → out.Format
-output_format asked.text = out.text
-output_format asked.line = out.lines
-output_format asked.json = out.json
-output_format asked.github = out.github
 
 -- A catalog without a reference is looked at by itself.
 abbrev pub all_findings : Options → List File → List File → List FileFinding
@@ -42,7 +35,7 @@ abbrev pub lint_report : Lint → Option LanguagePlurals → List File → List 
 lint_report l plurals references files =
     let all = all_findings (record { functions = l.functions; plurals = plurals }) references files in
     record {
-      text = out.output (output_format l.format) shown_width (report.shown l.notes all) (all_summaries references files all);
+      text = out.output l.format shown_width (report.shown l.notes all) (all_summaries references files all);
       has_failed = report.has_failed l.strict all;
     }
 

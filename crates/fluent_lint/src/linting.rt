@@ -1,17 +1,14 @@
 //! The report on a catalog.
 ghost use Rattle.std.specs.Prelude.{◌≡◌, IfOk, map, string_bytes};
 ghost use Rattle.fluent_lint.specs.FileTiles.{files_view};
-ghost use Rattle.lint_report.specs.Formats.{format_view};
-ghost use Rattle.ftl_arguments.specs.CommandView.{report_format_view};
 ghost use Rattle.ftl_arguments.specs.Meaning.{texts};
-ghost use Rattle.fluent_lint.specs.LintReport.{named_files, output_format};
+ghost use Rattle.fluent_lint.specs.LintReport.{named_files};
 ghost use Rattle.fluent_lint.specs.LintView.{report_asked, report_on_files, report_view};
 
 use crate::{Options, Output, Report, report_findings};
 use fluent_plurals::LanguagePlurals;
-use ftl_arguments::{Lint, ReportFormat};
+use ftl_arguments::Lint;
 use lint_finding::File;
-use lint_report::Format;
 use std::alloc::{AllocError, Global};
 
 /// The report on the files of a catalog, which have the texts `sources`. The files of the reference have the texts
@@ -67,21 +64,9 @@ fn report_on(
         plurals,
     };
     let output = Output {
-        format: format_of(lint.format),
+        format: lint.format,
         notes: lint.notes,
         strict: lint.strict,
     };
     report_findings(alloc, &options, output, references, files)
-}
-
-/// The format of a report.
-fn format_of(format: ReportFormat) -> Format
-    ensures { format_view result ≡ output_format (report_format_view format) }
-{
-    match format {
-        ReportFormat::Text => Format::Text,
-        ReportFormat::Line => Format::Line,
-        ReportFormat::Json => Format::Json,
-        ReportFormat::Github => Format::Github,
-    }
 }

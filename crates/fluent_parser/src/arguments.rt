@@ -3,7 +3,7 @@
 
 ghost use Rattle.std.specs.Prelude.{◌≡◌, ◌≤◌, ◌<◌, [], true, IfOk, OnOk, length, drop, take};
 ghost use Rattle.fluent_grammar.specs.Words as w;
-ghost use Rattle.fluent_parser.specs.Frame.{Advances};
+ghost use Rattle.fluent_parser.specs.Frame.{Advances, Closes};
 
 use crate::fault::Fault;
 use crate::named_arguments::NamedArguments;
@@ -39,12 +39,12 @@ impl<'p, S: Drop, T: Texts<S>> Parser<'p, S, T> {
     ///
     /// # Errors
     /// [`Fault::Refused`] if these are no arguments of a call; the parser then stands at the place of the refusal.
-    /// [`Fault::Memory`] if memory runs out.
+    /// [`Fault::Memory`] if memory runs out, or what is there nests past the budget of the stack.
     #[cycle(parser)]
     pub fn get_call_arguments(&mut self) -> Result<CallArguments<S>, Fault>
         requires parenthesis { w.begins_with w.open_paren self.old.rest.now ≡ true }
         ensures gives { Reads (arguments_view S T.text) self.old self.new result call_arguments_at }
-        ensures advances { Advances self.old self.new }
+        ensures advances { Closes result self.old self.new }
     {
         let mut positional = Vec::new(self.alloc);
         let mut named = NamedArguments::new(self.alloc);
@@ -75,7 +75,7 @@ impl<'p, S: Drop, T: Texts<S>> Parser<'p, S, T> {
         ensures gives { Reads (argument_view S T.text) self.old self.new result
             (argument_with S T.text others.now) }
         ensures named { IfOk result (IsNamed S T.text) }
-        ensures advances { Advances self.old self.new }
+        ensures advances { Closes result self.old self.new }
     {
         let start = self.rest();
         let argument = self.get_inline_expression()?;

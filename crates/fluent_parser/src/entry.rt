@@ -19,17 +19,18 @@ const FEW: usize = 2;
 impl<'p, S: Drop, T: Texts<S>> Parser<'p, S, T> {
     ghost use Rattle.fluent_parser.specs.Frame.{Reads};
     ghost use Rattle.fluent_parser.specs.Reads.{Tells};
-    ghost use Rattle.fluent_ast.specs.View.{name_of, entry_view, message_view, term_view, attribute_view, attributes_view};
+    ghost use Rattle.fluent_ast.specs.View.{name_of, entry_view, message_view, term_view, attribute_view, attributes_view, pattern_view};
     ghost use Rattle.fluent_grammar.specs.Reading.{entry_at};
     ghost use Rattle.fluent_parser.specs.Entries.{attribute_by, attributes_by, head_by, message_by, next_attribute_by, term_by};
     ghost use Rattle.fluent_parser.specs.Heads.{head_view};
+    ghost use Rattle.fluent_parser.specs.Steps.{pattern_by};
     ghost use Rattle.fluent_grammar.specs.Tree as t;
 
     /// What begins here, told by its first byte. Production `Entry`.
     ///
     /// # Errors
     /// [`Fault::Refused`] if no entry stands here; the parser then stands at the place of the refusal.
-    /// [`Fault::Memory`] if memory runs out.
+    /// [`Fault::Memory`] if memory runs out, or what is there nests past the budget of the stack.
     #[tactic(auto, using(crate::proofs::Failing::handed), unfolding(fluent_grammar::specs::Reading::entry_at))]
     pub fn get_entry(&mut self) -> Result<Entry<S>, Fault>
         ensures gives { Reads (entry_view S T.text) self.old self.new result entry_at }
@@ -53,7 +54,6 @@ impl<'p, S: Drop, T: Texts<S>> Parser<'p, S, T> {
             message_by }
         ensures advances { Advances self.old self.new }
     {
-        self.close_all();
         let Head { id, value } = self.get_head()?;
         self.skip_blank_block();
         let attributes = self.get_attributes()?;
@@ -77,7 +77,6 @@ impl<'p, S: Drop, T: Texts<S>> Parser<'p, S, T> {
         ensures advances { Advances self.old self.new }
     {
         self.advance(1);
-        self.close_all();
         let Head { id, value } = self.get_head()?;
         self.skip_blank_block();
         let attributes = self.get_attributes()?;
@@ -122,8 +121,21 @@ impl<'p, S: Drop, T: Texts<S>> Parser<'p, S, T> {
         let id = self.get_identifier()?;
         self.skip_blank_inline();
         self.expect_byte(b'=')?;
-        let value = self.get_pattern()?;
+        let value = self.get_value()?;
         Ok(Head { id, value })
+    }
+
+    /// The value of a message, a term or an attribute, if it has one. What a refused one left open is closed.
+    #[inline(always)]
+    fn get_value(&mut self) -> Result<Option<Pattern<S>>, Fault>
+        ensures gives { Reads (option_map (pattern_view S T.text)) self.old self.new result
+            pattern_by }
+        ensures advances { Advances self.old self.new }
+    {
+        let stack = self.stack();
+        let value = self.get_pattern();
+        self.close_to(stack);
+        value
     }
 
     /// The attributes up to the first line that isn't one, where the parser then stands.
@@ -172,7 +184,8 @@ impl<'p, S: Drop, T: Texts<S>> Parser<'p, S, T> {
     /// Production `Attribute`, from the start of its line on.
     ///
     /// # Errors
-    /// [`Fault`] if no attribute is there, or memory runs out; the parser then stands where reading stopped.
+    /// [`Fault`] if no attribute is there, memory runs out, or the value nests past the budget of the stack; the parser
+    /// then stands where reading stopped.
     #[tactic(auto, using(crate::proofs::Failing::handed, fluent_tokens::proofs::Counted::cuts), unfolding(crate::specs::Entries::attribute_by))]
     pub fn get_attribute(&mut self) -> Result<Attribute<S>, Fault>
         requires dot { w.begins_with w.dot (w.skip_spaces self.old.rest.now) ≡ true }

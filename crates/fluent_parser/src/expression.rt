@@ -1,12 +1,12 @@
 //! Expressions.
 #![tactic(auto, using(crate::proofs::Failing::handed, fluent_tokens::proofs::Counted::cuts, crate::proofs::Steps::placeable_is))]
 
-ghost use Rattle.std.specs.Prelude.{◌≡◌, ℕ, List, ◌≤◌, ◌<◌, true, length, drop, option_map};
+ghost use Rattle.std.specs.Prelude.{◌≡◌, ℕ, List, ◌≤◌, ◌<◌, OnOk, true, length, drop, option_map};
 ghost use Rattle.fluent_ast.specs.View.{expression_view};
 ghost use Rattle.fluent_parser.specs.Selects.{expression_with};
 ghost use Rattle.std.specs.List.{list_all};
 ghost use Rattle.fluent_grammar.specs.Words as w;
-ghost use Rattle.fluent_parser.specs.Frame.{Advances};
+ghost use Rattle.fluent_parser.specs.Frame.{Advances, Closes, ClosesPlaceable, OpensPlaceable};
 
 use crate::fault::Fault;
 use crate::parser::Parser;
@@ -51,7 +51,8 @@ impl<'p, S: Drop, T: Texts<S>> Parser<'p, S, T> {
         requires brace { w.begins_with w.open_brace self.old.rest.now ≡ true }
         ensures rest { self.new.rest.now ≡ w.skip_blank (drop 1 self.old.rest.now) }
         ensures less { length self.new.rest.now < length self.old.rest.now }
-        ensures advances { Advances self.old self.new }
+        ensures opened { OnOk result (OpensPlaceable self.old self.new) }
+        ensures text { self.new.text.now ≡ self.old.text.now }
     {
         self.advance(1);
         self.skip_blank();
@@ -66,7 +67,7 @@ impl<'p, S: Drop, T: Texts<S>> Parser<'p, S, T> {
     fn get_nested_placeable(&mut self) -> Result<InlineExpression<S>, Fault>
         requires brace { w.begins_with w.open_brace self.old.rest.now ≡ true }
         ensures gives { Reads (inline_view S T.text) self.old self.new result nested_by }
-        ensures advances { Advances self.old self.new }
+        ensures advances { Closes result self.old self.new }
     {
         self.open_placeable()?;
         let selector = self.get_inline_expression()?;
@@ -88,7 +89,9 @@ impl<'p, S: Drop, T: Texts<S>> Parser<'p, S, T> {
     ) -> Result<InlineExpression<S>, Fault>
         ensures gives { Reads (inline_view S T.text) self.old self.new result
             (nested_end_by S T.text selector variants) }
-        ensures advances { Advances self.old self.new }
+        ensures closed { OnOk result (ClosesPlaceable self.old self.new) }
+        ensures text { self.new.text.now ≡ self.old.text.now }
+        ensures onward { length self.new.rest.now ≤ length self.old.rest.now }
     {
         let expression = self.close_placeable(selector, variants)?;
         let expression = Box::new(self.alloc, expression)?;
@@ -108,7 +111,9 @@ impl<'p, S: Drop, T: Texts<S>> Parser<'p, S, T> {
     ) -> Result<Expression<S>, Fault>
         ensures gives { Reads (expression_view S T.text) self.old self.new result
             (closed_by (expression_with S T.text selector variants)) }
-        ensures advances { Advances self.old self.new }
+        ensures closed { OnOk result (ClosesPlaceable self.old self.new) }
+        ensures text { self.new.text.now ≡ self.old.text.now }
+        ensures onward { length self.new.rest.now ≤ length self.old.rest.now }
     {
         let expression = expression_of(selector, variants);
         self.skip_blank();
@@ -122,7 +127,7 @@ impl<'p, S: Drop, T: Texts<S>> Parser<'p, S, T> {
     /// # Errors
     /// [`Fault::Refused`] if what follows is no select, or the selector can't stand alone; the parser then stands at the
     /// place of the refusal.
-    /// [`Fault::Memory`] if memory runs out.
+    /// [`Fault::Memory`] if memory runs out, or what is there nests past the budget of the stack.
     #[cycle(parser)]
     #[tactic(auto, using(crate::proofs::Failing::handed, fluent_tokens::proofs::Counted::cuts), unfolding(fluent_grammar::specs::Reading::select_or_inline_at))]
     #[inline(never)]
@@ -132,7 +137,7 @@ impl<'p, S: Drop, T: Texts<S>> Parser<'p, S, T> {
     ) -> Result<Option<Vec<Variant<S>>>, Fault>
         ensures gives { Reads (expression_with S T.text selector.now) self.old self.new result
             (select_or_inline_by S T.text selector.now) }
-        ensures advances { Advances self.old self.new }
+        ensures advances { Closes result self.old self.new }
     {
         self.skip_blank();
         if !words::begins_arrow(self.bytes()) {
@@ -152,7 +157,7 @@ impl<'p, S: Drop, T: Texts<S>> Parser<'p, S, T> {
         requires arrow { w.begins_arrow self.old.rest.now ≡ true }
         ensures gives { Reads (select_view S T.text selector.now) self.old self.new result
             (select_by S T.text selector.now) }
-        ensures advances { Advances self.old self.new }
+        ensures advances { Closes result self.old self.new }
     {
         if let Some(kind) = self.selector_fault(selector) {
             return Err(Fault::Refused(kind));
@@ -189,11 +194,11 @@ impl<'p, S: Drop, T: Texts<S>> Parser<'p, S, T> {
     ///
     /// # Errors
     /// [`Fault::Refused`] if no inline expression stands here; the parser then stands at the place of the refusal.
-    /// [`Fault::Memory`] if memory runs out.
+    /// [`Fault::Memory`] if memory runs out, or what is there nests past the budget of the stack.
     #[cycle(parser)]
     pub fn get_inline_expression(&mut self) -> Result<InlineExpression<S>, Fault>
         ensures gives { Reads (inline_view S T.text) self.old self.new result whole.inline }
-        ensures advances { Advances self.old self.new }
+        ensures advances { Closes result self.old self.new }
     {
         let bytes = self.bytes();
         if words::begins_literal(bytes) {
@@ -222,7 +227,7 @@ impl<'p, S: Drop, T: Texts<S>> Parser<'p, S, T> {
         requires minus { w.begins_with w.hyphen self.old.rest.now ≡ true }
         ensures gives { Reads (inline_view S T.text) self.old self.new result
             (λ s. term_at whole (drop 1 s)) }
-        ensures advances { Advances self.old self.new }
+        ensures advances { Closes result self.old self.new }
     {
         self.advance(1);
         let id = self.get_identifier()?;
@@ -250,7 +255,7 @@ impl<'p, S: Drop, T: Texts<S>> Parser<'p, S, T> {
     #[tactic(auto, using(crate::proofs::Failing::handed, fluent_tokens::proofs::Counted::cuts), unfolding(fluent_grammar::specs::Reading::named_at, fluent_grammar::specs::Reading::called_at, fluent_grammar::specs::Reading::function_of))]
     fn get_named_reference(&mut self) -> Result<InlineExpression<S>, Fault>
         ensures gives { Reads (inline_view S T.text) self.old self.new result (named_at whole) }
-        ensures advances { Advances self.old self.new }
+        ensures advances { Closes result self.old self.new }
     {
         let id = self.get_identifier()?;
         self.skip_blank();

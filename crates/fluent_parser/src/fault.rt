@@ -9,7 +9,9 @@ use std::alloc::{AllocError, AllocFailed};
 /// Why nothing was read. After a refusal the parser stands where reading stopped.
 #[derive(Debug, Drop)]
 pub enum Fault {
+    /// Memory ran out, or what is there nests past the budget of the stack.
     Memory,
+    /// What is there is no such construct.
     Refused(ErrorKind),
 }
 

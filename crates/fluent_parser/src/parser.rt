@@ -1,7 +1,7 @@
 //! The parser's place in its source.
 #![tactic(auto, using(fluent_tokens::proofs::Counted::cuts))]
 
-ghost use Rattle.std.specs.Prelude.{◌≡◌, ◌-◌, ◌<◌, ◌≤◌, length, drop, map, take, true, false, IfOk, IfSome};
+ghost use Rattle.std.specs.Prelude.{◌≡◌, ◌+◌, ◌-◌, ◌<◌, ◌≤◌, length, drop, map, take, true, false, IfOk, IfSome, OnErr, OnOk};
 ghost use Rattle.std.specs.Str.{IsUtf8};
 ghost use Rattle.fluent_tokens.specs.Counted.{Cuts, IsLine, IsText};
 ghost use Rattle.fluent_tokens.specs.Lookup.{IsOneLine, is_last_feed, past_comments};
@@ -61,6 +61,8 @@ impl<'p, S: Drop, T: Texts<S>> Parser<'p, S, T> {
         requires { map table.row_view rows.now ≡ table.lines (T.text source.now) }
         ensures rest { result.rest.now ≡ T.text source.entry.now }
         ensures text { result.text.now ≡ T.text source.entry.now }
+        ensures closed { result.stack.taken ≡ 0 }
+        ensures budget { result.stack.budget ≡ budget }
     {
         let text = texts.as_str(source);
         Parser {
@@ -79,23 +81,38 @@ impl<'p, S: Drop, T: Texts<S>> Parser<'p, S, T> {
     /// # Errors
     /// [`AllocError`] if that is more than is left of the budget; nothing is opened.
     pub fn open(&mut self, bytes: usize) -> Result<(), AllocError>
-        ensures stays { Stays self.old self.new }
+        ensures opened { OnOk result (self.new.stack.taken ≡ self.old.stack.taken + bytes) }
+        ensures past { OnErr result (self.old.stack.budget.bytes < self.old.stack.taken + bytes) }
+        ensures refused { OnErr result (self.new.stack.taken ≡ self.old.stack.taken) }
+        ensures rest { self.new.rest.now ≡ self.old.rest.now }
+        ensures text { self.new.text.now ≡ self.old.text.now }
     {
         self.stack.open(bytes)
     }
 
     /// Closes what took so many bytes.
     pub fn close(&mut self, bytes: usize)
-        ensures stays { Stays self.old self.new }
+        ensures closed { self.new.stack.taken ≡ self.old.stack.taken - bytes }
+        ensures rest { self.new.rest.now ≡ self.old.rest.now }
+        ensures text { self.new.text.now ≡ self.old.text.now }
     {
         self.stack.close(bytes);
     }
 
-    /// Closes all that is open, also what a refused construct left open.
-    pub fn close_all(&mut self)
-        ensures stays { Stays self.old self.new }
+    /// What is open, to come back to by `close_to`.
+    pub fn stack(&self) -> Stack
+        ensures { result.taken ≡ self.now.stack.taken }
     {
-        self.stack.close_all();
+        self.stack
+    }
+
+    /// Closes what was opened since then, also what a refused construct left open.
+    pub fn close_to(&mut self, stack: Stack)
+        ensures closed { self.new.stack.taken ≡ stack.taken }
+        ensures rest { self.new.rest.now ≡ self.old.rest.now }
+        ensures text { self.new.text.now ≡ self.old.text.now }
+    {
+        self.stack = stack;
     }
 
     /// What is left to read.
@@ -118,6 +135,7 @@ impl<'p, S: Drop, T: Texts<S>> Parser<'p, S, T> {
         requires { rest.now ≡ drop (length self.old.text.now - length rest.now) self.old.text.now }
         ensures rest { self.new.rest.now ≡ rest.now }
         ensures text { self.new.text.now ≡ self.old.text.now }
+        ensures stack { self.new.stack.taken ≡ self.old.stack.taken }
     {
         self.rest = rest;
     }

@@ -21,13 +21,15 @@ impl<'p, S: Drop, T: Texts<S>> Parser<'p, S, T> {
     ghost use Rattle.fluent_parsed.specs.Collected.{TakesEntries, TakesErrors};
 
     /// Reads the part that begins here, and puts it after those that were collected. `apart` says whether a blank line
-    /// stands before it. Behind a refused entry, reading goes on at the first place that may begin another: at or after
+    /// stands before it. After a refused entry, reading goes on at the first place that may begin another: at or after
     /// the place of the refusal, at column 0, before a letter, `-` or `#`.
     ///
     /// # Errors
-    /// [`AllocError`] if memory runs out; the part may be there without its error.
+    /// [`AllocError`] if memory runs out, or the part nests past the budget of the stack; the part may be
+    /// there without its error.
     pub fn get_part(&mut self, collected: &mut Collected<S>, apart: bool) -> Result<(), AllocError>
         requires some { 0 < length self.old.rest.now }
+        requires closed { self.old.stack.taken ≡ 0 }
         ensures entries { OnOk result (TakesEntries S T.text collected.old collected.new
             (next_piece self.old apart)) }
         ensures errors { OnOk result (TakesErrors S collected.old collected.new
@@ -36,6 +38,7 @@ impl<'p, S: Drop, T: Texts<S>> Parser<'p, S, T> {
             ≡ behind_piece self.old.rest.now (entry_at self.old.rest.now)) }
         ensures less { OnOk result (length self.new.rest.now < length self.old.rest.now) }
         ensures text { self.new.text.now ≡ self.old.text.now }
+        ensures closed { self.new.stack.taken ≡ 0 }
     {
         let start = self.rest();
         let slice_start = self.place();

@@ -1,13 +1,13 @@
 //! Patterns.
 #![tactic(auto, using(crate::proofs::Failing::handed, fluent_tokens::proofs::Counted::cuts))]
 
-ghost use Rattle.std.specs.Prelude.{◌≡◌, ◌≤◌, ◌<◌, ◌||◌, ◌&&◌, ◌==◌, IfOk, IfSome, Some, true, false, length, drop, map, option_map};
+ghost use Rattle.std.specs.Prelude.{◌≡◌, ◌≤◌, ◌<◌, ◌||◌, ◌&&◌, ◌==◌, IfOk, OnOk, IfSome, Some, true, false, length, drop, map, option_map};
 ghost use Rattle.fluent_grammar.specs.Words as w;
 ghost use Rattle.fluent_grammar.specs.Lines.{indent_of};
 ghost use Rattle.fluent_parser.specs.Steps.{text_piece};
 ghost use Rattle.fluent_tokens.specs.Lookup.{IsOneLine};
 ghost use Rattle.fluent_tokens.specs.IndentedTexts.{IsTextStart};
-ghost use Rattle.fluent_parser.specs.Frame.{Advances, StartsLine};
+ghost use Rattle.fluent_parser.specs.Frame.{Advances, Closes, ClosesPlaceable, StartsLine};
 
 use crate::expression::discard;
 use crate::fault::Fault;
@@ -46,12 +46,12 @@ impl<'p, S: Drop, T: Texts<S>> Parser<'p, S, T> {
     ///
     /// # Errors
     /// [`Fault::Refused`] if a piece of the pattern is refused; the parser then stands at the place of the refusal.
-    /// [`Fault::Memory`] if memory runs out.
+    /// [`Fault::Memory`] if memory runs out, or what is there nests past the budget of the stack.
     #[cycle(parser)]
     pub fn get_pattern(&mut self) -> Result<Option<Pattern<S>>, Fault>
         ensures gives { Reads (option_map (pattern_view S T.text)) self.old self.new result
             pattern_by }
-        ensures advances { Advances self.old self.new }
+        ensures advances { Closes result self.old self.new }
     {
         self.skip_blank_inline();
         if let Some(count) = self.one_line_len() {
@@ -80,7 +80,7 @@ impl<'p, S: Drop, T: Texts<S>> Parser<'p, S, T> {
     fn get_lines(&mut self) -> Result<Option<Pattern<S>>, Fault>
         ensures gives { Reads (option_map (pattern_view S T.text)) self.old self.new result
             pattern_behind }
-        ensures advances { Advances self.old self.new }
+        ensures advances { Closes result self.old self.new }
     {
         if let Some(pattern) = self.get_plain_lines()? {
             return Ok(Some(pattern));
@@ -122,7 +122,7 @@ impl<'p, S: Drop, T: Texts<S>> Parser<'p, S, T> {
             (kept_piece_by at_line_start) }
         ensures less { IfOk result (λ found. IfSome found
             (λ ends. length self.new.rest.now < length self.old.rest.now)) }
-        ensures advances { Advances self.old self.new }
+        ensures advances { Closes result self.old self.new }
     {
         if !at_line_start {
             return self.get_piece_behind(false, 0, gathered);
@@ -152,7 +152,7 @@ impl<'p, S: Drop, T: Texts<S>> Parser<'p, S, T> {
             (piece_from at_line_start indent) }
         ensures less { IfOk result (λ found. IfSome found
             (λ ends. length self.new.rest.now < length self.old.rest.now)) }
-        ensures advances { Advances self.old self.new }
+        ensures advances { Closes result self.old self.new }
     {
         let behind = words::from(self.bytes(), indent);
         if behind.is_empty() {
@@ -184,7 +184,7 @@ impl<'p, S: Drop, T: Texts<S>> Parser<'p, S, T> {
         ensures gives { ReadsPiece T.text gathered.old gathered.new self.old self.new result
             (placeable_piece_by column_zero) }
         ensures less { length self.new.rest.now < length self.old.rest.now }
-        ensures advances { Advances self.old self.new }
+        ensures advances { Closes result self.old self.new }
     {
         self.open_placeable()?;
         let selector = self.get_inline_expression()?;
@@ -208,7 +208,9 @@ impl<'p, S: Drop, T: Texts<S>> Parser<'p, S, T> {
     ) -> Result<Option<bool>, Fault>
         ensures gives { ReadsPiece T.text gathered.old gathered.new self.old self.new result
             (piece_end_by S T.text column_zero selector variants) }
-        ensures advances { Advances self.old self.new }
+        ensures closed { OnOk result (ClosesPlaceable self.old self.new) }
+        ensures text { self.new.text.now ≡ self.old.text.now }
+        ensures onward { length self.new.rest.now ≤ length self.old.rest.now }
     {
         let expression = self.close_placeable(selector, variants)?;
         let element = PatternElement::Placeable { expression };

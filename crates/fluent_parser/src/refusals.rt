@@ -92,9 +92,9 @@ impl<'p, S: Drop, T: Texts<S>> Parser<'p, S, T> {
             ≡ refusal_from text.now start) }
         ensures places { IfOk result (λ found. IfAnyBetweenCharacters text.now found) }
         ensures text { self.new.text.now ≡ self.old.text.now }
+        ensures stack { self.new.stack.taken ≡ self.old.stack.taken }
     {
         self.set_rest(&text[start..]);
-        self.close_all();
         let Some(kind) = self.find_refusal()? else {
             return Ok(None);
         };

@@ -69,6 +69,7 @@ impl<'p, S: Drop, T: Texts<S>> Parser<'p, S, T> {
     /// # Errors
     /// [`AllocError`] if memory runs out, or a part nests past the budget; the parts that were read are dropped.
     pub fn get_parts(&mut self) -> Result<Collected<S>, AllocError>
+        requires closed { self.old.stack.taken ≡ 0 }
         ensures entries { IfOk result (λ all. entries_with S T.text all []
             ≡ entries_of None (pieces_ahead self.old)) }
         ensures errors { IfOk result (λ all. errors_with S all []
@@ -90,6 +91,7 @@ impl<'p, S: Drop, T: Texts<S>> Parser<'p, S, T> {
     /// # Errors
     /// [`AllocError`] if memory runs out, or a part nests past the budget; the parts that were read are dropped.
     pub fn get_runtime_parts(&mut self) -> Result<Collected<S>, AllocError>
+        requires closed { self.old.stack.taken ≡ 0 }
         ensures entries { IfOk result (λ all. entries_with S T.text all []
             ≡ entries_of None (runtime_ahead self.old)) }
         ensures errors { IfOk result (λ all. errors_with S all []

@@ -4,7 +4,7 @@
 ghost use Rattle.std.specs.Prelude.{◌≡◌, ◌≤◌, ◌<◌, true, false, length};
 ghost use Rattle.fluent_grammar.specs.Words as w;
 ghost use Rattle.fluent_grammar.specs.Reading.{selector_fault};
-ghost use Rattle.fluent_parser.specs.Frame.{Advances};
+ghost use Rattle.fluent_parser.specs.Frame.{Advances, Closes};
 
 use crate::fault::Fault;
 use crate::parser::Parser;
@@ -44,12 +44,12 @@ impl<'p, S: Drop, T: Texts<S>> Parser<'p, S, T> {
     ///
     /// # Errors
     /// [`Fault::Refused`] if these are no variants, or not exactly one is the default; the parser then stands at the place of the refusal.
-    /// [`Fault::Memory`] if memory runs out.
+    /// [`Fault::Memory`] if memory runs out, or what is there nests past the budget of the stack.
     #[cycle(parser)]
     pub fn get_variants(&mut self) -> Result<Vec<Variant<S>>, Fault>
         ensures gives { Reads (λ vs. variants_view S T.text vs.items) self.old self.new result
             (whole.variants false) }
-        ensures advances { Advances self.old self.new }
+        ensures advances { Closes result self.old self.new }
     {
         let mut variants = Vec::new(self.alloc);
         let mut has_default = false;
@@ -90,7 +90,7 @@ impl<'p, S: Drop, T: Texts<S>> Parser<'p, S, T> {
         ensures gives { Reads (variant_view S T.text) self.old self.new result
             (variant_by default) }
         ensures less { length self.new.rest.now < length self.old.rest.now }
-        ensures advances { Advances self.old self.new }
+        ensures advances { Closes result self.old self.new }
     {
         self.advance(1);
         let key = self.get_variant_key()?;

@@ -142,6 +142,7 @@ pub fn fall_back(
     ensures refused { TellsOnErr result progress.old progress.new
         (fallback_step inline.now error) }
     ensures path { progress.new.path ≡ progress.old.path }
+    ensures stack { progress.new.stack ≡ progress.old.stack }
 {
     progress.add_error(error)?;
     write_inline_braced(out, inline)

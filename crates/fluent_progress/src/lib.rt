@@ -2,7 +2,7 @@
 
 //! The resolver's state, and its steps that don't enter a pattern.
 //!
-//! [`Progress`] is that state: it starts with [`Progress::new`], and returns the errors that it was given and those reported
+//! [`Progress`] is that state: it starts with [`Progress::within`], and returns the errors that it was given and those reported
 //! since. A [`Place`] lends the rest for as long as a pattern is resolved: the messages and terms, the
 //! arguments of the request, and a [`Context`], which says what functions give and how texts and values are shown. Whoever has
 //! a plural source and settings lends them as a [`Lent`], which is such a context. The modules have the steps that work on all

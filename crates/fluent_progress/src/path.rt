@@ -77,6 +77,7 @@ impl<'r, 's> Progress<'r, 's> {
     pub fn enter_path(&mut self, pattern: &'r Pattern<&'s str>) -> Result<(), AllocError>
         ensures path { OnOk result (entered_in self.new ≡ entered_in self.old ++ pattern.entry ∷ []) }
         ensures state { state self.new ≡ state self.old }
+        ensures stack { self.new.stack ≡ self.old.stack }
     {
         if self.is_outside() {
             self.path.first = Some(pattern);
@@ -91,6 +92,7 @@ impl<'r, 's> Progress<'r, 's> {
         ensures path { path_of self.new ≡ rooted_path (elements_of whole.now) (path_of self.old) }
         ensures before { path_left result self.new ≡ entered_in self.old }
         ensures state { state self.new ≡ state self.old }
+        ensures stack { self.new.stack ≡ self.old.stack }
     {
         let is_root = self.is_outside();
         if is_root {
@@ -103,6 +105,7 @@ impl<'r, 's> Progress<'r, 's> {
     pub fn leave_root(&mut self, is_root: bool)
         ensures path { entered_in self.new ≡ path_left is_root self.old }
         ensures state { state self.new ≡ state self.old }
+        ensures stack { self.new.stack ≡ self.old.stack }
     {
         if is_root {
             self.leave_path();
@@ -113,6 +116,7 @@ impl<'r, 's> Progress<'r, 's> {
     pub fn leave_path(&mut self)
         ensures path { entered_in self.new ≡ take (length (entered_in self.old) - 1) (entered_in self.old) }
         ensures state { state self.new ≡ state self.old }
+        ensures stack { self.new.stack ≡ self.old.stack }
     {
         if self.path.rest.pop().is_none() {
             self.path.first = None;

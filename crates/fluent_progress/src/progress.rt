@@ -34,18 +34,12 @@ pub struct Progress<'r, 's> {
 
 impl Progress<'_, '_> {
     /// What an answer starts with: these errors, reported earlier, if they are wanted, and nothing counted, entered or
-    /// open. It may take [`StackBudget::PROGRAM`] of the machine's stack. It doesn't allocate.
-    pub fn new(alloc: Global, errors: Option<Vec<FluentError>>) -> Self
-        ensures state { state result ≡ fresh (option_map (λ es. map bundle_view es.items) errors) }
-        ensures path { path_of result ≡ [] }
-    {
-        Progress::within(alloc, errors, StackBudget::PROGRAM)
-    }
-
-    /// The same as [`new`](Progress::new), with a budget of the machine's stack.
+    /// open. It may take this budget of the machine's stack. It doesn't allocate.
     pub fn within(alloc: Global, errors: Option<Vec<FluentError>>, budget: StackBudget) -> Self
         ensures state { state result ≡ fresh (option_map (λ es. map bundle_view es.items) errors) }
         ensures path { path_of result ≡ [] }
+        ensures closed { result.stack.taken ≡ 0 }
+        ensures budget { result.stack.budget ≡ budget }
     {
         Progress {
             errors,
@@ -95,6 +89,7 @@ impl Progress<'_, '_> {
             ≡ with_error (resolver_view error) (state self.old)) }
         ensures refused { OnErr result (state self.new ≡ state self.old) }
         ensures path { self.new.path ≡ self.old.path }
+        ensures stack { self.new.stack ≡ self.old.stack }
     {
         if let Some(errors) = &mut self.errors {
             errors.push(FluentError::ResolverError(error))?;
@@ -107,6 +102,7 @@ impl Progress<'_, '_> {
         ensures counted { state self.new ≡ after (state self.old)
             (entering (done true (state self.old).budget)) }
         ensures path { self.new.path ≡ self.old.path }
+        ensures stack { self.new.stack ≡ self.old.stack }
     {
         self.entered = self.entered.saturating_add(1);
     }
@@ -121,6 +117,7 @@ impl Progress<'_, '_> {
             opens) }
         ensures refused { OnErr result (state self.new ≡ state self.old) }
         ensures path { self.new.path ≡ self.old.path }
+        ensures stack { self.new.stack ≡ self.old.stack }
     {
         if self.placeables < MOST_PLACEABLES {
             self.placeables += 1;

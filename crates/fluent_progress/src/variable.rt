@@ -105,6 +105,7 @@ impl<'b, 'r, 's, 'a, C: FluentType, F, E: Context<C, F>> Place<'b, 'r, 's, 'a, C
         ensures told { ReportsMissing result self.now progress.old progress.new id.now }
         ensures refused { OnErr result (state progress.new ≡ state progress.old) }
         ensures path { progress.new.path ≡ progress.old.path }
+        ensures stack { progress.new.stack ≡ progress.old.stack }
     {
         if self.locals.is_some() {
             return Ok(());
@@ -126,6 +127,7 @@ impl<'b, 'r, 's, 'a, C: FluentType, F, E: Context<C, F>> Place<'b, 'r, 's, 'a, C
         ensures wrote { Writes result out.old out.new progress.old progress.new (variable_step self.now id.now) }
         ensures refused { TellsOnErr result progress.old progress.new (variable_step self.now id.now) }
         ensures path { progress.new.path ≡ progress.old.path }
+        ensures stack { progress.new.stack ≡ progress.old.stack }
     {
         if self.write_given(out, id.name)? {
             return Ok(());
@@ -146,6 +148,7 @@ impl<'b, 'r, 's, 'a, C: FluentType, F, E: Context<C, F>> Place<'b, 'r, 's, 'a, C
         ensures found { FindsVariable result self.now progress.old progress.new id.now }
         ensures refused { TellsOnErr result progress.old progress.new (variable_value_step self.now id.now) }
         ensures path { progress.new.path ≡ progress.old.path }
+        ensures stack { progress.new.stack ≡ progress.old.stack }
     {
         match self.variable_copy(id.name)? {
             Some(value) => Ok(value),

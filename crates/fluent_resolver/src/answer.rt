@@ -25,7 +25,8 @@ const ROOM: usize = 64;
 /// What a pattern gives: a text without placeables as it is, if nothing changes it, and any other anew.
 ///
 /// # Errors
-/// [`AllocError`] if memory runs out; the first of the pattern's errors are reported.
+/// [`AllocError`] if memory runs out, or values nest past the budget of the stack; the first of the pattern's errors are
+/// reported.
 pub fn answer<'b, 'r, 's, 'a, C: FluentType + Drop, F, E: Context<C, F>>(
     place: &Place<'b, 'r, 's, 'a, C, F, E>,
     pattern: &'r Pattern<&'s str>,
@@ -54,7 +55,7 @@ pub fn lone_text<'s>(pattern: &Pattern<&'s str>) -> Option<&'s str>
     }
 }
 
-/// What a pattern writes. If memory runs out, the first of the pattern's errors are reported.
+/// What a pattern writes. If memory runs out, or values nest past the budget of the stack, the first of the pattern's errors are reported.
 fn resolved<'b, 'r, 's, 'a, C: FluentType + Drop, F, E: Context<C, F>>(
     place: &Place<'b, 'r, 's, 'a, C, F, E>,
     pattern: &'r Pattern<&'s str>,
@@ -77,8 +78,9 @@ fn resolved<'b, 'r, 's, 'a, C: FluentType + Drop, F, E: Context<C, F>>(
 /// Writes what a pattern gives, piece by piece.
 ///
 /// # Errors
-/// [`Writer`](WriteError::Writer) if the writer refuses a piece, [`Memory`](WriteError::Memory) if memory runs out. The writer
-/// took the pieces before, and the first of the pattern's errors are reported.
+/// [`Writer`](WriteError::Writer) if the writer refuses a piece, [`Memory`](WriteError::Memory) if memory runs out, or
+/// values nest past the budget of the stack. The writer took the pieces before, and the first of the pattern's errors are
+/// reported.
 pub fn write_answer<'b, 'r, 's, 'a, W, C, F, E>(
     w: &mut W,
     place: &Place<'b, 'r, 's, 'a, C, F, E>,

@@ -25,6 +25,7 @@ pub(crate) fn call_result<'b, 'r, 's, 'a, C: FluentType + Drop, F, E: Context<C,
     ensures found { Calls result place.now progress.old progress.new id.now arguments.now }
     ensures refused { TellsOnErr result progress.old progress.new (call_step place.now id.now arguments.now) }
     ensures path { OnOk result (entered_in progress.new ≡ entered_in progress.old) }
+    ensures stack { OnOk result (progress.new.stack.taken ≡ progress.old.stack.taken) }
 {
     let positional = positional_values(place, progress, &arguments.positional)?;
     let named = named_values(place, progress, &arguments.named)?;
@@ -42,6 +43,7 @@ pub(crate) fn nested_call<'b, 'r, 's, 'a, C: FluentType + Drop, F, E: Context<C,
     ensures found { Calls result place.now progress.old progress.new id.now arguments.now }
     ensures refused { TellsOnErr result progress.old progress.new (call_step place.now id.now arguments.now) }
     ensures path { OnOk result (entered_in progress.new ≡ entered_in progress.old) }
+    ensures stack { OnOk result (progress.new.stack.taken ≡ progress.old.stack.taken) }
 {
     progress.open_frames(resolving::CALL)?;
     let result = call_result(place, progress, id, arguments)?;
@@ -59,6 +61,7 @@ pub(crate) fn own_arguments<'b, 'r, 's, 'a, C: FluentType + Drop, F, E: Context<
     ensures found { FindsOwn result place.now progress.old progress.new arguments.now }
     ensures refused { TellsOnErr result progress.old progress.new (own_step place.now arguments.now) }
     ensures path { OnOk result (entered_in progress.new ≡ entered_in progress.old) }
+    ensures stack { OnOk result (progress.new.stack.taken ≡ progress.old.stack.taken) }
 {
     match arguments {
         Some(arguments) => {
@@ -82,6 +85,7 @@ pub fn positional_values<'b, 'r, 's, 'a, C: FluentType + Drop, F, E: Context<C, 
     ensures found { FindsValues result place.now progress.old progress.new arguments.now }
     ensures refused { TellsOnErr result progress.old progress.new (positional_step place.now arguments.now) }
     ensures path { OnOk result (entered_in progress.new ≡ entered_in progress.old) }
+    ensures stack { OnOk result (progress.new.stack.taken ≡ progress.old.stack.taken) }
 {
     let mut values = Vec::with_capacity(place.context.alloc(), arguments.len())?;
     for argument in arguments {
@@ -103,6 +107,7 @@ pub fn named_values<'b, 'r, 's, 'a, C: FluentType + Drop, F, E: Context<C, F>>(
     ensures found { FindsNamed result place.now progress.old progress.new arguments.now }
     ensures refused { TellsOnErr result progress.old progress.new (named_step place.now arguments.now) }
     ensures path { OnOk result (entered_in progress.new ≡ entered_in progress.old) }
+    ensures stack { OnOk result (progress.new.stack.taken ≡ progress.old.stack.taken) }
 {
     let mut values = FluentArgs::new(place.context.alloc());
     for argument in arguments {

@@ -35,6 +35,7 @@ pub fn write_expression<'b, 'r, 's, 'a, C: FluentType + Drop, F, E: Context<C, F
     ensures wrote { Writes result out.old out.new progress.old progress.new (expression_step place.now expression.now) }
     ensures refused { TellsOnErr result progress.old progress.new (expression_step place.now expression.now) }
     ensures path { OnOk result (entered_in progress.new ≡ entered_in progress.old) }
+    ensures stack { OnOk result (progress.new.stack.taken ≡ progress.old.stack.taken) }
 {
     match expression {
         Expression::Select { selector, variants } => {
@@ -57,6 +58,7 @@ fn write_select<'b, 'r, 's, 'a, C: FluentType + Drop, F, E: Context<C, F>>(
         (select place.now selector.now variants.now) }
     ensures refused { TellsOnErr result progress.old progress.new (select place.now selector.now variants.now) }
     ensures path { OnOk result (entered_in progress.new ≡ entered_in progress.old) }
+    ensures stack { OnOk result (progress.new.stack.taken ≡ progress.old.stack.taken) }
 {
     match choose(place, progress, selector, variants)? {
         Some(pattern) => {
@@ -78,6 +80,7 @@ fn choose<'b, 'r, 's, 'a, C: FluentType + Drop, F, E: Context<C, F>>(
     ensures found { Chooses result place.now progress.old progress.new selector.now variants.now }
     ensures refused { TellsOnErr result progress.old progress.new (choice_step place.now selector.now variants.now) }
     ensures path { OnOk result (entered_in progress.new ≡ entered_in progress.old) }
+    ensures stack { OnOk result (progress.new.stack.taken ≡ progress.old.stack.taken) }
 {
     let value = value_of(place, progress, selector)?;
     Ok(chosen(place.context, &value, variants))
@@ -97,6 +100,7 @@ pub fn write_inline<'b, 'r, 's, 'a, C: FluentType + Drop, F, E: Context<C, F>>(
     ensures wrote { Writes result out.old out.new progress.old progress.new (inline_step place.now inline.now) }
     ensures refused { TellsOnErr result progress.old progress.new (inline_step place.now inline.now) }
     ensures path { OnOk result (entered_in progress.new ≡ entered_in progress.old) }
+    ensures stack { OnOk result (progress.new.stack.taken ≡ progress.old.stack.taken) }
 {
     match inline {
         InlineExpression::StringLiteral { value } => write_literal(out, *value),
@@ -134,6 +138,7 @@ fn write_call<'b, 'r, 's, 'a, C: FluentType + Drop, F, E: Context<C, F>>(
     ensures wrote { Writes result out.old out.new progress.old progress.new (inline_step place.now inline.now) }
     ensures refused { TellsOnErr result progress.old progress.new (inline_step place.now inline.now) }
     ensures path { OnOk result (entered_in progress.new ≡ entered_in progress.old) }
+    ensures stack { OnOk result (progress.new.stack.taken ≡ progress.old.stack.taken) }
 {
     match call_result(place, progress, id, arguments)? {
         Some(result) => write_result(out, place.context, id.name, &result),
@@ -160,6 +165,7 @@ fn write_term<'b, 'r, 's, 'a, C: FluentType + Drop, F, E: Context<C, F>>(
     ensures wrote { Writes result out.old out.new progress.old progress.new (inline_step place.now inline.now) }
     ensures refused { TellsOnErr result progress.old progress.new (inline_step place.now inline.now) }
     ensures path { OnOk result (entered_in progress.new ≡ entered_in progress.old) }
+    ensures stack { OnOk result (progress.new.stack.taken ≡ progress.old.stack.taken) }
 {
     let own = own_arguments(place, progress, arguments)?;
     let target = place.term_target(id, attribute)?;

@@ -29,6 +29,7 @@ pub fn write_pattern<'b, 'r, 's, 'a, C: FluentType + Drop, F, E: Context<C, F>>(
     ensures wrote { Writes result out.old out.new progress.old progress.new (pattern_step place.now pattern.now) }
     ensures refused { TellsOnErr result progress.old progress.new (pattern_step place.now pattern.now) }
     ensures path { OnOk result (entered_in progress.new ≡ entered_in progress.old) }
+    ensures stack { OnOk result (progress.new.stack.taken ≡ progress.old.stack.taken) }
 {
     for element in &pattern.elements {
         if progress.dirty {
@@ -61,6 +62,7 @@ pub fn write_placeable<'b, 'r, 's, 'a, C: FluentType + Drop, F, E: Context<C, F>
         (placeable place.now whole.now expression.now) }
     ensures refused { TellsOnErr result progress.old progress.new (placeable place.now whole.now expression.now) }
     ensures path { OnOk result (entered_in progress.new ≡ entered_in progress.old) }
+    ensures stack { OnOk result (progress.new.stack.taken ≡ progress.old.stack.taken) }
 {
     if !progress.open_placeable()? {
         return Ok(());
@@ -88,6 +90,7 @@ pub fn write_opened<'b, 'r, 's, 'a, C: FluentType + Drop, F, E: Context<C, F>>(
         (inside place.now whole.now expression.now) }
     ensures refused { TellsOnErr result progress.old progress.new (inside place.now whole.now expression.now) }
     ensures path { OnOk result (entered_in progress.new ≡ entered_in progress.old) }
+    ensures stack { OnOk result (progress.new.stack.taken ≡ progress.old.stack.taken) }
 {
     let is_root = progress.enter_root(whole);
     write_expression(out, place, progress, expression)?;
@@ -108,6 +111,7 @@ pub(crate) fn write_target<'b, 'r, 's, 'a, C: FluentType + Drop, F, E: Context<C
         (outcome place.now inline.now target.entry) }
     ensures refused { TellsOnErr result progress.old progress.new (outcome place.now inline.now target.entry) }
     ensures path { OnOk result (entered_in progress.new ≡ entered_in progress.old) }
+    ensures stack { OnOk result (progress.new.stack.taken ≡ progress.old.stack.taken) }
 {
     match target {
         Target::There(pattern) => write_referred(out, place, progress, inline, pattern),
@@ -134,6 +138,7 @@ pub fn write_referred<'b, 'r, 's, 'a, C: FluentType + Drop, F, E: Context<C, F>>
         (reference place.now inline.now pattern.now) }
     ensures refused { TellsOnErr result progress.old progress.new (reference place.now inline.now pattern.now) }
     ensures path { OnOk result (entered_in progress.new ≡ entered_in progress.old) }
+    ensures stack { OnOk result (progress.new.stack.taken ≡ progress.old.stack.taken) }
 {
     if progress.is_entered(pattern) {
         return fall_back(out, progress, inline, ResolverError::Cyclic);

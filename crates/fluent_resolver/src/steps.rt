@@ -1,6 +1,6 @@
 //! What the calls of a scope are made of: steps at a place.
 
-ghost use Rattle.std.specs.Prelude.{◌≡◌};
+ghost use Rattle.std.specs.Prelude.{◌≡◌, OnOk};
 ghost use Rattle.fluent_resolver.specs.Called.{FindsArguments, called_of, no_arguments};
 ghost use Rattle.fluent_progress.specs.Resolves.{TellsOnErr, Writes};
 ghost use Rattle.fluent_resolver.specs.Steps.{arguments_step, inside, reference};
@@ -26,6 +26,7 @@ pub fn opened<'b, 'r, 's, 'a, C: FluentType + Drop, F, E: Context<C, F>>(
     ensures wrote { Writes result out.old out.new progress.old progress.new
         (inside place.now pattern.now expression.now) }
     ensures refused { TellsOnErr result progress.old progress.new (inside place.now pattern.now expression.now) }
+    ensures stack { OnOk result (progress.new.stack.taken ≡ progress.old.stack.taken) }
 {
     write_opened(out, place, progress, pattern, expression)
 }
@@ -44,6 +45,7 @@ pub fn referred<'b, 'r, 's, 'a, C: FluentType + Drop, F, E: Context<C, F>>(
     ensures wrote { Writes result out.old out.new progress.old progress.new
         (reference place.now inline.now pattern.now) }
     ensures refused { TellsOnErr result progress.old progress.new (reference place.now inline.now pattern.now) }
+    ensures stack { OnOk result (progress.new.stack.taken ≡ progress.old.stack.taken) }
 {
     write_referred(out, place, progress, inline, pattern)
 }
@@ -59,6 +61,7 @@ pub fn values<'b, 'r, 's, 'a, C: FluentType + Drop, F, E: Context<C, F>>(
 ) -> Result<(Vec<FluentValue<'s, C>>, FluentArgs<'s, C>), AllocError>
     ensures found { FindsArguments result place.now progress.old progress.new arguments.now }
     ensures refused { TellsOnErr result progress.old progress.new (arguments_step place.now arguments.now) }
+    ensures stack { OnOk result (progress.new.stack.taken ≡ progress.old.stack.taken) }
 {
     let positional = positional_values(place, progress, &arguments.positional)?;
     let named = named_values(place, progress, &arguments.named)?;

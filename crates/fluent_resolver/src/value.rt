@@ -29,6 +29,7 @@ pub fn value_of<'b, 'r, 's, 'a, C: FluentType + Drop, F, E: Context<C, F>>(
     ensures found { FindsValue result place.now progress.old progress.new inline.now }
     ensures refused { TellsOnErr result progress.old progress.new (value_step place.now inline.now) }
     ensures path { OnOk result (entered_in progress.new ≡ entered_in progress.old) }
+    ensures stack { OnOk result (progress.new.stack.taken ≡ progress.old.stack.taken) }
 {
     match inline {
         InlineExpression::StringLiteral { value } => literal_value(place.context.alloc(), *value),
@@ -64,6 +65,7 @@ fn text_value<'b, 'r, 's, 'a, C: FluentType + Drop, F, E: Context<C, F>>(
     ensures found { FindsText result place.now progress.old progress.new inline.now }
     ensures refused { TellsOnErr result progress.old progress.new (inline_step place.now inline.now) }
     ensures path { OnOk result (entered_in progress.new ≡ entered_in progress.old) }
+    ensures stack { OnOk result (progress.new.stack.taken ≡ progress.old.stack.taken) }
 {
     progress.open_frames(resolving::TEXT)?;
     let mut text = String::new(place.context.alloc());

@@ -74,6 +74,7 @@ where
     ensures wrote { WritesPiece W.text result w.old w.new progress.old progress.new place.now whole.now expression.now }
     ensures refused { StartsPiece W.text result w.old w.new progress.old progress.new place.now whole.now expression.now }
     ensures path { OnOk result (entered_in progress.new ≡ entered_in progress.old) }
+    ensures stack { OnOk result (progress.new.stack.taken ≡ progress.old.stack.taken) }
 {
     let mut piece = String::new(place.context.alloc());
     write_placeable(&mut piece, place, progress, whole, expression)?;

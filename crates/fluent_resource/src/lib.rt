@@ -10,4 +10,4 @@ mod sources;
 pub use entries::Entries;
 pub use error::ResourceError;
 pub use resource::FluentResource;
-pub use sources::{parse_sources, parse_sources_within};
+pub use sources::parse_sources;

@@ -10,26 +10,13 @@ use crate::resource::FluentResource;
 use fluent_parser::StackBudget;
 use std::alloc::{AllocError, Global};
 
-/// The resource of each source, in their order. What is no entry is passed over: a resource has it as junk.
+/// The resource of each source, in their order, within this budget of the machine's stack for each message and term. What is
+/// no entry is passed over: a resource has it as junk.
 ///
 /// # Errors
 /// [`AllocError`] if memory runs out; nothing is kept. It also means that placeables, calls and selects of a source
-/// are nested so deep that reading them would take more than the budget of a program, [`StackBudget::PROGRAM`].
+/// are nested so deep that reading them would take more than the budget.
 pub fn parse_sources<'s>(
-    alloc: Global,
-    sources: &[&'s str],
-) -> Result<Vec<FluentResource<'s>>, AllocError>
-    ensures { IfOk result (λ read. map entries_view read.items
-        ≡ map runtime_tree (texts sources.now)) }
-{
-    parse_sources_within(alloc, sources, StackBudget::PROGRAM)
-}
-
-/// As [`parse_sources`], within this budget of the machine's stack for each message and term.
-///
-/// # Errors
-/// Those of [`parse_sources`].
-pub fn parse_sources_within<'s>(
     alloc: Global,
     sources: &[&'s str],
     budget: StackBudget,

@@ -1,15 +1,17 @@
 -- What a run answers, by the code's own values.
-use Rattle.std.specs.Prelude.{List, [], Result, IfSome, OnOk}
-use Rattle.std.specs.Io.KnownBytes.{Appends}
+use Rattle.std.specs.Prelude.{◌≡◌, List, [], Result, IfSome, IsErrOf, OnOk}
+use Rattle.std.specs.Io.KnownBytes.{Appends, IsAtEnd}
 use denote.Ref.{Bor}
 use Rattle.fluent_answers.specs.Answers.{line_answered, answers}
 use Rattle.fluent_answers.specs.Sources as plain
 use Rattle.fluent_grammar.specs.Words.{Text}
 use Rattle.fluent_tidy_laws.specs.Tidied.{Tidied}
 use Rattle.fluent_run.specs.declared.settings.Settings.{Settings}
-use Rattle.fluent_serve.specs.Exchange.{Runs}
+use Rattle.fluent_serve.specs.Devices.{HasFailed}
+use Rattle.fluent_serve.specs.Exchange.{GivesUp, Runs}
 use Rattle.fluent_serve.specs.Texts.{texts}
 use Rattle.fluent_serve.specs.declared.serve.RunError.{RunError}
+use Rattle.fluent_serve.specs.declared.serve.RunError.TheVariants.{Read, Write}
 use Rattle.fluent_serve.specs.declared.stream.Sink.{Ghosts as SinkGhosts}
 use Rattle.fluent_serve.specs.declared.stream.Source.{Ghosts as SourceGhosts}
 use Rattle.fluent_value.specs.Matching.{Plurals}
@@ -56,3 +58,19 @@ pub record RunsFrom {M R W : Type 0} (kind : KindGhosts M) (plurals : M) (settin
       Appends (sink.contents writer) (sink.contents writer') (answers_of kind.category_of kind.stringified plurals settings others input)))
   -- Of a reader whose bytes aren't known, they are the answers to those that it gave. So it is of an error, too.
   pub served : Runs source reader reader' sink writer writer' (line_by kind.category_of kind.stringified plurals settings sources) 4294967296 result
+
+-- What became of a run, and of its devices.
+pub record RunsWell {M R W : Type 0} (kind : KindGhosts M) (plurals : M) (settings : Settings) (sources : List (Bor Text))
+    (source : SourceGhosts R) (reader reader' : R) (sink : SinkGhosts W) (writer writer' : W) (result : Result (Unit {0}) RunError) : Type 0 where
+  -- The answers to all of the input are written, and nothing else; they are also those of whatever the sources are tidied into.
+  -- After `Memory` the first whole lines are answered, after `Read` all whole lines that came, and after `Write` a front of the
+  -- answers is written.
+  pub answered : RunsFrom kind plurals settings sources source reader reader' sink writer writer' result
+  -- without an error the input is at its end, and no device failed
+  pub end : OnOk result (IsAtEnd (source.remaining reader'))
+  pub reads : OnOk result (source.failures reader' ≡ source.failures reader)
+  pub writes : OnOk result (sink.failures writer' ≡ sink.failures writer)
+  -- the reader failed, or gave 2^32 bytes or more without an end
+  pub given_up : IsErrOf result Read → GivesUp source reader reader' 4294967296
+  -- the writer failed, or took none of a piece that wasn't empty
+  pub failed : IsErrOf result Write → HasFailed (sink.failures writer) (sink.failures writer')

@@ -39,29 +39,11 @@ pub struct Desk<'b, 'r, 's, M> {
 }
 
 impl<'b, 'r, 's, M: MemoizerKind> Desk<'b, 'r, 's, M> {
-    /// Answers from resources, in their order. An answer may take [`StackBudget::PROGRAM`] of the machine's stack.
+    /// Answers from resources, in their order, within a budget of the machine's stack for each answer.
     ///
     /// # Errors
     /// [`AllocError`] if memory runs out; nothing is kept.
     pub fn new(
-        alloc: Global,
-        resources: &'r [FluentResource<'s>],
-        settings: Settings,
-        plurals: &'b M,
-    ) -> Result<Self, AllocError>
-        ensures ids { IfOk result (λ desk. desk_ids desk
-            ≡ ids_added settings.overriding resources.now) }
-        ensures plurals { IfOk result (λ desk. desk.plurals.now ≡ plurals.now) }
-        ensures isolating { IfOk result (λ desk. desk.isolating ≡ settings.isolating) }
-    {
-        Desk::within(alloc, resources, settings, plurals, StackBudget::PROGRAM)
-    }
-
-    /// The same as [`Desk::new`], with a budget of the machine's stack for each answer.
-    ///
-    /// # Errors
-    /// [`AllocError`] if memory runs out; nothing is kept.
-    pub fn within(
         alloc: Global,
         resources: &'r [FluentResource<'s>],
         settings: Settings,
@@ -113,7 +95,7 @@ impl<'b, 'r, 's, M: MemoizerKind> Desk<'b, 'r, 's, M> {
     /// message, value or attribute.
     ///
     /// ```no_run
-    /// let desk = Desk::new(alloc, resources, settings, &plurals)?;
+    /// let desk = Desk::new(alloc, resources, settings, &plurals, StackBudget::PROGRAM)?;
     /// let reply = desk
     ///     .format(alloc, "a", None, &FluentArgs::new(alloc))?
     ///     .context("no such message")?;

@@ -13,11 +13,12 @@ mod memory;
 mod reply;
 mod settings;
 
-pub use answering::{run, run_before_exit, run_within};
+pub use answering::{run, run_before_exit};
 pub use arguments::valued_arguments;
 pub use desk::Desk;
 pub use fluent_serve::serve::RunError;
 pub use fluent_serve::stream::{FromRead, FromWrite, Sink, Source};
-pub use memory::{answers, answers_within};
+pub use fluent_text::stack::StackBudget;
+pub use memory::answers;
 pub use reply::Reply;
 pub use settings::Settings;

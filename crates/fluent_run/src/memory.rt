@@ -10,50 +10,27 @@ use fluent_text::stack::StackBudget;
 use fluent_value::MemoizerKind;
 use std::alloc::{AllocError, Global};
 
-/// The answers to request lines: the bytes that [`run`](crate::run) would write for them.
+/// The answers to request lines: the bytes that [`run`](crate::run) would write for them. Each message and term that is read,
+/// and each answer, may take this budget of the machine's stack.
 ///
 /// ```
 /// let settings = Settings { isolating: false, overriding: false };
 /// let plurals = LanguagePlurals::root();
 /// let requests = "key2\tx=3\n".as_bytes();
-/// let before = answers(alloc, &[SOURCE], settings, &plurals, requests)?;
+/// let stack = StackBudget::PROGRAM;
+/// let before = answers(alloc, &[SOURCE], settings, &plurals, requests, stack)?;
 /// ```
 ///
 /// # Errors
-/// [`AllocError`] if memory runs out, or the requests are longer than 4,294,967,296 blocks of 8,192 bytes; nothing is left
-/// after.
+/// [`AllocError`] if memory runs out, if placeables, calls and selects of a source, or those that a request enters, nest too
+/// deep for the budget, or if the requests are longer than 4,294,967,296 blocks of 8,192 bytes; nothing is left after.
 pub fn answers<M: MemoizerKind>(
     alloc: Global,
     sources: &[&str],
     settings: Settings,
     plurals: &M,
     requests: &[u8],
-) -> Result<Vec<u8>, AllocError>
-    ensures { IfOk result (λ made. made.items
-        ≡ answers_in M.MemoizerKind plurals.now settings sources.now requests.now) }
-{
-    answers_within(
-        alloc,
-        sources,
-        settings,
-        plurals,
-        requests,
-        StackBudget::PROGRAM,
-    )
-}
-
-/// As [`answers`], within this budget of the machine's stack: for each message and term that is read, and for each answer.
-///
-/// # Errors
-/// Those of [`answers`]. [`AllocError`] also means that placeables, calls and selects of a source, or those that a request
-/// enters, nest too deep for the budget.
-pub fn answers_within<M: MemoizerKind>(
-    alloc: Global,
-    sources: &[&str],
-    settings: Settings,
-    plurals: &M,
-    requests: &[u8],
-    budget: StackBudget,
+    stack: StackBudget,
 ) -> Result<Vec<u8>, AllocError>
     ensures { IfOk result (λ made. made.items
         ≡ answers_in M.MemoizerKind plurals.now settings sources.now requests.now) }
@@ -67,7 +44,7 @@ pub fn answers_within<M: MemoizerKind>(
         plurals,
         &mut reader,
         &mut writer,
-        budget,
+        stack,
     ) {
         Ok(()) => Ok(writer.into_inner()),
         Err(_) => Err(AllocError),

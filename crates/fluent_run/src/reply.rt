@@ -72,12 +72,12 @@ pub(crate) fn resolve<'b, 'r, 's, 'a, C: FluentType + Drop, F, E: Context<C, F>>
     text.reserve(ROOM)?;
     let mut progress = Progress::within(alloc, Some(Vec::new(alloc)), stack);
     write_pattern(&mut text, place, &mut progress, pattern)?;
-    let errors = told_by(alloc, progress);
+    let errors = reported_by(alloc, progress);
     Ok(Reply { text, errors })
 }
 
 /// The errors that were reported.
-fn told_by(alloc: Global, progress: Progress<'_, '_>) -> Vec<FluentError>
+fn reported_by(alloc: Global, progress: Progress<'_, '_>) -> Vec<FluentError>
     ensures { (list : List Reported) → (state progress.entry).errors ≡ Some list
         → map bundle_view result.items ≡ list }
 {
@@ -98,7 +98,7 @@ impl Reply {
         ensures front { IsFrontOf out.old.items out.new.items }
     {
         let Reply { text, errors } = self;
-        push_told(text, &errors, out)
+        push_reply(text, &errors, out)
     }
 
     /// A line for each error, as an answer has them. It is empty if nothing came up, and isn't allocated then.
@@ -129,7 +129,7 @@ pub(crate) fn push_text(alloc: Global, text: &str, out: &mut Vec<u8>) -> Result<
 }
 
 /// Appends the frame of a text and its errors, whose lines are written right after the text.
-fn push_told(mut text: String, errors: &[FluentError], out: &mut Vec<u8>) -> Result<(), AllocError>
+fn push_reply(mut text: String, errors: &[FluentError], out: &mut Vec<u8>) -> Result<(), AllocError>
     ensures ok { OnOk result (out.new.items ≡ out.old.items
         ++ frame_of (ok (reply_of (string_bytes text) errors.now))) }
     ensures front { IsFrontOf out.old.items out.new.items }

@@ -1,31 +1,22 @@
 -- Lemmas on the arguments of a request line.
-use Rattle.std.proofs.Common.{◌≡◌, ℕ, suc, ◌+◌, ◌<◌, Bool, true, false, cond, List, [], ◌∷◌, ◌++◌, length, drop, take, get_or, Option, Some, None, refl, sym, ap, ◌∙◌, arith, option_copied}
+use Rattle.std.proofs.Common.{◌≡◌, ℕ, suc, ◌+◌, ◌<◌, Bool, true, false, cond, List, [], ◌∷◌, length, drop, Option, Some, None, refl, sym, ap, ◌∙◌, arith, option_copied}
 use Rattle.std.specs.Prelude.{◌==◌, not}
 use Rattle.std.proofs.lemmas.Bool.{eqb-true, eqb-false}
-use Rattle.std.proofs.lemmas.List.{length-drop, take_more, map-append}
+use Rattle.std.proofs.lemmas.List.{length-drop}
 use Rattle.std.proofs.lemmas.List.Splits.{slice_split_first}
 use Rattle.std.proofs.lemmas.List.Sums.{prefix_len-le-length}
 use Rattle.std.specs.List.{slice_split, position_or_len}
-use Rattle.std.specs.Str.{bytes_eq, is_utf8, IsUtf8}
+use Rattle.std.specs.Str.{is_utf8, IsUtf8}
 use Rattle.std.proofs.lemmas.Str.{is_utf8-from_IsUtf8, IsUtf8-from_is_utf8}
 use Rattle.fluent_serve.specs.Text.{Text, tab, dot, equals, cut_at}
-use Rattle.fluent_serve.specs.Requests.{value_named, or_later, argument_of, arguments_of, and_argument, request_with, request_of_parts, request_of}
+use Rattle.fluent_serve.specs.Requests.{argument_of, arguments_of, and_argument, request_with, request_of_parts, request_of}
 use denote.Ref.{Bor}
-use Rattle.fluent_serve.specs.RequestView.{parts_behind, argument_view, arguments_view, arguments_behind}
+use Rattle.fluent_serve.specs.RequestView.{parts_behind, arguments_behind}
 
 -- how much of a line is left
 abbrev pub text_size : Option Text → ℕ
 text_size None = 0
 text_size (Some s) = length s + 1
-
-or_later-assoc : {V : Type 0} (a b c : Option V) → or_later a (or_later b c) ≡ or_later (or_later a b) c
-or_later-assoc a b None = refl
-or_later-assoc a b (Some v) = refl
-
-pub value_named-push : {V : Type 0} (name : Text) (front : List (Text × V)) (a : Text × V) →
-    value_named name (front ++ a ∷ []) ≡ or_later (value_named name front) (cond (bytes_eq name a.0) (Some a.1) None)
-value_named-push name [] a = elim (bytes_eq name a.0) as (λ b. or_later (cond b (Some a.1) None) None ≡ or_later None (cond b (Some a.1) None)) [ true ↦ refl | false ↦ refl ]
-value_named-push name (x ∷ xs) a = ap (λ v. or_later (cond (bytes_eq name x.0) (Some x.1) None) v) (value_named-push name xs a) ∙ or_later-assoc (cond (bytes_eq name x.0) (Some x.1) None) (value_named name xs) (cond (bytes_eq name a.0) (Some a.1) None)
 
 -- where no element passes, the list is the one part
 split_none-at : (p : ℕ → Bool) (x : ℕ) (xs : Text) (b : Bool) → p x ≡ b → (position_or_len p xs ≡ length xs → slice_split p xs ≡ xs ∷ []) →
@@ -56,15 +47,6 @@ behind_shorter separator s rest h = by_test (position_or_len (λ b. b == separat
         let e : Some (drop (n + 1) s) ≡ Some rest = rw is at h in
         let same : drop (n + 1) s ≡ rest = cc in
         omega (arith, ap length same, length-drop (n + 1) s, prefix_len-le-length (λ b. not (b == separator)) s, eqb-false _ _ is)
-
--- one more argument, looked at from the front
-pub value_named-next : (name : Text) (arguments : List (Bor Text × Bor Text)) (i : ℕ) (d : Bor Text × Bor Text) → i < length arguments →
-    value_named name (arguments_view (take (i + 1) arguments))
-    ≡ or_later (value_named name (arguments_view (take i arguments))) (cond (bytes_eq name (get_or arguments i d).0.now) (Some (get_or arguments i d).1.now) None)
-value_named-next name arguments i d h =
-    ap (λ xs. value_named name (arguments_view xs)) (take_more arguments i d h)
-    ∙ (ap (value_named name) (map-append argument_view (take i arguments) (get_or arguments i d ∷ []))
-    ∙ value_named-push name (arguments_view (take i arguments)) ((get_or arguments i d).0.now, (get_or arguments i d).1.now))
 
 -- what is left of a line is its first part and what is after that
 pub read_on : (rest : Option (Bor Text)) (text : Bor Text) (part : Text) (behind : Option (Bor Text)) →

@@ -5,16 +5,12 @@ use denote.Ref.{Bor}
 use Rattle.fluent_serve.specs.Text.{Text, tab}
 use Rattle.fluent_serve.specs.Requests.{Request, arguments_of, request_with}
 use Rattle.fluent_serve.specs.declared.request.Asked.{Asked}
-use Rattle.fluent_serve.specs.declared.request.Request.{Request as Read}
 
 abbrev pub argument_view : Bor Text × Bor Text → Text × Text
 argument_view a = (a.0.now, a.1.now)
 
 abbrev pub arguments_view : List (Bor Text × Bor Text) → List (Text × Text)
 arguments_view arguments = map argument_view arguments
-
-abbrev pub request_view : Read → Request Text
-request_view r = record { id = r.id.now; attribute = option_copied r.attribute; arguments = arguments_view r.arguments.items }
 
 -- the parts of what is after a separator, if there is one
 abbrev pub parts_behind : ℕ → Option Text → List Text

@@ -2,7 +2,7 @@
 -- `V` is the type of the arguments' values, and `value_of` reads one from its text.
 use Rattle.std.specs.Prelude.{◌==◌, if◌then◌else◌, List, [], ◌∷◌, map, Option, Some, None}
 use Rattle.std.specs.List.{slice_split}
-use Rattle.std.specs.Str.{is_utf8, bytes_eq}
+use Rattle.std.specs.Str.{is_utf8}
 use Rattle.fluent_serve.specs.Text.{Text, tab, dot, equals, cut_at}
 
 -- what a line asks for, with its arguments in the order of the line
@@ -42,12 +42,3 @@ request_of value_of line = if is_utf8 line then request_of_parts value_of (slice
 -- a request with values in the place of its arguments' texts
 abbrev pub with_values : {V : Type 0} → (Text → V) → Request Text → Request V
 with_values value_of r = record { id = r.id; attribute = r.attribute; arguments = map (λ a. (a.0, value_of a.1)) r.arguments }
-
-abbrev pub or_later : {V : Type 0} → Option V → Option V → Option V
-or_later earlier None = earlier
-or_later earlier (Some later) = Some later
-
--- the value of an argument: the last of its name counts
-abbrev pub value_named : {V : Type 0} → Text → List (Text × V) → Option V
-value_named name [] = None
-value_named name (a ∷ more) = or_later (if bytes_eq name a.0 then Some a.1 else None) (value_named name more)

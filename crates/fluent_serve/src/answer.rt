@@ -11,9 +11,9 @@ use std::fmt::Display;
 /// The answer to a request line.
 ///
 /// ```no_run
-/// match read_request(alloc, line)? {
-///     Some(request) => Answer::Text {
-///         text: request.id,
+/// match Asked::of(line) {
+///     Some(asked) => Answer::Text {
+///         text: asked.id,
 ///         errors: &none,
 ///     }
 ///     .push_to(alloc, out),

@@ -2,7 +2,8 @@
 //! caller.
 //!
 //! [`serve::serve`] moves the bytes, between a [`stream::Source`] and a [`stream::Sink`]. A [`serve::Engine`] answers one line:
-//! [`request::read_request`] returns what the line asks for, and [`answer::Answer`] frames what it found.
+//! [`request::Asked::of`] returns what the line asks for, [`request::read_arguments`] reads its arguments, and
+//! [`answer::Answer`] frames what it found.
 //!
 //! `specs/Requests.antt` says what a line asks for, `specs/Frames.antt` what its frame is, and `specs/Lines.antt` which lines
 //! a stream has. What there is to answer is left open: both take it as a function. Streams can be cut after any line feed,

@@ -1,29 +1,13 @@
 //! Request lines: an id, an optional attribute, and arguments, separated by tabs.
-ghost use Rattle.std.specs.Prelude.{◌≡◌, ℕ, List, IfOk, OnOk, option_map, option_copied};
+ghost use Rattle.std.specs.Prelude.{◌≡◌, ℕ, List, IfOk, OnOk, option_map};
 ghost use Rattle.fluent_serve.specs.Text.{equals, cut_at};
-ghost use Rattle.fluent_serve.specs.Requests.{request_of, argument_of, value_named as value_of_name};
-ghost use Rattle.fluent_serve.specs.RequestView.{request_view, asked_request, argument_view, arguments_view, arguments_behind};
+ghost use Rattle.fluent_serve.specs.Requests.{request_of, argument_of};
+ghost use Rattle.fluent_serve.specs.RequestView.{asked_request, argument_view, arguments_behind};
 ghost use Rattle.fluent_serve.specs.ReadArguments.{AreRead, GetsArgument};
 
 use crate::cut::cut;
-use std::alloc::{AllocError, Global};
+use std::alloc::AllocError;
 use std::str;
-
-/// What a line asks for. An argument's value is its text.
-///
-/// ```no_run
-/// let request = read_request(alloc, b"total.title\tcount=3")?.context("not a request")?;
-/// for (name, value) in request.arguments.iter() {
-///     println!(rt; "{name} is {value}")?; // count is 3
-/// }
-/// ```
-#[derive(Debug, Drop)]
-pub struct Request<'line> {
-    pub id: &'line str,
-    pub attribute: Option<&'line str>,
-    /// In the order of the line.
-    pub arguments: Vec<(&'line str, &'line str)>,
-}
 
 /// What a line asks for, before its arguments are read.
 ///
@@ -60,9 +44,22 @@ impl<'line> Asked<'line> {
 /// What the arguments of a line are put into, one after the other.
 ///
 /// ```no_run
-/// let mut arguments = Vec::new(alloc); // of a name and a text
-/// if read_arguments(asked.arguments, &mut arguments)? {
-///     println!(rt; "{} arguments", arguments.len())?;
+/// #[derive(Drop)]
+/// struct Texts<'line> {
+///     named: Vec<(&'line str, &'line str)>,
+/// }
+///
+/// impl<'line> Arguments<'line> for Texts<'line> {
+///     ghost has = { λ texts arguments. arguments_view texts.named.items ≡ arguments };
+///
+///     fn put(&mut self, name: &'line str, text: &'line str) -> Result<(), AllocError> {
+///         self.named.push((name, text))?;
+///         Ok(())
+///     }
+/// }
+/// ..
+/// if read_arguments(asked.arguments, &mut texts)? {
+///     println!(rt; "{} arguments", texts.named.len())?;
 /// }
 /// ```
 pub trait Arguments<'line> {
@@ -75,15 +72,6 @@ pub trait Arguments<'line> {
     /// [`AllocError`] if memory runs out.
     fn put(&mut self, name: &'line str, text: &'line str) -> Result<(), AllocError>
         ensures { OnOk result (GetsArgument has self.old self.new (name.now, text.now)) };
-}
-
-impl<'line> Arguments<'line> for Vec<(&'line str, &'line str)> {
-    ghost has = { λ pairs arguments. arguments_view pairs.items ≡ arguments };
-
-    fn put(&mut self, name: &'line str, text: &'line str) -> Result<(), AllocError> {
-        self.push((name, text))?;
-        Ok(())
-    }
 }
 
 /// Reads what is after a line's first tab, if there is one, and puts each argument where it belongs. It returns whether
@@ -108,45 +96,10 @@ pub fn read_arguments<'line, A: Arguments<'line>>(
     Ok(true)
 }
 
-/// Reads a line, without its line feed. `None` if it is not UTF-8, or an argument has no equals sign.
-///
-/// # Errors
-/// [`AllocError`] if memory runs out; nothing is kept.
-pub fn read_request(alloc: Global, line: &[u8]) -> Result<Option<Request<'_>>, AllocError>
-    ensures { IfOk result (λ request. option_map request_view request
-        ≡ request_of (λ s. s) line.now) }
-{
-    let Some(asked) = Asked::of(line) else {
-        return Ok(None);
-    };
-    let mut arguments = Vec::new(alloc);
-    if !read_arguments(asked.arguments, &mut arguments)? {
-        return Ok(None);
-    }
-    Ok(Some(Request {
-        id: asked.id,
-        attribute: asked.attribute,
-        arguments,
-    }))
-}
-
 /// An argument: its name ends at its first equals sign.
 fn read_argument(part: &str) -> Option<(&str, &str)>
     ensures { option_map argument_view result ≡ argument_of (λ s. s) (cut_at equals part.now) }
 {
     let (name, value) = cut(part, '=');
     Some((name, value?))
-}
-
-/// The value of an argument: the last of its name counts.
-pub fn value_named<'line>(name: &str, arguments: &[(&'line str, &'line str)]) -> Option<&'line str>
-    ensures { option_copied result ≡ value_of_name name.now (arguments_view arguments.now) }
-{
-    let mut found = None;
-    for &(other, value) in arguments {
-        if name == other {
-            found = Some(value);
-        }
-    }
-    found
 }

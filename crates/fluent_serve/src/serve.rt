@@ -29,7 +29,7 @@ const PIECE: usize = 65_536;
 /// ```
 #[derive(Clone, Copy, Debug, PartialEq, Eq)]
 pub enum RunError {
-    /// A growth was refused.
+    /// Memory ran out, or the engine refused a line for what it would take.
     Memory = 1,
     /// The reader failed, or did not end within the calls of `read` that a run may make.
     Read = 2,

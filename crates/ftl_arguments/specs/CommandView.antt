@@ -1,24 +1,27 @@
 -- What the code's commands stand for.
-use Rattle.std.specs.Prelude.{◌≡◌, List, Option, option_copied, option_map, Result, IfErr, String}
-use Rattle.std.specs.Global.{Global, Vec}
+use Rattle.std.specs.Prelude.{◌≡◌, List, Option, None, Some, option_copied, option_map, Result, IfErr, string_bytes}
+use Rattle.std.specs.Global.{Vec}
 use denote.Ref.{Bor}
 use Rattle.clap.specs.Words.{Row, Text, found_of, rows_of}
+use Rattle.clap.specs.declared.error.kind.ErrorKind.{ErrorKind}
+use Rattle.clap.specs.declared.error.kind.ErrorKind.TheVariants.{DisplayHelp, DisplayVersion}
 use Rattle.clap.specs.declared.parser.matches.ArgMatches.{ArgMatches}
 use Rattle.fluent_serve.specs.RequestView.{arguments_view}
-use Rattle.ftl_arguments.specs.Linting as linting
-use Rattle.ftl_arguments.specs.Linting.{Lint, ReportFormat}
+use Rattle.ftl_arguments.specs.Linting.{Lint}
 use Rattle.ftl_arguments.specs.Meaning as asked
-use Rattle.ftl_arguments.specs.Meaning.{Asked, Format, asked_by, texts, tidying_by}
+use Rattle.ftl_arguments.specs.Meaning.{AskForHelp, AskForVersion, Asked, Format, asked_by, command_of, texts, tidying_by}
+use Rattle.ftl_arguments.specs.Version.{version_line}
 use Rattle.ftl_arguments.specs.declared.commands.Command.{Command}
 use Rattle.ftl_arguments.specs.declared.commands.Command.TheVariants as command
 use Rattle.ftl_arguments.specs.declared.commands.Format as code
+use Rattle.ftl_arguments.specs.declared.commands.Invocation.{Invocation}
+use Rattle.ftl_arguments.specs.declared.commands.Invocation.TheVariants as invocation
 use Rattle.ftl_arguments.specs.declared.commands.Lint as linted
-use Rattle.ftl_arguments.specs.declared.commands.ReportFormat as written
-use Rattle.ftl_arguments.specs.declared.commands.ReportFormat.TheVariants as form
 use Rattle.ftl_arguments.specs.declared.commands.Tidy.{Tidy}
 use Rattle.ftl_arguments.specs.declared.commands.Tidy.TheVariants as of
 use Rattle.ftl_arguments.specs.declared.reading.WordsError.{WordsError}
-use Rattle.ftl_arguments.specs.declared.reading.WordsError.TheVariants.{Help, Memory, Version}
+use Rattle.ftl_arguments.specs.declared.reading.WordsError.TheVariants.{Memory}
+use Rattle.lint_report.specs.Formats as report
 
 abbrev pub tidy_view : Tidy → asked.Tidy
 tidy_view (of.Clean file) = asked.clean file.now
@@ -44,12 +47,6 @@ format_view f = record {
   files = texts f.files.items;
 }
 
-abbrev pub report_format_view : written.ReportFormat → ReportFormat
-report_format_view form.Text = linting.text
-report_format_view form.Line = linting.line
-report_format_view form.Json = linting.json
-report_format_view form.Github = linting.github
-
 abbrev pub lint_view : linted.Lint → Lint
 lint_view l = record {
   references = texts l.references.items;
@@ -57,7 +54,7 @@ lint_view l = record {
   locale = option_map (λ l. l.now) l.locale;
   notes = l.notes;
   strict = l.strict;
-  format = report_format_view l.format;
+  format = report.format_view l.format;
   files = texts l.files.items;
 }
 
@@ -68,6 +65,18 @@ command_view (command.Format f) = asked.format (format_view f)
 command_view (command.Check files) = asked.check (texts files.items)
 command_view (command.Lint l) = asked.lint (lint_view l)
 command_view (command.Tidy t) = asked.tidy (tidy_view t)
+
+-- The words ask for this: for a command, or for a text if they are none.
+abbrev pub AskFor : List Text → Invocation → Type 0
+AskFor words (invocation.Command command) = command_of words ≡ Some (command_view command)
+AskFor words (invocation.Help text) = (command_of words ≡ None) × AskForHelp words
+AskFor words (invocation.Version line) = (command_of words ≡ None) × (AskForVersion words × (string_bytes line ≡ version_line))
+
+-- an error of this kind stands for the text
+abbrev pub IsTextOf : ErrorKind → Invocation → Type 0
+IsTextOf kind (invocation.Command command) = ⊥
+IsTextOf kind (invocation.Help text) = kind ≡ DisplayHelp
+IsTextOf kind (invocation.Version line) = (kind ≡ DisplayVersion) × (string_bytes line ≡ version_line)
 
 -- what was found for a command
 abbrev pub found_rows : ArgMatches → List Row
@@ -84,10 +93,3 @@ tidying_with name found = tidying_by (name, found_rows found)
 -- the fact holds if the words were refused, and not for want of memory
 abbrev pub IfRefused : {T : Type 0} → Result T WordsError → Type 0 → Type 0
 IfRefused result Fact = IfErr result (λ error. ¬ (error ≡ Memory) → Fact)
-
--- no help is answered, and no version
-abbrev pub AnswersNoHelp : {T : Type 0} → Result T WordsError → Type 0
-AnswersNoHelp result = IfErr result (λ error. (text : String Global) → ¬ (error ≡ Help text))
-
-abbrev pub AnswersNoVersion : {T : Type 0} → Result T WordsError → Type 0
-AnswersNoVersion result = IfErr result (λ error. (text : String Global) → ¬ (error ≡ Version text))

@@ -1,10 +1,8 @@
 -- The text of why words are no command.
-use Rattle.std.specs.Prelude.{ℕ, List, codes, string_bytes}
+use Rattle.std.specs.Prelude.{ℕ, List, codes}
 use Rattle.ftl_arguments.specs.declared.reading.WordsError.{WordsError}
-use Rattle.ftl_arguments.specs.declared.reading.WordsError.TheVariants.{Memory, Bad, Help, Version}
+use Rattle.ftl_arguments.specs.declared.reading.WordsError.TheVariants.{Memory, Bad}
 
 abbrev pub words_text : WordsError → List ℕ
 words_text Memory = codes "out of memory"
 words_text Bad = codes "bad command line"
-words_text (Help text) = string_bytes text
-words_text (Version text) = string_bytes text

@@ -3,13 +3,7 @@ use Rattle.std.specs.Prelude.{Bool, if◌then◌else◌, List, Option, Some, Non
 use Rattle.std.specs.Str.{bytes_eq}
 use Rattle.clap.specs.Words.{Row, Text, first_of}
 use Rattle.ftl_arguments.specs.Found.{is_given, values_in, locale_in, files_in}
-
--- how findings are written
-pub data ReportFormat : Type 0 where
-  text : ReportFormat
-  line : ReportFormat
-  json : ReportFormat
-  github : ReportFormat
+use Rattle.lint_findings.specs.Output.{Format, text, lines, json, github}
 
 -- report what is found in the catalog that the sources in these files are
 pub record Lint : Type 0 where
@@ -23,23 +17,24 @@ pub record Lint : Type 0 where
   pub notes : Bool
   -- warnings count for the status
   pub strict : Bool
-  pub format : ReportFormat
+  -- how findings are written
+  pub format : Format
   pub files : List Text
 
-abbrev pub format_named : Text → Option ReportFormat
+abbrev pub format_named : Text → Option Format
 format_named name =
     if bytes_eq name (codes "text") then Some text
-    else if bytes_eq name (codes "line") then Some line
+    else if bytes_eq name (codes "line") then Some lines
     else if bytes_eq name (codes "json") then Some json
     else if bytes_eq name (codes "github") then Some github
     else None
 
 -- the value of `--format`
-abbrev pub report_format_in : List Row → Option ReportFormat
+abbrev pub report_format_in : List Row → Option Format
 report_format_in rows = option_and_then format_named (first_of (codes "format") rows)
 
 -- with what else was found
-abbrev pub lint_with : List Row → ReportFormat → Lint
+abbrev pub lint_with : List Row → Format → Lint
 lint_with rows report_format = record {
   references = values_in (codes "reference") rows;
   functions = values_in (codes "function") rows;

@@ -1,6 +1,19 @@
 //! What the program can be asked for.
 
-/// What the words ask for.
+use lint_report::Format as ReportFormat;
+
+/// What the command-line arguments ask for.
+#[derive(Debug, PartialEq, Eq, Drop)]
+pub enum Invocation<'words> {
+    /// A command of the program.
+    Command(Command<'words>),
+    /// Help, which is this text.
+    Help(String),
+    /// The version, which is this line.
+    Version(String),
+}
+
+/// A command of the program.
 #[derive(Debug, PartialEq, Eq, Drop)]
 pub enum Command<'words> {
     /// Answer the request lines of standard input.
@@ -63,19 +76,6 @@ pub struct Lint<'words> {
     pub format: ReportFormat,
     /// The names of the sources' files.
     pub files: Vec<&'words str>,
-}
-
-/// How findings are written.
-#[derive(Clone, Copy, Debug, PartialEq, Eq)]
-pub enum ReportFormat {
-    /// As a line for each, the line of its source, and a hint if there is one.
-    Text,
-    /// As a line for each.
-    Line,
-    /// As a JSON object for each, on a line.
-    Json,
-    /// As a command for each, by which GitHub shows it at its line.
-    Github,
 }
 
 /// How sources are tidied, and the names of their files.

@@ -1,4 +1,4 @@
-//! The text that says why command-line arguments aren't a command.
+//! The text that says why command-line arguments ask for nothing.
 
 ghost use Rattle.std.specs.Prelude.{Some};
 ghost use Rattle.ftl_arguments.specs.ErrorTexts.{words_text};
@@ -7,7 +7,6 @@ use crate::reading::WordsError;
 use std::error::Error;
 use std::fmt;
 
-/// The text of help, or of the version, is the one that was asked for.
 impl fmt::Display for WordsError {
     ghost output = { λ error. Some (words_text error) };
 
@@ -15,8 +14,6 @@ impl fmt::Display for WordsError {
         f.write_str(match self {
             WordsError::Memory => "out of memory",
             WordsError::Bad => "bad command line",
-            WordsError::Help(text) => text.as_str(),
-            WordsError::Version(text) => text.as_str(),
         })
     }
 }

@@ -1,5 +1,5 @@
 //! What `format` is asked for.
-ghost use Rattle.std.specs.Prelude.{◌≡◌, IfOk, IfErr, Some, None, option_map};
+ghost use Rattle.std.specs.Prelude.{◌≡◌, IfOk, Some, None, option_map};
 ghost use Rattle.fluent_serve.specs.Requests.{argument_of, arguments_of};
 ghost use Rattle.fluent_serve.specs.Text.{cut_at, dot, equals};
 ghost use Rattle.fluent_serve.specs.RequestView.{argument_view};
@@ -23,9 +23,6 @@ pub(crate) fn format_in<'words>(
     ensures format { IfOk result (λ format.
         format_in (found_rows found.now) ≡ Some (format_view format)) }
     ensures nothing { IfRefused result (format_in (found_rows found.now) ≡ None) }
-    ensures no_help { IfErr result (λ error. (text : _) → ¬ (error ≡ WordsError.Help text)) }
-    ensures no_version { IfErr result (λ error.
-        (text : _) → ¬ (error ≡ WordsError.Version text)) }
 {
     let Some((id, attribute)) = name_in(found) else {
         return Err(WordsError::Bad);

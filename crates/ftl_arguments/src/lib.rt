@@ -1,7 +1,6 @@
 //! The command-line arguments of the program `ftl`, read by `clap`.
 //!
-//! [`command`] returns the [`Command`] that the arguments ask for, or a [`WordsError`]: they are bad, or ask for help
-//! or for the version.
+//! [`command`] returns what the arguments ask for, an [`Invocation`]: a [`Command`], help or the version.
 #![tactic(auto)]
 
 mod commands;
@@ -12,6 +11,7 @@ mod program;
 mod reading;
 mod version;
 
-pub use commands::{Command, Format, Lint, ReportFormat, Tidy};
+pub use commands::{Command, Format, Invocation, Lint, Tidy};
+pub use lint_report::Format as ReportFormat;
 pub use reading::{WordsError, command};
 pub use version::VERSION;

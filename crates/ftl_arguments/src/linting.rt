@@ -1,11 +1,13 @@
 //! What `lint` is asked for.
-ghost use Rattle.std.specs.Prelude.{◌≡◌, IfOk, IfErr, Some, None, option_map};
+ghost use Rattle.std.specs.Prelude.{◌≡◌, IfOk, Some, None, option_map};
 ghost use Rattle.ftl_arguments.specs.Linting.{format_named, lint_in, report_format_in};
-ghost use Rattle.ftl_arguments.specs.CommandView.{found_rows, lint_view, report_format_view, IfRefused};
+ghost use Rattle.ftl_arguments.specs.CommandView.{found_rows, lint_view, IfRefused};
+ghost use Rattle.lint_report.specs.Formats.{format_view};
 
-use crate::commands::{Lint, ReportFormat};
+use crate::commands::Lint;
 use crate::reading::{WordsError, files_in, is_given, locale_in, values_in};
 use clap::ArgMatches;
+use lint_report::Format as ReportFormat;
 use std::alloc::Global;
 
 /// What was found for `lint`.
@@ -19,9 +21,6 @@ pub(crate) fn lint_in<'words>(
     ensures lint { IfOk result (λ lint.
         lint_in (found_rows found.now) ≡ Some (lint_view lint)) }
     ensures nothing { IfRefused result (lint_in (found_rows found.now) ≡ None) }
-    ensures no_help { IfErr result (λ error. (text : _) → ¬ (error ≡ WordsError.Help text)) }
-    ensures no_version { IfErr result (λ error.
-        (text : _) → ¬ (error ≡ WordsError.Version text)) }
 {
     let Some(format) = report_format_in(found) else {
         return Err(WordsError::Bad);
@@ -39,14 +38,14 @@ pub(crate) fn lint_in<'words>(
 
 /// How findings are to be written, if there is such a format.
 fn report_format_in(found: &ArgMatches<'_>) -> Option<ReportFormat>
-    ensures { option_map report_format_view result ≡ report_format_in (found_rows found.now) }
+    ensures { option_map format_view result ≡ report_format_in (found_rows found.now) }
 {
     format_named(found.get_str("format")?)
 }
 
 /// The format of a name.
 fn format_named(name: &str) -> Option<ReportFormat>
-    ensures { option_map report_format_view result ≡ format_named name.now }
+    ensures { option_map format_view result ≡ format_named name.now }
 {
     match name {
         "text" => Some(ReportFormat::Text),

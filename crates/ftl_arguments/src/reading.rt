@@ -1,16 +1,13 @@
 //! From words to what they ask for.
-ghost use Rattle.std.specs.Prelude.{◌≡◌, IfOk, IfErr, IsErrOf, Some, None, option_map, string_bytes};
+ghost use Rattle.std.specs.Prelude.{◌≡◌, IfOk, IfErr, IsErrOf, Some, None, option_map};
 ghost use Rattle.clap.specs.Words.{kind_of, subcommand_rows_of};
-ghost use Rattle.ftl_arguments.specs.Meaning.{AskForHelp, AskForHelpAlone, command_of, texts};
-ghost use Rattle.ftl_arguments.specs.Meaning.{AskForVersion, AskForVersionAlone};
-ghost use Rattle.ftl_arguments.specs.Meaning.{asked_of};
+ghost use Rattle.ftl_arguments.specs.Meaning.{AskForHelpAlone, AskForVersionAlone, asked_of, command_of, texts};
 ghost use Rattle.ftl_arguments.specs.Found.{file_in, files_in, is_given, locale_in, values_in};
-ghost use Rattle.ftl_arguments.specs.CommandView.{AnswersNoHelp, AnswersNoVersion, IfRefused};
+ghost use Rattle.ftl_arguments.specs.CommandView.{AskFor, IfRefused, IsTextOf};
 ghost use Rattle.ftl_arguments.specs.CommandView.{asked_with, command_view, found_rows, tidying_with};
-ghost use Rattle.ftl_arguments.specs.Version.{version_line};
 ghost use Rattle.ftl_arguments.specs.declared.reading.WordsError.TheVariants.{Memory};
 
-use crate::commands::{Command, Tidy};
+use crate::commands::{Command, Invocation, Tidy};
 use crate::formatting::format_in;
 use crate::linting::lint_in;
 use crate::program::program;
@@ -19,17 +16,13 @@ use clap::error::ErrorKind;
 use clap::{ArgMatches, Error};
 use std::alloc::{AllocError, Global};
 
-/// Why command-line arguments aren't a command.
+/// Why command-line arguments ask for nothing.
 #[derive(Debug, PartialEq, Eq, Drop)]
 pub enum WordsError {
     /// Memory ran out.
     Memory,
-    /// They aren't a command of the program.
+    /// They are no command of the program, and no request for help or for the version.
     Bad,
-    /// The words ask for help, which is this text.
-    Help(String),
-    /// The words ask for the version, which is this line.
-    Version(String),
 }
 
 impl From<AllocError> for WordsError {
@@ -40,60 +33,42 @@ impl From<AllocError> for WordsError {
     }
 }
 
-/// Reads the command-line arguments: a command, its options and its files, as `clap` has them.
+/// Reads the command-line arguments: a command, its options and its files, as `clap` has them, or a request for help or for
+/// the version.
 ///
 /// # Errors
-/// `Bad`: the arguments aren't a command. `Help`: they ask for help. `Version`: they ask for the version. `Memory`:
-/// memory ran out.
+/// [`WordsError::Bad`]: the arguments are neither. [`WordsError::Memory`]: memory ran out.
 pub fn command<'words>(
     alloc: Global,
     words: &'words [&'words str],
-) -> Result<Command<'words>, WordsError>
-    ensures command { IfOk result (λ command.
-        command_of (texts words.now) ≡ Some (command_view command)) }
+) -> Result<Invocation<'words>, WordsError>
+    ensures asked { IfOk result (AskFor (texts words.now)) }
     ensures nothing { IfRefused result (command_of (texts words.now) ≡ None) }
     ensures not_help { IsErrOf result WordsError.Bad → ¬ AskForHelpAlone (texts words.now) }
     ensures not_version { IsErrOf result WordsError.Bad
         → ¬ AskForVersionAlone (texts words.now) }
-    ensures help { (text : _) → IsErrOf result (WordsError.Help text)
-        → AskForHelp (texts words.now) }
-    ensures version { (text : _) → IsErrOf result (WordsError.Version text)
-        → AskForVersion (texts words.now) }
-    ensures version_text { (text : _) → IsErrOf result (WordsError.Version text)
-        → string_bytes text ≡ version_line }
 {
     match program(alloc)?.try_get_matches_from(words) {
-        Ok(matches) => command_met(alloc, &matches),
-        Err(error) => Err(refusal(alloc, &error)),
+        Ok(matches) => Ok(Invocation::Command(command_met(alloc, &matches)?)),
+        Err(error) => text_asked(alloc, &error),
     }
 }
 
-/// What an error of `clap` is reported as.
-fn refusal(alloc: Global, error: &Error) -> WordsError
+/// The text that an error of `clap` stands for: of help, or of the version.
+fn text_asked<'words>(alloc: Global, error: &Error) -> Result<Invocation<'words>, WordsError>
+    ensures text { IfOk result (IsTextOf (kind_of error.now)) }
     ensures memory { kind_of error.now ≡ ErrorKind.OutOfMemory
-        → result ≡ WordsError.Memory }
-    ensures not_help { result ≡ WordsError.Bad
+        → IsErrOf result WordsError.Memory }
+    ensures not_help { IsErrOf result WordsError.Bad
         → ¬ (kind_of error.now ≡ ErrorKind.DisplayHelp) }
-    ensures not_version { result ≡ WordsError.Bad
+    ensures not_version { IsErrOf result WordsError.Bad
         → ¬ (kind_of error.now ≡ ErrorKind.DisplayVersion) }
-    ensures help { (text : _) → result ≡ WordsError.Help text
-        → kind_of error.now ≡ ErrorKind.DisplayHelp }
-    ensures version { (text : _) → result ≡ WordsError.Version text
-        → kind_of error.now ≡ ErrorKind.DisplayVersion }
-    ensures version_text { (text : _) → result ≡ WordsError.Version text
-        → string_bytes text ≡ version_line }
 {
     match error.kind() {
-        ErrorKind::OutOfMemory => WordsError::Memory,
-        ErrorKind::DisplayHelp => match error.to_string(alloc) {
-            Ok(text) => WordsError::Help(text),
-            Err(_) => WordsError::Memory,
-        },
-        ErrorKind::DisplayVersion => match version_line(alloc) {
-            Ok(text) => WordsError::Version(text),
-            Err(_) => WordsError::Memory,
-        },
-        _ => WordsError::Bad,
+        ErrorKind::OutOfMemory => Err(WordsError::Memory),
+        ErrorKind::DisplayHelp => Ok(Invocation::Help(error.to_string(alloc)?)),
+        ErrorKind::DisplayVersion => Ok(Invocation::Version(version_line(alloc)?)),
+        _ => Err(WordsError::Bad),
     }
 }
 
@@ -105,8 +80,6 @@ fn command_met<'words>(
     ensures command { IfOk result (λ command.
         asked_of (subcommand_rows_of matches.now) ≡ Some (command_view command)) }
     ensures nothing { IfRefused result (asked_of (subcommand_rows_of matches.now) ≡ None) }
-    ensures no_help { AnswersNoHelp result }
-    ensures no_version { AnswersNoVersion result }
 {
     match matches.subcommand() {
         Some((name, found)) => command_named(alloc, name, found),
@@ -123,8 +96,6 @@ fn command_named<'words>(
     ensures command { IfOk result (λ command.
         asked_with name.now found.now ≡ Some (command_view command)) }
     ensures nothing { IfRefused result (asked_with name.now found.now ≡ None) }
-    ensures no_help { AnswersNoHelp result }
-    ensures no_version { AnswersNoVersion result }
 {
     match name {
         "run" => Ok(Command::Run {
@@ -151,8 +122,6 @@ fn tidying_named<'words>(
     ensures command { IfOk result (λ command.
         tidying_with name.now found.now ≡ Some (command_view command)) }
     ensures nothing { IfRefused result (tidying_with name.now found.now ≡ None) }
-    ensures no_help { AnswersNoHelp result }
-    ensures no_version { AnswersNoVersion result }
 {
     let tidy = match name {
         "clean" => Tidy::Clean(file_in(found)?),

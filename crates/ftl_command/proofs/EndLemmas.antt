@@ -1,14 +1,26 @@
 -- What devices tell of a run of the program, and when words are refused.
-use Rattle.std.proofs.Common.{◌≡◌, ◌∙◌, ℕ, List, [], ◌∷◌, Option, None, Some, ap, option_map, refl, sym, inl, inr}
+use Rattle.std.proofs.Common.{◌≡◌, ◌∙◌, ℕ, List, [], ◌∷◌, Option, None, Some, Result, IfErr, ap, option_map, refl, string_bytes, sym, inl, inr}
+use Rattle.std.specs.Global.{Global}
+use Rattle.std.specs.Prelude.{String}
 use Rattle.fluent_serve.specs.Text.{Text}
+use Rattle.fluent_serve.proofs.Outcomes.{on_ok_always}
+use Rattle.fluent_serve.specs.declared.stream.Sink.{Ghosts as SinkGhosts}
+use Rattle.ftl_arguments.specs.CommandView.{AskFor, command_view}
 use Rattle.ftl_arguments.specs.Commands.{program_app}
+use Rattle.ftl_arguments.specs.Version.{version_line}
+use Rattle.ftl_arguments.specs.declared.commands.Command.{Command}
+use Rattle.ftl_arguments.specs.declared.commands.Invocation.{Invocation}
+use Rattle.ftl_arguments.specs.declared.commands.Invocation.TheVariants as of
 use Rattle.clap.specs.Words.{IsAmong, subcommand_of}
 use Rattle.clap.specs.declared.error.kind.ErrorKind.{ErrorKind}
 use Rattle.clap.specs.declared.error.kind.ErrorKind.TheVariants.{DisplayHelp, DisplayVersion}
-use Rattle.ftl_arguments.specs.Meaning.{AskForHelp, AskForVersionAlone, Asked, asked_of, command_of, faults_of, without_faults, run, format, check, lint, tidy}
+use Rattle.ftl_arguments.specs.Meaning.{AskForHelp, AskForText, AskForVersion, AskForVersionAlone, Asked, asked_of, command_of, faults_of, without_faults, run, format, check, lint, tidy}
 use Rattle.ftl_command.specs.Ends.{seen, IsUntouched}
 use Rattle.ftl_command.specs.Faults.{SaysUnknown, status_of}
-use Rattle.ftl_command.specs.Program.{IsRefused, WithoutInput, locale_named}
+use Rattle.ftl_command.proofs.RunLemmas.{other_by}
+use Rattle.ftl_command.specs.Program.{IsRefused, ShowsVersionOn, WithoutInput, locale_named}
+use Rattle.ftl_command.specs.Refusals.{AnswersHelp}
+use Rattle.ftl_command.specs.declared.ended.Ended.{Ended}
 use Rattle.ftl_command.specs.declared.fault.Fault.{Fault}
 use Rattle.ftl_command.specs.declared.fault.Fault.TheVariants.{CarriageReturn, NotNormal, NotTree, NotJson, NoMessage, CommandLine, UnknownLocale, FileUnreadable, FileNotUtf8, Input, Output, Memory}
 use Rattle.ftl_command.specs.declared.plurals.RunPlurals.TheVariants.{Language}
@@ -77,16 +89,51 @@ not_alone_by words kind Input bad says is alone = absurd cc
 not_alone_by words kind Output bad says is alone = absurd cc
 not_alone_by words kind Memory bad says is alone = absurd cc
 
--- words that ask for the version alone name no command
-pub no_command_asked : (words : List Text) (asked : Asked) → AskForVersionAlone words → command_of words ≡ Some asked → ⊥
-no_command_asked words asked alone named =
-    let both : ◌≡◌ {A = Option Asked} None (Some asked) = sym (nothing_asked words DisplayVersion alone) ∙ named in
+-- words that ask for one of the texts alone name no command
+pub no_command_asked : (words : List Text) (kind : ErrorKind) (asked : Asked) → faults_of words ≡ kind ∷ [] → command_of words ≡ Some asked → ⊥
+no_command_asked words kind asked alone named =
+    let both : ◌≡◌ {A = Option Asked} None (Some asked) = sym (nothing_asked words kind alone) ∙ named in
     absurd cc
 
--- and ask for no help
+-- words that ask for the version alone ask for no help
 pub no_help_asked : (words : List Text) → AskForVersionAlone words → AskForHelp words → ⊥
 no_help_asked words alone help = one (rw alone at help)
   where
     one : IsAmong DisplayHelp (DisplayVersion ∷ []) → ⊥
     one (inl same) = absurd cc
     one (inr none) = absurd none
+
+module _ (words : List Text) {invocation : Invocation} where
+  -- the words ask for a command
+  pub asked_command : {command : Command} → invocation ≡ of.Command command → AskFor words invocation → command_of words ≡ Some (command_view command)
+  asked_command is asked = rw is at asked
+
+  -- or for help
+  pub asked_help : {text : String Global} → invocation ≡ of.Help text → AskFor words invocation → (command_of words ≡ None) × AskForHelp words
+  asked_help is asked = rw is at asked
+
+  -- or for the version, which is this line
+  pub asked_version : {line : String Global} → invocation ≡ of.Version line → AskFor words invocation →
+      (command_of words ≡ None) × (AskForVersion words × (string_bytes line ≡ version_line))
+  asked_version is asked = rw is at asked
+
+-- a command is no text that words ask for
+pub command_helps : {W : Type 0} (sink : SinkGhosts W) (writer writer' : W) (words : List Text) (asked : Asked) (result : Result Ended Fault) →
+    command_of words ≡ Some asked → AnswersHelp sink writer writer' words result
+command_helps sink writer writer' words asked result named = record {
+  text = on_ok_always result (λ none. let both : ◌≡◌ {A = Option Asked} None (Some asked) = sym none ∙ named in absurd cc);
+  version = λ alone. absurd (no_command_asked words DisplayVersion asked alone named);
+  not_help = λ is alone. no_command_asked words DisplayHelp asked alone named;
+  not_version = λ is alone. no_command_asked words DisplayVersion asked alone named;
+}
+
+-- a text is written that the words ask for
+pub text_helps : {W : Type 0} (sink : SinkGhosts W) (writer writer' : W) (words : List Text) (result : Result Ended Fault) →
+    AskForText words → (AskForVersionAlone words → ShowsVersionOn sink writer writer' result) → IfErr result (λ fault. fault ≡ Output) →
+    AnswersHelp sink writer writer' words result
+text_helps sink writer writer' words result asked shows fault = record {
+  text = on_ok_always result (λ none. asked);
+  version = shows;
+  not_help = λ is. absurd (other_by result CommandLine is (λ same. absurd cc) fault);
+  not_version = λ is. absurd (other_by result CommandLine is (λ same. absurd cc) fault);
+}

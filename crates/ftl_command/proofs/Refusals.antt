@@ -1,6 +1,7 @@
 -- What is so of a fault, by how it came.
-use Rattle.std.proofs.Common.{◌≡◌, ◌≢◌, Option, None, Some, Result, Ok, Err, IfErr, OnErr, refl}
-use Rattle.std.proofs.lemmas.Result.{IfErr-weaker}
+use Rattle.std.proofs.Common.{◌≡◌, ◌≢◌, Option, None, Some, Result, Ok, Err, IfErr, OnErr, OnOk, refl}
+use Rattle.std.proofs.lemmas.Result.{IfErr-weaker, on_ok_weaker}
+use Rattle.fluent_serve.proofs.Outcomes.{on_ok_always}
 use Rattle.fluent_serve.specs.Text.{Text}
 use Rattle.fluent_serve.specs.Devices.{HasFailed}
 use Rattle.fluent_serve.specs.declared.stream.Sink.{Ghosts as SinkGhosts}
@@ -17,7 +18,7 @@ use Rattle.fluent_tidy.specs.declared.error.ImportError.{ImportError}
 use Rattle.fluent_tidy.specs.declared.error.ImportError.TheVariants as import
 use Rattle.ftl_command.specs.Faults.{IsBeforeInput, IsFaultOfFiles, IsOfLocale, SaysOfFiles, SaysUnknown, clean_fault, import_fault, normalize_fault, run_fault}
 use Rattle.ftl_command.specs.Program.{files_named, locale_named}
-use Rattle.ftl_command.specs.Refusals.{HaveNoNormalText, HoldNoTree, HoldReturn, IsDeviceFault, IsEarlyFault, IsFaultOf, IsRight, IsRightOf, IsTextFault, RefusesNothing, SaysNoMessage}
+use Rattle.ftl_command.specs.Refusals.{DevicesEnd, HaveNoNormalText, HoldNoTree, HoldReturn, IsDeviceFault, IsEarlyFault, IsFaultOf, IsRight, IsRightOf, IsTextFault, RefusesNothing, SaysNoMessage, TextWorks}
 use Rattle.ftl_command.specs.declared.fault.Fault.{Fault}
 use Rattle.ftl_command.specs.declared.fault.Fault.TheVariants.{CarriageReturn, NotNormal, NotTree, NotJson, NoMessage, CommandLine, UnknownLocale, FileUnreadable, FileNotUtf8, Input, Output, Memory}
 use Rattle.ftl_command.specs.declared.ended.Ended.{Ended}
@@ -223,3 +224,41 @@ of_bad_words folders folder asked nothing = record {
   files = record { reached = tt; not_utf8 = tt; unreadable = refl };
   right = right_by (folders.contents folder) asked CommandLine tt;
 }
+
+-- ---- what became of the devices
+
+module _ {F R W : Type 0} (folders : FolderGhosts F) (source : SourceGhosts R) (sink : SinkGhosts W) (reader : R) (writer : W) (asked : Option Asked) where
+  -- files were read, and then a text was written
+  pub text_devices : (before after : F) (writer' : W) (result : Result Ended Fault) → OnOk result (TextWorks folders before after sink writer writer') →
+      IfErr result (IsFaultOf folders before after asked) → IfErr result (IsTextFault sink writer writer') →
+      DevicesEnd folders before after source reader reader sink writer writer' asked result
+  text_devices before after writer' result works fault stops = record {
+    opens = on_ok_weaker result (λ w. w.opens) works;
+    reads = on_ok_always result refl;
+    writes = on_ok_weaker result (λ w. w.writes) works;
+    fault = fault;
+    stops = IfErr-weaker result _ _ (unread_device source sink reader writer writer') stops;
+  }
+
+  -- a text was written that the words ask for
+  pub asked_devices : (folder : F) (writer' : W) (result : Result Ended Fault) → OnOk result (sink.failures writer' ≡ sink.failures writer) →
+      IfErr result (λ fault. fault ≡ Output) → OnErr result (HasFailed (sink.failures writer) (sink.failures writer')) →
+      DevicesEnd folders folder folder source reader reader sink writer writer' asked result
+  asked_devices folder writer' result writes fault failed = record {
+    opens = on_ok_always result refl;
+    reads = on_ok_always result refl;
+    writes = writes;
+    fault = of_asked folders folder asked result fault;
+    stops = asked_cut source sink reader writer writer' result fault failed;
+  }
+
+  -- nothing was read or written
+  pub early_devices : (folder : F) (fault : Fault) → fault ≢ Input → fault ≢ Output → IsFaultOf folders folder folder asked fault →
+      DevicesEnd folders folder folder source reader reader sink writer writer asked (Err fault)
+  early_devices folder fault not_input not_output says = record {
+    opens = tt;
+    reads = tt;
+    writes = tt;
+    fault = says;
+    stops = untouched_devices source sink reader writer fault not_input not_output;
+  }

@@ -1,8 +1,9 @@
 -- What the program does before it answers.
-use Rattle.std.proofs.Common.{ℕ, ◌+◌, ◌<◌, List, [], ◌∷◌, ◌++◌, length, take, map, get_or, ◌≡◌, Option, Some, None, IsSomeAnd, Result, Ok, Err, IfErr, IfOk, OnOk, refl}
+use Rattle.std.proofs.Common.{ℕ, ◌+◌, ◌<◌, List, [], ◌∷◌, ◌++◌, length, take, map, get_or, ◌≡◌, Option, Some, None, IsSomeAnd, Result, Ok, Err, IfErr, IfOk, OnErr, OnOk, refl}
 use Rattle.std.proofs.lemmas.List.{take_more, map-append}
 use denote.Ref.{Bor}
 use Rattle.std.specs.Prelude.{◌≢◌, IfSome, IsErrOf}
+use Rattle.std.specs.Io.KnownBytes.{Appends}
 use Rattle.fluent_serve.specs.Text.{Text}
 use Rattle.fluent_serve.specs.Exchange.{Devices, devices_of, AnswersFirst}
 use Rattle.fluent_serve.specs.Texts.{texts}
@@ -13,7 +14,8 @@ use Rattle.ftl_command.specs.declared.fault.Fault.{Fault}
 use Rattle.ftl_command.specs.declared.fault.Fault.TheVariants.{Output}
 use Rattle.ftl_command.specs.Files.{AreHeld}
 use Rattle.ftl_command.specs.Plurals.{plurals_asked}
-use Rattle.ftl_command.specs.Program.{OnRun, OnRunBy, AfterMemory, AnswersFirstBy, WithoutInput, line_for}
+use Rattle.ftl_arguments.specs.Version.{version_line}
+use Rattle.ftl_command.specs.Program.{OnRun, OnRunBy, AfterMemory, AnswersFirstBy, ShowsVersion, WithoutInput, WritesFront, line_for}
 use Rattle.ftl_command.specs.declared.plurals.RunPlurals.{RunPlurals}
 use Rattle.fluent_serve.proofs.Runs.{nothing_served}
 
@@ -113,3 +115,9 @@ never_by r fault is never = (rw is at never) refl
 -- only `Output` comes
 pub other_by : (r : Result Ended Fault) (fault : Fault) → IsErrOf r fault → fault ≢ Output → IfErr r (λ e. e ≡ Output) → ⊥
 other_by r fault is other only = other (rw is at only)
+
+-- the line of the version was written
+pub shows_line : (before after : Option Text) (result : Result Ended Fault) (text : Text) → text ≡ version_line → OnOk result (Appends before after text) →
+    OnErr result (WritesFront before after text) → ShowsVersion before after result
+shows_line before after (Ok end) text is written front = record { shown = rw is at written; output = λ output. absurd cc }
+shows_line before after (Err fault) text is written front = record { shown = tt; output = λ output. rw is at front }

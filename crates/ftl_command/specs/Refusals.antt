@@ -1,5 +1,5 @@
 -- What is so of the fault that a command ends with.
-use Rattle.std.specs.Prelude.{◌≡◌, ◌≢◌, Option, None, Some, IsTrue}
+use Rattle.std.specs.Prelude.{◌≡◌, ◌≢◌, Option, None, Some, Result, IfErr, IsErrOf, IsTrue, List, OnOk}
 use Rattle.std.specs.List.{list_any}
 use Rattle.serde_json.specs.Read.{read as read_text}
 use Rattle.fluent_serve.specs.Text.{Text}
@@ -11,10 +11,11 @@ use Rattle.fluent_tidy_laws.specs.Normal.{HasNoNormalText}
 use Rattle.fluent_json.specs.Json.{HasNoTree}
 use Rattle.fluent_tidy.specs.Sources.{holds_return}
 use Rattle.fluent_tidy.specs.Trees.{IsNotImported}
-use Rattle.ftl_arguments.specs.Meaning.{Asked, Format, Tidy, run, format, check, lint, tidy, clean, normalize, join, export, import}
+use Rattle.ftl_arguments.specs.Meaning.{AskForHelpAlone, AskForText, AskForVersionAlone, Asked, Format, Tidy, command_of, run, format, check, lint, tidy, clean, normalize, join, export, import}
 use Rattle.ftl_command.specs.Files.{OnFile, OnTexts}
 use Rattle.ftl_command.specs.Faults.{IsBeforeInput, IsOfLocale, SaysOfFiles, SaysUnknown}
-use Rattle.ftl_command.specs.Program.{OnFound, OnValue, files_named, locale_named}
+use Rattle.ftl_command.specs.Program.{OnFound, OnValue, ShowsVersionOn, files_named, locale_named}
+use Rattle.ftl_command.specs.declared.ended.Ended.{Ended}
 use Rattle.ftl_command.specs.declared.folder.Folder.{Ghosts as FolderGhosts}
 use Rattle.ftl_command.specs.declared.fault.Fault.{Fault}
 use Rattle.ftl_command.specs.declared.fault.Fault.TheVariants.{CarriageReturn, NotNormal, NotTree, NotJson, NoMessage, CommandLine, UnknownLocale, FileUnreadable, FileNotUtf8, Input, Output, Memory}
@@ -141,3 +142,21 @@ pub record IsDeviceFault {R W : Type 0} (source : SourceGhosts R) (reader reader
 pub record TextWorks {F W : Type 0} (folders : FolderGhosts F) (before after : F) (sink : SinkGhosts W) (writer writer' : W) : Type 0 where
   pub opens : folders.failures after ≡ folders.failures before
   pub writes : sink.failures writer' ≡ sink.failures writer
+
+-- What became of the devices of any command: without a fault no call of them failed, and what a fault says of them is so.
+pub record DevicesEnd {F R W : Type 0} (folders : FolderGhosts F) (before after : F) (source : SourceGhosts R) (reader reader' : R) (sink : SinkGhosts W) (writer writer' : W)
+    (asked : Option Asked) (result : Result Ended Fault) : Type 0 where
+  pub opens : OnOk result (folders.failures after ≡ folders.failures before)
+  pub reads : OnOk result (source.failures reader' ≡ source.failures reader)
+  pub writes : OnOk result (sink.failures writer' ≡ sink.failures writer)
+  pub fault : IfErr result (IsFaultOf folders before after asked)
+  pub stops : IfErr result (IsDeviceFault source reader reader' sink writer writer')
+
+-- What becomes of words that ask for help or for the version, and for nothing else.
+pub record AnswersHelp {W : Type 0} (sink : SinkGhosts W) (writer writer' : W) (words : List Text) (result : Result Ended Fault) : Type 0 where
+  -- words that are no command ask for one of the texts, if nothing is at fault
+  pub text : OnOk result (command_of words ≡ None → AskForText words)
+  pub version : AskForVersionAlone words → ShowsVersionOn sink writer writer' result
+  -- they are no bad command line
+  pub not_help : IsErrOf result CommandLine → ¬ AskForHelpAlone words
+  pub not_version : IsErrOf result CommandLine → ¬ AskForVersionAlone words

@@ -12,6 +12,7 @@ use crate::files::read_text_files;
 use crate::folder::Folder;
 use crate::output::write_to_stream;
 use fluent_check::check_text;
+use fluent_run::StackBudget;
 use fluent_serve::stream::Sink;
 use std::alloc::Global;
 
@@ -56,5 +57,5 @@ fn report_on<'words, F: Folder>(
 {
     let texts = read_text_files(folder, alloc, files)?;
     let sources = borrow_texts(alloc, &texts)?;
-    Ok(check_text(alloc, &sources)?)
+    Ok(check_text(alloc, &sources, StackBudget::PROGRAM)?)
 }

@@ -1,9 +1,10 @@
 //! The program: its words, its files and its streams.
-ghost use Rattle.std.specs.Prelude.{◌≡◌, ◌∷◌, [], None, Contains, OnOk, IfErr, IsErrOf};
+ghost use Rattle.std.specs.Prelude.{◌≡◌, ◌∷◌, [], None, Some, Contains};
+ghost use Rattle.ftl_arguments.specs.CommandView.{command_view};
 ghost use Rattle.ftl_arguments.specs.Meaning.{AskForText, AskForHelpAlone, AskForVersionAlone, command_of, texts};
 ghost use Rattle.ftl_command.specs.Ends.{EndsOn, EndsOver};
-ghost use Rattle.ftl_command.specs.Program.{CommandEndsOn, IsRefused, ShowsVersionOn, WithoutInput};
-ghost use Rattle.ftl_command.specs.Refusals.{IsDeviceFault, IsFaultOf};
+ghost use Rattle.ftl_command.specs.Program.{CommandEndsOn, IsRefused, WithoutInput};
+ghost use Rattle.ftl_command.specs.Refusals.{AnswersHelp, DevicesEnd};
 
 use crate::checking::check_files;
 use crate::ended::Ended;
@@ -17,7 +18,7 @@ use crate::telling::{tell_errors_on, tell_on};
 use crate::tidying::write_tidied;
 use fluent_run::Settings;
 use fluent_serve::stream::{FromRead, FromWrite, Sink, Source};
-use ftl_arguments::{Command, WordsError, command};
+use ftl_arguments::{Command, Invocation, WordsError, command};
 use std::alloc::Global;
 use std::io;
 use std::rt::Files;
@@ -97,44 +98,53 @@ pub fn run_command<'words, F: Folder, I: Source, O: Sink>(
     // before a fault stays written.
     ensures ended { CommandEndsOn F.Folder folder.old I.Source reader.old reader.new
         O.Sink writer.old writer.new (command_of (texts words.now)) result }
-    ensures text { OnOk result (command_of (texts words.now) ≡ None
-        → AskForText (texts words.now)) }
-    ensures version { AskForVersionAlone (texts words.now)
-        → ShowsVersionOn O.Sink writer.old writer.new result }
-    ensures opens { OnOk result (F.failures folder.new ≡ F.failures folder.old) }
-    ensures reads { OnOk result (I.failures reader.new ≡ I.failures reader.old) }
-    ensures writes { OnOk result (O.failures writer.new ≡ O.failures writer.old) }
+    ensures help { AnswersHelp O.Sink writer.old writer.new (texts words.now) result }
+    ensures devices { DevicesEnd F.Folder folder.old folder.new I.Source reader.old reader.new
+        O.Sink writer.old writer.new (command_of (texts words.now)) result }
     ensures no_input { WithoutInput (command_of (texts words.now)) (reader.new ≡ reader.old) }
-    ensures fault { IfErr result (IsFaultOf F.Folder folder.old folder.new
-        (command_of (texts words.now))) }
-    ensures stops { IfErr result (IsDeviceFault I.Source reader.old reader.new
-        O.Sink writer.old writer.new) }
-    ensures not_help { IsErrOf result Fault.CommandLine → ¬ AskForHelpAlone (texts words.now) }
-    ensures not_version { IsErrOf result Fault.CommandLine
-        → ¬ AskForVersionAlone (texts words.now) }
 {
     match command(alloc, words) {
-        Ok(
-            Command::Run {
-                isolating,
-                overriding,
-                locale,
-                files,
-            },
-        ) => {
-            let settings = Settings {
-                isolating,
-                overriding,
-            };
-            run_files(folder, alloc, settings, locale, &files, reader, writer)
-        }
-        Ok(Command::Format(format)) => write_formatted(folder, alloc, &format, writer),
-        Ok(Command::Check { files }) => check_files(folder, alloc, &files, writer),
-        Ok(Command::Lint(lint)) => lint_files(folder, alloc, &lint, writer),
-        Ok(Command::Tidy(tidy)) => write_tidied(folder, alloc, &tidy, writer),
-        Err(WordsError::Help(text)) => write_asked(writer, text.as_str()),
-        Err(WordsError::Version(line)) => write_asked(writer, line.as_str()),
+        Ok(Invocation::Command(command)) => do_command(folder, alloc, &command, reader, writer),
+        Ok(Invocation::Help(text)) => write_asked(writer, text.as_str()),
+        Ok(Invocation::Version(line)) => write_asked(writer, line.as_str()),
         Err(WordsError::Bad) => Err(Fault::CommandLine),
         Err(WordsError::Memory) => Err(Fault::Memory),
+    }
+}
+
+/// Does what a command asks for.
+///
+/// # Errors
+/// Those of [`run_command`] but [`Fault::CommandLine`].
+fn do_command<'words, F: Folder, I: Source, O: Sink>(
+    folder: &mut F,
+    alloc: Global,
+    command: &Command<'words>,
+    reader: &mut I,
+    writer: &mut O,
+) -> Result<Ended, Fault<'words>>
+    ensures ended { CommandEndsOn F.Folder folder.old I.Source reader.old reader.new
+        O.Sink writer.old writer.new (Some (command_view command.now)) result }
+    ensures devices { DevicesEnd F.Folder folder.old folder.new I.Source reader.old reader.new
+        O.Sink writer.old writer.new (Some (command_view command.now)) result }
+    ensures no_input { WithoutInput (Some (command_view command.now)) (reader.new ≡ reader.old) }
+{
+    match command {
+        Command::Run {
+            isolating,
+            overriding,
+            locale,
+            files,
+        } => {
+            let settings = Settings {
+                isolating: *isolating,
+                overriding: *overriding,
+            };
+            run_files(folder, alloc, settings, *locale, files, reader, writer)
+        }
+        Command::Format(format) => write_formatted(folder, alloc, format, writer),
+        Command::Check { files } => check_files(folder, alloc, files, writer),
+        Command::Lint(lint) => lint_files(folder, alloc, lint, writer),
+        Command::Tidy(tidy) => write_tidied(folder, alloc, tidy, writer),
     }
 }

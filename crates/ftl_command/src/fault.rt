@@ -34,7 +34,7 @@ pub enum Fault<'words> {
     Input,
     /// A write to standard output failed, or took nothing.
     Output,
-    /// A growth was refused.
+    /// Memory ran out, or a source or a request nests deeper than the budget of the stack.
     Memory,
 }
 

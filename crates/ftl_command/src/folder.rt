@@ -15,7 +15,7 @@ use std::rt::Files;
 /// Why a file was not read.
 #[derive(Clone, Copy, Debug, PartialEq, Eq)]
 pub enum FileError {
-    /// A growth was refused.
+    /// Memory ran out while the file was read.
     Memory,
     /// The file could not be opened, or a read of it failed.
     Unreadable,

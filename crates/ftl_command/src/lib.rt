@@ -27,5 +27,7 @@ pub mod telling;
 pub mod tidying;
 
 pub use commands::program;
-pub use ftl_arguments::{Command, Format, Lint, ReportFormat, Tidy, VERSION, WordsError, command};
+pub use ftl_arguments::{
+    Command, Format, Invocation, Lint, ReportFormat, Tidy, VERSION, WordsError, command,
+};
 pub use message::{Formatted, format_message};

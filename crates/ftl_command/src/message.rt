@@ -6,7 +6,7 @@ ghost use Rattle.ftl_command.specs.FormatView.{IsReply, IsWritten, IsWrittenAs, 
 
 use crate::message_errors::error_lines;
 use fluent_resource::parse_sources;
-use fluent_run::{Desk, Reply, Settings, valued_arguments};
+use fluent_run::{Desk, Reply, Settings, StackBudget, valued_arguments};
 use fluent_value::{FluentArgs, MemoizerKind, NoCustom};
 use std::alloc::{AllocError, Global};
 
@@ -54,8 +54,9 @@ fn reply<M: MemoizerKind>(
     ensures { IfOk result (IsReply M.MemoizerKind plurals.now settings sources.now
         id.now attribute.entry arguments.now) }
 {
-    let resources = parse_sources(alloc, sources)?;
-    let desk = Desk::new(alloc, &resources, settings, plurals)?;
+    let stack = StackBudget::PROGRAM;
+    let resources = parse_sources(alloc, sources, stack)?;
+    let desk = Desk::new(alloc, &resources, settings, plurals, stack)?;
     desk.format(alloc, id, attribute, arguments)
 }
 

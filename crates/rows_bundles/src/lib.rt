@@ -1,5 +1,5 @@
 //! Builds bundles from small resources, step by step, and prints of each kind how many steps there were and how many of them
-//! answered, or left after, something else than they must. Errors are told, copied and compared.
+//! answered, or left after, something else than they must. Errors are copied.
 //!
 //! A call that is refused memory has to leave its bundle as it was, and is made once more. So the same counts are printed with
 //! any one allocation refused: see `docs/inside/validation.md`.
@@ -7,13 +7,10 @@
 
 mod attributes;
 mod bundle;
-mod errors;
+mod copies;
 mod found;
-mod locales;
-mod matching;
 mod reading;
 mod rows;
-mod settings;
 mod steps;
 
 use anyhow::Result;
@@ -25,9 +22,6 @@ pub fn try_all(rt: &HostRuntime) -> Result<()> {
     tell(rt, "reading", "steps", reading::try_reading(alloc))?;
     tell(rt, "adding", "steps", steps::try_rows(alloc))?;
     tell(rt, "attributes", "steps", attributes::try_attributes(alloc))?;
-    tell(rt, "matching", "steps", matching::try_matching(alloc))?;
-    tell(rt, "locales", "steps", locales::try_locales(alloc))?;
-    tell(rt, "settings", "steps", settings::try_settings(alloc))?;
-    tell(rt, "errors", "steps", errors::try_errors(alloc))?;
+    tell(rt, "errors", "steps", copies::try_copies(alloc))?;
     Ok(())
 }

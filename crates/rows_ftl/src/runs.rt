@@ -1,8 +1,7 @@
 //! Runs of the program by its words, over the files of `crates/all_rows/data`.
-use crate::devices::{ALWAYS, ANSWERS, Manner, REQUESTS, Reader, Writer};
-use crate::rows::{text_in, texts_in};
+
 use ftl_command::program;
-use rows_common::{Lines, Tally, Trial, is_right_again, try_lines};
+use rows_common::{Lines, Tally, Trial, try_lines};
 use serde_json::Value;
 use std::alloc::{AllocError, Global};
 use std::io;
@@ -12,15 +11,15 @@ const OUT_OF_MEMORY: &str = "ftl: out of memory\n";
 
 /// How a run of the program must end: its status, its output and what it tells of a fault.
 #[derive(Clone, Copy)]
-pub struct End<'row> {
+struct End<'row> {
     status: u64,
-    pub answers: &'row str,
+    answers: &'row str,
     fault: &'row str,
 }
 
 impl<'row> End<'row> {
     /// How a row says that its run must end.
-    pub fn of(row: &'row Value) -> Option<End<'row>> {
+    fn of(row: &'row Value) -> Option<End<'row>> {
         Some(End {
             status: row.get("status").and_then(Value::as_u64)?,
             answers: text_in(row, "answers")?,
@@ -29,13 +28,13 @@ impl<'row> End<'row> {
     }
 
     /// Room for what is told of a fault, or of memory that ran out, in bytes.
-    pub fn room(self) -> usize {
+    fn room(self) -> usize {
         self.fault.len().max(OUT_OF_MEMORY.len())
     }
 
     /// Whether a run ended so. The only error is that it told that memory ran out, with nothing but whole lines of its
     /// answers written.
-    pub fn is_met(self, status: u8, given: &[u8], told: &[u8]) -> Result<bool, AllocError> {
+    fn is_met(self, status: u8, given: &[u8], told: &[u8]) -> Result<bool, AllocError> {
         let (answers, fault) = (self.answers.as_bytes(), self.fault.as_bytes());
         if u64::from(status) == self.status && given == answers && told == fault {
             return Ok(true);
@@ -51,23 +50,28 @@ impl<'row> End<'row> {
     }
 }
 
-/// Words, and how the program must end that runs on them over these devices.
+/// Words, requests, and how the program must end that runs on them.
 #[derive(Clone, Copy)]
-struct Words<'a, I> {
+struct Words<'a> {
     rt: &'a HostRuntime,
     words: &'a [&'a str],
-    input: I,
-    writing: Manner,
+    requests: &'a [u8],
     wanted: End<'a>,
 }
 
-impl<I: io::Read + Copy> Trial for Words<'_, I> {
+impl Trial for Words<'_> {
     fn is_right(self, alloc: Global) -> Result<bool, AllocError> {
         let wanted = self.wanted;
         let mut given = Vec::with_capacity(alloc, wanted.answers.len())?;
         let mut told = Vec::with_capacity(alloc, wanted.room())?;
-        let output = Writer(&mut given, self.writing);
-        let status = program(self.rt, alloc, self.words, self.input, output, &mut told);
+        let status = program(
+            self.rt,
+            alloc,
+            self.words,
+            self.requests,
+            &mut given,
+            &mut told,
+        );
         wanted.is_met(status, &given, &told)
     }
 }
@@ -102,8 +106,7 @@ impl Runs<'_> {
         let run = Words {
             rt: self.0,
             words,
-            input: requests.as_bytes(),
-            writing: ALWAYS,
+            requests: requests.as_bytes(),
             wanted,
         };
         run.is_right(alloc)
@@ -115,63 +118,26 @@ pub fn try_runs(rt: &HostRuntime) -> io::Result<Tally> {
     try_lines(rt, "ftl/runs.jsonl", Runs(rt))
 }
 
-/// Whether the words end so, over these devices.
-fn end_so(
-    rt: &HostRuntime,
-    words: &[&str],
-    input: Reader<'_>,
-    writing: Manner,
-    wanted: End<'_>,
-) -> bool {
-    let run = Words {
-        rt,
-        words,
-        input,
-        writing,
-        wanted,
-    };
-    is_right_again(rt.alloc(), run)
+/// The text under a name.
+fn text_in<'row>(row: &'row Value, name: &str) -> Option<&'row str> {
+    row.get(name).and_then(Value::as_str)
 }
 
-/// Tries which device is told to have failed.
-pub fn try_devices(rt: &HostRuntime) -> Tally {
-    let once = Manner {
-        calls: 1,
-        piece: 20,
-        heals: false,
+/// The texts under a name.
+pub fn texts_in<'row>(
+    alloc: Global,
+    row: &'row Value,
+    name: &str,
+) -> Result<Option<Vec<&'row str>>, AllocError> {
+    let Some(values) = row.get(name).and_then(Value::as_array) else {
+        return Ok(None);
     };
-    let head = Manner {
-        calls: 1,
-        piece: 8,
-        heals: false,
-    };
-    let never = Manner { calls: 0, ..ALWAYS };
-    let nothing = Manner { piece: 0, ..ALWAYS };
-    let input = "ftl: standard input: cannot read\n";
-    let output = "ftl: standard output: cannot write\n";
-    let missing = "ftl: missing.ftl: cannot read\n";
-    let report = "source 1";
-    let rows = [
-        ("run", "a.ftl", never, ALWAYS, "", input),
-        ("run", "a.ftl", once, ALWAYS, ANSWERS[0], input),
-        ("run", "a.ftl", once, nothing, "", output),
-        ("run", "a.ftl", ALWAYS, head, "ok 20 0\n", output),
-        ("run", "missing.ftl", never, never, "", missing),
-        ("check", "damaged.ftl", never, head, report, output),
-        ("check", "damaged.ftl", never, never, "", output),
-        ("clean", "damaged.ftl", never, nothing, "", output),
-        ("help", "run", never, never, "", output),
-        ("check", "missing.ftl", never, never, "", missing),
-    ];
-    let mut tally = Tally::new();
-    for (command, file, reading, writing, answers, fault) in rows {
-        let wanted = End {
-            status: 3,
-            answers,
-            fault,
-        };
-        let input = Reader(REQUESTS, reading);
-        tally.add(end_so(rt, &[command, file], input, writing, wanted));
+    let mut texts = Vec::with_capacity(alloc, values.len())?;
+    for value in values {
+        match value.as_str() {
+            Some(text) => texts.push(text)?,
+            None => return Ok(None),
+        }
     }
-    tally
+    Ok(Some(texts))
 }

@@ -1,20 +1,19 @@
 //! Rows of messages that are asked for, and what they must give.
 //!
-//! `source` and `id`, usually `m`, say what is asked for, or `tree` is a pattern made by hand. `args` are the arguments by
+//! `source` and `id`, usually `m`, say what is asked for, unless the pattern is made by hand. `args` are the arguments by
 //! name. `text` is what `format_pattern` gives, or `null` where there is no such pattern, `written` what is written where it
 //! differs, and `errors` has the texts of the errors. The settings stand by their names; placeables are isolated where
 //! `isolating` isn't `false`.
 
+use crate::asking::Asked;
+use crate::bundle::{Bundle, is_added, pattern_in, read};
+use crate::json::text_in;
+use crate::own::{Args, Brackets, Capitals};
+use crate::settings::Settings;
+use crate::values::arguments_of;
+use crate::wanted::Wanted;
 use fluent_ast::Pattern;
 use fluent_bundle::{EnglishPlurals, FluentResource, TextTransform};
-use rows_patterns_data::asking::Asked;
-use rows_patterns_data::bundle::{Bundle, is_added, pattern_in, read};
-use rows_patterns_data::json::text_in;
-use rows_patterns_data::own::{Args, Brackets, Capitals};
-use rows_patterns_data::settings::Settings;
-use rows_patterns_data::trees::pattern_of;
-use rows_patterns_data::values::arguments_of;
-use rows_patterns_data::wanted::Wanted;
 use serde_json::Value as Json;
 use std::alloc::{AllocError, Global};
 
@@ -31,7 +30,19 @@ struct Row<'row> {
 /// Whether what a row says is so. The only error is that memory runs out.
 pub fn is_right(alloc: Global, json: &Json) -> Result<bool, AllocError> {
     match Row::of(json) {
-        Some(row) => row.is_right(alloc),
+        Some(row) => row.is_right_with(alloc, None),
+        None => Ok(false),
+    }
+}
+
+/// The same, of a row whose pattern is made by hand.
+pub fn is_right_of<'row>(
+    alloc: Global,
+    json: &'row Json,
+    pattern: &Pattern<&'row str>,
+) -> Result<bool, AllocError> {
+    match Row::of(json) {
+        Some(row) => row.is_right_with(alloc, Some(pattern)),
         None => Ok(false),
     }
 }
@@ -48,18 +59,7 @@ impl<'row> Row<'row> {
         })
     }
 
-    /// Whether the pattern gives what it must. The only error is that memory runs out.
-    fn is_right(self, alloc: Global) -> Result<bool, AllocError> {
-        match self.json.get("tree") {
-            Some(Json::Array(elements)) => {
-                let pattern = pattern_of(alloc, elements)?;
-                self.is_right_with(alloc, Some(&pattern))
-            }
-            _ => self.is_right_with(alloc, None),
-        }
-    }
-
-    /// The same, with the pattern that is made by hand.
+    /// Whether the pattern, which may be made by hand, gives what it must. The only error is that memory runs out.
     fn is_right_with(
         self,
         alloc: Global,

@@ -1,13 +1,10 @@
 //! Answers the request lines of `rows.jsonl` by `fluent_run::run`, over devices in memory that give and take little at a
 //! time or fail, and prints of each kind how many runs there were and how many of them ended in another way than they must.
-//! Readers that don't end are tried with few calls of `read`, sources that nest deep within a budget of the stack, and the
-//! calls for C on a few sources.
+//! Readers that don't end are tried with few calls of `read`, and sources that nest deep within a budget of the stack.
 //!
 //! The rows of `memory.jsonl` are tried also where an allocation is refused. The files stand in `crates/all_rows/data/requests`.
 #![tactic(auto)]
 
-mod bundles;
-mod calls;
 mod case;
 mod cuts;
 mod devices;
@@ -21,8 +18,6 @@ mod script;
 mod writes;
 
 use anyhow::Result;
-use bundles::try_bundles;
-use calls::try_calls;
 use endless::try_endless;
 use nested::try_nested;
 use rows::Tallies;
@@ -44,8 +39,6 @@ pub fn try_all(rt: &HostRuntime) -> Result<()> {
         try_endless(rt.alloc()),
     )?;
     tell(rt, "nested sources", "runs", try_nested(rt)?)?;
-    tell(rt, "calls for C", "runs", try_calls(rt.alloc()))?;
-    tell(rt, "bundles for C", "runs", try_bundles(rt.alloc()))?;
     Ok(())
 }
 

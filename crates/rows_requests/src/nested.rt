@@ -6,7 +6,7 @@
 
 use crate::json::{count_of, list_in};
 use anyhow::{Context, Result};
-use fluent_run::{Settings, answers_within};
+use fluent_run::Settings;
 use fluent_text::stack::StackBudget;
 use fluent_value::EnglishPlurals;
 use rows_common::Tally;
@@ -84,7 +84,7 @@ fn source_of(alloc: Global, level: Level<'_>, messages: usize, levels: usize) ->
 
 /// Whether the first message of a source is answered within a budget.
 fn answers(alloc: Global, source: &str, budget: StackBudget) -> bool {
-    answers_within(
+    fluent_run::answers(
         alloc,
         &[source],
         Settings {

@@ -17,7 +17,7 @@ const FEW_LINES: usize = 12;
 pub struct Script {
     pub requests: Vec<u8>,
     pub answers: Vec<u8>,
-    /// Behind each whole line, and after its answer.
+    /// After each whole line, and after its answer.
     ends: Vec<(usize, usize)>,
     /// Whether memory runs out while the last line is answered.
     pub is_too_large: bool,

@@ -1,24 +1,20 @@
 //! Reads the sources of `parse.jsonl`, `rows.jsonl` and `written.jsonl` by both readers, over both kinds of text, and compares
-//! with the trees, errors and written texts that stand there. A row may leave some of them out. Then it reads each prefix of the
-//! sources of `rows.jsonl` and `prefixes.jsonl`, writes the trees of `trees.jsonl`, most of which no source reads as, reads the
-//! values of `values.jsonl`, and resolves the escapes of `escapes.jsonl`.
+//! with the trees, errors and written texts that stand there. A row may leave some of them out. Then it writes the trees of
+//! `trees.jsonl`, most of which no source reads as, reads the values of `values.jsonl`, and resolves the escapes of
+//! `escapes.jsonl`.
 //!
 //! The files stand in `crates/all_rows/data/syntax`.
 #![tactic(auto)]
 
 mod errors;
 mod escapes;
-mod laws;
-mod places;
-mod prefixes;
 mod refused;
-mod slices;
 mod trees;
 mod values;
 
-use anyhow::{Context, Result};
-use fluent_syntax::parser::{self, ParserError};
-use prefixes::{count_prefixes, parts};
+use anyhow::{Context, Result, bail};
+use fluent_syntax::ast::Resource;
+use fluent_syntax::parser::{self, Error, ParserError, Slice};
 use rows_common::tell;
 use serde_json::Value;
 use std::alloc::Global;
@@ -49,10 +45,6 @@ pub fn try_all(rt: &HostRuntime) -> Result<()> {
     ] {
         try_file(rt, file, rows)?;
     }
-    for file in ["syntax/rows.jsonl", "syntax/prefixes.jsonl"] {
-        try_prefixes(rt, file)?;
-    }
-    tell(rt, "texts", "trials", slices::try_slices(rt.alloc()))?;
     Ok(())
 }
 
@@ -87,26 +79,6 @@ fn is_right(alloc: Global, rows: Rows, line: &str) -> Result<bool> {
         Rows::Values => values::agrees(alloc, &vector),
         Rows::Escapes => escapes::agrees(alloc, &vector),
     }
-}
-
-/// Tries each prefix of the sources of a file, and prints how many there are and which sources have one that breaks a
-/// law.
-fn try_prefixes(rt: &HostRuntime, file: &str) -> Result<()> {
-    let text = fs::read_to_string(rt, file).context("the sources")?;
-    let mut prefixes = 0u32;
-    let mut wrong = 0u32;
-    for line in text.as_str().lines() {
-        let vector = Value::from_str(rt.alloc(), line).context("a line")?;
-        let source = text_of(&vector, "source")?;
-        let count = count_prefixes(rt.alloc(), source)?;
-        prefixes = prefixes.saturating_add(count.prefixes);
-        wrong = wrong.saturating_add(count.wrong);
-        if count.wrong > 0 {
-            println!(rt; "wrong: {source:?}")?;
-        }
-    }
-    println!(rt; "{file}: {prefixes} prefixes, {wrong} wrong")?;
-    Ok(())
 }
 
 /// The text under a key of a row.
@@ -181,4 +153,16 @@ fn has_errors(alloc: Global, wanted: Option<&Value>, errors: &[ParserError]) -> 
 /// Whether a value is the wanted one, if one is.
 fn is_wanted(wanted: Option<&Value>, found: &Value) -> bool {
     wanted.is_none_or(|wanted| wanted == found)
+}
+
+/// The tree and the errors of an answer.
+pub fn parts<'s, S: Slice<'s>>(
+    alloc: Global,
+    answer: parser::Result<S>,
+) -> Result<(Resource<S>, Vec<ParserError>)> {
+    match answer {
+        Ok(resource) => Ok((resource, Vec::new(alloc))),
+        Err(Error::Broken(resource, found)) => Ok((resource, found)),
+        Err(Error::Memory) => bail!("no memory"),
+    }
 }

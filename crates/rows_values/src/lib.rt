@@ -5,7 +5,7 @@
 //! more, so the same counts are printed with any one allocation refused.
 #![tactic(auto)]
 
-mod numbers;
+pub mod numbers;
 mod values;
 
 use anyhow::Result;

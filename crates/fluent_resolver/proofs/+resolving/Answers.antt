@@ -34,6 +34,7 @@ use Rattle.fluent_progress.proofs.Telling.{on-err, tells-same, within}
 use Rattle.fluent_progress.specs.Results.{function_result}
 use Rattle.fluent_progress.specs.Views.{entered_in, path_of, patterns_on, place_view, resolved_in, state, target_view}
 use Rattle.fluent_progress.specs.declared.path.Path.{Path}
+use Rattle.fluent_progress.specs.declared.progress.Progress.{Progress}
 use Rattle.fluent_resolver.proofs.Calls.{of-three, get_or-view, map-up-to, named-one, named-refused, positional-one, positional-refused}
 use Rattle.fluent_resolver.proofs.Parts.{less-element, less-placeable, opens-left, weight-function, weight-named, weight-positional, weight-select, weight-some, weight-term, entered-tells, entered-writes, found-tells, marked-writes, opened-tells, placeable-refused, referred-first, rest-refused, tells-as, unmarked-tells, written-tells}
 use Rattle.fluent_value.specs.Args.{all_set}
@@ -368,7 +369,7 @@ pattern::write_opened-returns-clause-refused g n c =
 
 pub pattern::write_pattern-loop-element-init : goal.pattern::write_pattern-loop-element-init
 pattern::write_pattern-loop-element-init g n c =
-    record { wrote = writes-nothing _ _ _ (within c.args.progress.now) (elements-none _ _ _ _); path = refl }
+    record { wrote = writes-nothing _ _ _ (within c.args.progress.now) (elements-none _ _ _ _); path = refl; stack = refl }
 
 pub pattern::write_pattern-returns-clause-wrote : goal.pattern::write_pattern-returns-clause-wrote
 pattern::write_pattern-returns-clause-wrote g n c =
@@ -479,6 +480,7 @@ pattern::write_pattern-loop-element-preserved g n c =
             wrote = subst (λ p. Writes held next s0 (state p) (λ x. s.elements_written env whole (elements_of (map view (take (i + 1) items))) here x)) (sym w.progress-is)
                 (subst (λ es. Writes held next s0 (state c.loop-element.progress) (λ x. s.elements_written env whole es here x)) (ap (λ y. elements_of (xs ++ y ∷ [])) (sym is) ∙ grown) wrote);
             path = ap entered_in w.progress-is ∙ invariant.path;
+            stack = ap (λ (p : Progress). p.stack.taken) w.progress-is ∙ invariant.stack;
           })
       | pattern::write_pattern-in-Placeable+in_ok-write_placeable-in-Placeable w ↦
           (let e = expression_of w.in-Placeable.expression in
@@ -493,6 +495,7 @@ pattern::write_pattern-loop-element-preserved g n c =
           record {
             wrote = subst (λ es. Writes held next s0 (state c.match-element.progress) (λ x. s.elements_written env whole es here x)) (ap (λ y. elements_of (xs ++ y ∷ [])) (sym is) ∙ grown) wrote;
             path = ap entered_in w.progress-is ∙ w.in_ok-write_placeable-in-Placeable.ensures.path ∙ invariant.path;
+            stack = ap (λ (p : Progress). p.stack.taken) w.progress-is ∙ w.in_ok-write_placeable-in-Placeable.ensures.stack ∙ invariant.stack;
           })
     ]
 
@@ -605,7 +608,7 @@ arguments::positional_values-loop-argument-init g n c =
     let here = place_view c.args.place.now c.args.progress.now in
     let s0 = state c.args.progress.now in
     let b = s0.budget in
-    record { found = finds-done _ [] s0 _ (within c.args.progress.now) (positional-none env here b) (ap (map (value_view g.C.FluentType.meaning)) c.in_ok-values.ensures.items); path = refl }
+    record { found = finds-done _ [] s0 _ (within c.args.progress.now) (positional-none env here b) (ap (map (value_view g.C.FluentType.meaning)) c.in_ok-values.ensures.items); path = refl; stack = refl }
 
 pub arguments::positional_values-returns-in_err-value_of-clause-refused : goal.arguments::positional_values-returns-in_err-value_of-clause-refused
 arguments::positional_values-returns-in_err-value_of-clause-refused g n c =
@@ -670,7 +673,7 @@ arguments::positional_values-loop-argument-preserved g n c =
     let one : Finds value u v (s.value_found env (view arg) here) = subst (λ p. Finds value u v (s.value_found env (view arg) p)) same c.in_ok-value_of.ensures.found in
     let pushed = ap (map (value_view g.C.FluentType.meaning)) c.in_ok-push.ensures.items ∙ map-append (value_view g.C.FluentType.meaning) c.loop-argument.values.items (c.in_ok-value_of.field-0 ∷ []) in
     let step = finds-as (λ x. s.positional_found env (inlines_of (xs ++ view arg ∷ [])) here x) (λ x. s.positional_found env (inlines_of (map view (take (i + 1) items))) here x) (ap (λ zs. s.positional_found env (inlines_of zs) here b) (map-up-to view items i arg c.loop-argument-test.true c.argument-item.is)) (positional-one env here xs (view arg) c.loop-argument.invariant.found one) in
-    record { found = record { value = pushed ∙ step.value; state = step.state }; path = c.in_ok-value_of.ensures.path ∙ c.loop-argument.invariant.path }
+    record { found = record { value = pushed ∙ step.value; state = step.state }; path = c.in_ok-value_of.ensures.path ∙ c.loop-argument.invariant.path; stack = c.in_ok-value_of.ensures.stack ∙ c.loop-argument.invariant.stack }
 
 pub arguments::positional_values-value_of-requires : goal.arguments::positional_values-value_of-requires
 arguments::positional_values-value_of-requires g n c κs inside0 =
@@ -826,7 +829,7 @@ arguments::named_values-loop-argument-init g n c =
     let here = place_view c.args.place.now c.args.progress.now in
     let s0 = state c.args.progress.now in
     let b = s0.budget in
-    record { found = finds-done _ [] s0 _ (within c.args.progress.now) (ap (mapped (all_set [])) (named-none env here b)) c.new-values.ensures; path = refl }
+    record { found = finds-done _ [] s0 _ (within c.args.progress.now) (ap (mapped (all_set [])) (named-none env here b)) c.new-values.ensures; path = refl; stack = refl }
 
 pub arguments::named_values-returns-in_err-value-clause-refused : goal.arguments::named_values-returns-in_err-value-clause-refused
 arguments::named_values-returns-in_err-value-clause-refused g n c =
@@ -891,7 +894,7 @@ arguments::named_values-loop-argument-preserved g n c =
     let one : Finds value u v1 (s.value_found env (view arg).value here) = subst (λ k. Finds value u v1 (s.value_found env k here)) (sym is_value) (subst (λ p. Finds value u v1 (s.value_found env (inline_of (out-NamedArgument (Bor (List ℕ)) arg).value) p)) same c.in_ok-value.ensures.found) in
     let step = finds-as (λ x. mapped (all_set []) (s.named_found env (nameds_of (xs ++ view arg ∷ [])) here x)) (λ x. mapped (all_set []) (s.named_found env (nameds_of (map view (take (i + 1) items))) here x)) (ap (λ zs. mapped (all_set []) (s.named_found env (nameds_of zs) here b)) (map-up-to view items i arg c.loop-argument-test.true c.argument-item.is)) (named-one env here xs (view arg) c.loop-argument.invariant.found one) in
     let put = c.in_ok-set_value.ensures.ok ∙ ap (λ k. with_argument k value (args_view g.C.FluentType.meaning c.loop-argument.values)) (sym is_name) in
-    record { found = record { value = put ∙ step.value; state = step.state }; path = c.in_ok-value.ensures.path ∙ c.loop-argument.invariant.path }
+    record { found = record { value = put ∙ step.value; state = step.state }; path = c.in_ok-value.ensures.path ∙ c.loop-argument.invariant.path; stack = c.in_ok-value.ensures.stack ∙ c.loop-argument.invariant.stack }
 
 pub arguments::named_values-value_of-requires : goal.arguments::named_values-value_of-requires
 arguments::named_values-value_of-requires g n c κs inside0 =

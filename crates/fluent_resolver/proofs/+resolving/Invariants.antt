@@ -25,6 +25,7 @@ invariant-pattern::write_pattern-loop-element g l =
     record {
       wrote : Writes (string_bytes l.initial.out) (string_bytes l.out) (state l.initial.progress) (state l.progress) (λ b. s.elements_written env whole before here b);
       path : entered_in l.progress ≡ entered_in l.initial.progress;
+      stack : l.progress.stack.taken ≡ l.initial.progress.stack.taken;
     }
 
 -- The values of the arguments before this one were found.
@@ -36,6 +37,7 @@ invariant-arguments::positional_values-loop-argument g l =
     record {
       found : Finds (map (value_view g.C.FluentType.meaning) l.values.items) (state l.initial.progress) (state l.progress) (λ b. s.positional_found env before here b);
       path : entered_in l.progress ≡ entered_in l.initial.progress;
+      stack : l.progress.stack.taken ≡ l.initial.progress.stack.taken;
     }
 
 abbrev pub invariant-arguments::named_values-loop-argument : goal.invariant-arguments::named_values-loop-argument
@@ -46,6 +48,7 @@ invariant-arguments::named_values-loop-argument g l =
     record {
       found : Finds (args_view g.C.FluentType.meaning l.values) (state l.initial.progress) (state l.progress) (λ b. mapped (all_set []) (s.named_found env before here b));
       path : entered_in l.progress ≡ entered_in l.initial.progress;
+      stack : l.progress.stack.taken ≡ l.initial.progress.stack.taken;
     }
 
 -- What is left to do: placeables that may be opened count more than all patterns of the context, then the weight of what is

@@ -95,12 +95,4 @@ impl Stack {
     {
         self.taken = self.taken.saturating_sub(bytes);
     }
-
-    /// Closes all that is open.
-    pub fn close_all(&mut self)
-        ensures closed { self.new.taken ≡ 0 }
-        ensures budget { self.new.budget ≡ self.old.budget }
-    {
-        self.taken = 0;
-    }
 }

@@ -72,68 +72,14 @@ fn is_next(words: &mut SplitWhitespace<'_>, n: i128) -> bool {
     }
 }
 
-/// Whether an integer comes `back` from its number and from that of a reference to it, or has `none`.
+/// Whether an integer that may have no number comes `back` from it, or has `none`.
 pub fn is_back(row: Row<'_>) -> Option<bool> {
-    let found = comes_back(row.subject, row.by)?;
+    let found = match row.subject {
+        "i128" => is_wide_signed(row.by.parse::<i128>().ok()?)?,
+        "u128" => is_wide_unsigned(row.by.parse::<u128>().ok()?)?,
+        _ => return None,
+    };
     Some(found == (row.wanted == "back"))
-}
-
-fn comes_back(kind: &str, text: &str) -> Option<bool> {
-    match kind {
-        "i8" => {
-            let n = text.parse::<i8>().ok()?;
-            Some(i8::from(FluentNumber::from(n)) == n && i8::from(FluentNumber::from(&n)) == n)
-        }
-        "i16" => {
-            let n = text.parse::<i16>().ok()?;
-            Some(i16::from(FluentNumber::from(n)) == n && i16::from(FluentNumber::from(&n)) == n)
-        }
-        "i32" => {
-            let n = text.parse::<i32>().ok()?;
-            Some(i32::from(FluentNumber::from(n)) == n && i32::from(FluentNumber::from(&n)) == n)
-        }
-        "i64" => {
-            let n = text.parse::<i64>().ok()?;
-            Some(i64::from(FluentNumber::from(n)) == n && i64::from(FluentNumber::from(&n)) == n)
-        }
-        "isize" => {
-            let n = text.parse::<isize>().ok()?;
-            Some(
-                isize::from(FluentNumber::from(n)) == n && isize::from(FluentNumber::from(&n)) == n,
-            )
-        }
-        "i128" => is_wide_signed(text.parse::<i128>().ok()?),
-        _ => comes_back_unsigned(kind, text),
-    }
-}
-
-fn comes_back_unsigned(kind: &str, text: &str) -> Option<bool> {
-    match kind {
-        "u8" => {
-            let n = text.parse::<u8>().ok()?;
-            Some(u8::from(FluentNumber::from(n)) == n && u8::from(FluentNumber::from(&n)) == n)
-        }
-        "u16" => {
-            let n = text.parse::<u16>().ok()?;
-            Some(u16::from(FluentNumber::from(n)) == n && u16::from(FluentNumber::from(&n)) == n)
-        }
-        "u32" => {
-            let n = text.parse::<u32>().ok()?;
-            Some(u32::from(FluentNumber::from(n)) == n && u32::from(FluentNumber::from(&n)) == n)
-        }
-        "u64" => {
-            let n = text.parse::<u64>().ok()?;
-            Some(u64::from(FluentNumber::from(n)) == n && u64::from(FluentNumber::from(&n)) == n)
-        }
-        "usize" => {
-            let n = text.parse::<usize>().ok()?;
-            Some(
-                usize::from(FluentNumber::from(n)) == n && usize::from(FluentNumber::from(&n)) == n,
-            )
-        }
-        "u128" => is_wide_unsigned(text.parse::<u128>().ok()?),
-        _ => None,
-    }
 }
 
 /// Whether an integer comes back that may have no number, and for which that is known.

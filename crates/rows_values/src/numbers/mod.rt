@@ -1,11 +1,8 @@
 //! Rows of numbers: which texts are numbers, what numbers are written as, their integers, operands, categories and options.
 
 mod conversions;
-mod languages;
-mod merged;
-mod names;
-mod operands;
-mod sources;
+mod copies;
+pub mod operands;
 mod written;
 
 use rows_common::Row;
@@ -18,7 +15,7 @@ pub enum Rows {
     Parts,
     /// Which integers numbers are cut to.
     Cut,
-    /// Which integers come back from their numbers.
+    /// Which integers come back from their numbers, if they have any.
     Back,
     /// Which texts are numbers.
     Read,
@@ -32,21 +29,13 @@ pub enum Rows {
     Operands,
     /// The plural categories of numbers in English.
     Categories,
-    /// The plural categories of numbers in a language.
-    Plurals,
-    /// Which rules a list of locales has.
-    Locales,
     /// Which numbers differ.
     Differing,
-    /// What options are once others are merged into them.
-    Merged,
-    /// Which options, with a number, equal their copies.
+    /// Which numbers, with their options, equal their copies.
     Copied,
-    /// What texts name.
-    Named,
 }
 
-pub const FILES: [(&str, Rows); 15] = [
+pub const FILES: [(&str, Rows); 11] = [
     ("values/parts.txt", Rows::Parts),
     ("values/cut.txt", Rows::Cut),
     ("values/back.txt", Rows::Back),
@@ -56,12 +45,8 @@ pub const FILES: [(&str, Rows); 15] = [
     ("values/too_many.txt", Rows::TooMany),
     ("values/operands.txt", Rows::Operands),
     ("values/categories.txt", Rows::Categories),
-    ("values/plurals.txt", Rows::Plurals),
-    ("values/locales.txt", Rows::Locales),
     ("values/differing.txt", Rows::Differing),
-    ("values/merged.txt", Rows::Merged),
     ("values/copied.txt", Rows::Copied),
-    ("values/named.txt", Rows::Named),
 ];
 
 impl Rows {
@@ -77,12 +62,8 @@ impl Rows {
             Rows::TooMany => written::is_too_long(alloc, row),
             Rows::Operands => operands::are_operands(row),
             Rows::Categories => operands::are_categories(row),
-            Rows::Plurals => languages::is_category(row),
-            Rows::Locales => languages::are_found(alloc, row),
             Rows::Differing => written::are_differing(row),
-            Rows::Merged => merged::is_merged(alloc, row),
-            Rows::Copied => merged::is_copied(alloc, row),
-            Rows::Named => names::is_named(row),
+            Rows::Copied => copies::is_copied(alloc, row),
         }
     }
 }

@@ -1,8 +1,8 @@
 //! Values, as rows write them: what a value is made of, and after a space its text.
 //!
 //! `text` and `cow` are borrowed texts, `own` is one of its own, and `some` one that may be absent, as `absent` is. `read` is
-//! what a text is read as, and `place` the same as a place in an order. `i8` to `usize` are integers, and `some_u8` is one that
-//! may be absent; `number` is a `FluentNumber`. `count` is a value of the program's own, and there are `none` and `error`.
+//! what a text is read as, and `place` the same as a place in an order. `i32` is an integer, and `some_u8` is one that may be
+//! absent; `number` is a `FluentNumber`. `count` is a value of the program's own, and there are `none` and `error`.
 
 use crate::values::count::{Count, Value};
 use fluent_number::{FluentNumber, FluentNumberType};
@@ -33,7 +33,8 @@ fn other_of<'r>(kind: &str, text: &str) -> Option<Value<'r>> {
         "count" => Some(Value::Custom(Count(text.parse::<u32>().ok()?))),
         "some_u8" => Some(Value::from(Some(text.parse::<u8>().ok()?))),
         "number" => Some(Value::from(FluentNumber::from(text.parse::<i32>().ok()?))),
-        _ => signed_of(kind, text),
+        "i32" => Some(Value::from(text.parse::<i32>().ok()?)),
+        _ => None,
     }
 }
 
@@ -51,61 +52,4 @@ fn place_of(text: &str) -> Option<Value<'_>> {
         }
         _ => None,
     }
-}
-
-fn signed_of<'r>(kind: &str, text: &str) -> Option<Value<'r>> {
-    match kind {
-        "i8" => {
-            let n = text.parse::<i8>().ok()?;
-            of_both(Value::from(n), Value::from(&n))
-        }
-        "i16" => {
-            let n = text.parse::<i16>().ok()?;
-            of_both(Value::from(n), Value::from(&n))
-        }
-        "i32" => {
-            let n = text.parse::<i32>().ok()?;
-            of_both(Value::from(n), Value::from(&n))
-        }
-        "i64" => {
-            let n = text.parse::<i64>().ok()?;
-            of_both(Value::from(n), Value::from(&n))
-        }
-        "isize" => {
-            let n = text.parse::<isize>().ok()?;
-            of_both(Value::from(n), Value::from(&n))
-        }
-        _ => unsigned_of(kind, text),
-    }
-}
-
-fn unsigned_of<'r>(kind: &str, text: &str) -> Option<Value<'r>> {
-    match kind {
-        "u8" => {
-            let n = text.parse::<u8>().ok()?;
-            of_both(Value::from(n), Value::from(&n))
-        }
-        "u16" => {
-            let n = text.parse::<u16>().ok()?;
-            of_both(Value::from(n), Value::from(&n))
-        }
-        "u32" => {
-            let n = text.parse::<u32>().ok()?;
-            of_both(Value::from(n), Value::from(&n))
-        }
-        "u64" => {
-            let n = text.parse::<u64>().ok()?;
-            of_both(Value::from(n), Value::from(&n))
-        }
-        "usize" => {
-            let n = text.parse::<usize>().ok()?;
-            of_both(Value::from(n), Value::from(&n))
-        }
-        _ => None,
-    }
-}
-
-/// The value of an integer, if that of a reference to it is equal.
-fn of_both<'r>(value: Value<'r>, other: Value<'r>) -> Option<Value<'r>> {
-    if value == other { Some(value) } else { None }
 }

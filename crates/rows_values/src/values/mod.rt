@@ -13,7 +13,6 @@ mod showing;
 mod texts;
 
 use rows_common::Row;
-use scope::{Bracketed, Plain};
 use std::alloc::Global;
 
 /// What the rows of a file say of values.
@@ -29,10 +28,6 @@ pub enum Rows {
     Matching,
     /// What values are shown as.
     Shown,
-    /// What they are shown as by a formatter.
-    Formatted,
-    /// Which values a full writer refuses.
-    Refused,
     /// What a value of the program's own does.
     Own,
     /// Which texts are read as numbers.
@@ -45,14 +40,12 @@ pub enum Rows {
     Builtins,
 }
 
-pub const FILES: [(&str, Rows); 12] = [
+pub const FILES: [(&str, Rows); 10] = [
     ("values/forms.txt", Rows::Forms),
     ("values/equal.txt", Rows::Equal),
     ("values/copies.txt", Rows::Copies),
     ("values/matching.txt", Rows::Matching),
     ("values/shown.txt", Rows::Shown),
-    ("values/formatted.txt", Rows::Formatted),
-    ("values/refused.txt", Rows::Refused),
     ("values/own.txt", Rows::Own),
     ("values/texts.txt", Rows::Texts),
     ("values/arguments.txt", Rows::Arguments),
@@ -68,9 +61,7 @@ impl Rows {
             Rows::Equal => equality::is_right(alloc, row),
             Rows::Copies => equality::is_copied(alloc, row),
             Rows::Matching => matching::is_right(alloc, row),
-            Rows::Shown => showing::is_right(alloc, &Plain(alloc), row),
-            Rows::Formatted => showing::is_right(alloc, &Bracketed(alloc), row),
-            Rows::Refused => showing::is_refused(alloc, row),
+            Rows::Shown => showing::is_right(alloc, row),
             Rows::Own => showing::is_own(alloc, row),
             Rows::Texts => texts::is_right(alloc, row),
             Rows::Arguments => args::are_right(alloc, row),

@@ -1,7 +1,7 @@
 use Rattle.std.proofs.Common.{refl, string_bytes, rules}
 use Rattle.fluent_check.specs.ReportView.{errors_view}
 use Rattle.fluent_check.proofs.Lines.{sources_next, sources_at_last}
-use Rattle.fluent_check.proofs.errors.push_errors.Goals as goal
+use Rattle.fluent_check.proofs.error_lines.push_errors.Goals as goal
 
 pub loop-index-init : goal.loop-index-init
 loop-index-init c = refl

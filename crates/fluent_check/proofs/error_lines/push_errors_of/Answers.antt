@@ -2,7 +2,7 @@ use Rattle.std.proofs.Common.{refl, string_bytes, rules}
 use Rattle.fluent_parsed.specs.ErrorView.{error_view}
 use Rattle.fluent_check.specs.Report.{error_line}
 use Rattle.fluent_check.proofs.Lines.{lines_next, lines_at_last, by_views}
-use Rattle.fluent_check.proofs.errors.push_errors_of.Goals as goal
+use Rattle.fluent_check.proofs.error_lines.push_errors_of.Goals as goal
 
 pub loop-error-init : goal.loop-error-init
 loop-error-init c = refl

@@ -2,7 +2,7 @@ use Rattle.std.proofs.Common.{refl, string_bytes, rules}
 use Rattle.fluent_errors.specs.View.{bundle_view}
 use Rattle.fluent_check.specs.Report.{notice_line}
 use Rattle.fluent_check.proofs.Lines.{lines_next, lines_at_last, by_views}
-use Rattle.fluent_check.proofs.notices.push_notices.Goals as goal
+use Rattle.fluent_check.proofs.notice_lines.push_notices.Goals as goal
 
 pub loop-notice-init : goal.loop-notice-init
 loop-notice-init c = refl

@@ -13,7 +13,7 @@ loop-tree-preserved c =
     let one = c.tree-item.result in (
       c.in_ok-add.ensures.ids ∙ ap (λ ids. with_ids false ids (tree_by_id one)) c.loop-tree.invariant.0
           ∙ sym (pairs-ids-next tree_by_id (number_pair ∷ []) all k one c.loop-tree-test.true c.tree-item.is false),
-      c.in_ok-add.ensures.told ∙ ap (λ told. told ++ notices (ids_in c.loop-tree.added) (tree_by_id one)) c.loop-tree.invariant.1
+      c.in_ok-add.ensures.notices ∙ ap (λ told. told ++ notices (ids_in c.loop-tree.added) (tree_by_id one)) c.loop-tree.invariant.1
           ∙ ap (λ ids. notices {F = NoFunction} (number_pair ∷ []) (trees_by_id (take k all)) ++ notices ids (tree_by_id one)) c.loop-tree.invariant.0
           ∙ sym (pairs-notices-next tree_by_id (number_pair ∷ []) all k one c.loop-tree-test.true c.tree-item.is),
     )

@@ -7,4 +7,4 @@ use Rattle.fluent_check.proofs.notices.notices_of_trees.Given as goal
 abbrev pub invariant-loop-tree : goal.invariant-loop-tree
 invariant-loop-tree l =
     (ids_in l.added ≡ with_ids false (number_pair ∷ []) (trees_by_id (take l.tree-index l.trees)))
-    × (notices_view l.added.told ≡ notices (number_pair ∷ []) (trees_by_id (take l.tree-index l.trees)))
+    × (notices_view l.added.notices ≡ notices (number_pair ∷ []) (trees_by_id (take l.tree-index l.trees)))

@@ -11,7 +11,7 @@ pub returns : goal.returns
 returns g c =
     let place = c.args.place.now in
     resolved (resolved_in place) (start_of place) (pattern_view _ (λ s. s.now) c.args.pattern.now)
-    (place_view place c.within-progress.result) _ _ _ _ (map bundle_view c.told_by-errors.result.items)
+    (place_view place c.within-progress.result) _ _ _ _ (map bundle_view c.reported_by-errors.result.items)
     (place-on place c.within-progress.ensures.path) (c.reserve.ensures.bytes ∙ c.clear.ensures.bytes)
     (c.within-progress.ensures.state ∙ ap (λ es. fresh (Some (map bundle_view es))) c.new.ensures.items)
-    c.in_ok-write_pattern.ensures.wrote c.told_by-errors.ensures
+    c.in_ok-write_pattern.ensures.wrote c.reported_by-errors.ensures

@@ -11,11 +11,11 @@ returns-in-Ok-clause-ended g c = record {
   exact = c.tell_errors_on.ensures.status;
   reports = c.tell_errors_on.ensures.told;
   done = c.in-Ok.ensures.ended.done;
-  text = c.in-Ok.ensures.text;
-  version = c.in-Ok.ensures.version;
-  opens = c.in-Ok.ensures.opens;
-  reads = c.in-Ok.ensures.reads;
-  writes = c.in-Ok.ensures.writes;
+  text = c.in-Ok.ensures.help.text;
+  version = c.in-Ok.ensures.help.version;
+  opens = c.in-Ok.ensures.devices.opens;
+  reads = c.in-Ok.ensures.devices.reads;
+  writes = c.in-Ok.ensures.devices.writes;
   no_input = without_input (command_of (texts c.args.words.now)) (untouched g.I.Source.remaining g.I.Source.failures) c.run_command.ensures.no_input;
   refused = λ is. absurd cc;
   not_help = λ is. absurd cc;
@@ -34,31 +34,31 @@ returns-in-Ok-clause-ended g c = record {
 }
 
 pub returns-in-Err-clause-ended : goal.returns-in-Err-clause-ended
-returns-in-Err-clause-ended g c = let fault = c.in-Err.ensures.fault in record {
+returns-in-Err-clause-ended g c = let fault = c.in-Err.ensures.devices.fault in record {
   outcome = Err c.in-Err.fault;
   exact = c.tell_on.ensures.status;
   reports = c.tell_on.ensures.told;
   done = tt;
   text = tt;
-  version = c.in-Err.ensures.version;
+  version = c.in-Err.ensures.help.version;
   opens = tt;
   reads = tt;
   writes = tt;
   no_input = without_input (command_of (texts c.args.words.now)) (untouched g.I.Source.remaining g.I.Source.failures) c.run_command.ensures.no_input;
   refused = λ is. fault.refused cc;
-  not_help = c.in-Err.ensures.not_help;
-  not_version = c.in-Err.ensures.not_version;
+  not_help = c.in-Err.ensures.help.not_help;
+  not_version = c.in-Err.ensures.help.not_version;
   unknown = fault.unknown;
   reached = fault.files.reached;
   unreadable = fault.files.unreadable;
   not_utf8 = fault.files.not_utf8;
   right = fault.right;
-  unread = λ before. untouched g.I.Source.remaining g.I.Source.failures (c.in-Err.ensures.stops.unread before);
-  unwritten = λ before. untouched g.O.Sink.contents g.O.Sink.failures (c.in-Err.ensures.stops.unwritten before);
+  unread = λ before. untouched g.I.Source.remaining g.I.Source.failures (c.in-Err.ensures.devices.stops.unread before);
+  unwritten = λ before. untouched g.O.Sink.contents g.O.Sink.failures (c.in-Err.ensures.devices.stops.unwritten before);
   memory_out = c.in-Err.ensures.ended.memory;
   input_failed = c.in-Err.ensures.ended.input;
   output_cut = c.in-Err.ensures.ended.output;
-  output_failed = λ is. c.in-Err.ensures.stops.failed cc;
+  output_failed = λ is. c.in-Err.ensures.devices.stops.failed cc;
 }
 
 pub returns-in-Err-clause-statuses : goal.returns-in-Err-clause-statuses
@@ -66,15 +66,18 @@ returns-in-Err-clause-statuses g c = rw c.tell_on.ensures.status (status_of-amon
 
 pub returns-in-Err-clause-refused : goal.returns-in-Err-clause-refused
 returns-in-Err-clause-refused g c = λ two.
-    refused_by (command_of (texts c.args.words.now)) c.in-Err.fault c.in-Err.ensures.fault.refused c.in-Err.ensures.fault.unknown
+    refused_by (command_of (texts c.args.words.now)) c.in-Err.fault c.in-Err.ensures.devices.fault.refused c.in-Err.ensures.devices.fault.unknown
     (sym c.tell_on.ensures.status ∙ two)
 
 pub returns-in-Err-clause-not_help : goal.returns-in-Err-clause-not_help
 returns-in-Err-clause-not_help g c = λ two.
-    not_alone_by (texts c.args.words.now) DisplayHelp c.in-Err.fault (λ is. c.in-Err.ensures.not_help (ap Err is)) c.in-Err.ensures.fault.unknown
+    not_alone_by (texts c.args.words.now) DisplayHelp c.in-Err.fault (λ is. c.in-Err.ensures.help.not_help (ap Err is)) c.in-Err.ensures.devices.fault.unknown
     (sym c.tell_on.ensures.status ∙ two)
 
 pub returns-in-Err-clause-not_version : goal.returns-in-Err-clause-not_version
 returns-in-Err-clause-not_version g c = λ two.
-    not_alone_by (texts c.args.words.now) DisplayVersion c.in-Err.fault (λ is. c.in-Err.ensures.not_version (ap Err is)) c.in-Err.ensures.fault.unknown
+    not_alone_by (texts c.args.words.now) DisplayVersion c.in-Err.fault (λ is. c.in-Err.ensures.help.not_version (ap Err is)) c.in-Err.ensures.devices.fault.unknown
     (sym c.tell_on.ensures.status ∙ two)
+
+pub returns-in-Ok-clause-served : goal.returns-in-Ok-clause-served
+returns-in-Ok-clause-served g c = λ zero. c.in-Ok.ensures.help.text

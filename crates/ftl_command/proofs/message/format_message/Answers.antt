@@ -2,7 +2,7 @@ use Rattle.std.proofs.Common.{◌∙◌, ap, option_map}
 use Rattle.std.proofs.lemmas.Result.{IfOk-weaker}
 use Rattle.ftl_command.specs.FormatView.{message_from}
 use Rattle.ftl_command.specs.Shown.{shown}
-use Rattle.ftl_command.proofs.formatting.format_message.Goals as goal
+use Rattle.ftl_command.proofs.message.format_message.Goals as goal
 
 pub returns : goal.returns
 returns g c =

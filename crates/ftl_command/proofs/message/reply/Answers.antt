@@ -2,7 +2,7 @@ use Rattle.std.proofs.Common.{◌∙◌, option_copied}
 use Rattle.std.proofs.lemmas.Result.{IfOk-weaker}
 use Rattle.fluent_run.specs.DeskView.{arguments_view}
 use Rattle.ftl_command.proofs.Environments.{message_same}
-use Rattle.ftl_command.proofs.formatting.reply.Goals as goal
+use Rattle.ftl_command.proofs.message.reply.Goals as goal
 
 pub returns : goal.returns
 returns g c =

@@ -6,7 +6,7 @@ use Rattle.fluent_errors.specs.View.{bundle_view}
 use Rattle.fluent_run.specs.ReplyView.{error_text}
 use Rattle.fluent_run.proofs.Replies.{lines-next}
 use Rattle.ftl_command.specs.Shown.{error_line}
-use Rattle.ftl_command.proofs.errors.error_lines.Goals as goal
+use Rattle.ftl_command.proofs.message_errors.error_lines.Goals as goal
 
 pub loop-error-preserved : goal.loop-error-preserved
 loop-error-preserved c =

@@ -3,7 +3,7 @@ use Rattle.std.specs.List.{flat_map}
 use Rattle.fluent_errors.specs.View.{bundle_view}
 use Rattle.fluent_run.specs.ReplyView.{error_text}
 use Rattle.ftl_command.specs.Shown.{error_line}
-use Rattle.ftl_command.proofs.errors.error_lines.Given as goal
+use Rattle.ftl_command.proofs.message_errors.error_lines.Given as goal
 
 -- the lines of the errors so far
 abbrev pub invariant-loop-error : goal.invariant-loop-error

@@ -116,3 +116,9 @@ returns-in_err-run_before_exit-clause-stops g c =
     (λ is. c.run_before_exit.ensures.given_up (c.in_err-run_before_exit.was ∙ ap Err is))
     (λ is. c.run_before_exit.ensures.failed (c.in_err-run_before_exit.was ∙ ap Err is)) in
     search rules
+
+pub returns-clause-reads : goal.returns-clause-reads
+returns-clause-reads g c = c.in_ok-run_before_exit.ensures.reads
+
+pub returns-clause-writes : goal.returns-clause-writes
+returns-clause-writes g c = c.in_ok-run_before_exit.ensures.writes

@@ -87,13 +87,13 @@ get_select_variants-advance-requires g t c =
 pub get_named_reference-returns-then-is_callee-clause-gives : goal.get_named_reference-returns-then-is_callee-clause-gives
 get_named_reference-returns-then-is_callee-clause-gives g t c =
     function_read c.args.self.now.rest.now c.get_identifier.new.self.rest.now c.skip_blank.new.self.rest.now c.close.new.self.rest.now (name_of g.row.S.Denot g.T.Texts.text c.in_ok-id.id) (arguments_view g.row.S.Denot g.T.Texts.text c.in_ok-arguments.arguments)
-    c.in_ok-id.ensures.gives c.skip_blank.ensures.rest (sym c.is_current_byte.ensures ∙ c.if-not-is_current_byte.false) (ap (λ z. whole.arguments [] (w.skip_blank (drop 1 z))) (sym c.open.ensures.stays.rest) ∙ c.in_ok-arguments.ensures.gives ∙ ap (got (arguments_view g.row.S.Denot g.T.Texts.text c.in_ok-arguments.arguments)) (sym c.close.ensures.stays.rest)) (ap (list_all w.is_callee_byte) (sym c.as_str.ensures) ∙ sym c.is_callee.ensures ∙ c.if-is_callee.true)
+    c.in_ok-id.ensures.gives c.skip_blank.ensures.rest (sym c.is_current_byte.ensures ∙ c.if-not-is_current_byte.false) (ap (λ z. whole.arguments [] (w.skip_blank (drop 1 z))) (sym c.open.ensures.rest) ∙ c.in_ok-arguments.ensures.gives ∙ ap (got (arguments_view g.row.S.Denot g.T.Texts.text c.in_ok-arguments.arguments)) (sym c.close.ensures.rest)) (ap (list_all w.is_callee_byte) (sym c.as_str.ensures) ∙ sym c.is_callee.ensures ∙ c.if-is_callee.true)
     ∙ ap (λ z. got z c.close.new.self.rest.now) (sym (inline_view-FunctionReference g.row.S.Denot g.T.Texts.text c.in_ok-id.id c.in_ok-arguments.arguments))
 
 pub get_term_reference-returns-clause-gives : goal.get_term_reference-returns-clause-gives
 get_term_reference-returns-clause-gives g t c =
     term_read (drop 1 c.args.self.now.rest.now) c.get_identifier.new.self.rest.now c.get_attribute_accessor.new.self.rest.now c.skip_blank.new.self.rest.now c.close.new.self.rest.now (name_of g.row.S.Denot g.T.Texts.text c.in_ok-id.id) (option_map (name_of g.row.S.Denot g.T.Texts.text) c.in_ok-attribute.attribute) (arguments_view g.row.S.Denot g.T.Texts.text c.in_ok-arguments.arguments)
-    (ap read.identifier_at (sym c.advance.ensures.rest) ∙ c.in_ok-id.ensures.gives) c.in_ok-attribute.ensures.gives c.skip_blank.ensures.rest (sym c.is_current_byte.ensures ∙ c.if-not-is_current_byte.false) (ap (λ z. whole.arguments [] (w.skip_blank (drop 1 z))) (sym c.open.ensures.stays.rest) ∙ c.in_ok-arguments.ensures.gives ∙ ap (got (arguments_view g.row.S.Denot g.T.Texts.text c.in_ok-arguments.arguments)) (sym c.close.ensures.stays.rest))
+    (ap read.identifier_at (sym c.advance.ensures.rest) ∙ c.in_ok-id.ensures.gives) c.in_ok-attribute.ensures.gives c.skip_blank.ensures.rest (sym c.is_current_byte.ensures ∙ c.if-not-is_current_byte.false) (ap (λ z. whole.arguments [] (w.skip_blank (drop 1 z))) (sym c.open.ensures.rest) ∙ c.in_ok-arguments.ensures.gives ∙ ap (got (arguments_view g.row.S.Denot g.T.Texts.text c.in_ok-arguments.arguments)) (sym c.close.ensures.rest))
     ∙ ap (λ z. got z c.close.new.self.rest.now) (sym (inline_view-TermReference g.row.S.Denot g.T.Texts.text c.in_ok-id.id c.in_ok-attribute.attribute (Some c.in_ok-arguments.arguments)))
 
 pub get_variant-returns-clause-less : goal.get_variant-returns-clause-less
@@ -105,6 +105,7 @@ get_call_arguments-loop-self-init g t c =
     let skipped = c.skip_blank.ensures.rest ∙ ap skip_blank c.advance.ensures.rest in
     record {
       text = c.skip_blank.ensures.advances.text ∙ c.advance.ensures.advances.text;
+      stack = c.skip_blank.ensures.advances.stack ∙ c.advance.ensures.advances.stack;
       onward = omega (arith, begun_shorter c.args.self.now.rest.now c.advance.new.self.rest.now w.open_paren c.requires.parenthesis c.advance.ensures.rest, c.skip_blank.ensures.advances.onward);
       same = arguments_start (inline_view g.row.S.Denot g.T.Texts.text) (named_view g.row.S.Denot g.T.Texts.text) c.new-positional.result.items c.new-named.result.all.items c.skip_blank.new.self.rest.now (skip_blank (drop 1 c.args.self.now.rest.now)) c.new-positional.ensures.items c.new-named.ensures.all skipped;
       indexed = c.new-named.ensures.indexed g.T.Texts.text;
@@ -157,6 +158,7 @@ get_call_arguments-loop-self-preserved g t c =
     ] in
     record {
       text = c.skip_separator.ensures.advances.text ∙ c.get_argument.ensures.advances.text ∙ c.loop-self.invariant.text;
+      stack = c.skip_separator.ensures.advances.stack ∙ c.in_ok-argument.ensures.advances.stack ∙ c.loop-self.invariant.stack;
       onward = omega (arith, c.skip_separator.ensures.advances.onward, c.get_argument.ensures.advances.onward, c.loop-self.invariant.onward);
       same = same;
       indexed = indexed;
@@ -186,6 +188,7 @@ get_lines-loop-gathered-init g t c =
     let place = c.skip_to_line-at_line_start.ensures.place ∙ ap (λ (z : List ℕ). first_place z (w.after_line_end z)) same in
     record {
       text = text;
+      stack = c.skip_to_line-at_line_start.ensures.advances.stack ∙ c.get_plain_lines.ensures.advances.stack;
       onward = omega (arith, c.skip_to_line-at_line_start.ensures.advances.onward, c.get_plain_lines.ensures.advances.onward);
       gathers = gathers_none g.row.S.Denot g.T.Texts.text c.new-gathered.result c.skip_to_line-at_line_start.result c.skip_to_line-at_line_start.new.self.rest.now c.args.self.now.rest.now c.new-gathered.ensures.elements c.new-gathered.ensures.begins_line c.new-gathered.ensures.common_indent place;
       line_start = let rest = c.skip_to_line-at_line_start.new.self.rest.now in
@@ -209,6 +212,7 @@ get_lines-loop-gathered-preserved g t c =
     let put = piece_put g.row.S.Denot g.T.Texts.text gathered c.get_piece.new.gathered rest _ c.in-Some-2.ends_line (kept_piece_by line s) c.in-Some-2.is c.in_ok-ends_line.ensures.gives in
     record {
       text = c.get_piece.ensures.advances.text ∙ c.loop-gathered.invariant.text;
+      stack = c.in_ok-ends_line.ensures.advances.stack ∙ c.loop-gathered.invariant.stack;
       onward = omega (arith, c.get_piece.ensures.advances.onward, c.loop-gathered.invariant.onward);
       gathers = gathers_more g.row.S.Denot g.T.Texts.text gathered c.get_piece.new.gathered line c.in-Some-2.ends_line s rest c.args.self.now.rest.now c.loop-gathered.invariant.gathers put;
       line_start = subst (λ (z : List ℕ). StartsLine c.in-Some-2.ends_line z rest) (sym c.get_piece.ensures.advances.text)
@@ -311,6 +315,7 @@ get_variants-loop-variants-preserved g t c =
     let items = pushed (variant_view g.row.S.Denot g.T.Texts.text) c.loop-variants.variants.items c.push.new.self.items c.in_ok-get_variant.field-0 c.in_ok-push.ensures.items in
     record {
       text = c.skip_blank.ensures.advances.text ∙ c.get_variant.ensures.advances.text ∙ c.take_default_mark.ensures.advances.text ∙ c.loop-variants.invariant.text;
+      stack = c.skip_blank.ensures.advances.stack ∙ c.in_ok-get_variant.ensures.advances.stack ∙ c.take_default_mark.ensures.advances.stack ∙ c.loop-variants.invariant.stack;
       onward = omega (arith, c.skip_blank.ensures.advances.onward, c.get_variant.ensures.less, c.take_default_mark.ensures.advances.onward, c.loop-variants.invariant.onward);
       same = variants_same ((map (variant_view g.row.S.Denot g.T.Texts.text) c.loop-variants.variants.items) ++ x ∷ []) (map (variant_view g.row.S.Denot g.T.Texts.text) c.push.new.self.items) (c.loop-variants.has_default || c.in_ok-default.default) c.skip_blank.new.self.rest.now (whole.variants false c.args.self.now.rest.now) items
           (variants_read (map (variant_view g.row.S.Denot g.T.Texts.text) c.loop-variants.variants.items) c.loop-variants.has_default c.in_ok-default.default c.loop-variants.self.rest.now c.args.self.now.rest.now c.take_default_mark.new.self.rest.now c.get_variant.new.self.rest.now c.skip_blank.new.self.rest.now x c.loop-variants.invariant.same c.in_ok-default.ensures.gives (sym c.is_current_byte.ensures ∙ c.if-not-is_current_byte.false) c.in_ok-get_variant.ensures.gives c.skip_blank.ensures.rest);

@@ -62,6 +62,7 @@ invariant-get_call_arguments-loop-self g l =
     let named = map (named_view g.row.S.Denot g.T.Texts.text) l.named.all.items in
     record {
       text : l.self.text.now ≡ l.fn.self.text.now;
+      stack : l.self.stack.taken ≡ l.fn.self.stack.taken;
       onward : length l.self.rest.now < length l.fn.self.rest.now;
       same : mapped (arguments_behind positional named) (whole.arguments (names_of named) l.self.rest.now) ≡ whole.arguments [] (w.skip_blank (drop 1 l.fn.self.rest.now));
       indexed : IsIndexed g.row.S.Denot g.T.Texts.text l.named;
@@ -73,6 +74,7 @@ decreases-get_call_arguments-loop-self g l = length l.self.rest.now
 abbrev pub invariant-get_lines-loop-gathered : goal.invariant-get_lines-loop-gathered
 invariant-get_lines-loop-gathered g l = record {
   text : l.self.text.now ≡ l.fn.self.text.now;
+  stack : l.self.stack.taken ≡ l.fn.self.stack.taken;
   onward : length l.self.rest.now ≤ length l.fn.self.rest.now;
   gathers : Gathers g.row.S.Denot g.T.Texts.text l.gathered l.at_line_start l.self.rest.now l.fn.self.rest.now;
   line_start : StartsLine l.at_line_start l.self.text.now l.self.rest.now;
@@ -84,6 +86,7 @@ decreases-get_lines-loop-gathered g l = length l.self.rest.now
 abbrev pub invariant-get_variants-loop-variants : goal.invariant-get_variants-loop-variants
 invariant-get_variants-loop-variants g l = record {
   text : l.self.text.now ≡ l.fn.self.text.now;
+  stack : l.self.stack.taken ≡ l.fn.self.stack.taken;
   onward : length l.self.rest.now ≤ length l.fn.self.rest.now;
   same : mapped (variants_behind (map (variant_view g.row.S.Denot g.T.Texts.text) l.variants.items)) (whole.variants l.has_default l.self.rest.now) ≡ whole.variants false l.fn.self.rest.now;
 }

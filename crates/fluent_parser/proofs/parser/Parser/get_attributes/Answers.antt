@@ -14,6 +14,7 @@ loop-attributes-init g c =
     let none : map (attribute_view g.row.S.Denot g.T.Texts.text) c.new-attributes.result.items ≡ [] = search rules in
     record {
       text = refl;
+      stack = refl;
       onward = omega arith;
       read = attributes_begin c.args.self.now.rest.now _ none;
     }
@@ -29,6 +30,7 @@ loop-attributes-preserved g c =
     let view = attribute_view g.row.S.Denot g.T.Texts.text in
     record {
       text = c.next_attribute.ensures.advances.text ∙ c.loop-attributes.invariant.text;
+      stack = c.next_attribute.ensures.advances.stack ∙ c.loop-attributes.invariant.stack;
       onward = omega (arith, c.next_attribute.ensures.advances.onward, c.loop-attributes.invariant.onward);
       read = attributes_go_on c.args.self.now.rest.now c.loop-attributes.self.rest.now _ (map view c.loop-attributes.attributes.items) _ _
           (ap (map view) c.in_ok-push_tight.ensures ∙ map-append view c.loop-attributes.attributes.items _) (rw c.in-Some.is at c.in_ok-attribute.ensures.gives) c.loop-attributes.invariant.read;

@@ -44,6 +44,7 @@ parts-preserved g c =
     let told : errors_with g.row.S.Denot c.get_part.new.collected more ≡ errors_with g.row.S.Denot old (piece_of (total - length u) apart u (entry_at u) ∷ more) =
     c.in_ok-get_part.ensures.errors more ∙ ap (λ (n : ℕ). errors_with g.row.S.Denot old (piece_of (n - length u) apart u (entry_at u) ∷ more)) here in
     record {
+      closed = c.get_part.ensures.closed;
       text = c.get_part.ensures.text ∙ c.skip_blank_block-apart.ensures.advances.text ∙ c.parts.invariant.text;
       within = omega (arith, less, c.skip_blank_block-apart.ensures.advances.onward, c.parts.invariant.within);
       entries = put ∙ ap (λ (ps : List Piece). entries_with g.row.S.Denot g.T.Texts.text old ps) (sym step) ∙ c.parts.invariant.entries;

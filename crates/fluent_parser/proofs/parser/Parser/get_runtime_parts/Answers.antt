@@ -41,6 +41,7 @@ parts-preserved-then-is_current_byte g c =
     let step : runtime_left total s ≡ runtime_left total rest =
     comments_passed total s u rest c.parts.invariant.within c.skip_blank_block.ensures.rest (test_some (length u) z) (sym c.is_current_byte.ensures ∙ c.if-is_current_byte.true) c.skip_comments.ensures.rest in
     record {
+      closed = c.skip_comments.ensures.advances.stack ∙ c.skip_blank_block.ensures.advances.stack ∙ c.parts.invariant.closed;
       text = c.skip_comments.ensures.advances.text ∙ c.skip_blank_block.ensures.advances.text ∙ c.parts.invariant.text;
       within = omega (arith, less, c.skip_blank_block.ensures.advances.onward, c.parts.invariant.within);
       entries = ap (λ (ps : List Piece). entries_with g.row.S.Denot g.T.Texts.text c.parts.collected ps) (sym step) ∙ c.parts.invariant.entries;
@@ -65,6 +66,7 @@ parts-preserved g c =
     let told : errors_with g.row.S.Denot c.get_part.new.collected more ≡ errors_with g.row.S.Denot old (piece_of (total - length u) false u (entry_at u) ∷ more) =
     c.in_ok-get_part.ensures.errors more ∙ ap (λ (n : ℕ). errors_with g.row.S.Denot old (piece_of (n - length u) false u (entry_at u) ∷ more)) here in
     record {
+      closed = c.get_part.ensures.closed;
       text = c.get_part.ensures.text ∙ c.skip_blank_block.ensures.advances.text ∙ c.parts.invariant.text;
       within = omega (arith, less, c.skip_blank_block.ensures.advances.onward, c.parts.invariant.within);
       entries = put ∙ ap (λ (ps : List Piece). entries_with g.row.S.Denot g.T.Texts.text old ps) (sym step) ∙ c.parts.invariant.entries;

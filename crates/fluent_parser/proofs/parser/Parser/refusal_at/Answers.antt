@@ -8,6 +8,6 @@ returns-clause-places g c =
     let text : Text = c.args.text.now in
     let rest : Text = c.rest-at.result.now in
     let parser = c.find_refusal.new.self in
-    let same : parser.text.now ≡ text = c.find_refusal.ensures.advances.text ∙ c.close_all.ensures.stays.text ∙ c.set_rest.ensures.text ∙ c.requires.text in
+    let same : parser.text.now ≡ text = c.find_refusal.ensures.advances.text ∙ c.set_rest.ensures.text ∙ c.requires.text in
     let tail : rest ≡ drop (length text - length rest) text = cc (same, c.rest-at.ensures, parser.is_tail) in
     record { start = c.requires.boundary; place = place_of_tail text rest tail c.rest-at.utf8 }

@@ -1,0 +1,89 @@
+/* Each allocation of each call, refused in turn: the call returns FLUENT_NO_MEMORY, and what it was given is as it was. */
+#include "tests.h"
+
+#define AT(literal) (const uint8_t *)(literal)
+#define TEXT(literal) AT(literal), sizeof(literal) - 1
+
+/* What is kept from call to call. */
+struct Kept {
+    struct FluentCounts counts;
+    struct FluentText text, errors;
+    struct FluentBundle bundle;
+};
+
+static const struct FluentSource SOURCES[] = {
+    BYTES("# own\nwelcome = Welcome, { $name }.\nbroken = { $absent } and { nothing }\n"),
+    BYTES("welcome = Again\ng@Rb@ge\n"),
+};
+
+static uint32_t parse(struct Kept *kept) { return fluent_parse(SOURCES[0].text, SOURCES[0].len, &kept->counts); }
+static uint32_t parse_runtime(struct Kept *kept) { return fluent_parse_runtime(SOURCES[0].text, SOURCES[0].len, &kept->counts); }
+static uint32_t write_tree(struct Kept *kept) { return fluent_write(SOURCES[0].text, SOURCES[0].len, true, &kept->text); }
+static uint32_t write_json(struct Kept *kept) { return fluent_write_json(SOURCES[0].text, SOURCES[0].len, &kept->text); }
+static uint32_t answer(struct Kept *kept) {
+    return fluent_answer(SOURCES, 2, TEXT("pl"), true, false, TEXT("welcome\tname=Jane\nbroken\n"), &kept->text);
+}
+static uint32_t make(struct Kept *kept) { return fluent_bundle_new(SOURCES, 2, TEXT("pl"), true, false, &kept->bundle); }
+static uint32_t make_within(struct Kept *kept) {
+    return fluent_bundle_new_within(SOURCES, 2, TEXT("pl"), true, false, 100000, &kept->bundle);
+}
+static uint32_t format(struct Kept *kept) {
+    static const struct FluentArgument name = {.name = AT("name"), .name_len = 4, .text = AT("Jane"), .text_len = 4, .kind = FLUENT_TEXT};
+    return fluent_bundle_format(&kept->bundle, TEXT("broken"), TEXT(""), &name, 1, &kept->text, &kept->errors);
+}
+static uint32_t report(struct Kept *kept) { return fluent_bundle_errors(&kept->bundle, &kept->text); }
+static uint32_t has(struct Kept *kept) { return fluent_bundle_has(&kept->bundle, TEXT("welcome"), TEXT("")); }
+
+static const struct {
+    const char *name;
+    uint32_t (*call)(struct Kept *);
+} CALLS[] = {
+    {"fluent_parse", parse},
+    {"fluent_parse_runtime", parse_runtime},
+    {"fluent_write", write_tree},
+    {"fluent_write_json", write_json},
+    {"fluent_answer", answer},
+    {"fluent_bundle_new", make},
+    {"fluent_bundle_new_within", make_within},
+    {"fluent_bundle_format", format},
+    {"fluent_bundle_errors", report},
+    {"fluent_bundle_has", has},
+};
+
+static const struct Bytes TEXT_BEFORE = BYTES("\xe2\x81\xa8{$absent}\xe2\x81\xa9 and {nothing}");
+static const struct Bytes ERRORS_BEFORE = BYTES("Unknown variable: $absent\nUnknown message: nothing\n");
+
+static bool is_unchanged(const struct Kept *kept, const struct Kept *before) {
+    return kept->counts.messages == before->counts.messages && is_same(&kept->text, &before->text, TEXT_BEFORE)
+        && is_same(&kept->errors, &before->errors, ERRORS_BEFORE) && kept->bundle.desk == before->bundle.desk;
+}
+
+/* Makes a call whose allocation after `count` others is refused. Gives by `refused` whether there was such an allocation. */
+static bool is_right(uint32_t (*call)(struct Kept *), bool is_held, long count, bool *refused) {
+    struct Kept kept = {.counts = {.messages = 90}};
+    if (make(&kept) != FLUENT_READ || (is_held && format(&kept) != FLUENT_READ))
+        return false;
+    const struct Kept before = kept;
+    long blocks = blocks_in_use();
+    refuse_after(count);
+    uint32_t status = call(&kept);
+    *refused = was_refused();
+    /* A growth that is refused is tried again with less, so a call may answer in spite of a refusal. */
+    bool is_good = *refused && status == FLUENT_NO_MEMORY ? is_unchanged(&kept, &before) && blocks_in_use() == blocks : status == FLUENT_READ;
+    is_good &= has(&kept) == FLUENT_READ;
+    fluent_free_text(&kept.text);
+    fluent_free_text(&kept.errors);
+    fluent_bundle_free(&kept.bundle);
+    return is_good && blocks_in_use() == 0;
+}
+
+bool try_refusals(void) {
+    struct Tally tally = {"refused allocations", 0, 0};
+    for (size_t i = 0; i < sizeof CALLS / sizeof *CALLS; i++)
+        for (int held = 0; held < 2; held++) {
+            bool refused = true;
+            for (long count = 0; refused; count++)
+                count_try(&tally, CALLS[i].name, is_right(CALLS[i].call, held, count, &refused));
+        }
+    return print_tally(&tally);
+}

@@ -1,0 +1,232 @@
+//! Numbers.
+
+use crate::decimal::{Decimal, DIGITS};
+use crate::options::FluentNumberOptions;
+use crate::value::FluentValue;
+use std::borrow::Cow;
+use std::error::Error;
+use std::fmt;
+use std::str::FromStr;
+
+/// How much a number is.
+#[derive(Clone, Copy, Debug, PartialEq)]
+enum Amount {
+    /// A decimal, exactly.
+    Decimal(Decimal),
+    /// A float that isn't a number, or has an absolute value of 2^64 or more.
+    Float(f64),
+}
+
+/// A number: an integer or a decimal, exactly, and how it is shown.
+///
+/// A decimal has at most 18 digits after the point, and a whole part below 2^64. A float is rounded to that: the digits
+/// are those that Rust shows, so `1.0` is 1 and `0.1` is 0.1. A float that isn't a number, or is too large, is shown as
+/// Rust shows it, and chooses variants as a text.
+#[derive(Clone, Debug, PartialEq)]
+pub struct FluentNumber {
+    amount: Amount,
+    /// How the number is shown.
+    pub options: FluentNumberOptions,
+}
+
+/// A text isn't the number that it was taken for.
+#[derive(Clone, Debug, PartialEq, Eq)]
+pub struct ParseNumberError;
+
+impl fmt::Display for ParseNumberError {
+    fn fmt(&self, f: &mut fmt::Formatter<'_>) -> fmt::Result {
+        f.write_str("the text isn't a decimal, or has more than 18 digits after its point or 2^64 or more before it")
+    }
+}
+
+impl Error for ParseNumberError {}
+
+/// How a number is passed to the library.
+pub(crate) enum Given {
+    Signed(i64),
+    Unsigned(u64),
+    Decimal(String),
+    Text(String),
+}
+
+impl FluentNumber {
+    /// A number of these options.
+    pub fn new(value: f64, options: FluentNumberOptions) -> Self {
+        FluentNumber { options, ..FluentNumber::from(value) }
+    }
+
+    fn of(amount: Amount) -> Self {
+        FluentNumber { amount, options: FluentNumberOptions::default() }
+    }
+
+    /// The number of the text of a float, or the float if it is too large or none.
+    fn of_float(value: f64, text: &str) -> Self {
+        FluentNumber::of(Decimal::rounded(text).map_or(Amount::Float(value), Amount::Decimal))
+    }
+
+    /// The nearest float.
+    pub fn value(&self) -> f64 {
+        match self.amount {
+            // Each decimal is the text of a float.
+            Amount::Decimal(decimal) => decimal.text(None).parse().unwrap_or(f64::NAN),
+            Amount::Float(value) => value,
+        }
+    }
+
+    /// The text, with the least number of digits after the point.
+    pub fn as_string(&self) -> Cow<'static, str> {
+        Cow::Owned(match self.amount {
+            Amount::Decimal(decimal) => decimal.text(self.options.minimum_fraction_digits),
+            Amount::Float(value) => value.to_string(),
+        })
+    }
+
+    /// The number, as it is passed to the library.
+    pub(crate) fn given(&self) -> Given {
+        let decimal = match self.amount {
+            Amount::Float(value) => return Given::Text(value.to_string()),
+            Amount::Decimal(decimal) => decimal,
+        };
+        let integer = if self.options.minimum_fraction_digits.is_none() { decimal.integer() } else { None };
+        match integer.map(|integer| (i64::try_from(integer), u64::try_from(integer))) {
+            Some((Ok(integer), _)) => Given::Signed(integer),
+            Some((_, Ok(integer))) => Given::Unsigned(integer),
+            _ => Given::Decimal(decimal.text(self.options.minimum_fraction_digits)),
+        }
+    }
+}
+
+/// A text is shown with the digits after its point: `1.50` as `1.50`.
+impl FromStr for FluentNumber {
+    type Err = ParseNumberError;
+
+    fn from_str(text: &str) -> Result<Self, ParseNumberError> {
+        let decimal = Decimal::parse(text).ok_or(ParseNumberError)?;
+        let mut number = FluentNumber::of(Amount::Decimal(decimal));
+        number.options.minimum_fraction_digits = text.find('.').map(|point| text.len() - point - 1);
+        debug_assert!(number.options.minimum_fraction_digits <= Some(DIGITS));
+        Ok(number)
+    }
+}
+
+impl fmt::Display for FluentNumber {
+    fn fmt(&self, f: &mut fmt::Formatter<'_>) -> fmt::Result {
+        f.write_str(&self.as_string())
+    }
+}
+
+/// Conversions from integers, which are exact if they are below 2^64, and to them: toward zero, to the nearest that the
+/// type has.
+macro_rules! integers {
+    ($($integer:ty),*) => {$(
+        impl From<$integer> for FluentNumber {
+            fn from(n: $integer) -> Self {
+                let decimal = i128::try_from(n).ok().and_then(Decimal::of_integer);
+                FluentNumber::of(decimal.map_or(Amount::Float(n as f64), Amount::Decimal))
+            }
+        }
+
+        impl From<&FluentNumber> for $integer {
+            fn from(number: &FluentNumber) -> Self {
+                match number.amount {
+                    Amount::Decimal(decimal) => {
+                        let integer = decimal.truncated();
+                        let bound = if integer < 0 { <$integer>::MIN } else { <$integer>::MAX };
+                        integer.try_into().unwrap_or(bound)
+                    }
+                    Amount::Float(value) => value as $integer,
+                }
+            }
+        }
+    )*};
+}
+
+integers!(i8, i16, i32, i64, i128, isize, u8, u16, u32, u64, u128, usize);
+
+/// Conversions from floats, by the digits that Rust shows, and to them.
+macro_rules! floats {
+    ($($float:ty),*) => {$(
+        impl From<$float> for FluentNumber {
+            fn from(n: $float) -> Self {
+                FluentNumber::of_float(n.into(), &n.to_string())
+            }
+        }
+
+        impl From<&FluentNumber> for $float {
+            fn from(number: &FluentNumber) -> Self {
+                number.value() as $float
+            }
+        }
+    )*};
+}
+
+floats!(f32, f64);
+
+/// What is the same for integers and floats.
+macro_rules! numbers {
+    ($($number:ty),*) => {$(
+        impl From<FluentNumber> for $number {
+            fn from(number: FluentNumber) -> Self {
+                (&number).into()
+            }
+        }
+
+        impl From<$number> for FluentValue<'_> {
+            fn from(n: $number) -> Self {
+                FluentValue::Number(n.into())
+            }
+        }
+
+        impl From<&$number> for FluentValue<'_> {
+            fn from(n: &$number) -> Self {
+                FluentValue::from(*n)
+            }
+        }
+    )*};
+}
+
+numbers!(i8, i16, i32, i64, i128, isize, u8, u16, u32, u64, u128, usize, f32, f64);
+
+#[cfg(test)]
+mod tests {
+    use super::*;
+
+    fn shown(number: impl Into<FluentNumber>) -> String {
+        number.into().as_string().into_owned()
+    }
+
+    #[test]
+    fn numbers_are_shown() {
+        assert_eq!(shown(1.0), "1");
+        assert_eq!(shown(0.1_f32), "0.1");
+        assert_eq!(shown(-0.0), "0");
+        assert_eq!(shown(2.0 / 3e6), "0.000000666666666667");
+        assert_eq!(shown(1e19), "10000000000000000000");
+        assert_eq!(shown(1e21), "1000000000000000000000");
+        assert_eq!(shown(f64::NAN), "NaN");
+        assert_eq!(shown(i128::from(u64::MAX)), "18446744073709551615");
+        assert_eq!(shown(u128::from(u64::MAX) + 1), "18446744073709552000");
+        assert_eq!(FluentNumber::from_str("1.50").map(shown), Ok("1.50".into()));
+        for text in ["1e5", "junk", "", "NaN", "1.1234567890123456789"] {
+            assert_eq!(FluentNumber::from_str(text), Err(ParseNumberError));
+        }
+    }
+
+    #[test]
+    fn numbers_are_equal_by_their_amount_and_options() {
+        assert_eq!(FluentValue::from(5), FluentValue::try_number("5"));
+        assert_eq!(FluentValue::from(5_u64), FluentValue::from(5.0));
+        assert_ne!(FluentValue::from(5), FluentValue::try_number("5.0"));
+        assert_ne!(FluentNumber::from(f64::NAN), FluentNumber::from(f64::NAN));
+    }
+
+    #[test]
+    fn numbers_are_converted() {
+        assert_eq!(i8::from(FluentNumber::from(-3.7)), -3);
+        assert_eq!(u8::from(FluentNumber::from(300)), u8::MAX);
+        assert_eq!(u8::from(FluentNumber::from(-1)), 0);
+        assert_eq!(u64::from(FluentNumber::from(u64::MAX)), u64::MAX);
+        assert_eq!(f64::from(FluentNumber::from(0.1)), 0.1);
+        assert_eq!(FluentNumber::from(f64::INFINITY).value(), f64::INFINITY);
+    }
+}

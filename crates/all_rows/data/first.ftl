@@ -1,1 +1,0 @@
-intro = Welcome, { $name }.

@@ -1,4 +1,0 @@
-hi = Hi!
-welcome = Welcome, { $name }.
-login =
-    .title = Log in

@@ -1,2 +1,0 @@
-intro = Later
-hello-world = Hello, world!

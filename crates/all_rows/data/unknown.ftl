@@ -1,3 +1,0 @@
-both = { $a }, { -t } and { $b }.
-two = one
-    two

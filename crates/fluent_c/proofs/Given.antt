@@ -1,0 +1,24 @@
+-- Arguments that are set one after the other, and why one isn't.
+use Rattle.std.proofs.Common.{◌≡◌, ◌∙◌, ℕ, ◌+◌, ◌<◌, List, [], length, get_or, take, map, Result, Ok, Err, IfErr, ap, sym, subst}
+use Rattle.std.proofs.lemmas.List.{take_more}
+use Rattle.core.specs.Result.{IsErrAnd}
+use Rattle.fluent_grammar.specs.Words.{Text}
+use Rattle.fluent_value.proofs.Map.{set_last}
+use Rattle.fluent_value.specs.Args.{all_set, with_argument}
+use Rattle.fluent_value.specs.Value.{Value}
+use Rattle.fluent_c.specs.Arguments.{pair_of}
+use Rattle.fluent_c.specs.declared.arguments.ArgumentRefusal.{ArgumentRefusal}
+use Rattle.fluent_c.specs.declared.arguments.FluentArgument.{FluentArgument}
+
+-- one argument more
+pub set-next : (args : List (Text × Value (Unit {0}))) (given : List FluentArgument) (k : ℕ) (d : FluentArgument) → k < length given →
+    args ≡ all_set [] (map pair_of (take k given)) →
+    with_argument (pair_of (get_or given k d)).0 (pair_of (get_or given k d)).1 args ≡ all_set [] (map pair_of (take (k + 1) given))
+set-next args given k d inside below =
+    ap (with_argument (pair_of (get_or given k d)).0 (pair_of (get_or given k d)).1) below
+    ∙ sym (ap (λ xs. all_set [] (map pair_of xs)) (take_more given k d inside) ∙ set_last pair_of [] (take k given) (get_or given k d))
+
+-- a `?` hands a callee's refusal on
+pub refused_on : {T : Type 0} (P : ArgumentRefusal → Type 0) {e : ArgumentRefusal} (r : Result T ArgumentRefusal) → IsErrAnd r (λ y. y ≡ e) → P e → IfErr r P
+refused_on P (Ok x) is p = tt
+refused_on P (Err y) is p = subst P (sym is) p

@@ -1,0 +1,25 @@
+-- `none` makes a struct that owns nothing.
+use Rattle.fluent_c.proofs.Steps.{[], ◌∷◌, refl, lit<, proved, ftrue, ‵, raw, ◌$◌, ◌∵◌, !, qed, done, drop, suffices, enter, lit, false_lit, no_more, and_then, returns, alloc_all, pass_all, free_all, look_at, sets, agg, null_ptr, nothing, on_entry, walk_of, says, ends_at}
+use Rattle.std.specs.Prelude.{false}
+use Rattle.fluent_c.proofs.Texts.{text_in}
+use Rattle.fluent_c.proofs.text.FluentText.TheLaws.{lowered}
+use Rattle.fluent_c.specs.contracts.text.FluentText.{the_row}
+use Rattle.fluent_c.specs.contracts.text.FluentText.none as f
+use Rattle.fluent_c.proofs.text.FluentText.none.Statement.{statement}
+use Rattle.fluent_c.proofs.text.FluentText.none.Code as code
+
+abbrev nothing_held : the_row.Denot
+nothing_held = record { held = false; bytes = null_ptr; len = 0; owner = null_ptr; text = [] }
+
+pub none_spec : {M : Type 1} → statement M
+none_spec 𝓤 𝓛 𝓜 𝓡 wired =
+    let c = f.clauses 𝓛 𝓜.mem 𝓡.returns in let W = walk_of 𝓛 f.ended tt c in
+    proved 𝓛 f.ended tt c 𝓜 𝓡 tt f.Key.name code.function (code.unfolded 𝓤 𝓛.H 𝓜 𝓡 wired)
+    (λ κs. tt) (λ κs. tt) (λ κs qs bounds a _ are.
+    let y : W.Ghost = ((κs, qs, bounds, a, tt), tt) in
+    qed 𝓛 (raw (on_entry 𝓛 f.signature κs qs a tt) ∷ ‵ ftrue ∷ []) ∵ drop ! $ drop ! $
+    enter ! _ _ _ _ _ $ alloc_all ! (λ l. pass_all ! refl tt $
+    sets ! (agg ! (and_then ! (false_lit !) (and_then ! (lit ! tt) (and_then ! (lit ! tt) (and_then ! (lit ! tt) (no_more !)))))) refl (tt, (tt, (record { fits = lit< tt }, (record { fits = lit< tt }, (record { fits = lit< tt }, tt))))) $
+    returns ! (look_at ! 0 refl) $ free_all ! refl $
+    suffices ! _ (ends_at 𝓛 f.ended tt c y (lowered nothing_held) nothing_held tt tt) $ says ! refl $
+    nothing ! $ text_in ! nothing_held (lit< tt) $ nothing ! $ nothing ! $ done !))

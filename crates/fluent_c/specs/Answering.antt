@@ -1,0 +1,48 @@
+-- What request lines are answered, from sources that C hands over.
+use Rattle.std.specs.Prelude.{Bool, List, [], ◌∷◌, Option, Some, IsSomeAnd, option_map, map, IsUtf8, All, Contains}
+use Rattle.fluent_answers.specs.Answers.{answers}
+use Rattle.fluent_grammar.specs.Words.{Text}
+use Rattle.fluent_plurals.specs.Plurals.{english_rules, plurals_by, plurals_for}
+use Rattle.fluent_plurals.specs.declared.plurals.LanguagePlurals.{LanguagePlurals}
+use Rattle.fluent_run.specs.RunView.{no_text}
+use Rattle.fluent_value.specs.declared.function.NoFunction.{NoFunction}
+use Rattle.fluent_c.specs.Made.{Holds}
+use Rattle.fluent_c.specs.declared.answering.FluentSource.{FluentSource}
+use Rattle.fluent_c.specs.declared.text.FluentText.{FluentText}
+
+abbrev pub texts_of : List FluentSource → List Text
+texts_of = map (λ s. s.text.now)
+
+-- one of the sources isn't UTF-8
+pub record HoldsOther (sources : List FluentSource) : Type 0 where
+  pub source : FluentSource
+  pub stands : Contains sources source
+  pub other : ¬ (IsUtf8 source.text.now)
+
+-- a source is
+abbrev pub IsUtf8Source : FluentSource → Type 0
+IsUtf8Source source = IsUtf8 source.text.now
+
+-- each of them is
+abbrev pub AreUtf8 : List FluentSource → Type 0
+AreUtf8 = All IsUtf8Source
+
+-- the plural rules that the tag of a locale names, and those of English for the empty tag
+abbrev pub plurals_in : Text → Option LanguagePlurals
+plurals_in [] = Some english_rules
+plurals_in (byte ∷ tag) = plurals_for (byte ∷ tag)
+
+-- the answers to a stream of request lines by plural rules
+abbrev pub answers_by : LanguagePlurals → Bool → Bool → List Text → Text → Text
+answers_by plurals isolating overriding sources =
+    answers NoFunction (plurals_by plurals) no_text (record { isolating = isolating; overriding = overriding }) sources
+
+-- the answers by the plural rules of a locale, if it has any
+abbrev pub answers_in : Text → Bool → Bool → List Text → Text → Option Text
+answers_in locale isolating overriding sources requests =
+    option_map (λ plurals. answers_by plurals isolating overriding sources requests) (plurals_in locale)
+
+-- the locale has plural rules, and the text holds the answers by them
+abbrev pub IsAnswer : Text → Bool → Bool → List FluentSource → Text → FluentText → Type 0
+IsAnswer locale isolating overriding sources requests made =
+    IsSomeAnd (answers_in locale isolating overriding (texts_of sources) requests) (Holds made)

@@ -1,0 +1,65 @@
+-- The arguments of a message, as C hands them over.
+use Rattle.std.specs.Prelude.{◌≡◌, ◌==◌, if◌then◌else◌, List, Option, Some, None, IsSome, IsUtf8, All, Contains, option_map, unwrap_or, pos}
+use Rattle.fluent_grammar.specs.Words.{Text}
+use Rattle.fluent_number.specs.Number.{number_from_integer}
+use Rattle.fluent_number.specs.Reading.{read_number}
+use Rattle.fluent_value.specs.Args.{with_argument}
+use Rattle.fluent_value.specs.Value.{Value, none, number, text}
+use Rattle.fluent_value.specs.View.{value_view}
+use Rattle.fluent_value.specs.declared.custom.NoCustom.{NoCustom}
+use Rattle.fluent_value.specs.declared.value.FluentValue.{FluentValue}
+use Rattle.fluent_c.specs.declared.TheConstants.{FLUENT_TEXT, FLUENT_DECIMAL, FLUENT_INTEGER, FLUENT_UNSIGNED}
+use Rattle.fluent_c.specs.declared.arguments.ArgumentRefusal.{ArgumentRefusal}
+use Rattle.fluent_c.specs.declared.arguments.ArgumentRefusal.TheVariants.{Memory, NotUtf8, NoValue}
+use Rattle.fluent_c.specs.declared.arguments.FluentArgument.{FluentArgument}
+
+-- the number that a text is, if it is one
+abbrev pub number_given : Text → Option (Value (Unit {0}))
+number_given t = option_map number (read_number t)
+
+-- the value of an argument, if it has one: by its kind its text, also if that is a number's; the number that its text is; or
+-- one of its integers
+abbrev pub value_given : FluentArgument → Option (Value (Unit {0}))
+value_given a =
+    if a.kind == FLUENT_TEXT then Some (text a.text.now) else (if a.kind == FLUENT_DECIMAL then number_given a.text.now else (if a.kind == 2
+    then Some (number (number_from_integer a.integer)) else (if a.kind == FLUENT_UNSIGNED then Some (number (number_from_integer (pos a.unsigned))) else None)))
+
+-- what the code's value stands for
+abbrev pub value_seen : Option (FluentValue NoCustom) → Option (Value (Unit {0}))
+value_seen found = option_map (value_view (λ c. tt)) found
+
+-- an argument's name and its value
+abbrev pub pair_of : FluentArgument → Text × Value (Unit {0})
+pair_of a = (a.name.now, unwrap_or (value_given a) none)
+
+-- the values of arguments by their names, once this one was set
+abbrev pub with_given : FluentArgument → List (Text × Value (Unit {0})) → List (Text × Value (Unit {0}))
+with_given a args = with_argument (pair_of a).0 (pair_of a).1 args
+
+-- its name and its text are UTF-8
+abbrev pub HasTexts : FluentArgument → Type 0
+HasTexts a = IsUtf8 a.name.now × IsUtf8 a.text.now
+
+-- they are, and it has a value
+abbrev pub IsTaken : FluentArgument → Type 0
+IsTaken a = HasTexts a × IsSome (value_given a)
+
+-- each of them is
+abbrev pub AreTaken : List FluentArgument → Type 0
+AreTaken = All IsTaken
+
+-- this is why it isn't taken
+abbrev pub IsRefusedFor : FluentArgument → ArgumentRefusal → Type 0
+IsRefusedFor a Memory = Unit {0}
+IsRefusedFor a NotUtf8 = ¬ (HasTexts a)
+IsRefusedFor a NoValue = value_given a ≡ None
+
+-- this is why one of them isn't
+pub record AreRefusedFor (given : List FluentArgument) (refusal : ArgumentRefusal) : Type 0 where
+  pub argument : FluentArgument
+  pub stands : Contains given argument
+  pub refused : IsRefusedFor argument refusal
+
+-- one of them has no value
+abbrev pub HoldsBad : List FluentArgument → Type 0
+HoldsBad given = AreRefusedFor given NoValue

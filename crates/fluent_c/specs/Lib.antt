@@ -1,0 +1,11 @@
+-- The definitions of the reader, from the crate below.
+pub use Rattle.fluent_syntax.specs.Tiling
+pub use Rattle.fluent_syntax.specs.Tree
+pub use Rattle.fluent_syntax.specs.View
+pub mod Counts
+pub mod Made
+pub mod Texts
+pub mod Answering
+pub mod Arguments
+pub mod Bundles
+pub mod Statuses

@@ -1,0 +1,130 @@
+//! The arguments of a message, as a caller that isn't Rattle hands them over.
+
+ghost use Rattle.std.specs.Prelude.{◌≡◌, [], IfErr, IfOk, OnOk, map};
+ghost use Rattle.fluent_run.specs.DeskView.{arguments_view};
+ghost use Rattle.fluent_value.specs.Args.{all_set};
+ghost use Rattle.fluent_c.specs.Arguments.{AreRefusedFor, AreTaken, IsRefusedFor, IsTaken, number_given, pair_of, value_given, value_seen, with_given};
+ghost use Rattle.fluent_c.specs.declared.arguments.ArgumentRefusal.TheVariants.{Memory};
+
+use crate::{FLUENT_DECIMAL, FLUENT_INTEGER, FLUENT_TEXT, FLUENT_UNSIGNED};
+use fluent_number::FluentNumber;
+use fluent_value::{FluentArgs, FluentValue, NoCustom};
+use simdutf8::basic::from_utf8;
+use std::alloc::{AllocError, Global};
+use std::borrow::CowStr;
+
+/// An argument: its name, and a text, a decimal or an integer, as its kind says.
+///
+/// ```c
+/// return (struct FluentArgument){
+///     .name = bytes_of(name), .name_len = strlen(name), .text = bytes_of(""), .integer = integer, .kind = FLUENT_INTEGER};
+/// ```
+#[repr(C)]
+#[derive(Clone, Copy)]
+pub struct FluentArgument<'a> {
+    pub name: &'a [u8],
+    /// The text, also if it looks like a number, or the decimal as it is written.
+    pub text: &'a [u8],
+    pub integer: i64,
+    pub unsigned: u64,
+    /// [`FLUENT_TEXT`], [`FLUENT_DECIMAL`], [`FLUENT_INTEGER`] or [`FLUENT_UNSIGNED`].
+    pub kind: u32,
+}
+
+/// Why arguments aren't taken.
+#[derive(Clone, Copy)]
+pub(crate) enum ArgumentRefusal {
+    /// Memory ran out.
+    Memory = 1,
+    /// A name or a text isn't UTF-8.
+    NotUtf8 = 2,
+    /// A kind isn't known, or a decimal is no number.
+    NoValue = 3,
+}
+
+impl From<AllocError> for ArgumentRefusal {
+    ghost from_gives = { λ _ refusal. refusal ≡ Memory };
+
+    fn from(_error: AllocError) -> ArgumentRefusal {
+        ArgumentRefusal::Memory
+    }
+}
+
+/// The value of an argument whose text is UTF-8, or `None` if it has none.
+fn value_of<'a>(argument: &FluentArgument<'a>, text: &'a str) -> Option<FluentValue<'a, NoCustom>>
+    requires { text.now ≡ argument.now.text.now }
+    ensures { value_seen result ≡ value_given argument.now }
+{
+    if argument.kind == FLUENT_TEXT {
+        return Some(FluentValue::String(CowStr::Borrowed(text)));
+    }
+    if argument.kind == FLUENT_DECIMAL {
+        return number_of(text);
+    }
+    if argument.kind == FLUENT_INTEGER {
+        return Some(FluentValue::from(argument.integer));
+    }
+    if argument.kind == FLUENT_UNSIGNED {
+        return Some(FluentValue::from(argument.unsigned));
+    }
+    None
+}
+
+/// The number that a text is, if it is one.
+fn number_of<'a>(text: &'a str) -> Option<FluentValue<'a, NoCustom>>
+    ensures { value_seen result ≡ number_given text.now }
+{
+    match text.parse::<FluentNumber>() {
+        Ok(number) => Some(FluentValue::Number(number)),
+        Err(_) => None,
+    }
+}
+
+/// Sets an argument.
+///
+/// # Errors
+/// [`ArgumentRefusal::NotUtf8`] if its name or its text isn't UTF-8, [`ArgumentRefusal::NoValue`] if it has no value, and
+/// [`ArgumentRefusal::Memory`] if memory runs out; the arguments are unchanged.
+fn set<'a>(
+    arguments: &mut FluentArgs<'a, NoCustom>,
+    argument: &FluentArgument<'a>,
+) -> Result<(), ArgumentRefusal>
+    ensures set { OnOk result (arguments_view arguments.new
+        ≡ with_given argument.now (arguments_view arguments.old)) }
+    ensures taken { OnOk result (IsTaken argument.now) }
+    ensures refused { IfErr result (IsRefusedFor argument.now) }
+{
+    let Ok(name) = std::str::from_utf8(argument.name) else {
+        return Err(ArgumentRefusal::NotUtf8);
+    };
+    let Ok(text) = from_utf8(argument.text) else {
+        return Err(ArgumentRefusal::NotUtf8);
+    };
+    let Some(value) = value_of(argument, text) else {
+        return Err(ArgumentRefusal::NoValue);
+    };
+    match arguments.set(CowStr::Borrowed(name), value) {
+        Ok(()) => Ok(()),
+        Err(_) => Err(ArgumentRefusal::Memory),
+    }
+}
+
+/// The arguments by their names. Of arguments with one name the last counts.
+///
+/// # Errors
+/// Those of [`set`], for the first argument that isn't taken.
+pub(crate) fn arguments_of<'a>(
+    alloc: Global,
+    given: &[FluentArgument<'a>],
+) -> Result<FluentArgs<'a, NoCustom>, ArgumentRefusal>
+    ensures set { IfOk result (λ arguments. arguments_view arguments
+        ≡ all_set [] (map pair_of given.now)) }
+    ensures taken { OnOk result (AreTaken given.now) }
+    ensures refused { IfErr result (AreRefusedFor given.now) }
+{
+    let mut arguments = FluentArgs::new(alloc);
+    for argument in given {
+        set(&mut arguments, argument)?;
+    }
+    Ok(arguments)
+}

@@ -1,0 +1,91 @@
+use Rattle.std.proofs.lemmas.Result.{IfErr-weaker}
+use Rattle.std.proofs.Common.{ap}
+use Rattle.fluent_serve.proofs.Outcomes.{on_ok_always}
+use Rattle.ftl_arguments.specs.CommandView.{command_view}
+use Rattle.ftl_command.proofs.Refusals.{text_devices}
+use Rattle.ftl_command.proofs.RunLemmas.{done_by, first_by, kept_by, never_by}
+use Rattle.ftl_command.specs.declared.fault.Fault.TheVariants.{Input, Memory}
+use Rattle.std.specs.Prelude.{Some}
+use Rattle.ftl_command.proofs.commands.do_command.Goals as goal
+
+pub returns-in-Run-clause-ended : goal.returns-in-Run-clause-ended
+returns-in-Run-clause-ended g c =
+    let files = c.deref.ensures.value in
+    rw c.in-Run.is (record {
+      done = done_by c.run_files.result _ c.run_files.ensures.ended (rw files at c.run_files.ensures.ran.answered);
+      tidied = rw files at c.run_files.ensures.ran.tidied;
+      memory = λ memory. first_by _ _ _ _ (rw files at (c.run_files.ensures.ran.memory memory));
+      input = λ input. rw files at (c.run_files.ensures.ran.input input);
+      output = λ output. rw files at (c.run_files.ensures.ran.output output);
+    })
+
+pub returns-in-Run-clause-devices : goal.returns-in-Run-clause-devices
+returns-in-Run-clause-devices g c =
+    rw c.in-Run.is (record {
+      opens = c.run_files.ensures.opens;
+      reads = c.run_files.ensures.reads;
+      writes = c.run_files.ensures.writes;
+      fault = rw c.deref.ensures.value at c.run_files.ensures.fault;
+      stops = c.run_files.ensures.stops;
+    })
+
+pub returns-in-Format-clause-ended : goal.returns-in-Format-clause-ended
+returns-in-Format-clause-ended g c =
+    rw c.in-Format.is (record {
+      done = c.write_formatted.ensures.ended.written;
+      tidied = on_ok_always c.write_formatted.result tt;
+      memory = λ memory. ap g.O.Sink.contents (kept_by c.write_formatted.result Memory memory (λ same. absurd cc) (IfErr-weaker c.write_formatted.result _ _ (λ fault f. f.unwritten) c.write_formatted.ensures.stops));
+      input = λ input. never_by c.write_formatted.result Input input (IfErr-weaker c.write_formatted.result _ _ (λ fault f. f.not_input) c.write_formatted.ensures.stops);
+      output = λ output. c.write_formatted.ensures.ended.output output;
+    })
+
+pub returns-in-Format-clause-devices : goal.returns-in-Format-clause-devices
+returns-in-Format-clause-devices g c =
+    rw c.in-Format.is (text_devices g.F.Folder g.I.Source g.O.Sink c.args.reader.now c.args.writer.now _ c.args.folder.now c.write_formatted.new.folder c.write_formatted.new.writer
+    c.write_formatted.result c.write_formatted.ensures.works c.write_formatted.ensures.fault c.write_formatted.ensures.stops)
+
+pub returns-in-Check-clause-ended : goal.returns-in-Check-clause-ended
+returns-in-Check-clause-ended g c =
+    let files = c.deref-in-Check.ensures.value in
+    rw c.in-Check.is (record {
+      done = rw files at c.check_files.ensures.ended.checked;
+      tidied = on_ok_always c.check_files.result tt;
+      memory = λ memory. ap g.O.Sink.contents (kept_by c.check_files.result Memory memory (λ same. absurd cc) (IfErr-weaker c.check_files.result _ _ (λ fault f. f.unwritten) c.check_files.ensures.stops));
+      input = λ input. never_by c.check_files.result Input input (IfErr-weaker c.check_files.result _ _ (λ fault f. f.not_input) c.check_files.ensures.stops);
+      output = λ output. rw files at (c.check_files.ensures.ended.output output);
+    })
+
+pub returns-in-Check-clause-devices : goal.returns-in-Check-clause-devices
+returns-in-Check-clause-devices g c =
+    rw c.in-Check.is (text_devices g.F.Folder g.I.Source g.O.Sink c.args.reader.now c.args.writer.now _ c.args.folder.now c.check_files.new.folder c.check_files.new.writer
+    c.check_files.result c.check_files.ensures.works (rw c.deref-in-Check.ensures.value at c.check_files.ensures.fault) c.check_files.ensures.stops)
+
+pub returns-in-Lint-clause-ended : goal.returns-in-Lint-clause-ended
+returns-in-Lint-clause-ended g c =
+    rw c.in-Lint.is (record {
+      done = c.lint_files.ensures.ended.linted;
+      tidied = on_ok_always c.lint_files.result tt;
+      memory = λ memory. ap g.O.Sink.contents (kept_by c.lint_files.result Memory memory (λ same. absurd cc) (IfErr-weaker c.lint_files.result _ _ (λ fault f. f.unwritten) c.lint_files.ensures.stops));
+      input = λ input. never_by c.lint_files.result Input input (IfErr-weaker c.lint_files.result _ _ (λ fault f. f.not_input) c.lint_files.ensures.stops);
+      output = λ output. c.lint_files.ensures.ended.output output;
+    })
+
+pub returns-in-Lint-clause-devices : goal.returns-in-Lint-clause-devices
+returns-in-Lint-clause-devices g c =
+    rw c.in-Lint.is (text_devices g.F.Folder g.I.Source g.O.Sink c.args.reader.now c.args.writer.now _ c.args.folder.now c.lint_files.new.folder c.lint_files.new.writer
+    c.lint_files.result c.lint_files.ensures.works c.lint_files.ensures.fault c.lint_files.ensures.stops)
+
+pub returns-in-Tidy-clause-ended : goal.returns-in-Tidy-clause-ended
+returns-in-Tidy-clause-ended g c =
+    rw c.in-Tidy.is (record {
+      done = done_by c.write_tidied.result _ c.write_tidied.ensures.ended c.write_tidied.ensures.tidied.written;
+      tidied = on_ok_always c.write_tidied.result tt;
+      memory = λ memory. ap g.O.Sink.contents (kept_by c.write_tidied.result Memory memory (λ same. absurd cc) (IfErr-weaker c.write_tidied.result _ _ (λ fault f. f.unwritten) c.write_tidied.ensures.stops));
+      input = λ input. never_by c.write_tidied.result Input input (IfErr-weaker c.write_tidied.result _ _ (λ fault f. f.not_input) c.write_tidied.ensures.stops);
+      output = λ output. c.write_tidied.ensures.tidied.output output;
+    })
+
+pub returns-in-Tidy-clause-devices : goal.returns-in-Tidy-clause-devices
+returns-in-Tidy-clause-devices g c =
+    rw c.in-Tidy.is (text_devices g.F.Folder g.I.Source g.O.Sink c.args.reader.now c.args.writer.now _ c.args.folder.now c.write_tidied.new.folder c.write_tidied.new.writer
+    c.write_tidied.result c.write_tidied.ensures.works c.write_tidied.ensures.fault c.write_tidied.ensures.stops)

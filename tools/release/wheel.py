@@ -1,0 +1,69 @@
+#!/usr/bin/env python3
+"""Makes the wheel of the Python module, with the shared library inside.
+
+    wheel.py BINDINGS LIBRARY VERSION OUT
+
+A wheel is a zip file with a record of its files. This one is made from sorted files with one time, so that the same
+commit gives the same bytes, and needs no build backend.
+"""
+import base64
+import hashlib
+import os
+import sys
+import time
+import zipfile
+from pathlib import Path
+
+TAG = 'py3-none-linux_x86_64'
+
+
+def metadata(version):
+    return (
+        'Metadata-Version: 2.1\n'
+        'Name: kozhvadi\n'
+        f'Version: {version}\n'
+        'Summary: Fluent messages from a proved library\n'
+        'Requires-Python: >=3.10\n'
+    ).encode()
+
+
+def wheel():
+    return f'Wheel-Version: 1.0\nGenerator: kozhvadi\nRoot-Is-Purelib: false\nTag: {TAG}\n'.encode()
+
+
+def record(files, name):
+    def line(path, data):
+        digest = base64.urlsafe_b64encode(hashlib.sha256(data).digest()).rstrip(b'=').decode()
+        return f'{path},sha256={digest},{len(data)}\n'
+
+    return ''.join(line(path, data) for path, data in sorted(files.items())).encode() + f'{name},,\n'.encode()
+
+
+def contents(bindings, library, version):
+    package = bindings / 'kozhvadi'
+    files = {
+        f'kozhvadi/{path.relative_to(package)}': path.read_bytes()
+        for path in package.rglob('*')
+        if path.suffix in ('.py', '.pyi', '.typed') or path.name == 'py.typed'
+    }
+    files['kozhvadi/libfluent_c.so'] = library.read_bytes()
+    info = f'kozhvadi-{version}.dist-info'
+    files[f'{info}/METADATA'] = metadata(version)
+    files[f'{info}/WHEEL'] = wheel()
+    files[f'{info}/RECORD'] = record(files, f'{info}/RECORD')
+    return files
+
+
+def main():
+    bindings, library, version, out = Path(sys.argv[1]), Path(sys.argv[2]), sys.argv[3], Path(sys.argv[4])
+    moment = time.gmtime(max(int(os.environ.get('SOURCE_DATE_EPOCH', '315532800')), 315532800))[:6]
+    with zipfile.ZipFile(out / f'kozhvadi-{version}-{TAG}.whl', 'w', zipfile.ZIP_DEFLATED) as made:
+        for path, data in sorted(contents(bindings, library, version).items()):
+            entry = zipfile.ZipInfo(path, moment)
+            entry.compress_type = zipfile.ZIP_DEFLATED
+            entry.external_attr = (0o755 if path.endswith('.so') else 0o644) << 16
+            made.writestr(entry, data)
+
+
+if __name__ == '__main__':
+    main()

@@ -1,0 +1,119 @@
+#!/usr/bin/env python3
+"""Runs the rows of tests/rows over a built program, and compares what comes of each with what the row says.
+
+    tools/rows.py [PROGRAM [FILE..]]
+
+PROGRAM is crates/ftl/out/ftl, and FILE is each .jsonl of tests/rows, unless they are given. A line of a file is a row: an
+object that tests/rows/README.md describes. Each row runs in a new folder with its files, which must be left as they were. The
+last line is 'N passed, M failed', and the status is 1 if anything failed.
+"""
+import json
+import os
+import pathlib
+import subprocess
+import sys
+import tempfile
+
+TOP = pathlib.Path(__file__).resolve().parent.parent
+ROWS = TOP / "tests" / "rows"
+SECONDS = 60
+
+
+def is_name(text):
+    """Whether a file of this name lies in the folder of its row."""
+    return text != "" and not text.startswith("/") and ".." not in text.split("/")
+
+
+WANTED = {
+    "words": lambda it: type(it) is list and all(type(word) is str for word in it),
+    "status": lambda it: type(it) is int,
+    "stdout": lambda it: type(it) is str,
+    "stderr": lambda it: type(it) is str,
+}
+FREE = {
+    "what": lambda it: type(it) is str,
+    "files": lambda it: type(it) is dict and all(is_name(key) and type(it[key]) in (str, type(None)) for key in it),
+    "stdin": lambda it: type(it) in (str, type(None)),
+    "full": lambda it: type(it) is bool,
+}
+
+
+def checked(line):
+    """The row of a line. ValueError if it is none."""
+    row = json.loads(line)
+    if type(row) is not dict:
+        raise ValueError("it is no object")
+    if strange := sorted(row.keys() - WANTED.keys() - FREE.keys()):
+        raise ValueError(f"nothing is known of {strange}")
+    for key, is_right in {**WANTED, **FREE}.items():
+        if key in row and not is_right(row[key]) or key in WANTED and key not in row:
+            raise ValueError(f"`{key}` is missing, or of another kind")
+    return row
+
+
+def bytes_of(row):
+    """The bytes of the row's files by their names."""
+    shared = ROWS / "files"
+    files = row.get("files", {}).items()
+    return {name: (shared / name).read_bytes() if text is None else text.encode() for name, text in files}
+
+
+def bytes_in(folder):
+    return {str(it.relative_to(folder)): it.read_bytes() for it in folder.rglob("*") if it.is_file()}
+
+
+def ended(program, row, folder):
+    """How the program ends that runs on the row in this folder: its status, its output and its errors."""
+    given = row.get("stdin", "")
+    # A folder can be opened, and not read.
+    source = os.open(folder, os.O_RDONLY) if given is None else subprocess.PIPE
+    target = os.open("/dev/full", os.O_WRONLY) if row.get("full") else subprocess.PIPE
+    devices = {"stdin": source, "stdout": target, "stderr": subprocess.PIPE}
+    with subprocess.Popen([program, *row["words"]], cwd=folder, env={}, **devices) as run:
+        try:
+            output, errors = run.communicate(given and given.encode(), timeout=SECONDS)
+        except subprocess.TimeoutExpired:
+            run.kill()
+            output, errors = run.communicate()
+    for it in {source, target} - {subprocess.PIPE}:
+        os.close(it)
+    return {"status": run.returncode, "stdout": output or b"", "stderr": errors}
+
+
+def differences(program, line):
+    """What came otherwise than the row of a line wants, a text each."""
+    row = checked(line)
+    wanted = {"status": row["status"], "stdout": row["stdout"].encode(), "stderr": row["stderr"].encode()}
+    with tempfile.TemporaryDirectory() as name:
+        folder = pathlib.Path(name)
+        files = bytes_of(row)
+        for file, text in files.items():
+            (folder / file).parent.mkdir(parents=True, exist_ok=True)
+            (folder / file).write_bytes(text)
+        came = ended(program, row, folder)
+        found = [f"{key}: wanted {wanted[key]!r}, came {came[key]!r}" for key in wanted if wanted[key] != came[key]]
+        return found + ["its files are others"] * (bytes_in(folder) != files)
+
+
+def main(program=TOP / "crates" / "ftl" / "out" / "ftl", *files):
+    program, passed, failed = os.path.abspath(program), 0, 0
+    if not os.access(program, os.X_OK):
+        sys.exit(f"tools/rows.py: there is no program {program}")
+    for file in map(pathlib.Path, files or sorted(ROWS.glob("*.jsonl"))):
+        for number, line in enumerate(file.read_bytes().splitlines(), 1):
+            try:
+                found = differences(program, line)
+            except (ValueError, OSError) as error:
+                found = [f"it isn't run: {error}"]
+            passed, failed = passed + (not found), failed + bool(found)
+            for it in found:
+                print(f"{os.path.relpath(file)}:{number}: {it}")
+    if passed + failed == 0:
+        print("there are no rows")
+        failed = 1
+    print(f"{passed} passed, {failed} failed")
+    return failed > 0
+
+
+if __name__ == "__main__":
+    sys.exit(main(*sys.argv[1:]))
