@@ -8,7 +8,6 @@ use Rattle.fluent_resource.specs.Sources.{texts}
 use Rattle.lint_findings.specs.Findings.{FileFinding}
 use Rattle.lint_findings.specs.Output as out
 use Rattle.lint_findings.specs.Report.{has_failed, shown}
-use Rattle.lint_report.specs.Formats.{format_view}
 use Rattle.lint_report.specs.View.{shown_width}
 use Rattle.fluent_lint.proofs.linting.report_on.Goals as goal
 
@@ -20,12 +19,11 @@ returns c =
     let made : Text → Bool → LintReport = λ text failed. record { text = text; has_failed = failed } in
     let all_by : List (Bor Text) → List FileFinding = λ functions. all_findings (record { functions = texts functions; plurals = c.args.plurals }) references files in
     let text_by : List (Bor Text) → out.Format → Text = λ functions format.
-        out.output format shown_width (shown lint.notes (all_by functions)) (all_summaries references files (all_by functions)) in
+    out.output format shown_width (shown lint.notes (all_by functions)) (all_summaries references files (all_by functions)) in
     let made_by : List (Bor Text) → out.Format → LintReport = λ functions format. made (text_by functions format) (has_failed lint.strict (all_by functions)) in
     IfOk-weaker c.report_findings.result _ _
     (λ report is.
-        ap (λ text. made text report.has_failed) is.text
-        ∙ ap (made (text_by c.deref.result.now (format_view c.format_of.result))) is.failed
-        ∙ ap (λ functions. made_by functions (format_view c.format_of.result)) c.deref.ensures.value
-        ∙ ap (made_by c.args.lint.now.functions.items) c.format_of.ensures)
+    ap (λ text. made text report.has_failed) is.text
+    ∙ ap (made (text_by c.deref.result.now lint.format)) is.failed
+    ∙ ap (λ functions. made_by functions lint.format) c.deref.ensures.value)
     c.report_findings.ensures
