@@ -32,10 +32,10 @@ fn try_calls_of(alloc: Global, chain: &str) -> Result<Tally, AllocError> {
 }
 
 /// The same, where the sources are read.
-fn try_calls_in(
+fn try_calls_in<'r, 's>(
     alloc: Global,
-    resource: &FluentResource<'_>,
-    chain: &FluentResource<'_>,
+    resource: &'r FluentResource<'s>,
+    chain: &'r FluentResource<'s>,
 ) -> Result<Tally, AllocError> {
     let mut bundle = Plain::new(alloc, Vec::new(alloc), EnglishPlurals);
     if bundle.add_resource(resource).is_err() || bundle.add_resource(chain).is_err() {
@@ -95,12 +95,18 @@ fn are_kinds(alloc: Global, bundle: &Plain<'_, '_>) -> Result<bool, AllocError> 
         return Ok(false);
     };
     let is_text = ReferenceKind::of(alloc, text)?.is_none();
-    Ok(match ReferenceKind::of(alloc, term)? {
+    let kind = ReferenceKind::of(alloc, term)?;
+    Ok(is_text && is_attribute(&kind))
+}
+
+/// Whether this is the attribute `c` of the term `b`.
+fn is_attribute(kind: &Option<ReferenceKind>) -> bool {
+    match kind {
         Some(ReferenceKind::Term { id, attribute }) => {
-            is_text && id.as_str() == "b" && attribute.as_deref() == Some("c")
+            id.as_str() == "b" && attribute.as_deref() == Some("c")
         }
         _ => false,
-    })
+    }
 }
 
 /// Whether what stands for an attribute that isn't there is written, and told.
@@ -206,9 +212,9 @@ fn is_told(alloc: Global, bundle: &Plain<'_, '_>) -> Result<bool, AllocError> {
 }
 
 /// Adds an error to a scope with this list.
-fn add_error(
-    bundle: &Plain<'_, '_>,
-    errors: Option<&mut Vec<FluentError>>,
+fn add_error<'a>(
+    bundle: &'a Plain<'_, '_>,
+    errors: Option<&'a mut Vec<FluentError>>,
 ) -> Result<(), AllocError> {
     let mut scope = Scope::new(bundle, None, errors);
     scope.add_error(ResolverError::Cyclic)
