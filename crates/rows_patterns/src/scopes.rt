@@ -206,17 +206,20 @@ fn is_bounded(alloc: Global, bundle: &Plain<'_, '_>) -> Result<bool, AllocError>
 /// Whether an error is put in the list of a scope, if it has one.
 fn is_told(alloc: Global, bundle: &Plain<'_, '_>) -> Result<bool, AllocError> {
     let mut errors = Vec::new(alloc);
-    add_error(bundle, Some(&mut errors))?;
-    add_error(bundle, None)?;
+    add_error(bundle, &mut errors)?;
+    add_error_unheard(bundle)?;
     is_one(alloc, &errors, "Cyclical dependency detected")
 }
 
 /// Adds an error to a scope with this list.
-fn add_error<'a>(
-    bundle: &'a Plain<'_, '_>,
-    errors: Option<&'a mut Vec<FluentError>>,
-) -> Result<(), AllocError> {
-    let mut scope = Scope::new(bundle, None, errors);
+fn add_error(bundle: &Plain<'_, '_>, errors: &mut Vec<FluentError>) -> Result<(), AllocError> {
+    let mut scope = Scope::new(bundle, None, Some(errors));
+    scope.add_error(ResolverError::Cyclic)
+}
+
+/// Adds an error to a scope without a list.
+fn add_error_unheard(bundle: &Plain<'_, '_>) -> Result<(), AllocError> {
+    let mut scope = Scope::new(bundle, None, None);
     scope.add_error(ResolverError::Cyclic)
 }
 
