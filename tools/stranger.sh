@@ -111,7 +111,7 @@ use kozhvadi::{FluentArgs, FluentBundle, FluentResource};
 
 fn main() {
     let resource = FluentResource::try_new("hello = Hello, { $name }!".to_string()).expect("the source is right");
-    let mut bundle = FluentBundle::new(vec!["en".parse().expect("a tag")]);
+    let mut bundle = FluentBundle::new(vec!["en"]);
     bundle.set_use_isolating(false);
     bundle.add_resource(resource).expect("no id is taken");
     let mut args = FluentArgs::new();
