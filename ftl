@@ -100,6 +100,7 @@ provide() {
     trap 'exit 130' INT
     trap 'exit 143' TERM
     echo "ftl: $1, so its $count crates are proved first, once; the log is $log" >&2
+    echo "ftl: a first look without the proofs takes two minutes: README.md, 'Get it'" >&2
     [ ! -x "$program" ] || echo "ftl: with --no-build as its first word, ftl takes the program as it is" >&2
     if [ -t 2 ]; then
         watch "$log" "$count" >&2 &

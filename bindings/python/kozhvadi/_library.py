@@ -89,7 +89,10 @@ def _opened() -> ctypes.CDLL:
     try:
         return ctypes.CDLL(str(path))
     except OSError as error:
-        advice = "make it by bindings/python/run.sh, or name another file in KOZHVADI_LIBRARY"
+        advice = (
+            "the wheel of a release has it inside; in the repository bindings/build.sh and then bindings/python/run.sh "
+            "make it; KOZHVADI_LIBRARY names another file"
+        )
         raise ImportError(f"the library {path} can't be loaded ({error}): {advice}") from error
 
 
