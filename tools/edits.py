@@ -139,8 +139,15 @@ def function_at(lines, line):
                     or at == first and lines[at - 1].endswith('}'))
             last = next(ends, first)
             if line <= last:
-                return head[2], first, last
+                return head[2], with_attributes(lines, first), last
     return None
+
+
+def with_attributes(lines, first):
+    """The line where a function begins, with its attributes: the prover names a goal of the whole function there."""
+    while first > 1 and lines[first - 2].lstrip().startswith('#['):
+        first -= 1
+    return first
 
 
 def used_crates():
