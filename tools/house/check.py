@@ -180,7 +180,7 @@ def prose_of(page):
 def wrong_links():
     for page in [*PAGES, *sorted(ROOT.glob('bindings/**/*.md'))]:
         for number, line in prose_of(page):
-            for link in re.findall(r'\]\(([^)\s]+)\)', line):
+            for link in re.findall(r'\]\((?!https:)([^)\s]+)\)', line):
                 path, _, heading = link.partition('#')
                 target = (page.parent / path).resolve() if path else page
                 if not target.exists():

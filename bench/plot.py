@@ -1,0 +1,101 @@
+#!/usr/bin/env python3
+"""Makes the table and the chart of the benchmarks from their results, bench/results.json.
+
+    bench/plot.py [--check]
+
+A result has the keys `what`, `least` and `most`, the ratios between which several runs lay: Rust's time by ours. If peak
+memory was measured, `megabytes` has ours and Rust's. `bar` is its name in the chart, which has only results with one.
+
+Writes the chart docs/images/speed.svg and the table of docs/inside/speed.md. `--check` writes nothing, and ends with 1 if
+either isn't that of the results.
+"""
+import json
+import sys
+from html import escape
+from pathlib import Path
+
+ROOT = Path(__file__).resolve().parents[1]
+RESULTS = ROOT / 'bench/results.json'
+CHART = ROOT / 'docs/images/speed.svg'
+PAGE = ROOT / 'docs/inside/speed.md'
+TABLE_HEAD = '| What | Ratio | Peak memory, ours and Rust\'s, MB |\n|---|---|---|\n'
+# Lengths in the chart, in pixels: the column of names, one time Rust's speed, a row, a bar, what is above the first row.
+NAMES, UNIT, ROW, BAR, HEAD = 250, 130, 26, 14, 40
+STYLE = '''
+    text { font: 13px system-ui, sans-serif; fill: #24292f }
+    .least { fill: #2f6f4f } .most { fill: #2f6f4f; opacity: .35 } .slower { fill: #a1542b }
+    .one { stroke: #24292f; stroke-dasharray: 4 3 }
+    @media (prefers-color-scheme: dark) {
+        text { fill: #e6edf3 } .one { stroke: #e6edf3 }
+        .least { fill: #5fb58a } .most { fill: #5fb58a } .slower { fill: #d98a5f }
+    }
+'''
+
+
+def ratios(result):
+    """The ratios of a result in words: one, or the least and the greatest."""
+    least, most = f'{result["least"]:.2f}', f'{result["most"]:.2f}'
+    return least if least == most else f'{least} to {most}'
+
+
+def table(results):
+    def row(result):
+        memory = ', '.join(map(str, result.get('megabytes', ())))
+        return f'| {result["what"]} | {ratios(result)} |{f" {memory} " if memory else " "}|\n'
+
+    return TABLE_HEAD + ''.join(map(row, results))
+
+
+def bar(result, number):
+    """The row of one result, as elements of SVG."""
+    top = HEAD + number * ROW
+    middle = top + BAR - 3
+    kind = 'least' if result['most'] >= 1 else 'slower'
+    end = NAMES + max(result['most'], 1) * UNIT
+    return (f'  <text x="{NAMES - 10}" y="{middle}" text-anchor="end">{escape(result["bar"])}</text>\n'
+            f'  <rect class="{kind}" x="{NAMES}" y="{top}" width="{result["least"] * UNIT:.0f}" height="{BAR}"/>\n'
+            f'  <rect class="most" x="{NAMES + result["least"] * UNIT:.0f}" y="{top}" '
+            f'width="{(result["most"] - result["least"]) * UNIT:.0f}" height="{BAR}"/>\n'
+            f'  <text x="{end + 8:.0f}" y="{middle}">{ratios(result)}</text>\n')
+
+
+def chart(results):
+    shown = [result for result in results if 'bar' in result]
+    width = NAMES + max(result['most'] for result in shown) * UNIT + 110
+    height = HEAD + len(shown) * ROW + 10
+    one = NAMES + UNIT
+    return (f'<svg xmlns="http://www.w3.org/2000/svg" viewBox="0 0 {width:.0f} {height}" role="img">\n'
+            f'  <title>How many times as fast as the Rust crates: {escape(told(shown))}</title>\n'
+            f'  <style>{STYLE}  </style>\n'
+            f'{"".join(bar(result, number) for number, result in enumerate(shown))}'
+            f'  <line class="one" x1="{one}" y1="{HEAD - 12}" x2="{one}" y2="{height - 10}"/>\n'
+            f'  <text x="{one}" y="{HEAD - 18}" text-anchor="middle">as fast as Rust</text>\n'
+            f'</svg>\n')
+
+
+def told(shown):
+    """The chart in words, for those who don't see it."""
+    return '; '.join(f'{result["bar"]} {ratios(result)}' for result in shown)
+
+
+def made(results):
+    """What each file is to hold."""
+    page = PAGE.read_text()
+    start = page.index(TABLE_HEAD)
+    end = page.index('\n\n', start) + 1
+    return {CHART: chart(results), PAGE: page[:start] + table(results) + page[end:]}
+
+
+def main():
+    files = made(json.loads(RESULTS.read_text()))
+    if sys.argv[1:] == ['--check']:
+        wrong = [file for file, text in files.items() if not file.exists() or file.read_text() != text]
+        print(*(f'{file.relative_to(ROOT)} is not that of the results: run bench/plot.py' for file in wrong), sep='\n')
+        print(f'{len(files) - len(wrong)} passed, {len(wrong)} failed')
+        sys.exit(bool(wrong))
+    for file, text in files.items():
+        file.parent.mkdir(exist_ok=True)
+        file.write_text(text)
+
+
+main()
