@@ -7,7 +7,7 @@ Each block of code in a page is cut from an example, and each in the doc comment
 crate that the gate proves or tries, unless its fence is `no_run`: such a block was only tried once. Each public type that
 programs use has a block. Each link leads to a file and a heading that are there, and so does each path in `crates` that a
 page names; each page that a comment names is there; no line of prose in a page is wider than 120 columns; no page has words
-that the glossary leaves out, and no comment of the code has "behind" for "after"; each call in a shell block of a page prints
+that docs/style.md leaves out, and no comment of the code has "behind" for "after"; each call in a shell block of a page prints
 what follows it there; each public call that can fail says how, under `# Errors`; no clause is longer than 200 characters, and
 at most 33 are longer than 120; each file that names the version names the same one; the counts of crates and functions in
 the pages on proofs are those of the sources, and each law that is named is there.
@@ -33,7 +33,7 @@ PRIVATE = re.compile(r'^(example|rows_|all_rows)')
 LONGEST_CLAUSE, LONG_CLAUSE, LONG_CLAUSES = 200, 120, 33
 WIDEST = 120
 PROGRAM = ROOT / 'crates/ftl/out/ftl'
-GLOSSARY = ROOT / 'docs/glossary.md'
+STYLE = ROOT / 'docs/style.md'
 # The crates that programs call, with those whose types they pass on, and the types of these that only crates of this
 # repository use.
 CALLED = '''
@@ -204,8 +204,8 @@ def wide_prose():
 
 
 def words_left_out():
-    """The words of the first column of the glossary's first table of words to leave out."""
-    table = GLOSSARY.read_text().partition('## Words to leave out')[2].partition('`tools/')[0]
+    """The words of the first column of the first table of words to leave out."""
+    table = STYLE.read_text().partition('## Words to leave out')[2].partition('`tools/')[0]
     rows = re.findall(r'^\| ([^|]+) \|', table, re.M)[1:]
     return [word for row in rows for word in row.split(', ')]
 
@@ -213,9 +213,9 @@ def words_left_out():
 def wrong_words():
     left_out = re.compile(r'\b(' + '|'.join(map(re.escape, words_left_out())) + r')\b', re.I)
     for page in PAGES:
-        for number, line in prose_of(page) if page != GLOSSARY else ():
+        for number, line in prose_of(page) if page != STYLE else ():
             for word in left_out.findall(re.sub(r'`[^`]*`|\]\([^)]*\)', '', line)):
-                yield f'{place_of(page, number)}: the glossary leaves out "{word}"'
+                yield f'{place_of(page, number)}: the style leaves out "{word}"'
 
 
 def wrong_comments():
@@ -223,7 +223,7 @@ def wrong_comments():
         for number, line in enumerate(path.read_text().split('\n'), 1):
             comment = re.search(r'(?:^|\s)//[/!]?(.*)', line)
             if comment and re.search(r'\bbehind\b', GOOD_BEHIND.sub('', comment.group(1)), re.I):
-                yield f'{place_of(path, number)}: the glossary leaves out "behind"'
+                yield f'{place_of(path, number)}: the style leaves out "behind"'
 
 
 def versions_named():
