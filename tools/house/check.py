@@ -26,7 +26,7 @@ from pathlib import Path
 OPTIONS = [word for word in sys.argv[1:] if word.startswith('--')]
 FOLDERS = [word for word in sys.argv[1:] if not word.startswith('--')]
 ROOT = Path(FOLDERS[0] if FOLDERS else Path(__file__).parents[2]).resolve()
-PAGES = [page for files in ('*.md', 'docs/**/*.md', 'crates/*/CALLING.md') for page in sorted(ROOT.glob(files))]
+PAGES = [page for files in ('*.md', 'docs/**/*.md', 'bindings/**/*.md', 'crates/*/CALLING.md') for page in sorted(ROOT.glob(files))]
 SOURCES = sorted(ROOT.glob('crates/*/src/**/*.rt'))
 # Crates of rows and examples: nobody calls them.
 PRIVATE = re.compile(r'^(example|rows_|all_rows)')
@@ -60,7 +60,7 @@ EXAMPLES = {
     '': [*(f'crates/{crate}/src/**/*.rt' for crate in ('example*', 'rows_*', 'ftl_*', 'fluent_c')),
          'tests/more_rows/src/**/*.rt.txt'],
     'rust': ['crates/example*/src/**/*.rt', 'bindings/rust/README.md'],
-    'c': ['*s/c/*.c'],
+    'c': ['*s/c/*.c', 'bindings/c/README.md'],
     'python': ['examples/python/*.py', 'bindings/python/README.md'],
 }
 # What parts a program's `main.rt` from its module in the crate `examples`: a line of root files, and that its `main` is called.
@@ -178,7 +178,7 @@ def prose_of(page):
 
 
 def wrong_links():
-    for page in [*PAGES, *sorted(ROOT.glob('bindings/**/*.md'))]:
+    for page in PAGES:
         for number, line in prose_of(page):
             for link in re.findall(r'\]\((?!https:)([^)\s]+)\)', line):
                 path, _, heading = link.partition('#')
