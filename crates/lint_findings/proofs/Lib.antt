@@ -21,4 +21,7 @@ pub mod OccurrencesAreRead
 pub mod OccurrencesAreTheNodes
 pub mod PatternPlaces
 pub mod Translations
-pub mod DuplicateKeys
+pub mod RepeatedKeys
+pub mod SourcePlaces
+pub mod EachFinding
+pub mod FindingsHold

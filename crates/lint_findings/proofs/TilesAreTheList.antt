@@ -5,9 +5,8 @@ use Rattle.fluent_grammar.specs.Refusal.{Reading, got, refused}
 use Rattle.fluent_grammar.specs.Tree as t
 use Rattle.fluent_grammar.specs.Reading.{entry_at}
 use Rattle.fluent_grammar.specs.Tiling.{Piece, and_pieces, pieces_from, entries_of, error_of, errors_of, waiting, left_alone, listed}
-use Rattle.lint_findings.specs.Tiles.{Tile, entry_tile, junk_tile, tiles, and_tiles, tiles_from}
-use Rattle.lint_findings.specs.SyntaxFindings.{syntax_findings}
-use Rattle.lint_findings.specs.PlaceLaws.{tile_entries, tile_errors, TilesAreTheList, TilesHaveTheErrors, SyntaxFindingsAreErrors}
+use Rattle.lint_findings.specs.Tiles.{Tile, and_tiles, tiles_from}
+use Rattle.lint_findings.specs.PlaceLaws.{tile_entries, tile_errors, TilesAreTheList, TilesHaveTheErrors}
 
 -- a comment that waits is neither a message nor a term
 waits : (held : Option (List Text)) (es : List t.Entry) → listed (waiting held ++ es) ≡ listed es
@@ -75,11 +74,3 @@ go_errors (suc n) at s =
 
 pub tiles_have_the_errors : TilesHaveTheErrors
 tiles_have_the_errors source = go_errors (suc (length source)) 0 source
-
-one_each : (ts : List Tile) → length (syntax_findings ts) ≡ length (tile_errors ts)
-one_each [] = refl
-one_each (entry_tile at s e ∷ ts) = one_each ts
-one_each (junk_tile at s fault ∷ ts) = ap suc (one_each ts)
-
-pub syntax_findings_are_errors : SyntaxFindingsAreErrors
-syntax_findings_are_errors source = one_each (tiles source) ∙ ap length (tiles_have_the_errors source)

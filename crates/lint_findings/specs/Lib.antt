@@ -26,4 +26,5 @@ pub mod GithubReport
 pub mod Summary
 pub mod Output
 pub mod PlaceLaws
+pub mod FindingLaws
 pub mod ReportLaws

@@ -1,18 +1,18 @@
 -- Laws of places: of positions, of what is in a source, and of the patterns and nodes of its entries.
-use Rattle.std.specs.Prelude.{◌≡◌, ℕ, List, [], ◌∷◌, length, map, All}
+use Rattle.std.specs.Prelude.{◌≡◌, ℕ, List, [], ◌∷◌, map, All}
 use Rattle.std.specs.Str.{IsUtf8, IsCharBoundary}
 use Rattle.fluent_grammar.specs.Words.{Text}
 use Rattle.fluent_grammar.specs.Tree as t
 use Rattle.fluent_grammar.specs.Tree.{Elements, Inline, Variants, VariantKey}
 use Rattle.fluent_grammar.specs.Refusal.{got}
-use Rattle.fluent_grammar.specs.Reading.{entry_at}
+use Rattle.fluent_grammar.specs.Ends.{EndsIn}
+use Rattle.fluent_grammar.specs.Reading.{entry_at, key_at}
 use Rattle.fluent_grammar.specs.Tiling.{ParserError, error_of, errors, listed, list}
 use Rattle.lint_findings.specs.Position.{position_of}
 use Rattle.lint_findings.specs.Tiles.{Tile, entry_tile, junk_tile, tiles}
 use Rattle.lint_findings.specs.Flaws.{Owner, entry_patterns}
-use Rattle.lint_findings.specs.Nodes.{Node, expression, elements_nodes}
+use Rattle.lint_findings.specs.Nodes.{Node, expression, select, repeated_key, elements_nodes}
 use Rattle.lint_findings.specs.Occurrences.{Occurrence, occurrences, inline_read, pattern_read, PatternPlace}
-use Rattle.lint_findings.specs.SyntaxFindings.{syntax_findings}
 use Rattle.lint_findings.specs.EntryFindings.{pattern_places}
 
 -- ---- positions
@@ -44,19 +44,22 @@ tile_errors (junk_tile at s refusal ∷ rest) = error_of at s refusal ∷ tile_e
 abbrev pub TilesHaveTheErrors : Type 0
 TilesHaveTheErrors = (source : Text) → tile_errors (tiles source) ≡ errors source
 
--- A source has one syntax finding for each of them.
-abbrev pub SyntaxFindingsAreErrors : Type 0
-SyntaxFindingsAreErrors = (source : Text) → length (syntax_findings (tiles source)) ≡ length (errors source)
-
 -- ---- occurrences
 
--- an expression is read where it occurs
-abbrev pub IsRead : Occurrence → Type 0
-IsRead o = (i : Inline) → o.node ≡ expression i → (rest : Text) × (inline_read o.at ≡ got i rest)
+-- an expression, or the key of a variant, is read at the front of a text
+abbrev pub IsReadAt : Text → Node → Type 0
+IsReadAt at (expression i) = (rest : Text) × (inline_read at ≡ got i rest)
+IsReadAt at (select i vs) = Unit {0}
+IsReadAt at (repeated_key k) = (rest : Text) × (key_at at ≡ got k rest)
 
--- Each expression that the walk through a pattern lists is the one that is read at its place.
+-- a node is at an end of a text, where it is read
+pub record IsReadIn (s : Text) (o : Occurrence) : Type 0 where
+  pub place : EndsIn o.at s
+  pub read : IsReadAt o.at o.node
+
+-- Each expression and each key that the walk through a pattern lists is read at its place, which is an end of the text.
 abbrev pub OccurrencesAreRead : Type 0
-OccurrencesAreRead = (s : Text) → All IsRead (occurrences s)
+OccurrencesAreRead = (s : Text) → All (IsReadIn s) (occurrences s)
 
 abbrev pub nodes : List Occurrence → List Node
 nodes os = map (λ (o : Occurrence). o.node) os

@@ -1,37 +1,20 @@
 -- Laws of what a report says of a catalog.
-use Rattle.std.specs.Prelude.{◌≡◌, false, if◌then◌else◌, List, [], ◌∷◌, All, Option, None, Some, codes}
+use Rattle.std.specs.Prelude.{◌≡◌, false, List, [], ◌∷◌, All, Option, None, Some, codes}
 use Rattle.fluent_grammar.specs.Words.{Text, is_among}
-use Rattle.fluent_grammar.specs.Tree as t
-use Rattle.fluent_grammar.specs.Tree.{Elements, Inline, Variants, VariantKey}
+use Rattle.fluent_grammar.specs.Tree.{Elements}
 use Rattle.fluent_errors.specs.Errors.{Unresolved, unknown, no_value, missing_default, cyclic, to_function, to_message, to_term, to_variable, too_many_placeables}
 use Rattle.fluent_value.specs.Args.{argument}
-use Rattle.fluent_value.specs.Matching.{Plurals}
 use Rattle.fluent_value.specs.Value.{Value}
-use Rattle.fluent_meaning.specs.Choice.{first_match}
 use Rattle.fluent_meaning.specs.Environment.{Environment}
 use Rattle.fluent_meaning.specs.Ids.{Ids, Meaning, find}
 use Rattle.fluent_meaning.specs.ReachLaws.{over}
 use Rattle.fluent_meaning.specs.Substitution.{answer_written, message_target, there}
 use Rattle.lint_findings.specs.Endless.{meaning_patterns}
-use Rattle.lint_findings.specs.Flaws.{Flaw, pattern_flaws, duplicate_key, unresolved, is_key_among, catalog_ids}
+use Rattle.lint_findings.specs.Flaws.{Flaw, pattern_flaws, duplicate_key, unresolved, catalog_ids}
 use Rattle.lint_findings.specs.Comparison.{Difference, all_differences, missing_message, missing_value, missing_attribute}
 use Rattle.lint_findings.specs.Finding.{Finding}
 use Rattle.lint_findings.specs.Files.{File}
 use Rattle.lint_findings.specs.Findings.{Options, FileFinding, sources, findings, findings_with_reference, known_ids}
-
--- ---- duplicate keys
-
--- variants without those whose key is among these, or is an earlier one's
-abbrev pub without_duplicates : List VariantKey → Variants → Variants
-without_duplicates before t.no_variants = t.no_variants
-without_duplicates before (t.variant k es d vs) =
-    if is_key_among k before then without_duplicates (k ∷ before) vs
-    else t.variant k es d (without_duplicates (k ∷ before) vs)
-
--- A variant whose key is reported as a duplicate never matches: without it, each value has the same match.
-abbrev pub DuplicatesNeverMatch : Type 0 → Type 0
-DuplicatesNeverMatch S = (plurals : Plurals) (v : Value S) (vs : Variants) →
-    first_match plurals v (without_duplicates [] vs) ≡ first_match plurals v vs
 
 -- ---- catalogs without flaws
 

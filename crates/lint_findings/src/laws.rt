@@ -1,7 +1,8 @@
 //! Laws of findings: each function only carries a law, as its contract.
 
-ghost use Rattle.lint_findings.specs.PlaceLaws.{OccurrencesAreRead, OccurrencesAreTheNodes, PatternsHavePlaces, PositionsDetermineOffsets, SyntaxFindingsAreErrors, TilesAreTheList, TilesHaveTheErrors};
-ghost use Rattle.lint_findings.specs.ReportLaws.{CleanCatalogsAreFlawless, CleanTranslationsAreFlawless, DuplicatesNeverMatch, FlawlessCatalogsAnswer, NothingMissingAnswersAll, TranslationsAnswerAll};
+ghost use Rattle.lint_findings.specs.FindingLaws.{HasErrors, HasLostVariants, HasReferences, OfCatalogs, OfTranslations};
+ghost use Rattle.lint_findings.specs.PlaceLaws.{OccurrencesAreRead, OccurrencesAreTheNodes, PatternsHavePlaces, PositionsDetermineOffsets, TilesAreTheList, TilesHaveTheErrors};
+ghost use Rattle.lint_findings.specs.ReportLaws.{CleanCatalogsAreFlawless, CleanTranslationsAreFlawless, FlawlessCatalogsAnswer, NothingMissingAnswersAll, TranslationsAnswerAll};
 
 use fluent_value::FluentType;
 
@@ -11,15 +12,21 @@ pub fn positions_determine_offsets()
 {}
 
 /// The messages and terms among the tiles of a source are those of its tree, in the same order. The errors of its junk
-/// are those that the parser reports, and each has one syntax finding.
+/// are those that the parser reports.
 pub fn tiles_are_the_source()
     ensures entries { TilesAreTheList }
     ensures errors { TilesHaveTheErrors }
-    ensures findings { SyntaxFindingsAreErrors }
 {}
 
-/// The walk through the text of a pattern lists the nodes of the pattern, in their order. Each expression that it lists
-/// is the one that is read at its place.
+/// Among the findings of a catalog, with or without a reference, each file has as many of the code `syntax` as the
+/// parser reports errors of it.
+pub fn syntax_findings_are_errors()
+    ensures catalogs { OfCatalogs HasErrors }
+    ensures translations { OfTranslations HasErrors }
+{}
+
+/// The walk through the text of a pattern lists the nodes of the pattern, in their order. Each expression and each key
+/// that it lists is read at its place, which is an end of the text.
 pub fn occurrences_are_the_nodes()
     ensures nodes { OccurrencesAreTheNodes }
     ensures read { OccurrencesAreRead }
@@ -31,9 +38,19 @@ pub fn patterns_have_places()
     ensures { PatternsHavePlaces }
 {}
 
-/// A variant whose key is reported as a duplicate never matches: without it, each value has the same match.
-pub fn duplicates_never_match<C: FluentType>()
-    ensures { DuplicatesNeverMatch C.Meaning }
+/// For each finding with one of the codes `unknown-message`, `unknown-term`, `unknown-attribute`, `unknown-function` and
+/// `no-value`, the source is read from the finding's offset on as a reference, and the finding says the error that this
+/// reference has.
+pub fn reference_findings_are_read()
+    ensures catalogs { OfCatalogs HasReferences }
+    ensures translations { OfTranslations HasReferences }
+{}
+
+/// For each finding with the code `duplicate-variant`, a key is read from the finding's offset on. It is that of a
+/// variant, of a select of the source, that never matches: without it, each value has the same match.
+pub fn repeated_variants_never_match<C: FluentType>()
+    ensures catalogs { OfCatalogs (HasLostVariants C.Meaning) }
+    ensures translations { OfTranslations (HasLostVariants C.Meaning) }
 {}
 
 /// If no finding has one of the codes `unknown-message`, `unknown-term`, `unknown-attribute`, `unknown-function`,

@@ -1,5 +1,5 @@
-use Rattle.lint_findings.proofs.TilesAreTheList.{tiles_are_the_list, tiles_have_the_errors, syntax_findings_are_errors}
+use Rattle.lint_findings.proofs.TilesAreTheList.{tiles_are_the_list, tiles_have_the_errors}
 use Rattle.lint_findings.proofs.laws.tiles_are_the_source.Goals as goal
 
 pub returns : goal.returns
-returns c = record { entries = tiles_are_the_list; errors = tiles_have_the_errors; findings = syntax_findings_are_errors }
+returns c = record { entries = tiles_are_the_list; errors = tiles_have_the_errors }

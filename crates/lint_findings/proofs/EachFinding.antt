@@ -1,0 +1,225 @@
+-- What each finding says is so: those of references, and those of repeated variants.
+use Rattle.std.proofs.Common.{◌≡◌, ◌∙◌, ℕ, ◌==◌, Bool, true, false, if◌then◌else◌, List, [], ◌∷◌, ◌++◌, length, map, Option, Some, None, refl, sym, ap, subst}
+use Rattle.std.specs.Prelude.{codes}
+use Rattle.std.specs.Option.{option_to_list}
+use Rattle.std.specs.List.{All, flat_map, list_any}
+use Rattle.std.specs.Str.{bytes_eq}
+use Rattle.std.proofs.lemmas.Bool.{false≢true}
+use Rattle.std.proofs.lemmas.List.Elements.{All-nil, All-cons, All-head, All-tail, All-append, Contains-append_left, Contains-append_right}
+use Rattle.fluent_grammar.specs.Words.{Text, is_among}
+use Rattle.fluent_grammar.specs.Refusal.{got}
+use Rattle.fluent_grammar.specs.Tree as t
+use Rattle.fluent_grammar.specs.Tree.{Elements, Variants}
+use Rattle.fluent_grammar.specs.Ends.{EndsIn}
+use Rattle.fluent_grammar.specs.Reading.{key_at}
+use Rattle.fluent_grammar.proofs.Within.{end-trans}
+use Rattle.fluent_errors.specs.Errors.{Unresolved, unknown, no_value, missing_default, cyclic, too_many_placeables, to_function, to_message, to_term, to_variable}
+use Rattle.fluent_meaning.specs.Choice.{first_default}
+use Rattle.fluent_meaning.specs.Fallback.{with_attribute}
+use Rattle.fluent_meaning.specs.Ids.{Ids, find}
+use Rattle.lint_findings.specs.Tiles.{entry_tile}
+use Rattle.lint_findings.specs.References.{reference_error}
+use Rattle.lint_findings.specs.Flaws.{unresolved, duplicate_key, default_flaws, elements_selects, entry_patterns, Owner}
+use Rattle.lint_findings.specs.FlawHints.{never_ends}
+use Rattle.lint_findings.specs.FlawWords.{flaw_code}
+use Rattle.lint_findings.specs.Nodes.{Node, expression, select, repeated_key, elements_nodes}
+use Rattle.lint_findings.specs.Occurrences.{Occurrence, occurrences, inline_read, pattern_read, PatternPlace}
+use Rattle.lint_findings.specs.Finding.{Finding}
+use Rattle.lint_findings.specs.EntryFindings.{flaw_finding, category_finding, escape_finding, node_flaws, node_categories, node_escapes, node_findings, nodes_findings, pattern_findings, attribute_findings, patterns_findings, pattern_places, entry_findings}
+use Rattle.lint_findings.specs.Files.{File}
+use Rattle.lint_findings.specs.DuplicateIds.{Declaration, id_of, duplicate_findings}
+use Rattle.lint_findings.specs.Findings.{Rules, FileFinding, findings_of_entry, findings_of_tile}
+use Rattle.lint_findings.specs.PlaceLaws.{IsReadAt, IsReadIn, nodes, ArePatternsAt}
+use Rattle.lint_findings.specs.FindingLaws.{reference_codes, IsOfReference, source_selects, IsOfLostVariant, is_repeated}
+use Rattle.lint_findings.proofs.OccurrencesAreRead.{occurrences_are_read}
+use Rattle.lint_findings.proofs.OccurrencesAreTheNodes.{occurrences_are_the_nodes}
+use Rattle.lint_findings.proofs.PatternPlaces.{patterns_have_places}
+use Rattle.lint_findings.proofs.RepeatedKeys.{has_key, never_matches, IsOfSelects, AreAmong, more, elements_known}
+use Rattle.lint_findings.proofs.SourcePlaces.{at_offset, IsPlace, places_within, IsReadTile, IsTileAmong, entry_selects}
+
+clash : (b : Bool) → b ≡ false → b ≡ true → ⊥
+clash b p q = false≢true (sym p ∙ q)
+
+-- ---- codes
+
+not_syntax : (e : Unresolved) → bytes_eq (flaw_code (unresolved e)) (codes "syntax") ≡ false
+not_syntax (unknown (to_function id)) = refl
+not_syntax (unknown (to_message id None)) = refl
+not_syntax (unknown (to_message id (Some a))) = refl
+not_syntax (unknown (to_term id None)) = refl
+not_syntax (unknown (to_term id (Some a))) = refl
+not_syntax (unknown (to_variable id)) = refl
+not_syntax (no_value id) = refl
+not_syntax missing_default = refl
+not_syntax cyclic = refl
+not_syntax too_many_placeables = refl
+
+not_repeated : (e : Unresolved) → bytes_eq (flaw_code (unresolved e)) (codes "duplicate-variant") ≡ false
+not_repeated (unknown (to_function id)) = refl
+not_repeated (unknown (to_message id None)) = refl
+not_repeated (unknown (to_message id (Some a))) = refl
+not_repeated (unknown (to_term id None)) = refl
+not_repeated (unknown (to_term id (Some a))) = refl
+not_repeated (unknown (to_variable id)) = refl
+not_repeated (no_value id) = refl
+not_repeated missing_default = refl
+not_repeated cyclic = refl
+not_repeated too_many_placeables = refl
+
+-- what the laws say of a finding with such a code
+pub record Keeps (S : Type 0) (ids : Ids (Unit {0})) (f : FileFinding) : Type 0 where
+  pub reference : is_among f.finding.code reference_codes ≡ true → IsOfReference ids f
+  pub repeated : is_repeated f ≡ true → IsOfLostVariant S f
+
+-- ---- findings of an entry
+
+module _ (S : Type 0) (rules : Rules) (file : File) where
+  abbrev in_file : Finding → FileFinding
+  in_file f = record { file = file; finding = f }
+
+  abbrev source : Text
+  source = file.source
+
+  -- a finding that the laws hold of, and that isn't a syntax finding
+  pub record IsSound (f : Finding) : Type 0 where
+    pub unlike_syntax : bytes_eq f.code (codes "syntax") ≡ false
+    pub keeps : Keeps S rules.ids (in_file f)
+
+  abbrev AreSound : List Finding → Type 0
+  AreSound fs = All IsSound fs
+
+  pub none : AreSound []
+  none = All-nil IsSound
+
+  both : (fs gs : List Finding) → AreSound fs → AreSound gs → AreSound (fs ++ gs)
+  both fs gs h k = All-append IsSound fs gs h k
+
+  pub one : (f : Finding) → IsSound f → AreSound (f ∷ [])
+  one f h = All-cons IsSound f [] h none
+
+  -- a finding that no law is about
+  pub plain : (f : Finding) → bytes_eq f.code (codes "syntax") ≡ false → is_among f.code reference_codes ≡ false → bytes_eq f.code (codes "duplicate-variant") ≡ false → IsSound f
+  plain f p q r = record { unlike_syntax = p; keeps = record { reference = λ e. absurd (clash (is_among f.code reference_codes) q e); repeated = λ e. absurd (clash (bytes_eq f.code (codes "duplicate-variant")) r e) } }
+
+  pub if_one : (b : Bool) (f : Finding) → IsSound f → AreSound (if b then f ∷ [] else [])
+  if_one true f h = one f h
+  if_one false f h = none
+
+  pub mapped : {X : Type 0} (make : X → Finding) → ((x : X) → IsSound (make x)) → (xs : List X) → AreSound (map make xs)
+  mapped make h [] = none
+  mapped make h (x ∷ xs) = All-cons IsSound (make x) (map make xs) (h x) (mapped make h xs)
+
+  module _ (es : Elements) (owner : Text) where
+    -- at an end of the source
+    module _ (at : Text) (h : EndsIn at source) where
+      of_reference : (i : t.Inline) (rest : Text) → inline_read at ≡ got i rest → (o : Option Unresolved) → reference_error (find rules.ids) i ≡ o →
+          AreSound (map (flaw_finding rules.ids rules.plurals source es owner at) (map unresolved (option_to_list o)))
+      of_reference i rest read None is = none
+      of_reference i rest read (Some e) is =
+          one (flaw_finding rules.ids rules.plurals source es owner at (unresolved e)) (record {
+            unlike_syntax = not_syntax e;
+            keeps = record {
+              reference = λ c. record { reference = i; rest = rest; error = e; read = ap inline_read (at_offset source at h) ∙ read; missing = is; code = refl; text = refl };
+              repeated = λ c. absurd (clash (bytes_eq (flaw_code (unresolved e)) (codes "duplicate-variant")) (not_repeated e) c);
+            };
+          })
+
+      of_default : (o : Option Elements) → AreSound (map (flaw_finding rules.ids rules.plurals source es owner at) (default_flaws o))
+      of_default None = one (flaw_finding rules.ids rules.plurals source es owner at (unresolved missing_default)) (plain _ refl refl refl)
+      of_default (Some ds) = none
+
+      of_key : (key : t.VariantKey) → IsReadAt at (repeated_key key) → IsOfSelects (source_selects source) (repeated_key key) → IsSound (flaw_finding rules.ids rules.plurals source es owner at (duplicate_key key))
+      of_key key read known =
+          record {
+            unlike_syntax = refl;
+            keeps = record {
+              reference = λ c. absurd (false≢true c);
+              repeated = λ c. record {
+                key = key;
+                rest = read.0;
+                variants = known.0;
+                index = known.1;
+                read = ap key_at (at_offset source at h) ∙ read.1;
+                there = known.2.0;
+                keyed = has_key [] known.1 known.0 key known.2.1;
+                lost = never_matches known.1 known.0 key known.2.1;
+                text = refl;
+              };
+            };
+          }
+
+      of_flaws : (node : Node) → IsReadAt at node → IsOfSelects (source_selects source) node → AreSound (map (flaw_finding rules.ids rules.plurals source es owner at) (node_flaws rules.ids node))
+      of_flaws (expression i) read known = of_reference i read.0 read.1 (reference_error (find rules.ids) i) refl
+      of_flaws (select i vs) read known = of_default (first_default vs)
+      of_flaws (repeated_key key) read known = one (flaw_finding rules.ids rules.plurals source es owner at (duplicate_key key)) (of_key key read known)
+
+      of_node : (node : Node) → IsReadAt at node → IsOfSelects (source_selects source) node → AreSound (node_findings rules.ids rules.plurals source es owner at node)
+      of_node node read known =
+          both (map (flaw_finding rules.ids rules.plurals source es owner at) (node_flaws rules.ids node)) _ (of_flaws node read known)
+          (both (map (category_finding rules.ids rules.plurals source owner at) (node_categories rules.plurals node)) _
+          (mapped (category_finding rules.ids rules.plurals source owner at) (λ c. plain _ refl refl refl) (node_categories rules.plurals node))
+          (mapped (escape_finding rules.ids rules.plurals source owner at) (λ x. plain _ refl refl refl) (node_escapes node)))
+
+    of_nodes : (s : Text) → EndsIn s source → (at : Text) (os : List Occurrence) → All (IsReadIn s) os → All (IsOfSelects (source_selects source)) (nodes os) →
+        AreSound (nodes_findings rules.ids rules.plurals source es owner at (nodes os) os)
+    of_nodes s h at [] read known = none
+    of_nodes s h at (o ∷ os) read known =
+        let here = All-head (IsReadIn s) o os read in
+        both (node_findings rules.ids rules.plurals source es owner o.at o.node) _
+        (of_node o.at (end-trans here.place h) o.node here.read (All-head (IsOfSelects (source_selects source)) o.node (nodes os) known))
+        (of_nodes s h at os (All-tail (IsReadIn s) o os read) (All-tail (IsOfSelects (source_selects source)) o.node (nodes os) known))
+
+  of_pattern : (owner : Text) (place : PatternPlace) (es : Elements) (rest : Text) → EndsIn place.pattern_at source → pattern_read place.pattern_at ≡ got es rest → AreAmong (elements_selects es) (source_selects source) →
+      AreSound (pattern_findings rules.ids rules.plurals source owner place es)
+  of_pattern owner place es rest h read among =
+      let os = occurrences place.pattern_at in
+      let same : nodes os ≡ elements_nodes es = occurrences_are_the_nodes place.pattern_at es rest read in
+      let known = more (elements_selects es) (source_selects source) (elements_nodes es) among (elements_known es) in
+      both (if never_ends rules.ids es then flaw_finding rules.ids rules.plurals source es owner place.name_at (unresolved cyclic) ∷ [] else []) _
+      (if_one (never_ends rules.ids es) (flaw_finding rules.ids rules.plurals source es owner place.name_at (unresolved cyclic)) (plain _ refl refl refl))
+      (subst (λ ns. AreSound (nodes_findings rules.ids rules.plurals source es owner place.pattern_at ns os)) same
+      (of_nodes es owner place.pattern_at h place.pattern_at os (occurrences_are_read place.pattern_at) (subst (All (IsOfSelects (source_selects source))) (sym same) known)))
+
+  abbrev HasSelects : Owner × Elements → Type 0
+  HasSelects p = AreAmong (elements_selects p.1) (source_selects source)
+
+  of_patterns : (s : Text) (before : List Text) (places : List PatternPlace) (ps : List (Owner × Elements)) → All (IsPlace source) places → ArePatternsAt places ps → All HasSelects ps →
+      AreSound (patterns_findings rules.ids rules.plurals source s before places ps)
+  of_patterns s before places [] h at among = none
+  of_patterns s before [] (p ∷ ps) h at among = absurd at
+  of_patterns s before (place ∷ places) (p ∷ ps) h at among =
+      let owner = with_attribute p.0.label p.0.attribute in
+      both (attribute_findings rules.ids rules.plurals source owner before place p.0.attribute) _ (if_one (list_any (λ name. is_among name before) (option_to_list p.0.attribute)) _ (plain _ refl refl refl))
+      (both (pattern_findings rules.ids rules.plurals source owner place p.1) _
+      (of_pattern owner place p.1 at.1.0 (All-head (IsPlace source) place places h) at.1.1 (All-head HasSelects p ps among))
+      (of_patterns s (option_to_list p.0.attribute ++ before) places ps (All-tail (IsPlace source) place places h) at.2 (All-tail HasSelects p ps among)))
+
+  all_selects : (ps : List (Owner × Elements)) → AreAmong (flat_map (λ (p : Owner × Elements). elements_selects p.1) ps) (source_selects source) → All HasSelects ps
+  all_selects [] h = All-nil HasSelects
+  all_selects (p ∷ ps) h =
+      let others = flat_map (λ (q : Owner × Elements). elements_selects q.1) ps in
+      All-cons HasSelects p ps (λ vs c. h vs (Contains-append_left (elements_selects p.1) others vs c)) (all_selects ps (λ vs c. h vs (Contains-append_right (elements_selects p.1) others vs c)))
+
+  of_entry : (e : t.Entry) (s : Text) → IsReadTile source (entry_tile 0 s e) → AreAmong (entry_selects e) (source_selects source) → AreSound (entry_findings rules.ids rules.plurals source e s)
+  of_entry e s read among =
+      of_patterns s [] (pattern_places e s) (entry_patterns e) (places_within source s read.0 e) (patterns_have_places s e read.1.0 read.1.1) (all_selects (entry_patterns e) among)
+
+  -- ---- findings of a tile
+
+  module _ (compares : (e : t.Entry) (s : Text) → AreSound (rules.compare source e s)) where
+    of_id : (before : List Declaration) (e : t.Entry) (at : ℕ) (id : Text) → AreSound (duplicate_findings rules.functions before e at id)
+    of_id before e at id = if_one _ _ (plain _ refl refl refl)
+
+    unless_taken : (b : Bool) (e : t.Entry) (s : Text) → AreSound (if b then rules.compare source e s else [])
+    unless_taken true e s = compares e s
+    unless_taken false e s = none
+
+    of_known : (before : List Declaration) (e : t.Entry) (at : ℕ) (s : Text) (o : Option Text) → AreSound (entry_findings rules.ids rules.plurals source e s) → AreSound (findings_of_entry rules before source e at s o)
+    of_known before e at s None h = none
+    of_known before e at s (Some id) h =
+        let duplicates = duplicate_findings rules.functions before e at id in
+        both duplicates _ (of_id before e at id) (both (entry_findings rules.ids rules.plurals source e s) _ h (unless_taken (length duplicates == 0) e s))
+
+    pub of_entry_tile : (before : List Declaration) (at : ℕ) (s : Text) (e : t.Entry) → IsReadTile source (entry_tile at s e) → IsTileAmong (source_selects source) (entry_tile at s e) →
+        AreSound (findings_of_tile rules before file (entry_tile at s e))
+    of_entry_tile before at s e read among = of_known before e at s (id_of e) (of_entry e s read among)
