@@ -1,0 +1,4 @@
+pub mod Chosen
+pub mod Negotiated
+pub mod Splitting
+mod Rows

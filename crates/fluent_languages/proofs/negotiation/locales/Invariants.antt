@@ -1,0 +1,8 @@
+use Rattle.std.proofs.Common.{◌≡◌, take, map, option_map}
+use Rattle.fluent_languages.specs.Tags.{texts}
+use Rattle.fluent_languages.specs.Steps.{place_of}
+use Rattle.fluent_languages.specs.Negotiation.{places}
+use Rattle.fluent_languages.proofs.negotiation.locales.Given as goal
+
+abbrev pub invariant-loop-tag : goal.invariant-loop-tag
+invariant-loop-tag l = map (option_map place_of) l.named.items ≡ places (texts (take l.tag-index l.tags))

@@ -1,0 +1,7 @@
+use Rattle.std.proofs.Common.{◌≡◌, [], drop, map, option_map}
+use Rattle.fluent_languages.specs.Steps.{place_of}
+use Rattle.fluent_languages.specs.Negotiation.{matched}
+use Rattle.fluent_languages.proofs.negotiation.match_each.Given as goal
+
+abbrev pub invariant-loop-request : goal.invariant-loop-request
+invariant-loop-request l = matched (map (option_map place_of) l.offers) (map (option_map place_of) (drop l.request-index l.requests)) l.found.items ≡ matched (map (option_map place_of) l.offers) (map (option_map place_of) l.requests) []

@@ -1,0 +1,17 @@
+//! Languages: the tags that name them, and which of a program's languages suit a user.
+#![tactic(auto)]
+
+mod canonical;
+pub mod laws;
+mod likely;
+mod locale;
+mod negotiation;
+mod parts;
+mod posix;
+mod steps;
+mod table;
+mod tag;
+
+pub use negotiation::{NegotiationStrategy, negotiate, negotiate_bytes, negotiate_languages};
+pub use posix::tag_of_posix;
+pub use tag::LanguageTag;

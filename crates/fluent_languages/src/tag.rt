@@ -1,0 +1,138 @@
+//! Language tags.
+ghost use Rattle.std.specs.Prelude.{◌≡◌, option_map};
+ghost use Rattle.fluent_languages.specs.Tags.{or_else, read_tag, same_tag, same_text, same_texts, small, more_parts, tag_of};
+ghost use Rattle.fluent_languages.specs.Steps.{maximized, modern};
+ghost use Rattle.std.specs.Prelude.{map};
+ghost use Rattle.std.specs.Char.{to_ascii_lowercase};
+
+use crate::likely::{find_alias, find_region, find_script};
+use crate::parts::{are_variants, language_fits, split_part, split_region, split_script};
+
+/// A language tag, such as `de`, `zh-Hant-TW` or `ca-ES-valencia`: a language, and a script, a region and variants if they are named.
+/// Letters may be in either case, and `_` is the same as `-`.
+///
+/// It borrows the text that it is read from.
+#[derive(Clone, Copy, Debug)]
+pub struct LanguageTag<'t> {
+    pub(crate) language: &'t [u8],
+    pub(crate) script: &'t [u8],
+    pub(crate) region: &'t [u8],
+    pub(crate) variants: &'t [u8],
+}
+
+impl<'t> LanguageTag<'t> {
+    /// The tag that a text is, or `None` if it is none. A text of more than 255 bytes is none.
+    pub fn parse(text: &'t str) -> Option<Self>
+        ensures { option_map tag_of result ≡ read_tag text.now }
+    {
+        Self::parse_bytes(text.as_bytes())
+    }
+
+    /// The same for bytes.
+    pub fn parse_bytes(text: &'t [u8]) -> Option<Self>
+        ensures { option_map tag_of result ≡ read_tag text.now }
+    {
+        // What follows calls itself for each byte, so a text of any length would take any amount of stack.
+        if text.len() > 255 {
+            return None;
+        }
+        let language = split_part(text);
+        let script = split_script(language.rest);
+        let region = split_region(script.rest);
+        if language_fits(language.part) && are_variants(region.rest) {
+            Some(LanguageTag {
+                language: language.part,
+                script: script.part,
+                region: region.part,
+                variants: region.rest,
+            })
+        } else {
+            None
+        }
+    }
+
+    /// The tag with the script and the region that its language likely has, such as `zh-Hant-TW` for `zh-TW`.
+    pub fn maximize(&self) -> Self
+        ensures { tag_of result ≡ maximized (tag_of self.now) }
+    {
+        LanguageTag {
+            language: self.language,
+            script: part_or(self.script, find_script(self)),
+            region: part_or(self.region, find_region(self)),
+            variants: self.variants,
+        }
+    }
+
+    /// The tag by the newer code of its language, such as `he` for `iw` and `no` for `nb`.
+    pub(crate) fn modernize(&self) -> Self
+        ensures { tag_of result ≡ modern (tag_of self.now) }
+    {
+        let Some(row) = find_alias(self.language) else {
+            return *self;
+        };
+        LanguageTag {
+            language: part_or(&[], row.language.as_bytes()),
+            script: part_or(self.script, row.script.as_bytes()),
+            region: self.region,
+            variants: self.variants,
+        }
+    }
+
+    /// Whether two tags are the same but for case and separators.
+    pub fn is_same(&self, other: &LanguageTag<'_>) -> bool
+        ensures { result ≡ same_tag (tag_of self.now) (tag_of other.now) }
+    {
+        is_same_part(self.language, other.language)
+            && is_same_part(self.script, other.script)
+            && is_same_part(self.region, other.region)
+            && are_same_variants(self.variants, other.variants)
+    }
+}
+
+/// The first of two parts that is there.
+fn part_or<'t>(part: &'t [u8], other: &'static [u8]) -> &'t [u8]
+    ensures { small result.now ≡ or_else (small part.now) (small other.now) }
+{
+    match part {
+        [] => other,
+        [_, ..] => part,
+    }
+}
+
+/// Whether two parts are the same but for case.
+pub(crate) fn is_same_part(a: &[u8], b: &[u8]) -> bool
+    ensures { result ≡ same_text (small a.now) (small b.now) }
+{
+    match a {
+        [] => match b {
+            [] => true,
+            [_, ..] => false,
+        },
+        [x, a @ ..] => match b {
+            [] => false,
+            [y, b @ ..] => {
+                x.to_ascii_lowercase() == y.to_ascii_lowercase() && is_same_part(a, b)
+            }
+        },
+    }
+}
+
+/// Whether the variants of two tags are the same, in the same order.
+pub(crate) fn are_same_variants(a: &[u8], b: &[u8]) -> bool
+    ensures { result ≡ same_texts (map small (more_parts a.now)) (map small (more_parts b.now)) }
+{
+    match a {
+        [] => match b {
+            [] => true,
+            [_, ..] => false,
+        },
+        [_, a @ ..] => match b {
+            [] => false,
+            [_, b @ ..] => {
+                let first = split_part(a);
+                let second = split_part(b);
+                is_same_part(first.part, second.part) && are_same_variants(first.rest, second.rest)
+            }
+        },
+    }
+}
