@@ -28,7 +28,7 @@ pub(crate) fn first_fitting(languages: &[Language], text: &[u8]) -> Option<Langu
 ///
 /// The tag is in small letters, with `-` between its parts. Letters of the text count in either case, and `_` counts as `-`.
 ///
-/// ```
+/// ```no_run
 /// begins_with_tag(b"pt-pt", b"pt_PT.UTF-8")
 /// ```
 ///
