@@ -58,6 +58,7 @@ done
 
 count_with python3 tools/house/check.py --sources
 count_with python3 tools/plurals/compare.py
+count_with python3 tools/numbers/compare.py
 count_with python3 bench/plot.py --check
 count layout
 before=$failed

@@ -7,5 +7,6 @@ pub mod bundle;
 pub mod desk;
 pub mod json;
 pub mod number;
+pub mod numerals;
 pub mod plurals;
 pub mod syntax;

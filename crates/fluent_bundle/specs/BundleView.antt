@@ -1,5 +1,5 @@
 -- What a bundle is to contracts.
-use Rattle.std.specs.Prelude.{◌≡◌, Option, map, option_copied, string_bytes}
+use Rattle.std.specs.Prelude.{◌≡◌, Option, map, option_copied, option_map, string_bytes}
 use denote.Ref.{Bor}
 use Rattle.fluent_grammar.specs.Words.{Text}
 use Rattle.fluent_ast.specs.declared.Pattern.{Pattern}
@@ -8,6 +8,9 @@ use Rattle.fluent_value.specs.declared.custom.FluentType.{Ghosts as Custom}
 use Rattle.fluent_value.specs.declared.formatter.ValueFormatter.{Ghosts as Formatter}
 use Rattle.fluent_value.specs.declared.function.FluentFunction.{Ghosts as Function}
 use Rattle.fluent_value.specs.declared.plurals.MemoizerKind.{Ghosts as PluralSource}
+use Rattle.fluent_numerals.specs.Lookup.{Locale}
+use Rattle.fluent_numerals.specs.Views.{locale_view}
+use Rattle.fluent_numerals.specs.declared.numerals.LocaleNumerals.{LocaleNumerals}
 use Rattle.fluent_meaning.specs.Environment as plain
 use Rattle.fluent_meaning.specs.Ids.{find}
 use Rattle.fluent_meaning.specs.Steps.{Done}
@@ -51,6 +54,18 @@ module _ {M C F G T S : Type 0} {m : PluralSource M} {c : Custom C S} {f : Funct
   -- what of it is returned: the complete text as a value is shown
   abbrev pub handout : (T → Text → Text) → FluentBundle M C F G T S m c f g → Option (Bor (FluentArgs C)) → Pattern (Bor Text) → Done Text
   handout t bundle args pattern = handed c.meaning (environment_of t bundle) args pattern
+
+-- what a bundle holds that shows numbers as a locale does
+module _ {M C F T S : Type 0} {m : PluralSource M} {c : Custom C S} {f : Function F C S} {g : Formatter LocaleNumerals C M S} where
+  abbrev pub localized_view : FluentBundle M C F LocaleNumerals T S m c f g → Contents M F Locale T
+  localized_view bundle = let held = bundle_of bundle in record {
+    ids = held.ids;
+    locales = held.locales;
+    plurals = held.plurals;
+    isolating = held.isolating;
+    transform = held.transform;
+    formatter = option_map locale_view held.formatter;
+  }
 
 -- what a bundle holds is lent
 pub record IsLent {M F G T : Type 0} (held : Contents M F G T) (lent : Lent M G T) : Type 0 where

@@ -31,12 +31,13 @@ pub mod memoizer;
 pub mod resolver;
 pub mod types;
 
-pub use bundle::{EnglishBundle, FluentBundle, LanguageBundle};
+pub use bundle::{EnglishBundle, FluentBundle, LanguageBundle, LocalizedBundle};
 pub use fluent_errors::{EntryKind, FluentError};
 pub use fluent_ids::{
     AddFunctionError, AddResourceError, Attributes, Entry, FluentAttribute, FluentMessage,
     FunctionRef, GetEntry,
 };
+pub use fluent_numerals::LocaleNumerals;
 pub use fluent_plurals::LanguagePlurals;
 pub use fluent_resource::{Entries, FluentResource, ResourceError};
 pub use fluent_text::{TextWrite, WriteError};

@@ -17,22 +17,30 @@ pub(crate) fn first_fitting(languages: &[Language], text: &[u8]) -> Option<Langu
     ensures { entry_found result ≡ first_of (entries_of languages.now) text.now }
 {
     for language in languages {
-        if fits(language.0.as_bytes(), text) {
+        if begins_with_tag(language.0.as_bytes(), text) {
             return Some(*language);
         }
     }
     None
 }
 
-/// Whether a text begins with a tag, and no letter or digit follows.
-fn fits(tag: &[u8], text: &[u8]) -> bool
+/// Whether a text begins with a tag, and no letter or digit follows, as [`LanguagePlurals::for_tag`] finds languages.
+///
+/// The tag is in small letters, with `-` between its parts. Letters of the text count in either case, and `_` counts as `-`.
+///
+/// ```no_run
+/// begins_with_tag(b"pt-pt", b"pt_PT.UTF-8")
+/// ```
+///
+/// [`LanguagePlurals::for_tag`]: crate::LanguagePlurals::for_tag
+pub fn begins_with_tag(tag: &[u8], text: &[u8]) -> bool
     ensures { result ≡ begins_with_tag tag.now text.now }
 {
     match tag {
         [] => ends(text),
         [byte, tag @ ..] => match text {
             [] => false,
-            [other, text @ ..] => *byte == fold(*other) && fits(tag, text),
+            [other, text @ ..] => *byte == fold(*other) && begins_with_tag(tag, text),
         },
     }
 }

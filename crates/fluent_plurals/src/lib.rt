@@ -13,4 +13,5 @@ mod plurals;
 mod sets;
 mod table;
 
+pub use language::begins_with_tag;
 pub use plurals::LanguagePlurals;

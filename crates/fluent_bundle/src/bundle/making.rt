@@ -1,14 +1,18 @@
 //! New bundles, which hold nothing yet.
 
 ghost use Rattle.std.specs.Prelude.{◌≡◌, [], option_map};
-ghost use Rattle.fluent_bundle.specs.BundleView.{bundle_of};
-ghost use Rattle.fluent_bundle.specs.Contents.{empty, english_plurals, texts_of};
+ghost use Rattle.fluent_bundle.specs.BundleView.{bundle_of, localized_view};
+ghost use Rattle.fluent_bundle.specs.Contents.{empty, english_plurals, localized, texts_of};
+ghost use Rattle.fluent_numerals.specs.Lookup.{locale_for};
 ghost use Rattle.fluent_plurals.specs.Plurals.{plurals_for, plurals_of};
 
 use super::FluentBundle;
 use fluent_ids::FluentIds;
+use fluent_numerals::LocaleNumerals;
 use fluent_plurals::LanguagePlurals;
-use fluent_value::{EnglishPlurals, FluentFunction, FluentType, MemoizerKind, ValueFormatter};
+use fluent_value::{
+    EnglishPlurals, FluentFunction, FluentType, MemoizerKind, NoFormatter, ValueFormatter,
+};
 use std::alloc::Global;
 use std::marker::PhantomData;
 
@@ -51,14 +55,15 @@ where
     }
 }
 
-impl<'r, 's, C, F, G, T> FluentBundle<'r, 's, LanguagePlurals, C, F, G, T>
+impl<'r, 's, C, F, T> FluentBundle<'r, 's, LanguagePlurals, C, F, NoFormatter, T>
 where
     C: FluentType,
     F: FluentFunction<C>,
-    G: ValueFormatter<C, LanguagePlurals>,
 {
     /// A new bundle without locales, with the plural rules of the language that a tag such as `pl` or `pt-PT` names, or `None` if
     /// none are known. It doesn't allocate.
+    ///
+    /// A program with a formatter of its own calls [`new`](Self::new) with the rules of [`LanguagePlurals::for_tag`].
     ///
     /// ```
     /// let mut bundle = LanguageBundle::for_tag(alloc, "en-US").context("unknown locale")?;
@@ -79,5 +84,28 @@ where
     {
         let plurals = LanguagePlurals::of_locales(&locales)?;
         Some(FluentBundle::new(alloc, locales, plurals))
+    }
+}
+
+impl<'r, 's, C, F, T> FluentBundle<'r, 's, LanguagePlurals, C, F, LocaleNumerals, T>
+where
+    C: FluentType,
+    F: FluentFunction<C>,
+{
+    /// A new bundle without locales, with the plural rules of the language that a tag such as `de` or `pt-PT` names, and with numbers
+    /// as its locale writes them; `None` if no plural rules are known. If CLDR doesn't say how the locale writes numbers, they are
+    /// written plainly. It doesn't allocate.
+    ///
+    /// ```
+    /// let mut bundle = LocalizedBundle::for_tag(alloc, "de").context("unknown locale")?;
+    /// ```
+    pub fn for_tag(alloc: Global, tag: &str) -> Option<Self>
+        ensures { option_map localized_view result
+            ≡ option_map (localized (locale_for tag.now) []) (plurals_for tag.now) }
+    {
+        let plurals = LanguagePlurals::for_tag(tag)?;
+        let mut bundle = FluentBundle::new(alloc, Vec::new(alloc), plurals);
+        bundle.formatter = LocaleNumerals::for_tag(tag);
+        Some(bundle)
     }
 }

@@ -10,6 +10,7 @@ mod scope;
 mod settings;
 
 use fluent_ids::FluentIds;
+use fluent_numerals::LocaleNumerals;
 use fluent_plurals::LanguagePlurals;
 use fluent_value::{
     EnglishPlurals, FluentFunction, FluentType, MemoizerKind, NoCustom, NoFormatter, NoFunction,
@@ -23,7 +24,7 @@ use std::marker::PhantomData;
 /// `M` is the plural source, `C` the program's own type of values, `F` the type of its functions, `G` that of its formatter and
 /// `T` that of its transform. The resources are borrowed for `'r`, and their sources for `'s`: both have to outlive the bundle.
 ///
-/// A program that brings no types of its own uses [`EnglishBundle`] or [`LanguageBundle`]. A function can return these, and a
+/// A program that brings no types of its own uses [`EnglishBundle`], [`LanguageBundle`] or [`LocalizedBundle`]. A function can return these, and a
 /// struct can hold them. If `T` isn't named, the transform is boxed; such a bundle stays in the function that makes it, and in
 /// those that it is lent to as `&`.
 ///
@@ -87,5 +88,21 @@ pub type LanguageBundle<'r, 's> = FluentBundle<
     NoCustom,
     NoFunction,
     NoFormatter,
+    NoTransform,
+>;
+
+/// A bundle by the plural rules of any language that writes numbers as its locale does, for a program that brings no values,
+/// functions, formatter or transform of its own.
+///
+/// ```
+/// let mut bundle = LocalizedBundle::for_tag(alloc, "de").context("unknown locale")?;
+/// ```
+pub type LocalizedBundle<'r, 's> = FluentBundle<
+    'r,
+    's,
+    LanguagePlurals,
+    NoCustom,
+    NoFunction,
+    LocaleNumerals,
     NoTransform,
 >;

@@ -1,0 +1,109 @@
+-- Written by tools/numbers from Unicode CLDR 48. Do not edit.
+-- What locales write numbers by, once for all that write alike.
+use Rattle.std.specs.Prelude.{List, [], ◌∷◌}
+use Rattle.fluent_numerals.specs.Forms.{Forms, forms_row}
+use Rattle.fluent_numerals.specs.Digits.{adlm, arab, arabext, beng, cakm, deva, latn, mymr, nkoo, olck, tibt}
+use Rattle.fluent_numerals.specs.Patterns.{amount_currency, amount_space_currency, amount_space_currency_or_minus_amount_space_currency, amount_thin_currency, bare_number, bare_whole_percent, currency_amount, currency_amount_or_currency_minus_amount, currency_amount_or_currency_minus_space_amount, currency_indian_amount, currency_paired_amount, currency_space_amount, currency_space_amount_or_currency_minus_amount, currency_space_amount_or_currency_space_amount_minus, currency_space_amount_or_currency_space_minus_amount, currency_space_bare_amount, currency_space_indian_amount, indian_amount_currency, indian_number, indian_whole_percent, indian_whole_space_percent, ltr_currency_amount, number, paired_number, percent_space_paired_whole_or_percent_space_minus_paired_whole, percent_space_whole, percent_whole, rtl_amount_space_currency, rtl_amount_space_currency_or_rtl_minus_amount_space_currency, rtl_amount_space_rtl_currency_or_rtl_minus_amount_space_rtl_currency, whole_percent, whole_space_percent, whole_thin_percent}
+
+unfoldable pub form_table : List Forms
+form_table =
+    forms_row "und" latn "." "," "." "," "-" "%" 1 number whole_percent currency_space_amount ∷
+    forms_row "en" latn "." "," "." "," "-" "%" 1 number whole_percent currency_amount ∷
+    forms_row "de" latn "," "." "," "." "-" "%" 1 number whole_space_percent amount_space_currency ∷
+    forms_row "fr" latn "," "\u{202f}" "," "\u{202f}" "-" "%" 1 number whole_space_percent amount_space_currency ∷
+    forms_row "es" latn "," "." "," "." "-" "%" 2 number whole_space_percent amount_space_currency ∷
+    forms_row "it" latn "," "." "," "." "-" "%" 2 number whole_percent amount_space_currency ∷
+    forms_row "pt" latn "," "." "," "." "-" "%" 1 number whole_percent currency_space_amount ∷
+    forms_row "ru" latn "," "\u{a0}" "," "\u{a0}" "-" "%" 1 number whole_space_percent amount_space_currency ∷
+    forms_row "ar" latn "." "," "." "," "\u{200e}-" "\u{200e}%\u{200e}" 1 number whole_percent rtl_amount_space_currency_or_rtl_minus_amount_space_currency ∷
+    forms_row "hi" latn "." "," "." "," "-" "%" 1 indian_number indian_whole_percent currency_indian_amount ∷
+    forms_row "bn" beng "." "," "." "," "-" "%" 1 indian_number whole_percent indian_amount_currency ∷
+    forms_row "pl" latn "," "\u{a0}" "," "\u{a0}" "-" "%" 2 number whole_percent amount_space_currency ∷
+    forms_row "nl" latn "," "." "," "." "-" "%" 1 number whole_percent currency_space_amount_or_currency_space_minus_amount ∷
+    forms_row "sv" latn "," "\u{a0}" "," "\u{a0}" "−" "%" 1 number whole_space_percent amount_space_currency ∷
+    forms_row "tr" latn "," "." "," "." "-" "%" 1 number percent_whole currency_amount ∷
+    forms_row "uk" latn "," "\u{a0}" "," "\u{a0}" "-" "%" 1 number whole_percent amount_space_currency ∷
+    forms_row "el" latn "," "." "," "." "-" "%" 1 number whole_percent amount_space_currency ∷
+    forms_row "he" latn "." "," "." "," "\u{200e}-" "%" 1 number whole_percent rtl_amount_space_rtl_currency_or_rtl_minus_amount_space_rtl_currency ∷
+    forms_row "fa" arabext "\u{66b}" "\u{66c}" "\u{66b}" "\u{66c}" "\u{200e}−" "٪" 1 number whole_percent ltr_currency_amount ∷
+    forms_row "id" latn "," "." "," "." "-" "%" 1 number whole_percent currency_amount ∷
+    forms_row "nb" latn "," "\u{a0}" "," "\u{a0}" "−" "%" 1 number whole_space_percent amount_space_currency_or_minus_amount_space_currency ∷
+    forms_row "hr" latn "," "." "," "." "−" "%" 1 number whole_space_percent amount_space_currency ∷
+    forms_row "sl" latn "," "." "," "." "−" "%" 2 number whole_space_percent amount_space_currency ∷
+    forms_row "et" latn "," "\u{a0}" "," "\u{a0}" "−" "%" 2 number whole_percent amount_space_currency ∷
+    forms_row "en-za" latn "," "\u{a0}" "," "\u{a0}" "-" "%" 1 number whole_percent currency_amount ∷
+    forms_row "de-at" latn "," "\u{a0}" "," "." "-" "%" 1 number whole_space_percent currency_space_amount ∷
+    forms_row "de-ch" latn "." "'" "." "'" "-" "%" 1 number whole_percent currency_space_amount_or_currency_minus_amount ∷
+    forms_row "fr-ch" latn "," "\u{202f}" "." "\u{202f}" "-" "%" 1 number whole_percent amount_space_currency ∷
+    forms_row "it-ch" latn "." "'" "." "'" "-" "%" 2 number whole_percent currency_space_amount_or_currency_minus_amount ∷
+    forms_row "ar-eg" arab "\u{66b}" "\u{66c}" "\u{66b}" "\u{66c}" "\u{61c}-" "٪\u{61c}" 1 number whole_percent rtl_amount_space_currency ∷
+    forms_row "mr" deva "." "," "." "," "-" "%" 1 indian_number whole_percent currency_amount ∷
+    forms_row "ne" deva "." "," "." "," "-" "%" 1 indian_number indian_whole_percent currency_space_indian_amount ∷
+    forms_row "my" mymr "." "," "." "," "-" "%" 1 number whole_percent amount_space_currency ∷
+    forms_row "ur" latn "." "," "." "," "\u{200e}-" "%" 1 number whole_percent currency_amount ∷
+    forms_row "te" latn "." "," "." "," "-" "%" 1 indian_number whole_percent currency_indian_amount ∷
+    forms_row "ml" latn "." "," "." "," "-" "%" 1 indian_number whole_percent currency_amount ∷
+    forms_row "eu" latn "," "." "," "." "−" "%" 1 number percent_space_whole amount_space_currency ∷
+    forms_row "km" latn "." "," "." "," "-" "%" 1 number whole_percent amount_currency ∷
+    forms_row "lo" latn "," "." "," "." "-" "%" 1 number whole_percent currency_amount_or_currency_minus_amount ∷
+    forms_row "ps" arabext "\u{66b}" "\u{66c}" "\u{66b}" "\u{66c}" "\u{200e}-\u{200e}" "٪" 1 number whole_percent currency_space_amount ∷
+    forms_row "ku" latn "," "." "," "." "-" "%" 1 number percent_whole amount_space_currency ∷
+    forms_row "ckb" arab "\u{66b}" "\u{66c}" "\u{66b}" "\u{66c}" "\u{200f}-" "٪" 1 number whole_space_percent amount_space_currency ∷
+    forms_row "agq" latn "," "\u{a0}" "," "\u{a0}" "-" "%" 1 number whole_percent amount_currency ∷
+    forms_row "as" beng "." "," "." "," "-" "%" 1 indian_number indian_whole_percent currency_space_indian_amount ∷
+    forms_row "asa" latn "." "," "." "," "-" "%" 1 number whole_percent amount_space_currency ∷
+    forms_row "ba" latn "." "\u{a0}" "." "\u{a0}" "-" "%" 1 number whole_percent amount_space_currency ∷
+    forms_row "be" latn "," "\u{a0}" "," "\u{a0}" "-" "%" 2 number whole_space_percent amount_space_currency ∷
+    forms_row "bgc" deva "." "," "." "," "-" "%" 1 number whole_percent currency_space_amount ∷
+    forms_row "bho" deva "." "," "." "," "-" "%" 1 number whole_percent currency_amount ∷
+    forms_row "blo" latn "," "\u{a0}" "," "\u{a0}" "-" "%" 1 number percent_space_paired_whole_or_percent_space_minus_paired_whole currency_space_amount_or_currency_space_minus_amount ∷
+    forms_row "brx" latn "." "," "." "," "-" "%" 1 indian_number indian_whole_percent currency_space_indian_amount ∷
+    forms_row "ccp" cakm "." "," "." "," "-" "%" 1 indian_number whole_percent indian_amount_currency ∷
+    forms_row "ce" latn "." "," "." "," "-" "%" 1 number whole_space_percent amount_space_currency ∷
+    forms_row "dje" latn "." "\u{a0}" "." "\u{a0}" "-" "%" 1 number whole_percent amount_currency ∷
+    forms_row "dz" tibt "." "," "." "," "-" "%" 1 indian_number indian_whole_space_percent currency_indian_amount ∷
+    forms_row "ee" latn "." "," "." "," "-" "%" 3 number whole_percent currency_amount ∷
+    forms_row "eo" latn "," "\u{202f}" "," "\u{202f}" "-" "%" 1 number whole_percent amount_thin_currency ∷
+    forms_row "fy" latn "," "." "," "." "-" "%" 1 number whole_percent currency_space_amount_or_currency_space_amount_minus ∷
+    forms_row "gsw" latn "." "'" "." "'" "−" "%" 1 number whole_space_percent amount_space_currency ∷
+    forms_row "ia" latn "," "." "," "." "-" "%" 2 number whole_percent currency_space_amount ∷
+    forms_row "ie" latn "," "\u{a0}" "," "\u{a0}" "-" "%" 2 number whole_percent currency_space_amount_or_currency_space_minus_amount ∷
+    forms_row "kl" latn "," "." "," "." "-" "%" 1 number whole_space_percent currency_amount_or_currency_minus_amount ∷
+    forms_row "ks" arabext "\u{66b}" "\u{66c}" "\u{66b}" "\u{66c}" "\u{200e}-\u{200e}" "٪" 1 number whole_percent currency_amount ∷
+    forms_row "lmo" latn "," "'" "," "'" "-" "%" 1 number whole_percent currency_space_amount ∷
+    forms_row "lu" latn "," "." "," "." "-" "%" 1 number whole_percent amount_currency ∷
+    forms_row "luy" latn "." "," "." "," "-" "%" 1 number whole_percent currency_amount_or_currency_minus_space_amount ∷
+    forms_row "mfe" latn "." "\u{a0}" "." "\u{a0}" "-" "%" 1 number whole_percent currency_space_amount ∷
+    forms_row "mni" beng "." "," "." "," "-" "%" 1 number whole_percent currency_space_amount ∷
+    forms_row "nqo" nkoo "." "،" "." "،" "-" "%" 1 number whole_percent currency_space_amount ∷
+    forms_row "oc" latn "," "\u{a0}" "," "\u{a0}" "-" "%" 1 number whole_thin_percent amount_currency ∷
+    forms_row "os" latn "," "\u{a0}" "," "\u{a0}" "-" "%" 1 number whole_percent currency_space_amount ∷
+    forms_row "qu" latn "." "," "." "," "-" "%" 1 number whole_space_percent currency_space_amount ∷
+    forms_row "rm" latn "," "\u{202f}" "," "\u{202f}" "-" "%" 1 number whole_percent currency_amount ∷
+    forms_row "rn" latn "," "." "," "." "-" "%" 1 number whole_space_percent amount_currency ∷
+    forms_row "sa" deva "." "," "." "," "-" "%" 1 indian_number indian_whole_percent currency_indian_amount ∷
+    forms_row "sat" olck "." "," "." "," "-" "%" 1 number whole_percent currency_space_amount ∷
+    forms_row "sd" arab "." "\u{66c}" "." "\u{66c}" "\u{61c}-" "٪\u{61c}" 1 number whole_percent amount_space_currency ∷
+    forms_row "tn" latn "." "'" "." "'" "-" "%" 1 number whole_percent currency_amount ∷
+    forms_row "tok" latn "," "\u{a0}" "," "\u{a0}" "-" "%" 1 paired_number whole_percent currency_paired_amount ∷
+    forms_row "xh" latn "." "\u{a0}" "." "\u{a0}" "-" "%" 1 number whole_percent currency_amount ∷
+    forms_row "zgh" latn "," "\u{a0}" "," "\u{a0}" "-" "%" 1 number whole_space_percent amount_currency ∷
+    forms_row "ar-dz" latn "," "." "," "." "\u{200e}-" "\u{200e}%\u{200e}" 1 number whole_percent rtl_amount_space_currency_or_rtl_minus_amount_space_currency ∷
+    forms_row "bn-in" beng "." "," "." "," "-" "%" 1 indian_number whole_percent currency_indian_amount ∷
+    forms_row "de-li" latn "." "'" "." "'" "-" "%" 1 number whole_percent currency_space_amount ∷
+    forms_row "en-at" latn "," "." "," "." "-" "%" 1 number whole_space_percent currency_space_amount ∷
+    forms_row "en-be" latn "," "." "." "," "-" "%" 1 number whole_percent currency_amount ∷
+    forms_row "en-de" latn "," "." "." "," "-" "%" 1 number whole_space_percent currency_amount ∷
+    forms_row "en-ee" latn "," "\u{a0}" "." "," "-" "%" 1 number whole_percent currency_amount ∷
+    forms_row "en-fi" latn "," "\u{a0}" "." "," "-" "%" 1 number whole_space_percent currency_amount ∷
+    forms_row "en-fr" latn "," "\u{202f}" "." "," "-" "%" 1 number whole_percent currency_amount ∷
+    forms_row "en-ge" latn "," "\u{202f}" "," "\u{202f}" "-" "%" 1 number whole_percent amount_space_currency ∷
+    forms_row "es-gq" latn "," "." "," "." "-" "%" 2 number whole_space_percent currency_amount ∷
+    forms_row "fa-af" arabext "\u{66b}" "\u{66c}" "\u{66b}" "\u{66c}" "\u{200e}−" "٪" 1 number whole_percent currency_space_amount ∷
+    forms_row "ff-adlm" adlm "." "⹁" "." "⹁" "-" "%" 1 number whole_percent currency_space_amount ∷
+    forms_row "kea-cv" latn "," "\u{a0}" "$" "\u{a0}" "-" "%" 1 number whole_percent amount_space_currency ∷
+    forms_row "pt-cv" latn "," "\u{a0}" "$" "\u{a0}" "-" "%" 2 number whole_percent amount_space_currency ∷
+    forms_row "ur-in" arabext "\u{66b}" "\u{66c}" "\u{66b}" "\u{66c}" "\u{200e}-\u{200e}" "%" 1 number whole_percent currency_amount ∷
+    forms_row "en-us-posix" latn "." "," "." "," "-" "%" 1 bare_number bare_whole_percent currency_space_bare_amount ∷
+    forms_row "pt-ao-pte" latn "," "\u{a0}" "$" "," "-" "%" 1 number whole_percent amount_space_currency ∷
+    []

@@ -1,0 +1,14 @@
+pub mod Tagged
+pub mod Forms
+pub mod Digits
+pub mod Patterns
+pub mod PatternNames
+pub mod FormTable
+pub mod Locales
+pub mod Currencies
+pub mod Lookup
+pub mod Signs
+pub mod Views
+pub mod Rounding
+pub mod Text
+pub mod Written

@@ -1,0 +1,41 @@
+-- Written by tools/numbers from Unicode CLDR 48. Do not edit.
+-- The patterns by their names.
+use Rattle.fluent_numerals.specs.Forms.{Pattern}
+use Rattle.fluent_numerals.specs.Patterns as patterns
+use Rattle.fluent_numerals.specs.declared.patterns.PatternName.{PatternName}
+use Rattle.fluent_numerals.specs.declared.patterns.PatternName.TheVariants as name
+
+abbrev pub pattern_named : PatternName → Pattern
+pattern_named name.IndianWholePercent = patterns.indian_whole_percent
+pattern_named name.IndianNumber = patterns.indian_number
+pattern_named name.IndianAmountCurrency = patterns.indian_amount_currency
+pattern_named name.IndianWholeSpacePercent = patterns.indian_whole_space_percent
+pattern_named name.WholePercent = patterns.whole_percent
+pattern_named name.Number = patterns.number
+pattern_named name.AmountSpaceCurrency = patterns.amount_space_currency
+pattern_named name.AmountSpaceCurrencyOrMinusAmountSpaceCurrency = patterns.amount_space_currency_or_minus_amount_space_currency
+pattern_named name.AmountCurrency = patterns.amount_currency
+pattern_named name.AmountThinCurrency = patterns.amount_thin_currency
+pattern_named name.WholeSpacePercent = patterns.whole_space_percent
+pattern_named name.WholeThinPercent = patterns.whole_thin_percent
+pattern_named name.PairedNumber = patterns.paired_number
+pattern_named name.PercentWhole = patterns.percent_whole
+pattern_named name.PercentSpaceWhole = patterns.percent_space_whole
+pattern_named name.PercentSpacePairedWholeOrPercentSpaceMinusPairedWhole = patterns.percent_space_paired_whole_or_percent_space_minus_paired_whole
+pattern_named name.BareWholePercent = patterns.bare_whole_percent
+pattern_named name.BareNumber = patterns.bare_number
+pattern_named name.CurrencyIndianAmount = patterns.currency_indian_amount
+pattern_named name.CurrencyAmount = patterns.currency_amount
+pattern_named name.CurrencyAmountOrCurrencyMinusAmount = patterns.currency_amount_or_currency_minus_amount
+pattern_named name.CurrencyAmountOrCurrencyMinusSpaceAmount = patterns.currency_amount_or_currency_minus_space_amount
+pattern_named name.CurrencyPairedAmount = patterns.currency_paired_amount
+pattern_named name.CurrencySpaceIndianAmount = patterns.currency_space_indian_amount
+pattern_named name.CurrencySpaceAmount = patterns.currency_space_amount
+pattern_named name.CurrencySpaceAmountOrCurrencyMinusAmount = patterns.currency_space_amount_or_currency_minus_amount
+pattern_named name.CurrencySpaceAmountOrCurrencySpaceAmountMinus = patterns.currency_space_amount_or_currency_space_amount_minus
+pattern_named name.CurrencySpaceAmountOrCurrencySpaceMinusAmount = patterns.currency_space_amount_or_currency_space_minus_amount
+pattern_named name.CurrencySpaceBareAmount = patterns.currency_space_bare_amount
+pattern_named name.LtrCurrencyAmount = patterns.ltr_currency_amount
+pattern_named name.RtlAmountSpaceCurrency = patterns.rtl_amount_space_currency
+pattern_named name.RtlAmountSpaceCurrencyOrRtlMinusAmountSpaceCurrency = patterns.rtl_amount_space_currency_or_rtl_minus_amount_space_currency
+pattern_named name.RtlAmountSpaceRtlCurrencyOrRtlMinusAmountSpaceRtlCurrency = patterns.rtl_amount_space_rtl_currency_or_rtl_minus_amount_space_rtl_currency

@@ -1,0 +1,247 @@
+//! The formatter.
+ghost use Rattle.std.specs.Prelude.{◌≡◌, ◌<◌, ◌≤◌, ◌^◌, option_map, unsigned_abs};
+ghost use Rattle.fluent_number.specs.Number.{number_of};
+ghost use Rattle.fluent_number.specs.Options.{options_of};
+ghost use Rattle.fluent_numerals.specs.Views.{form_view, forms_view, found_currency, layout_view, locale_view};
+ghost use Rattle.fluent_numerals.specs.Text.{digits_of, form_in, layout, money_layout, number_layout, numeral_text, symbol_in, value_text};
+ghost use Rattle.fluent_numerals.specs.Lookup.{locale_for};
+ghost use Rattle.fluent_numerals.specs.Written.{IsText, text_as};
+
+use crate::currencies::currency_named;
+use crate::currency::Currency;
+use crate::forms::{Form, Forms, forms_named};
+use crate::locales::locale_entry;
+use crate::rounding::{Shown, least_integer_digits, shown_digits, split_at_point, units_of};
+use crate::tagged::first_fitting;
+use crate::writing::{padded_digits, push_affix, push_fraction, push_integer};
+use fluent_number::{
+    FluentNumber, FluentNumberCurrencyDisplayStyle, FluentNumberOptions, FluentNumberStyle,
+};
+use fluent_value::{FluentType, FluentValue, ValueFormatter};
+use std::alloc::{AllocError, Global};
+
+/// How a locale writes numbers.
+///
+/// As a formatter it shows numbers, and leaves all other values to the rules of Fluent.
+#[derive(Clone, Copy)]
+pub struct LocaleNumerals {
+    tag: &'static str,
+    forms: &'static Forms,
+}
+
+/// How a number of one style is written.
+#[derive(Clone, Copy)]
+struct Layout<'a> {
+    form: &'a Form,
+    /// The currency as it is shown.
+    symbol: &'a str,
+    /// Ten to this power of units are shown as one.
+    places: usize,
+    /// The digits after the point that are usual.
+    least: usize,
+    most: usize,
+}
+
+impl LocaleNumerals {
+    /// How the locale of a tag writes numbers, or `None` if CLDR doesn't know its language.
+    ///
+    /// Of the tags of the table, the longest one that the text begins with counts, part by part and in letters of either case.
+    pub fn for_tag(tag: &str) -> Option<Self>
+        ensures { option_map locale_view result ≡ locale_for tag.now }
+    {
+        Self::for_tag_bytes(tag.as_bytes())
+    }
+
+    /// The same for the bytes of a tag, which may be no UTF-8 after the part that counts.
+    pub fn for_tag_bytes(tag: &[u8]) -> Option<Self>
+        ensures { option_map locale_view result ≡ locale_for tag.now }
+    {
+        match locale_entry(tag) {
+            Some(entry) => match forms_named(entry.1) {
+                Some(forms) => Some(LocaleNumerals {
+                    tag: entry.0,
+                    forms,
+                }),
+                None => None,
+            },
+            None => None,
+        }
+    }
+
+    /// The text of a number.
+    ///
+    /// # Errors
+    /// [`AllocError`] if memory runs out; nothing is left behind.
+    pub fn text_of(&self, alloc: Global, number: &FluentNumber) -> Result<String, AllocError>
+        ensures { IsText result (numeral_text (locale_view self.now) (number_of number.now)) }
+    {
+        let layout = self.layout(&number.options);
+        let shown = shown_digits(
+            units_of(number.value),
+            layout.places,
+            layout.least,
+            layout.most,
+            &number.options,
+        );
+        self.written(alloc, &layout, shown, number)
+    }
+
+    /// The text of what is shown of a number.
+    fn written(
+        &self,
+        alloc: Global,
+        layout: &Layout<'_>,
+        shown: Shown,
+        number: &FluentNumber,
+    ) -> Result<String, AllocError>
+        requires { layout.now.places ≤ 18 }
+        ensures { IsText result
+            (text_as (locale_view self.now) (layout_view layout.now) (number_of number.now) shown) }
+    {
+        let form = layout.form;
+        let (whole, fraction) = split_at_point(shown.units, layout.places);
+        let pattern = form.pattern.pattern();
+        let below_zero = number.value.is_negative();
+        let mut text = String::new(alloc);
+        push_affix(
+            &mut text,
+            pattern.prefix(below_zero),
+            self.forms,
+            layout.symbol,
+        )?;
+        let digits = padded_digits(alloc, whole, least_integer_digits(&number.options))?;
+        let grouping = number.options.use_grouping;
+        push_integer(&mut text, digits.as_bytes(), grouping, self.forms, form)?;
+        push_fraction(
+            &mut text,
+            fraction,
+            layout.places,
+            shown.least,
+            self.forms,
+            form,
+        )?;
+        push_affix(
+            &mut text,
+            pattern.suffix(below_zero),
+            self.forms,
+            layout.symbol,
+        )?;
+        Ok(text)
+    }
+
+    /// How a number with these options is written.
+    fn layout<'a>(&'a self, options: &'a FluentNumberOptions) -> Layout<'a>
+        ensures value { layout_view result ≡ layout (locale_view self.now) (options_of options.now) }
+        ensures few { result.places ≤ 18 }
+    {
+        match options.style {
+            FluentNumberStyle::Decimal => self.number_layout(),
+            FluentNumberStyle::Percent => Layout {
+                form: &self.forms.percent,
+                symbol: "",
+                places: 16,
+                least: 0,
+                most: 0,
+            },
+            FluentNumberStyle::Currency => match &options.currency {
+                Some(code) => self.money_layout(code.as_str(), options.currency_display),
+                None => self.number_layout(),
+            },
+        }
+    }
+
+    /// How a number is written that is no percentage and no amount.
+    fn number_layout(&self) -> Layout<'_>
+        ensures value { layout_view result ≡ number_layout (forms_view self.now.forms.now) }
+        ensures few { result.places ≤ 18 }
+    {
+        Layout {
+            form: &self.forms.number,
+            symbol: "",
+            places: 18,
+            least: 0,
+            most: 3,
+        }
+    }
+
+    /// How an amount of a currency is written.
+    fn money_layout<'a>(
+        &'a self,
+        code: &'a str,
+        display: FluentNumberCurrencyDisplayStyle,
+    ) -> Layout<'a>
+        ensures value { layout_view result ≡ money_layout (locale_view self.now) code.now display }
+        ensures few { result.places ≤ 18 }
+    {
+        let currency = currency_named(code);
+        let digits = digits_of(currency);
+        Layout {
+            form: self.money_form(currency),
+            symbol: self.symbol(code, display, currency),
+            places: 18,
+            least: digits,
+            most: digits,
+        }
+    }
+
+    /// The form that amounts of a currency are written by.
+    fn money_form(&self, currency: Option<&'static Currency>) -> &Form
+        ensures { form_view result.now ≡ form_in (locale_view self.now) (found_currency currency.entry) }
+    {
+        if let Some(currency) = currency {
+            if let Some(own) = first_fitting(currency.own, self.tag.as_bytes()) {
+                if let Some(forms) = forms_named(own.1) {
+                    return &forms.currency;
+                }
+            }
+        }
+        &self.forms.currency
+    }
+
+    /// A currency as it is shown.
+    fn symbol<'a>(
+        &self,
+        code: &'a str,
+        display: FluentNumberCurrencyDisplayStyle,
+        currency: Option<&'static Currency>,
+    ) -> &'a str
+        ensures { result.now ≡ symbol_in self.now.tag.now code.now display (found_currency currency.entry) }
+    {
+        match (display, currency) {
+            (_, None) => code,
+            (FluentNumberCurrencyDisplayStyle::Symbol, Some(currency)) => {
+                match first_fitting(currency.symbols, self.tag.as_bytes()) {
+                    Some(entry) => entry.1,
+                    None => currency.symbol,
+                }
+            }
+            (_, Some(currency)) => currency.code,
+        }
+    }
+}
+
+/// How many digits after the point amounts of a currency have.
+fn digits_of(currency: Option<&'static Currency>) -> usize
+    ensures { result ≡ digits_of (found_currency currency.entry) }
+{
+    match currency {
+        Some(currency) => usize::from(currency.digits),
+        None => 2,
+    }
+}
+
+impl<C: FluentType, M> ValueFormatter<C, M> for LocaleNumerals {
+    ghost formats = { λ numerals _ value. value_text (locale_view numerals) value };
+
+    fn format(
+        &self,
+        alloc: Global,
+        value: &FluentValue<'_, C>,
+        _plurals: &M,
+    ) -> Result<Option<String>, AllocError> {
+        match value {
+            FluentValue::Number(number) => Ok(Some(self.text_of(alloc, number)?)),
+            _ => Ok(None),
+        }
+    }
+}
