@@ -63,7 +63,7 @@ library_part() {
     ln -s "libfluent_c.so.$version" "$folder/lib/libfluent_c.so.0"
     ln -s libfluent_c.so.0 "$folder/lib/libfluent_c.so"
     rm -rf "$parts"
-    install -m 644 "$header/fluent_c.h" "$folder/include/fluent_c.h"
+    install -m 644 "$header/fluent_c.h" "$header/fluent.h" "$folder/include"
     sed "s/@VERSION@/$version/" "$made/fluent_c.pc" >"$folder/lib/pkgconfig/fluent_c.pc"
 }
 
