@@ -5,7 +5,7 @@
 #   tools/release.sh [OUT]      OUT is a folder; without it, `release` in this repository
 #
 # Needs crates/ftl/out/ftl, which `rt ci` leaves, crates/fluent_c/out/libfluent_c.a, which bindings/build.sh makes, a C
-# compiler with binutils, and python3.
+# compiler with binutils, and python3; with Python's headers the wheel gets the extension.
 set -euo pipefail
 here=$(cd "$(dirname "$0")" && pwd)
 root=$(cd "$here/.." && pwd)
@@ -63,7 +63,7 @@ library_part() {
     ln -s "libfluent_c.so.$version" "$folder/lib/libfluent_c.so.0"
     ln -s libfluent_c.so.0 "$folder/lib/libfluent_c.so"
     rm -rf "$parts"
-    install -m 644 "$header/fluent_c.h" "$folder/include/fluent_c.h"
+    install -m 644 "$header/fluent_c.h" "$header/fluent.h" "$folder/include"
     sed "s/@VERSION@/$version/" "$made/fluent_c.pc" >"$folder/lib/pkgconfig/fluent_c.pc"
 }
 
@@ -76,8 +76,12 @@ cargo_part() {
 }
 
 python_part() {
-    python3 "$made/wheel.py" "$root/bindings/python" "$folder/lib/libfluent_c.so.$version" "$version" \
+    local parts
+    parts=$(mktemp -d)
+    "$root/bindings/python/extension.sh" "$parts/_fast.abi3.so"
+    python3 "$made/wheel.py" "$root/bindings/python" "$folder/lib/libfluent_c.so.$version" "$parts/_fast.abi3.so" "$version" \
         "$folder/share/python"
+    rm -rf "$parts"
 }
 
 program_part

@@ -92,7 +92,9 @@ exports_the_header_alone() {
 python_program() {
     python3 -m venv --without-pip venv && python3 -m pip --python venv/bin/python install --quiet --no-index prefix/share/python/*.whl &&
         cd 'a stranger' && [ "$(../venv/bin/python -c '
-from kozhvadi import Bundle
+from kozhvadi import Bundle, _extension
+from pathlib import Path
+assert Path(_extension.__file__).with_name("_fast.abi3.so").exists() == (_extension.calls_type is not None)
 bundle = Bundle([open("hello.ftl").read()], isolating=False)
 print(bundle.format("hello", name="Jane").text)')" = 'Hello, Jane!' ]
 }

@@ -3,7 +3,7 @@ rounds and the ratio: above 1 ours is faster."""
 
 import timeit
 
-from kozhvadi import Bundle
+from kozhvadi import Bundle, _extension
 
 try:
     from fluent.runtime import FluentBundle, FluentResource
@@ -23,6 +23,9 @@ def least(call):
     return min(timeit.repeat(call, number=TIMES, repeat=5)) / TIMES * 1e6
 
 
+print("Python, by the extension:" if _extension.calls_type else "Python, by ctypes:")
+plain = Bundle(MESSAGES["text alone"], locale="en-US")
+print(f"text alone, without arguments: {least(lambda: plain.format('m')):.2f} us; in: {least(lambda: 'm' in plain):.2f} us")
 for name, source in MESSAGES.items():
     ours = Bundle(source, locale="en-US")
     took = least(lambda: ours.format("m", name="Jane", count=5))

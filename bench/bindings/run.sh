@@ -30,9 +30,14 @@ else
     echo 'Rust: no crates: skipped'
 fi
 if command -v python3 >/dev/null; then
-    cc -shared -o "$built/libfluent_c.so" -Wl,--whole-archive "$library/libfluent_c.a" -Wl,--no-whole-archive -L "$kit" -llibc_c
-    echo 'Python:'
-    KOZHVADI_LIBRARY=$built/libfluent_c.so PYTHONPATH=$root/bindings/python python3 "$here/answers.py"
+    mkdir "$built/python"
+    cp -R "$root/bindings/python/kozhvadi" "$built/python"
+    cc -shared -o "$built/python/kozhvadi/libfluent_c.so" -Wl,--whole-archive "$library/libfluent_c.a" -Wl,--no-whole-archive \
+        -L "$kit" -llibc_c
+    "$root/bindings/python/extension.sh" "$built/python/kozhvadi/_fast.abi3.so"
+    for without in '' 1; do
+        KOZHVADI_CTYPES=$without PYTHONPATH=$built/python python3 "$here/answers.py"
+    done
 else
     echo 'Python: skipped'
 fi

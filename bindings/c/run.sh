@@ -1,6 +1,7 @@
 #!/bin/sh
 # Builds the C programs of this folder over the static library, runs them, and compares what they print: that of README.md with
-# what the page says, messages.c with `expected`, and the tests of `tests` with theirs. The tests count the blocks of memory that are
+# what the page says, messages.c with `expected`, and the tests of `tests` with theirs. That of README.md and named.c are built as
+# C++ too, if there is a compiler for it, and no warning is let through. The tests count the blocks of memory that are
 # left; they are built with the sanitizers if the compiler has them, and else run under valgrind if it is there.
 set -eu
 here=$(cd "$(dirname "$0")" && pwd)
@@ -10,11 +11,20 @@ built=$(mktemp -d)
 trap 'rm -rf "$built"' EXIT
 sed -n '/^```c$/,/^```$/p' "$here/README.md" | sed '1d;$d' >"$built/first.c"
 cp "$here/messages.c" "$built"
-for program in first messages; do
-    cc -O2 -Wall -Wextra -I "$header" -o "$built/$program" "$built/$program.c" -L "$library" -lfluent_c -L "$kit" -llibc_c
+cp "$here/named.c" "$built"
+strict='-Wall -Wextra -Wpedantic -Werror'
+for program in first messages named; do
+    cc -std=c11 -O2 $strict -I "$header" -o "$built/$program" "$built/$program.c" -L "$library" -lfluent_c -L "$kit" -llibc_c
     "$built/$program" >"$built/$program.printed"
     cat "$built/$program.printed"
 done
+if command -v c++ >/dev/null; then
+    for program in first named; do
+        c++ -std=c++20 -O2 $strict -I "$header" -o "$built/$program" -x c++ "$built/$program.c" -x none -L "$library" -lfluent_c \
+            -L "$kit" -llibc_c
+        "$built/$program" | cmp - "$built/$program.printed"
+    done
+fi
 grep -qF "\`$(cat "$built/first.printed")\`" "$here/README.md"
 diff "$here/expected" "$built/messages.printed"
 

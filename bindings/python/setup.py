@@ -1,4 +1,4 @@
-"""Builds the package of pyproject.toml, with the library that run.sh makes."""
+"""Builds the package of pyproject.toml, with the library that run.sh makes, and the extension if it made one."""
 
 from pathlib import Path
 
@@ -16,4 +16,5 @@ class WithLibrary(Distribution):
 
 if not LIBRARY.is_file():
     raise SystemExit(f"there is no {LIBRARY}: make it by run.sh, next to this file")
-setup(distclass=WithLibrary)
+# The extension has the stable ABI, so one wheel is for each Python from 3.10 on.
+setup(distclass=WithLibrary, options={"bdist_wheel": {"py_limited_api": "cp310"}})

@@ -20,6 +20,13 @@
 #include <stddef.h>
 #include <stdint.h>
 
+/* In C++ a field that isn't named in `= {0}` is zero too, which compilers want to be told. */
+#if defined(__cplusplus) && __cplusplus >= 201402L
+#define FLUENT_ZERO {}
+#else
+#define FLUENT_ZERO
+#endif
+
 #ifdef __cplusplus
 extern "C" {
 #endif
@@ -42,13 +49,13 @@ extern "C" {
 #define FLUENT_NO_BUNDLE 7
 
 struct FluentCounts {
-    size_t messages;
-    size_t terms;
+    size_t messages FLUENT_ZERO;
+    size_t terms FLUENT_ZERO;
     /* Standalone comments, of all three kinds: not those of messages and terms. */
-    size_t comments;
-    size_t junk;
+    size_t comments FLUENT_ZERO;
+    size_t junk FLUENT_ZERO;
     /* One for each junk. */
-    size_t errors;
+    size_t errors FLUENT_ZERO;
 };
 
 /* Counts the entries and the errors of a source, comments included. It returns FLUENT_READ, also if the source has
@@ -65,11 +72,11 @@ uint32_t fluent_parse_runtime(const uint8_t *text, size_t len, struct FluentCoun
  */
 struct FluentText {
     /* Whether there is a text. If there is none, the other fields say nothing. */
-    bool held;
+    bool held FLUENT_ZERO;
     /* The first byte. An empty text may have any pointer here. */
-    const uint8_t *bytes;
-    size_t len;
-    void *owner;
+    const uint8_t *bytes FLUENT_ZERO;
+    size_t len FLUENT_ZERO;
+    void *owner FLUENT_ZERO;
 };
 
 /* Reads a source and writes its tree back, with its junk or without. It returns the numbers of fluent_parse. */
@@ -81,8 +88,8 @@ uint32_t fluent_write_json(const uint8_t *text, size_t len, struct FluentText *m
 
 /* A source: its first byte, and its length in bytes. */
 struct FluentSource {
-    const uint8_t *text;
-    size_t len;
+    const uint8_t *text FLUENT_ZERO;
+    size_t len FLUENT_ZERO;
 };
 
 /* Answers request lines from the messages and terms of sources, in their order, as the command `ftl run` does.
@@ -126,10 +133,10 @@ void fluent_free_text(struct FluentText *made);
  */
 struct FluentBundle {
     /* Whether there is a bundle. If there is none, the other fields say nothing. */
-    bool held;
-    void *sources;
-    void *read;
-    void *desk;
+    bool held FLUENT_ZERO;
+    void *sources FLUENT_ZERO;
+    void *read FLUENT_ZERO;
+    void *desk FLUENT_ZERO;
 };
 
 /* Reads sources, and makes a bundle of them. It copies them: you may free them once the call returns.
@@ -173,13 +180,13 @@ uint32_t fluent_bundle_new_within(
 /* An argument: its name, without `$`, and its value as its kind says. `text` is read for the first two kinds; for the
  * others it still needs a pointer that isn't null, and `text_len` is 0. */
 struct FluentArgument {
-    const uint8_t *name;
-    size_t name_len;
-    const uint8_t *text;
-    size_t text_len;
-    int64_t integer;
-    uint64_t unsigned_integer;
-    uint32_t kind;
+    const uint8_t *name FLUENT_ZERO;
+    size_t name_len FLUENT_ZERO;
+    const uint8_t *text FLUENT_ZERO;
+    size_t text_len FLUENT_ZERO;
+    int64_t integer FLUENT_ZERO;
+    uint64_t unsigned_integer FLUENT_ZERO;
+    uint32_t kind FLUENT_ZERO;
 };
 
 /* Formats a message: its value, or its first attribute of a name. If `attribute_len` is 0, it is the value.

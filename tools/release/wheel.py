@@ -1,7 +1,9 @@
 #!/usr/bin/env python3
-"""Makes the wheel of the Python module, with the shared library inside.
+"""Makes the wheel of the Python module, with the shared library inside, and the extension if there is one.
 
-    wheel.py BINDINGS LIBRARY VERSION OUT
+    wheel.py BINDINGS LIBRARY EXTENSION VERSION OUT
+
+Python without the stable ABI takes the same wheel, and does without the extension.
 
 A wheel is a zip file with a record of its files. This one is made from sorted files with one time, so that the same
 commit gives the same bytes, and needs no build backend.
@@ -39,7 +41,7 @@ def record(files, name):
     return ''.join(line(path, data) for path, data in sorted(files.items())).encode() + f'{name},,\n'.encode()
 
 
-def contents(bindings, library, version):
+def contents(bindings, library, extension, version):
     package = bindings / 'kozhvadi'
     files = {
         f'kozhvadi/{path.relative_to(package)}': path.read_bytes()
@@ -47,6 +49,8 @@ def contents(bindings, library, version):
         if path.suffix in ('.py', '.pyi', '.typed') or path.name == 'py.typed'
     }
     files['kozhvadi/libfluent_c.so'] = library.read_bytes()
+    if extension.is_file():
+        files['kozhvadi/_fast.abi3.so'] = extension.read_bytes()
     info = f'kozhvadi-{version}.dist-info'
     files[f'{info}/METADATA'] = metadata(version)
     files[f'{info}/WHEEL'] = wheel()
@@ -55,10 +59,11 @@ def contents(bindings, library, version):
 
 
 def main():
-    bindings, library, version, out = Path(sys.argv[1]), Path(sys.argv[2]), sys.argv[3], Path(sys.argv[4])
+    bindings, library, extension, version, out = sys.argv[1:]
+    files = contents(Path(bindings), Path(library), Path(extension), version)
     moment = time.gmtime(max(int(os.environ.get('SOURCE_DATE_EPOCH', '315532800')), 315532800))[:6]
-    with zipfile.ZipFile(out / f'kozhvadi-{version}-{TAG}.whl', 'w', zipfile.ZIP_DEFLATED) as made:
-        for path, data in sorted(contents(bindings, library, version).items()):
+    with zipfile.ZipFile(Path(out) / f'kozhvadi-{version}-{TAG}.whl', 'w', zipfile.ZIP_DEFLATED) as made:
+        for path, data in sorted(files.items()):
             entry = zipfile.ZipInfo(path, moment)
             entry.compress_type = zipfile.ZIP_DEFLATED
             entry.external_attr = (0o755 if path.endswith('.so') else 0o644) << 16

@@ -5,7 +5,8 @@
 'Welcome, Jane.'
 """
 
-from ._bundle import Answer, Bundle
+from ._answers import Answer
+from ._bundle import Bundle
 from ._errors import (
     FluentError,
     FluentWarning,

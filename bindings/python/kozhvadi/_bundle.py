@@ -2,6 +2,7 @@
 
 from __future__ import annotations
 
+import ctypes
 import os
 import re
 import resource
@@ -11,13 +12,15 @@ import weakref
 from collections.abc import Callable, Iterable
 from pathlib import Path
 from types import TracebackType
-from typing import NamedTuple, NoReturn, SupportsIndex, Union
+from typing import NoReturn, SupportsIndex, Union
 
 from . import _library as c
-from ._errors import FluentError, FluentWarning, MissingMessageError, ResolverError, SourceError, UnknownLocaleError
+from ._answers import Answer, resolver_errors
+from ._errors import FluentError, FluentWarning, MissingMessageError, SourceError, UnknownLocaleError
 from ._errors import source_error
+from ._extension import calls_type
 from ._locks import new_lock
-from ._values import Formatter, arguments_of, encoded
+from ._values import Formatter, arguments_of, encoded, in_order
 
 Paths = Union[str, "os.PathLike[str]", Iterable[Union[str, "os.PathLike[str]"]]]
 
@@ -29,16 +32,6 @@ _SHOWN = 3
 
 # A text of one line that is the name of a file or of a locale.
 _NAME = re.compile(r"[^\n=#]*\.ftl|[A-Za-z]{2,3}(?:[-_][A-Za-z0-9]+)*")
-
-
-class Answer(NamedTuple):
-    """The text of a message, and its errors. You get the text even if there are errors."""
-
-    text: str
-    errors: list[ResolverError]
-
-    def __str__(self) -> str:
-        return self.text
 
 
 class _Texts:
@@ -128,6 +121,7 @@ class Bundle:
         if made != c.READ:
             raise MemoryError(self._too_deep(named))
         self._free = weakref.finalize(self, c.library.fluent_bundle_free, self._handle)
+        self._calls = calls_type(ctypes.addressof(self._handle), self._handle, self._lock) if calls_type else None
 
     def _read(self, texts: list[bytes], tag: bytes, isolating: bool, handle: c.FluentBundle) -> int:
         array, count = c.sources(texts)
@@ -154,40 +148,56 @@ class Bundle:
         such message, value or attribute, `ValueError` if a `Number` is none or a text can't be written in UTF-8, and
         `MemoryError` if the answer nests too deep for the stack.
         """
-        key = encoded(id, "the id")
-        name = b"" if attribute is None else encoded(attribute, "the name of the attribute")
-        array, count = arguments_of(arguments, self._formatter)
         if self._sources is not None:
             self._warn()
+        ask = self._calls.format if self._calls else self._format
+        answered = ask(id, attribute, in_order(arguments), self._formatter)
+        if isinstance(answered, Answer):
+            return answered
+        if answered in (c.NO_MESSAGE, c.NO_PATTERN):
+            raise MissingMessageError(_missing(id, attribute, answered))
+        self._refuse(answered, f"the answer to {id!r}")
+
+    def _format(
+        self, id: str, attribute: str | None, arguments: dict[str, object], formatter: Formatter, /
+    ) -> Answer | int:
+        """An answer, or the status of the library if there is none. The extension has it too."""
+        key = encoded(id, "the id")
+        name = b"" if attribute is None else encoded(attribute, "the name of the attribute")
+        array, count = arguments_of(arguments, formatter)
         # An answer that comes up meanwhile, in a signal handler or another thread, has other texts.
         try:
             texts = self._spare.pop()
         except IndexError:
             texts = _Texts()
         with self._lock:
-            answered = c.library.fluent_bundle_format(
+            answered: int = c.library.fluent_bundle_format(
                 self._handle, key, len(key), name, len(name), array, count, texts.text, texts.errors
             )
-        if answered == c.READ:
-            errors = [ResolverError(line) for line in c.lines_of(texts.errors)] if texts.errors.held else []
-            answer = Answer(c.string_of(texts.text), errors)
-            self._spare.append(texts)
-            return answer
-        if answered in (c.NO_MESSAGE, c.NO_PATTERN):
-            raise MissingMessageError(_missing(id, attribute, answered))
-        self._refuse(answered, f"the answer to {id!r}")
+        if answered != c.READ:
+            return answered
+        errors = resolver_errors(c.string_of(texts.errors)) if texts.errors.held else []
+        answer = Answer(c.string_of(texts.text), errors)
+        self._spare.append(texts)
+        return answer
 
     def has_message(self, id: str) -> bool:
         """Whether there is a message of this id, with a value or with attributes alone."""
-        found = self._has(encoded(id, "the id"), b"")
-        return found != c.NO_MESSAGE
+        return self._has(id, None) != c.NO_MESSAGE
 
-    def _has(self, id: bytes, attribute: bytes) -> int:
+    def _has(self, id: str, attribute: str | None) -> int:
         """Whether there is a value or an attribute, as a status of the library."""
-        with self._lock:
-            found: int = c.library.fluent_bundle_has(self._handle, id, len(id), attribute, len(attribute))
+        found = self._calls.has(id, attribute) if self._calls else self._look_for(id, attribute)
         if found not in (c.READ, c.NO_MESSAGE, c.NO_PATTERN):
             self._refuse(found, "the question")
+        return found
+
+    def _look_for(self, id: str, attribute: str | None) -> int:
+        """The same. The extension has it too."""
+        key = encoded(id, "the id")
+        name = b"" if attribute is None else encoded(attribute, "the name of the attribute")
+        with self._lock:
+            found: int = c.library.fluent_bundle_has(self._handle, key, len(key), name, len(name))
         return found
 
     def __contains__(self, key: object) -> bool:
@@ -196,8 +206,9 @@ class Bundle:
         if not isinstance(name, str) or not isinstance(of, str):
             return False
         try:
-            return self._has(str.encode(name), str.encode(of)) == c.READ
-        except UnicodeEncodeError:
+            return self._has(name, of) == c.READ
+        except ValueError:
+            # It can't be written in UTF-8, so no message has it.
             return False
 
     @property

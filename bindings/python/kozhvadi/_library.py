@@ -123,3 +123,8 @@ def _load() -> ctypes.CDLL:
 
 
 library = _load()
+
+
+def address_of(call: str) -> int:
+    """The address of a call of the library, for the extension."""
+    return ctypes.cast(getattr(library, call), ctypes.c_void_p).value or 0

@@ -99,7 +99,7 @@ def _text(name: str, value: str) -> tuple[int, str]:
     return c.DECIMAL, value
 
 
-def _kind_and_text(name: str, value: object, formatter: Formatter) -> tuple[int, str]:
+def kind_and_text(name: str, value: object, formatter: Formatter) -> tuple[int, str]:
     """The kind of a value and its text. The formatter makes a value of what is neither a text nor a number."""
     if isinstance(value, str):
         return _text(name, value)
@@ -120,9 +120,14 @@ def _argument(name: str, value: object, formatter: Formatter) -> c.FluentArgumen
     key = encoded(name, "the name of an argument", name)
     if type(value) is int and -(2**63) <= value < 2**63:
         return c.FluentArgument(key, len(key), b"", 0, value, 0, c.INTEGER)
-    kind, text = (c.TEXT, value) if type(value) is str else _kind_and_text(name, value, formatter)
+    kind, text = (c.TEXT, value) if type(value) is str else kind_and_text(name, value, formatter)
     data = encoded(text, "the argument", name)
     return c.FluentArgument(key, len(key), data, len(data), 0, 0, kind)
+
+
+def in_order(arguments: dict[str, object]) -> dict[str, object]:
+    """The same arguments, in the order of their names if they are many."""
+    return arguments if len(arguments) <= _FEW else {name: arguments[name] for name in sorted(arguments)}
 
 
 _NONE = c.arguments([])
@@ -132,5 +137,4 @@ def arguments_of(arguments: Mapping[str, object], formatter: Formatter) -> c.Arg
     """Arguments by their names, as the library takes them."""
     if not arguments:
         return _NONE
-    pairs = sorted(arguments.items()) if len(arguments) > _FEW else arguments.items()
-    return c.arguments([_argument(name, value, formatter) for name, value in pairs])
+    return c.arguments([_argument(name, value, formatter) for name, value in arguments.items()])

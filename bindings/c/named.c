@@ -1,0 +1,75 @@
+/* The calls of fluent.h, with each number that they may return. It is C and C++, and compiles without a warning as both. */
+#include <stdio.h>
+
+#include "fluent.h"
+
+static const char SOURCE[] =
+    "a = A\n    .title = T { $x }\nn = { $n ->\n    [one] one\n   *[other] { $n } other\n}\n";
+
+static unsigned tried = 0, wrong = 0;
+
+static void check(const char *what, bool is_right) {
+    tried++;
+    wrong += !is_right;
+    if (!is_right)
+        printf("%s is wrong\n", what);
+}
+
+static bool holds(const struct FluentText *text, const char *wanted) {
+    return text->held && text->len == strlen(wanted) && memcmp(text->bytes, wanted, text->len) == 0;
+}
+
+/* Whether an argument is shown so by the message `n`. */
+static bool shows(struct FluentBundle *bundle, struct FluentArgument argument, const char *wanted) {
+    struct FluentText text = {0};
+    bool is_shown = fluent_format(bundle, "n", NULL, &argument, 1, &text, NULL) == FLUENT_READ && holds(&text, wanted);
+    fluent_free_text(&text);
+    return is_shown;
+}
+
+static void try_formats(struct FluentBundle *bundle) {
+    struct FluentText text = {0}, errors = {0};
+    check("a value", fluent_format(bundle, "a", NULL, NULL, 0, &text, NULL) == FLUENT_READ && holds(&text, "A"));
+    check("an attribute", fluent_format(bundle, "a", "title", NULL, 0, &text, &errors) == FLUENT_READ
+        && holds(&text, "T {$x}") && holds(&errors, "Unknown variable: $x\n"));
+    check("errors that aren't wanted", fluent_format(bundle, "a", "title", NULL, 0, &text, NULL) == FLUENT_READ);
+    check("no errors", fluent_format(bundle, "a", NULL, NULL, 0, &text, &errors) == FLUENT_READ && !errors.held);
+    check("no message", fluent_format(bundle, "b", NULL, NULL, 0, &text, NULL) == FLUENT_NO_MESSAGE);
+    check("no attribute", fluent_format(bundle, "a", "b", NULL, 0, &text, NULL) == FLUENT_NO_PATTERN);
+    check("no UTF-8", fluent_format(bundle, "\xff", NULL, NULL, 0, &text, NULL) == FLUENT_NOT_UTF8);
+    fluent_free_text(&text);
+    fluent_free_text(&errors);
+}
+
+static void try_arguments(struct FluentBundle *bundle) {
+    check("an integer", shows(bundle, fluent_integer_argument("n", -3), "-3 other"));
+    check("an unsigned integer", shows(bundle, fluent_unsigned_argument("n", UINT64_MAX), "18446744073709551615 other"));
+    check("a decimal", shows(bundle, fluent_decimal_argument("n", "1.50"), "1.50 other"));
+    check("the decimal 1", shows(bundle, fluent_decimal_argument("n", "1"), "one"));
+    check("a text", shows(bundle, fluent_text_argument("n", "1"), "1 other"));
+    check("a text that is NULL", shows(bundle, fluent_text_argument("n", NULL), " other"));
+    const struct FluentArgument arguments[] = {
+        fluent_integer_argument("a", 1), fluent_decimal_argument("b", "1e3"), fluent_decimal_argument("c", "")};
+    struct FluentText text = {0};
+    check("a bad argument", fluent_format(bundle, "a", NULL, arguments, 3, &text, NULL) == FLUENT_BAD_ARGUMENT && !text.held);
+    check("which one", fluent_bad_argument(bundle, arguments, 3) == 1);
+    check("none", fluent_bad_argument(bundle, arguments, 1) == 1 && fluent_bad_argument(bundle, NULL, 0) == 0);
+}
+
+int main(void) {
+    struct FluentBundle bundle = {0};
+    struct FluentCounts counts = {0};
+    check("a locale", fluent_bundle_of(SOURCE, "plx", false, &bundle) == FLUENT_UNKNOWN_LOCALE && !bundle.held);
+    check("a bundle", fluent_bundle_of(SOURCE, NULL, false, &bundle) == FLUENT_READ && bundle.held);
+    check("counts", fluent_parse(fluent_bytes(SOURCE), fluent_len(SOURCE), &counts) == FLUENT_READ && counts.messages == 2);
+    try_formats(&bundle);
+    try_arguments(&bundle);
+    check("a value is there", fluent_has(&bundle, "a", NULL) == FLUENT_READ);
+    check("an attribute isn't", fluent_has(&bundle, "n", "title") == FLUENT_NO_PATTERN);
+    fluent_bundle_free(&bundle);
+    check("a bundle isn't there", fluent_has(&bundle, "a", NULL) == FLUENT_NO_BUNDLE);
+    for (uint32_t status = FLUENT_READ; status <= FLUENT_NO_BUNDLE; status++)
+        check("the words of a status", strcmp(fluent_status_text(status), fluent_status_text(99)) != 0);
+    printf("fluent.h: %u tried, %u wrong\n", tried, wrong);
+    return wrong == 0 ? 0 : 1;
+}

@@ -1,0 +1,370 @@
+/* The calls that a program makes often, in the place of ctypes: the text of a message, and whether there is one.
+ *
+ * It is an extension module of Python's stable ABI, for Python 3.10 and later, over the library that _library.py opened. What
+ * is unusual, such as a float or a text that can't be written in UTF-8, it leaves to _values.py. The library is asked under
+ * the bundle's lock, under which no code of a program runs.
+ */
+#define PY_SSIZE_T_CLEAN
+#define Py_LIMITED_API 0x030A0000
+#include <Python.h>
+
+#include <fluent_c.h>
+
+/* More arguments than these are not on the stack. */
+#define FEW 8
+
+/* What is found once: calls of the library, and what is in Python. */
+struct Found {
+    __typeof__(&fluent_bundle_format) format;
+    __typeof__(&fluent_bundle_has) has;
+    __typeof__(&fluent_free_text) free_text;
+    newfunc new_tuple;
+    PyObject *answer;
+    PyObject *resolver_errors;
+    PyObject *kind_and_text;
+    PyObject *encoded;
+};
+
+/* The calls of one bundle, and the memory of its answers, which is under the bundle's lock too. */
+struct Calls {
+    PyObject_HEAD
+    struct Found *found;
+    PyObject *acquire;
+    PyObject *release;
+    /* The object that has the bundle in it. */
+    PyObject *owner;
+    struct FluentBundle *bundle;
+    struct FluentText text;
+    struct FluentText errors;
+};
+
+/* Arguments, and the objects that have their names and texts. */
+struct Arguments {
+    Py_ssize_t count;
+    struct FluentArgument *list;
+    /* For each argument its name, its value and what was made of it, or NULL. */
+    PyObject *(*objects)[3];
+    struct FluentArgument few[FEW];
+    PyObject *few_objects[FEW][3];
+};
+
+/* The bytes of a text. Python says what is wrong if it isn't one, or can't be written in UTF-8. */
+static bool bytes_of(struct Found *found, PyObject *text, const char *what, PyObject *name, const uint8_t **bytes, size_t *len) {
+    Py_ssize_t size;
+    const char *first = PyUnicode_Check(text) ? PyUnicode_AsUTF8AndSize(text, &size) : NULL;
+    if (first) {
+        *bytes = (const uint8_t *)first;
+        *len = (size_t)size;
+        return true;
+    }
+    PyErr_Clear();
+    PyObject *encoded = PyObject_CallFunction(found->encoded, "OsO", text, what, name ? name : Py_None);
+    if (encoded) {
+        Py_DECREF(encoded);
+        PyErr_NoMemory();
+    }
+    return false;
+}
+
+/* The text or the number that _values.py makes of a value. */
+static bool made_of(
+    struct Found *found, PyObject *formatter, PyObject *objects[3], struct FluentArgument *argument) {
+    objects[2] = PyObject_CallFunctionObjArgs(found->kind_and_text, objects[0], objects[1], formatter, NULL);
+    PyObject *text;
+    return objects[2] && PyArg_ParseTuple(objects[2], "IO", &argument->kind, &text)
+        && bytes_of(found, text, "the argument", objects[0], &argument->text, &argument->text_len);
+}
+
+/* The argument of a name and its value. */
+static bool argument_of(
+    struct Found *found, PyObject *formatter, PyObject *objects[3], struct FluentArgument *argument) {
+    PyObject *name = objects[0], *value = objects[1];
+    argument->text = (const uint8_t *)"";
+    if (!bytes_of(found, name, "the name of an argument", name, &argument->name, &argument->name_len))
+        return false;
+    if (PyUnicode_CheckExact(value)) {
+        argument->kind = FLUENT_TEXT;
+        return bytes_of(found, value, "the argument", name, &argument->text, &argument->text_len);
+    }
+    if (PyLong_CheckExact(value)) {
+        int overflow;
+        argument->kind = FLUENT_INTEGER;
+        argument->integer = PyLong_AsLongLongAndOverflow(value, &overflow);
+        if (!overflow)
+            return true;
+    }
+    return made_of(found, formatter, objects, argument);
+}
+
+static void free_arguments(struct Arguments *arguments) {
+    for (Py_ssize_t each = 0; each < arguments->count; each++)
+        for (int which = 0; which < 3; which++)
+            Py_XDECREF(arguments->objects[each][which]);
+    if (arguments->list != arguments->few) {
+        PyMem_Free(arguments->list);
+        PyMem_Free(arguments->objects);
+    }
+}
+
+/* Has room for the arguments of a dictionary, which are none as yet. */
+static bool make_room(struct Arguments *arguments, Py_ssize_t count) {
+    arguments->count = 0;
+    arguments->list = arguments->few;
+    arguments->objects = arguments->few_objects;
+    if (count <= FEW)
+        return true;
+    struct FluentArgument *list = PyMem_Calloc((size_t)count, sizeof *list);
+    PyObject *(*objects)[3] = PyMem_Calloc((size_t)count, sizeof *objects);
+    if (list && objects) {
+        arguments->list = list;
+        arguments->objects = objects;
+        return true;
+    }
+    PyMem_Free(list);
+    PyMem_Free(objects);
+    PyErr_NoMemory();
+    return false;
+}
+
+/* The arguments of a dictionary. Whatever comes back, they are to be freed. */
+static bool arguments_of(struct Found *found, PyObject *given, PyObject *formatter, struct Arguments *arguments) {
+    Py_ssize_t count = PyDict_Size(given), at = 0;
+    PyObject *name, *value;
+    if (!make_room(arguments, count < 0 ? 0 : count) || count < 0)
+        return false;
+    /* First they are all held, since a formatter could change the dictionary. */
+    while (arguments->count < count && PyDict_Next(given, &at, &name, &value)) {
+        PyObject **objects = arguments->objects[arguments->count];
+        Py_INCREF(name);
+        Py_INCREF(value);
+        objects[0] = name;
+        objects[1] = value;
+        objects[2] = NULL;
+        arguments->list[arguments->count++] = (struct FluentArgument){0};
+    }
+    for (Py_ssize_t each = 0; each < arguments->count; each++)
+        if (!argument_of(found, formatter, arguments->objects[each], &arguments->list[each]))
+            return false;
+    return true;
+}
+
+/* Takes the bundle's lock, or gives it back. */
+static bool lock(PyObject *call) {
+    PyObject *done = PyObject_CallNoArgs(call);
+    Py_XDECREF(done);
+    return done != NULL;
+}
+
+static PyObject *string_of(const struct FluentText *text) {
+    return PyUnicode_FromStringAndSize(text->len ? (const char *)text->bytes : "", (Py_ssize_t)text->len);
+}
+
+/* An answer of a text and of the lines of its errors, which are NULL if there are none. */
+static PyObject *answer_of(struct Found *found, PyObject *text, PyObject *lines) {
+    PyObject *errors = lines ? PyObject_CallFunctionObjArgs(found->resolver_errors, lines, NULL) : PyList_New(0);
+    PyObject *fields = errors ? PyTuple_Pack(2, text, errors) : NULL;
+    PyObject *arguments = fields ? PyTuple_Pack(1, fields) : NULL;
+    PyObject *made = arguments ? found->new_tuple((PyTypeObject *)found->answer, arguments, NULL) : NULL;
+    Py_XDECREF(errors);
+    Py_XDECREF(fields);
+    Py_XDECREF(arguments);
+    return made;
+}
+
+/* An id, and the name of an attribute. */
+struct Names {
+    const uint8_t *id;
+    size_t id_len;
+    const uint8_t *attribute;
+    size_t attribute_len;
+};
+
+/* The names that were given, of which the attribute may be `None`. */
+static bool names_of(struct Found *found, PyObject *const *given, struct Names *names) {
+    names->attribute = (const uint8_t *)"";
+    names->attribute_len = 0;
+    return bytes_of(found, given[0], "the id", NULL, &names->id, &names->id_len)
+        && (given[1] == Py_None
+            || bytes_of(found, given[1], "the name of the attribute", NULL, &names->attribute, &names->attribute_len));
+}
+
+/* Asks the library under the lock: an answer, or the status if there is none. */
+static PyObject *ask(struct Calls *calls, const struct Names *names, const struct Arguments *arguments) {
+    PyObject *text = NULL, *lines = NULL, *made = NULL;
+    if (!lock(calls->acquire))
+        return NULL;
+    uint32_t answered = calls->found->format(
+        calls->bundle, names->id, names->id_len, names->attribute, names->attribute_len, arguments->list,
+        (size_t)arguments->count, &calls->text, &calls->errors);
+    bool has_lines = answered == FLUENT_READ && calls->errors.held;
+    if (answered == FLUENT_READ)
+        text = string_of(&calls->text);
+    if (has_lines)
+        lines = string_of(&calls->errors);
+    bool is_free = lock(calls->release);
+    if (is_free && answered != FLUENT_READ)
+        made = PyLong_FromUnsignedLong(answered);
+    else if (is_free && text && (lines || !has_lines))
+        made = answer_of(calls->found, text, lines);
+    Py_XDECREF(text);
+    Py_XDECREF(lines);
+    return made;
+}
+
+/* format(id, attribute, arguments, formatter): an answer, or the status if there is none. */
+static PyObject *format(PyObject *self, PyObject *const *given, Py_ssize_t count) {
+    struct Calls *calls = (struct Calls *)self;
+    struct Names names;
+    struct Arguments arguments;
+    if (count != 4 || !calls->found->answer) {
+        PyErr_SetString(PyExc_TypeError, "format takes four arguments, before Python ends");
+        return NULL;
+    }
+    if (!names_of(calls->found, given, &names))
+        return NULL;
+    bool are_taken = arguments_of(calls->found, given[2], given[3], &arguments);
+    PyObject *made = are_taken ? ask(calls, &names, &arguments) : NULL;
+    free_arguments(&arguments);
+    return made;
+}
+
+/* has(id, attribute): the status. */
+static PyObject *has(PyObject *self, PyObject *const *given, Py_ssize_t count) {
+    struct Calls *calls = (struct Calls *)self;
+    struct Names names;
+    if (count != 2 || !calls->found->encoded) {
+        PyErr_SetString(PyExc_TypeError, "has takes two arguments, before Python ends");
+        return NULL;
+    }
+    if (!names_of(calls->found, given, &names) || !lock(calls->acquire))
+        return NULL;
+    uint32_t found = calls->found->has(calls->bundle, names.id, names.id_len, names.attribute, names.attribute_len);
+    return lock(calls->release) ? PyLong_FromUnsignedLong(found) : NULL;
+}
+
+static PyObject *new_calls(PyTypeObject *type, PyObject *arguments, PyObject *keywords) {
+    PyObject *address, *owner, *locks;
+    if (keywords && PyDict_Size(keywords)) {
+        PyErr_SetString(PyExc_TypeError, "Calls takes no keywords");
+        return NULL;
+    }
+    if (!PyArg_ParseTuple(arguments, "OOO", &address, &owner, &locks))
+        return NULL;
+    struct FluentBundle *bundle = PyLong_AsVoidPtr(address);
+    if (!bundle && PyErr_Occurred())
+        return NULL;
+    /* Its memory is all zeros, so it has no texts yet. */
+    struct Calls *calls = (struct Calls *)PyType_GenericAlloc(type, 0);
+    if (!calls)
+        return NULL;
+    calls->found = PyType_GetModuleState(type);
+    Py_INCREF(owner);
+    calls->owner = owner;
+    calls->bundle = bundle;
+    calls->acquire = PyObject_GetAttrString(locks, "acquire");
+    calls->release = PyObject_GetAttrString(locks, "release");
+    if (calls->acquire && calls->release)
+        return (PyObject *)calls;
+    Py_DECREF(calls);
+    return NULL;
+}
+
+static void free_calls(PyObject *self) {
+    struct Calls *calls = (struct Calls *)self;
+    PyTypeObject *type = Py_TYPE(self);
+    calls->found->free_text(&calls->text);
+    calls->found->free_text(&calls->errors);
+    Py_XDECREF(calls->acquire);
+    Py_XDECREF(calls->release);
+    Py_DECREF(calls->owner);
+    PyObject_Free(self);
+    Py_DECREF(type);
+}
+
+static PyMethodDef methods[] = {
+    {"format", (PyCFunction)(void (*)(void))format, METH_FASTCALL, NULL},
+    {"has", (PyCFunction)(void (*)(void))has, METH_FASTCALL, NULL},
+    {NULL, NULL, 0, NULL},
+};
+
+static PyType_Slot calls_slots[] = {
+    {Py_tp_new, new_calls},
+    {Py_tp_dealloc, free_calls},
+    {Py_tp_methods, methods},
+    {0, NULL},
+};
+
+static PyType_Spec calls_spec = {
+    .name = "kozhvadi._fast.Calls",
+    .basicsize = sizeof(struct Calls),
+    .flags = Py_TPFLAGS_DEFAULT,
+    .slots = calls_slots,
+};
+
+/* What a module has under a name. */
+static PyObject *attribute_of(const char *module, const char *name) {
+    PyObject *imported = PyImport_ImportModule(module);
+    PyObject *attribute = imported ? PyObject_GetAttrString(imported, name) : NULL;
+    Py_XDECREF(imported);
+    return attribute;
+}
+
+/* The address of a call in the library that is open, or NULL. */
+static void *address_of(const char *call) {
+    PyObject *finds = attribute_of("kozhvadi._library", "address_of");
+    PyObject *number = finds ? PyObject_CallFunction(finds, "s", call) : NULL;
+    void *address = number ? PyLong_AsVoidPtr(number) : NULL;
+    Py_XDECREF(finds);
+    Py_XDECREF(number);
+    return address;
+}
+
+static int fill_module(PyObject *module) {
+    struct Found *found = PyModule_GetState(module);
+    found->new_tuple = (newfunc)PyType_GetSlot(&PyTuple_Type, Py_tp_new);
+    if (!(found->format = (__typeof__(found->format))address_of("fluent_bundle_format"))
+        || !(found->has = (__typeof__(found->has))address_of("fluent_bundle_has"))
+        || !(found->free_text = (__typeof__(found->free_text))address_of("fluent_free_text"))
+        || !(found->answer = attribute_of("kozhvadi._answers", "Answer"))
+        || !(found->resolver_errors = attribute_of("kozhvadi._answers", "resolver_errors"))
+        || !(found->kind_and_text = attribute_of("kozhvadi._values", "kind_and_text"))
+        || !(found->encoded = attribute_of("kozhvadi._values", "encoded")))
+        return -1;
+    PyObject *type = PyType_FromModuleAndSpec(module, &calls_spec, NULL);
+    if (!type)
+        return -1;
+    int added = PyModule_AddObjectRef(module, "Calls", type);
+    Py_DECREF(type);
+    return added;
+}
+
+static int visit_module(PyObject *module, visitproc visit, void *arg) {
+    struct Found *found = PyModule_GetState(module);
+    Py_VISIT(found->answer);
+    Py_VISIT(found->resolver_errors);
+    Py_VISIT(found->kind_and_text);
+    Py_VISIT(found->encoded);
+    return 0;
+}
+
+static int clear_module(PyObject *module) {
+    struct Found *found = PyModule_GetState(module);
+    Py_CLEAR(found->answer);
+    Py_CLEAR(found->resolver_errors);
+    Py_CLEAR(found->kind_and_text);
+    Py_CLEAR(found->encoded);
+    return 0;
+}
+
+static PyModuleDef_Slot module_slots[] = {{Py_mod_exec, fill_module}, {0, NULL}};
+
+static struct PyModuleDef module = {
+    PyModuleDef_HEAD_INIT,
+    .m_name = "kozhvadi._fast",
+    .m_size = sizeof(struct Found),
+    .m_slots = module_slots,
+    .m_traverse = visit_module,
+    .m_clear = clear_module,
+};
+
+PyMODINIT_FUNC PyInit__fast(void) { return PyModuleDef_Init(&module); }

@@ -1,0 +1,115 @@
+/* The calls of fluent_c.h for texts that end in a byte 0, with NULL for what isn't wanted, and the words of a status.
+ *
+ * All of it is in this header, and is tested, not proved: each call makes one of fluent_c.h, which says what it returns.
+ */
+#ifndef FLUENT_H
+#define FLUENT_H
+
+#include <string.h>
+
+#include "fluent_c.h"
+
+/* What a status says. It is for programmers, in English, without a full stop. */
+static inline const char *fluent_status_text(uint32_t status) {
+    switch (status) {
+    case FLUENT_READ:
+        return "the call did what it is for";
+    case FLUENT_NOT_UTF8:
+        return "a text isn't UTF-8";
+    case FLUENT_NO_MEMORY:
+        return "memory was refused, or it nests too deep for the budget of the stack";
+    case FLUENT_UNKNOWN_LOCALE:
+        return "the locale has no plural rules";
+    case FLUENT_NO_MESSAGE:
+        return "there is no message of the id";
+    case FLUENT_NO_PATTERN:
+        return "the message has no value, or no attribute of the name";
+    case FLUENT_BAD_ARGUMENT:
+        return "an argument's kind isn't known, or its decimal is no number";
+    case FLUENT_NO_BUNDLE:
+        return "there is no bundle";
+    default:
+        return "no call returns this number";
+    }
+}
+
+/* The bytes of a text that may be NULL, which is an empty one. */
+static inline const uint8_t *fluent_bytes(const char *text) { return (const uint8_t *)(text ? text : ""); }
+
+static inline size_t fluent_len(const char *text) { return text ? strlen(text) : 0; }
+
+/* An argument that is a text. */
+static inline struct FluentArgument fluent_text_argument(const char *name, const char *text) {
+    struct FluentArgument argument = {0};
+    argument.name = fluent_bytes(name);
+    argument.name_len = fluent_len(name);
+    argument.text = fluent_bytes(text);
+    argument.text_len = fluent_len(text);
+    argument.kind = FLUENT_TEXT;
+    return argument;
+}
+
+/* An argument that is a number, written as a decimal such as "1.50". */
+static inline struct FluentArgument fluent_decimal_argument(const char *name, const char *decimal) {
+    struct FluentArgument argument = fluent_text_argument(name, decimal);
+    argument.kind = FLUENT_DECIMAL;
+    return argument;
+}
+
+/* An argument that is an integer. */
+static inline struct FluentArgument fluent_integer_argument(const char *name, int64_t integer) {
+    struct FluentArgument argument = fluent_text_argument(name, NULL);
+    argument.integer = integer;
+    argument.kind = FLUENT_INTEGER;
+    return argument;
+}
+
+/* An argument that is an integer without a sign. */
+static inline struct FluentArgument fluent_unsigned_argument(const char *name, uint64_t integer) {
+    struct FluentArgument argument = fluent_text_argument(name, NULL);
+    argument.unsigned_integer = integer;
+    argument.kind = FLUENT_UNSIGNED;
+    return argument;
+}
+
+/* fluent_bundle_new of one source. A locale that is NULL is the empty one. */
+static inline uint32_t fluent_bundle_of(const char *source, const char *locale, bool isolating, struct FluentBundle *made) {
+    struct FluentSource only = {0};
+    only.text = fluent_bytes(source);
+    only.len = fluent_len(source);
+    return fluent_bundle_new(&only, 1, fluent_bytes(locale), fluent_len(locale), isolating, false, made);
+}
+
+/* fluent_bundle_format. `attribute` is NULL for the value, `arguments` may be NULL if there are none, and `errors` if you
+ * don't want them. */
+static inline uint32_t fluent_format(
+    struct FluentBundle *bundle, const char *id, const char *attribute, const struct FluentArgument *arguments,
+    size_t argument_count, struct FluentText *text, struct FluentText *errors) {
+    static const struct FluentArgument none = {0};
+    struct FluentText unwanted = {0};
+    uint32_t answered = fluent_bundle_format(
+        bundle, fluent_bytes(id), fluent_len(id), fluent_bytes(attribute), fluent_len(attribute),
+        arguments ? arguments : &none, arguments ? argument_count : 0, text, errors ? errors : &unwanted);
+    fluent_free_text(&unwanted);
+    return answered;
+}
+
+/* fluent_bundle_has. `attribute` is NULL for the value. */
+static inline uint32_t fluent_has(struct FluentBundle *bundle, const char *id, const char *attribute) {
+    return fluent_bundle_has(bundle, fluent_bytes(id), fluent_len(id), fluent_bytes(attribute), fluent_len(attribute));
+}
+
+/* The number of the first argument that fluent_format refuses with FLUENT_BAD_ARGUMENT, or `argument_count` if it refuses
+ * none. It takes as many calls as there are arguments before that one. */
+static inline size_t fluent_bad_argument(
+    struct FluentBundle *bundle, const struct FluentArgument *arguments, size_t argument_count) {
+    struct FluentText unwanted = {0};
+    size_t each = 0;
+    while (each < argument_count
+        && fluent_format(bundle, NULL, NULL, &arguments[each], 1, &unwanted, NULL) != FLUENT_BAD_ARGUMENT)
+        each++;
+    fluent_free_text(&unwanted);
+    return each;
+}
+
+#endif
