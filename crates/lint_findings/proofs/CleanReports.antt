@@ -1,5 +1,5 @@
 -- A catalog with a clean report is flawless.
-use Rattle.std.proofs.Common.{◌≡◌, ◌∙◌, Bool, true, false, if◌then◌else◌, List, [], ◌∷◌, ◌++◌, map, Option, Some, None, refl, sym}
+use Rattle.std.proofs.Common.{◌≡◌, ◌∙◌, Bool, true, false, if◌then◌else◌, List, [], ◌∷◌, ◌++◌, map, Option, Some, None, refl, sym, subst}
 use Rattle.std.specs.Prelude.{is_some, drop, codes}
 use Rattle.std.specs.Option.{option_to_list}
 use Rattle.std.specs.List.{All, flat_map}
@@ -29,13 +29,14 @@ use Rattle.lint_findings.specs.Files.{File}
 use Rattle.lint_findings.specs.DuplicateIds.{Declaration, duplicate_findings}
 use Rattle.lint_findings.specs.Findings.{Rules, FileFinding, FileTile, findings_in, tiles_in, sources, findings_of_tile, findings_of_tiles, declarations_of_tile, catalog_rules, translation_rules, known_functions, missing_messages}
 use Rattle.lint_findings.specs.PlaceLaws.{tile_entries}
-use Rattle.lint_findings.specs.ReportLaws.{IsHarmless, harmful_codes, HasHarmlessCode, IsClean, CleanCatalogsAreFlawless, CleanTranslationsAreFlawless}
+use Rattle.lint_findings.specs.ReportLaws.{program_ids, AreFunctions, IsHarmless, IsFlawless, harmful_codes, HasHarmlessCode, IsClean, CleanCatalogsAreFlawless, CleanTranslationsAreFlawless}
 use Rattle.lint_findings.proofs.EndlessPatterns.{endless_goes_on}
 use Rattle.lint_findings.proofs.Lists.{all_left, all_right}
 use Rattle.lint_findings.proofs.RequestErrors.{HasDefault}
 use Rattle.lint_findings.proofs.NodesHold.{IsResolved, IsFound, elements_resolved}
 use Rattle.lint_findings.proofs.TilesAreTheList.{tiles_are_the_list}
 use Rattle.lint_findings.proofs.FlawlessCatalogs.{at_value}
+use Rattle.lint_findings.proofs.ProgramIds.{ids_same, flawless_with_functions}
 
 -- ---- the codes of references
 
@@ -301,11 +302,19 @@ module _ (rules : Rules) where
       at_value Harmless meaning_patterns id m (number_pair ∷ pairs) (sym (first_stays (number_pair ∷ []) pairs id) ∙ found)
       (functions_are_harmless functions (entries_by_id (lists (sources files))) (ids_are_harmless (lists (sources files)) (sources_are_harmless files (tiles_are_harmless [] (flat_map tiles_in files) h))))
 
-pub clean_catalogs_are_flawless : CleanCatalogsAreFlawless
-clean_catalogs_are_flawless options files h = catalog_is_harmless (catalog_rules options files) options.functions files h
+-- in a program that has these functions
+module _ {F : Type 0} (rules : Rules) (known : List Text) (functions : List (Text × F)) (are : AreFunctions known functions) (files : List File) (same : rules.ids ≡ catalog_ids known (sources files)) where
+  in_program : IsClean (findings_of_tiles rules [] (flat_map tiles_in files)) → IsFlawless (program_ids false functions (sources files))
+  in_program h =
+      let ids = program_ids false functions (sources files) in
+      let of_catalog : IsFlawless (catalog_ids known (sources files)) = λ id m found. subst (λ xs. All (λ es. All IsHarmless (pattern_flaws xs es)) (meaning_patterns m)) same (catalog_is_harmless rules known files h id m found) in
+      flawless_with_functions ids (subst IsFlawless (sym (ids_same known functions are (sources files))) of_catalog)
 
-pub clean_translations_are_flawless : CleanTranslationsAreFlawless
-clean_translations_are_flawless options references files h =
+pub clean_catalogs_are_flawless : {F : Type 0} → CleanCatalogsAreFlawless F
+clean_catalogs_are_flawless options files functions are h = in_program (catalog_rules options files) options.functions functions are files refl h
+
+pub clean_translations_are_flawless : {F : Type 0} → CleanTranslationsAreFlawless F
+clean_translations_are_flawless options references files functions are h =
     let rules = translation_rules options references files in
     let own = all_left (λ (g : FileFinding). HasHarmlessCode g.finding) (findings_of_tiles rules [] (flat_map tiles_in files)) (missing_messages options references files) h in
-    catalog_is_harmless rules (known_functions options references) files own
+    in_program rules (known_functions options references) functions are files refl own

@@ -15,12 +15,14 @@ pub mod RequestErrors
 pub mod EndlessPatterns
 pub mod FlawlessCatalogs
 pub mod NodesHold
+pub mod ProgramIds
 pub mod CleanReports
 pub mod Positions
 pub mod OccurrencesAreRead
 pub mod OccurrencesAreTheNodes
 pub mod PatternPlaces
 pub mod Translations
+pub mod OwnIds
 pub mod RepeatedKeys
 pub mod SourcePlaces
 pub mod EachFinding

@@ -26,9 +26,10 @@ use Rattle.lint_findings.specs.ComparisonFindings.{difference_code, difference_f
 use Rattle.lint_findings.specs.EntryFindings.{entry_findings}
 use Rattle.lint_findings.specs.Findings.{Options, Rules, FileFinding, FileTile, findings_in, tiles_in, sources, findings_of_tile, findings_of_tiles, declarations_of_tile, known_functions, known_ids, translation_rules, missing_messages, findings_with_reference}
 use Rattle.lint_findings.specs.PlaceLaws.{tile_entries}
-use Rattle.lint_findings.specs.ReportLaws.{missing_codes, LacksNothing, TranslationsAnswerAll}
+use Rattle.lint_findings.specs.ReportLaws.{program_ids, AreFunctions, HasTarget, missing_codes, LacksNothing, TranslationsAnswerAll}
 use Rattle.lint_findings.proofs.Lists.{all_left, all_right}
 use Rattle.lint_findings.proofs.NothingMissing.{key_is, NotMissing, Fine, by_meanings}
+use Rattle.lint_findings.proofs.ProgramIds.{ids_same, target_same}
 use Rattle.lint_findings.proofs.TilesAreTheList.{tiles_are_the_list}
 
 -- ---- findings without missing codes
@@ -106,11 +107,11 @@ split_found names id m (Some v) is entries found =
 
 -- ---- the entries of tiles
 
-abbrev and_entry : Tile → List t.Entry → List t.Entry
+abbrev pub and_entry : Tile → List t.Entry → List t.Entry
 and_entry (entry_tile at s e) es = e ∷ es
 and_entry (junk_tile at s refusal) es = es
 
-abbrev file_entries : List FileTile → List t.Entry
+abbrev pub file_entries : List FileTile → List t.Entry
 file_entries [] = []
 file_entries (x ∷ xs) = and_entry x.tile (file_entries xs)
 
@@ -124,7 +125,7 @@ in_file file (entry_tile at s (t.group_comment c) ∷ ts) rest = in_file file ts
 in_file file (entry_tile at s (t.resource_comment c) ∷ ts) rest = in_file file ts rest
 in_file file (entry_tile at s (t.junk x) ∷ ts) rest = in_file file ts rest
 
-all_listed : (files : List File) → listed (file_entries (flat_map tiles_in files)) ≡ lists (sources files)
+pub all_listed : (files : List File) → listed (file_entries (flat_map tiles_in files)) ≡ lists (sources files)
 all_listed [] = refl
 all_listed (file ∷ files) =
     in_file file (tiles file.source) (flat_map tiles_in files) ∙ ap (λ es. es ++ listed (file_entries (flat_map tiles_in files))) (tiles_are_the_list file.source)
@@ -295,8 +296,20 @@ module _ (options : Options) (references files : List File) (clean : LacksNothin
   by_both (Some (function f)) (Some (message o)) mine theirs target = absent o (Some (function f)) mine theirs refl
   by_both (Some (term m)) (Some (message o)) mine theirs target = absent o (Some (term m)) mine theirs refl
 
-pub translations_answer_all : TranslationsAnswerAll
-translations_answer_all options references files clean id attr target =
+known_target : (options : Options) (references files : List File) → LacksNothing (findings_with_reference options references files) → (id : Text) (attr : Option Text) →
+    HasTarget (known_ids options references references) id attr → HasTarget (known_ids options references files) id attr
+known_target options references files clean id attr target =
     let ids = known_ids options references files in
     let reference = known_ids options references references in
     by_meanings ids reference id attr (find ids id) (find reference id) (by_both options references files clean id attr target.0 (find ids id) (find reference id) refl refl target.1) target.0 target.1
+
+-- in a program that has these functions
+module _ {F : Type 0} (known : List Text) (functions : List (Text × F)) (are : AreFunctions known functions) (ss : List Text) (id : Text) (attr : Option Text) where
+  targets_same : message_target id attr (find (catalog_ids known ss) id) ≡ message_target id attr (find (program_ids false functions ss) id)
+  targets_same = ap (λ ids. message_target id attr (find ids id)) (sym (ids_same known functions are ss)) ∙ target_same (program_ids false functions ss) id attr
+
+pub translations_answer_all : {F : Type 0} → TranslationsAnswerAll F
+translations_answer_all options references files functions are clean id attr target =
+    let known = known_functions options references in
+    let found = known_target options references files clean id attr (target.0, targets_same known functions are (sources references) id attr ∙ target.1) in
+    (found.0, sym (targets_same known functions are (sources files) id attr) ∙ found.1)

@@ -2,7 +2,7 @@
 
 ghost use Rattle.lint_findings.specs.FindingLaws.{HasErrors, HasLostVariants, HasReferences, OfCatalogs, OfTranslations};
 ghost use Rattle.lint_findings.specs.PlaceLaws.{OccurrencesAreRead, OccurrencesAreTheNodes, PatternsHavePlaces, PositionsDetermineOffsets, TilesAreTheList, TilesHaveTheErrors};
-ghost use Rattle.lint_findings.specs.ReportLaws.{CleanCatalogsAreFlawless, CleanTranslationsAreFlawless, FlawlessCatalogsAnswer, NothingMissingAnswersAll, TranslationsAnswerAll};
+ghost use Rattle.lint_findings.specs.ReportLaws.{CatalogsOverrideNothing, CleanCatalogsAreFlawless, CleanTranslationsAreFlawless, FlawlessCatalogsAnswer, NothingMissingAnswersAll, TranslationsAnswerAll, TranslationsOverrideNothing};
 
 use fluent_value::FluentType;
 
@@ -54,10 +54,17 @@ pub fn repeated_variants_never_match<C: FluentType>()
 {}
 
 /// If no finding has one of the codes `unknown-message`, `unknown-term`, `unknown-attribute`, `unknown-function`,
-/// `no-value`, `no-default` and `cyclic-reference`, the catalog is flawless, with or without a reference.
-pub fn clean_reports_are_flawless()
-    ensures catalogs { CleanCatalogsAreFlawless }
-    ensures translations { CleanTranslationsAreFlawless }
+/// `no-value`, `no-default` and `cyclic-reference`, the catalog is flawless, with or without a reference: in each program
+/// that has the functions that are known, whatever they do, if the first entry of an id counts.
+pub fn clean_reports_are_flawless<F>()
+    ensures catalogs { CleanCatalogsAreFlawless F }
+    ensures translations { CleanTranslationsAreFlawless F }
+{}
+
+/// If no finding has the code `duplicate-id`, an id stands for the same, whether its first or its last entry counts.
+pub fn own_ids_override_nothing<F>()
+    ensures catalogs { CatalogsOverrideNothing F }
+    ensures translations { TranslationsOverrideNothing F }
 {}
 
 /// In a flawless catalog each answer has only errors that depend on the request: variables that are none of its
@@ -72,7 +79,8 @@ pub fn nothing_missing_answers_all<F>()
     ensures { NothingMissingAnswersAll F }
 {}
 
-/// If no finding has one of the codes `missing-message`, `missing-value` and `missing-attribute`, that is so.
-pub fn translations_answer_all()
-    ensures { TranslationsAnswerAll }
+/// If no finding has one of the codes `missing-message`, `missing-value` and `missing-attribute`, that is so in each
+/// program that has the functions that are known, if the first entry of an id counts.
+pub fn translations_answer_all<F>()
+    ensures { TranslationsAnswerAll F }
 {}
