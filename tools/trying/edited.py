@@ -1,0 +1,85 @@
+"""The edits that must fail, as their files give them, and what they change."""
+import re
+from dataclasses import dataclass
+from pathlib import Path
+
+ROOT = Path(__file__).resolve().parents[2]
+FUNCTION = re.compile(r'( *)(?:pub(?:\([^)]*\))? )?(?:const )?(?:unsafe )?(?:extern "C" )?fn (\w+)')
+
+
+@dataclass(frozen=True)
+class Edit:
+    crate: str
+    file: Path
+    line: int
+    path: str
+    old: str
+    new: str
+
+    def __str__(self):
+        return f'{self.crate}/{self.file.name}:{self.line}'
+
+    def source(self):
+        return ROOT / 'crates' / self.crate / self.path
+
+    def module(self):
+        """The module that the changed file holds, or '' for the crate's root."""
+        names = Path(self.path).with_suffix('').parts[1:]
+        return '::'.join(names[:-1] if names[-1] in ('mod', 'lib', 'main') else names)
+
+    def proofs(self):
+        """The folder of the proofs of what the changed file holds."""
+        return '/'.join(['proofs', *filter(None, self.module().split('::'))])
+
+    def applies(self):
+        return bool(self.old) and self.source().is_file() and self.source().read_text().count(self.old) == 1
+
+    def function(self):
+        """The function that is changed, as its name and its first and last line, or None."""
+        text = self.source().read_text()
+        return function_at(text.split('\n'), text[:text.index(self.old)].count('\n') + 1)
+
+
+def function_at(lines, line):
+    """The name and the first and last line of the function that this line is in, or None."""
+    for first in range(line, 0, -1):
+        head = FUNCTION.match(lines[first - 1])
+        if head:
+            ends = (at for at in range(first, len(lines) + 1) if lines[at - 1] == f'{head[1]}}}'
+                    or at == first and lines[at - 1].endswith('}'))
+            last = next(ends, first)
+            if line <= last:
+                return head[2], with_attributes(lines, first), last
+    return None
+
+
+def with_attributes(lines, first):
+    """The line where a function begins, with its attributes: the prover names a goal of the whole function there."""
+    while first > 1 and lines[first - 2].lstrip().startswith('#['):
+        first -= 1
+    return first
+
+
+def edits_of(crate):
+    files = [*ROOT.glob(f'tools/edits/{crate}/*.edit'), *ROOT.glob(f'crates/{crate}/must-fail/*.edit')]
+    for file in sorted(files, key=lambda file: file.name):
+        path = old = ''
+        for line, text in enumerate(file.read_text().split('\n'), 1):
+            word, _, rest = text.partition(':')
+            rest = rest.removeprefix(' ')
+            if word == 'file':
+                path = rest.strip()
+            elif word == 'old':
+                old = rest
+            elif word == 'new':
+                yield Edit(crate, file, line - 1, path, old, rest)
+                old = ''
+
+
+def texts_with(edits):
+    """The texts of the files that these edits change, by their paths in the crate."""
+    texts = {}
+    for edit in edits:
+        text = texts.get(edit.path) or edit.source().read_text()
+        texts[edit.path] = text.replace(edit.old, edit.new)
+    return texts
