@@ -72,11 +72,11 @@ def rounds(edits, is_together):
     """The edits of a crate that are tried in one check: one alone, or several of functions of other files or names."""
     alone, shared = [], []
     for edit in edits:
-        called = edit.function() if is_together and edit.applies() else None
-        if called is None:
+        function = edit.function() if is_together and edit.applies() else None
+        if function is None:
             alone.append([edit])
             continue
-        place = edit.path, called[0]
+        place = edit.path, function.name
         fitting = next((it for it in shared if place not in it), None)
         if fitting is None:
             shared.append({place: edit})
