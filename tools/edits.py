@@ -106,7 +106,7 @@ def tried(edits, base, rooms):
     with rooms.edited(edits[0].crate, texts_with(edits)) as room:
         for flags in flags_for(edits):
             _, said = room.check(edits[0].crate, *flags)
-            results = [judged(edit, said) for edit in edits]
+            results = [judged(edit, said, len(edits) == 1) for edit in edits]
             if all(result == REFUSED for result in results):
                 break
     return Try(edits, results, said, time.monotonic() - began)

@@ -42,6 +42,10 @@ class Item:
         reasons = re.sub(r'^(not proved|no proof)(: |; |$)', '', self.why).split('; ')
         return any(not reason.startswith('it ') for reason in reasons)
 
+    def has_goal(self):
+        """Whether a goal of its own is named. Of functions that call one another, none may be where one is refused."""
+        return 'did not prove' in self.why
+
 
 @dataclass(frozen=True)
 class Said:
@@ -81,13 +85,13 @@ def is_at_fault(edit, item):
     return item.is_at_fault() and (item.is_in(module) if function is None else item.is_called(function, module))
 
 
-def judged(edit, text):
-    """What a try of the edit comes to, by what the prover says."""
+def judged(edit, text, is_alone):
+    """What a try of the edit comes to, alone or together with others, by what the prover says."""
     said = Said.of(text)
     if not said.has_verdicts:
         return NOT_READ
     goals = [goal for goal in said.goals if is_goal_of(edit, goal)]
-    items = [item for item in said.items if is_at_fault(edit, item)]
+    items = [item for item in said.items if is_at_fault(edit, item) and (is_alone or item.has_goal())]
     if not goals and not items:
         blamed = ' '.join(item.path for item in said.items if item.is_at_fault())
         return f'refused elsewhere: {blamed}' if said.items else NOT_REFUSED
