@@ -72,11 +72,11 @@ def rounds(edits, is_together):
     """The edits of a crate that are tried in one check: one alone, or several of functions of other files or names."""
     alone, shared = [], []
     for edit in edits:
-        called = edit.function() if is_together and edit.applies() else None
-        if called is None:
+        function = edit.function() if is_together and edit.applies() else None
+        if function is None:
             alone.append([edit])
             continue
-        place = edit.path, called[0]
+        place = edit.path, function.name
         fitting = next((it for it in shared if place not in it), None)
         if fitting is None:
             shared.append({place: edit})
@@ -106,7 +106,7 @@ def tried(edits, base, rooms):
     with rooms.edited(edits[0].crate, texts_with(edits)) as room:
         for flags in flags_for(edits):
             _, said = room.check(edits[0].crate, *flags)
-            results = [judged(edit, said) for edit in edits]
+            results = [judged(edit, said, len(edits) == 1) for edit in edits]
             if all(result == REFUSED for result in results):
                 break
     return Try(edits, results, said, time.monotonic() - began)

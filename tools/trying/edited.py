@@ -4,7 +4,17 @@ from dataclasses import dataclass
 from pathlib import Path
 
 ROOT = Path(__file__).resolve().parents[2]
+IMPL = re.compile(r'(?:unsafe )?impl(?:<.*?>)? (?:\w+::)*(\w+)')
 FUNCTION = re.compile(r'( *)(?:pub(?:\([^)]*\))? )?(?:const )?(?:unsafe )?(?:extern "C" )?fn (\w+)')
+
+
+@dataclass(frozen=True)
+class Function:
+    """A function of a file: its lines, from its attributes on, and the type or trait that the block around it names."""
+    name: str
+    owner: str
+    first: int
+    last: int
 
 
 @dataclass(frozen=True)
@@ -35,13 +45,13 @@ class Edit:
         return bool(self.old) and self.source().is_file() and self.source().read_text().count(self.old) == 1
 
     def function(self):
-        """The function that is changed, as its name and its first and last line, or None."""
+        """The function that is changed, or None."""
         text = self.source().read_text()
         return function_at(text.split('\n'), text[:text.index(self.old)].count('\n') + 1)
 
 
 def function_at(lines, line):
-    """The name and the first and last line of the function that this line is in, or None."""
+    """The function that this line is in, or None."""
     for first in range(line, 0, -1):
         head = FUNCTION.match(lines[first - 1])
         if head:
@@ -49,8 +59,14 @@ def function_at(lines, line):
                     or at == first and lines[at - 1].endswith('}'))
             last = next(ends, first)
             if line <= last:
-                return head[2], with_attributes(lines, first), last
+                return Function(head[2], owner_at(lines, first) if head[1] else '', with_attributes(lines, first), last)
     return None
+
+
+def owner_at(lines, line):
+    """The type or the trait that is named first by the block around this line, or ''."""
+    heads = (IMPL.match(lines[above - 1]) for above in range(line, 0, -1))
+    return next((head[1] for head in heads if head), '')
 
 
 def with_attributes(lines, first):

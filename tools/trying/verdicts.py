@@ -31,13 +31,20 @@ class Item:
     def is_in(self, module):
         return not module or self.path.startswith(f'{module}::')
 
-    def is_function(self, name):
-        return self.kind == 'fn' and self.path.split('::')[-1] == name
+    def is_called(self, function, module):
+        """Whether this is the function. One without a trait is in the module of its type, wherever it is written."""
+        names = self.path.split('::')
+        of_type = names[-2:] == [function.owner, function.name]
+        return self.kind == 'fn' and (of_type or self.is_in(module) and names[-1] == function.name)
 
     def is_at_fault(self):
         """Whether it is said of the item itself, and not only of others that it calls, passes on or waits for."""
         reasons = re.sub(r'^(not proved|no proof)(: |; |$)', '', self.why).split('; ')
         return any(not reason.startswith('it ') for reason in reasons)
+
+    def has_goal(self):
+        """Whether a goal of its own is named. Of functions that call one another, none may be where one is refused."""
+        return 'did not prove' in self.why
 
 
 @dataclass(frozen=True)
@@ -61,30 +68,30 @@ def is_goal_of(edit, goal):
     Goals of the code are told by their lines. A proof file lies in its function's folder, or in one of functions that
     call one another: there the name of each goal begins with its function's.
     """
-    called = edit.function()
-    if called is None:
-        return goal.path == edit.path or goal.path.startswith(f'{edit.proofs()}/')
-    name, first, last = called
+    function, in_module = edit.function(), goal.path.startswith(f'{edit.proofs()}/')
+    if function is None:
+        return goal.path == edit.path or in_module
     if goal.path == edit.path:
-        return first <= goal.line <= last
-    folder = Path(goal.path).parent
-    is_shared = folder.name.startswith('+') and f'`{name}-' in goal.text
-    return goal.path.startswith(f'{edit.proofs()}/') and folder.name == name or is_shared
+        return function.first <= goal.line <= function.last
+    folders = Path(goal.path).parts[:-1]
+    if folders[-1].startswith('+'):
+        return f'`{function.name}-' in goal.text
+    return folders[-2:] == (function.owner, function.name) or in_module and folders[-1] == function.name
 
 
 def is_at_fault(edit, item):
     """Whether an item that isn't proved for itself is what the edit changes."""
-    called = edit.function()
-    return item.is_at_fault() and item.is_in(edit.module()) and (called is None or item.is_function(called[0]))
+    function, module = edit.function(), edit.module()
+    return item.is_at_fault() and (item.is_in(module) if function is None else item.is_called(function, module))
 
 
-def judged(edit, text):
-    """What a try of the edit comes to, by what the prover says."""
+def judged(edit, text, is_alone):
+    """What a try of the edit comes to, alone or together with others, by what the prover says."""
     said = Said.of(text)
     if not said.has_verdicts:
         return NOT_READ
     goals = [goal for goal in said.goals if is_goal_of(edit, goal)]
-    items = [item for item in said.items if is_at_fault(edit, item)]
+    items = [item for item in said.items if is_at_fault(edit, item) and (is_alone or item.has_goal())]
     if not goals and not items:
         blamed = ' '.join(item.path for item in said.items if item.is_at_fault())
         return f'refused elsewhere: {blamed}' if said.items else NOT_REFUSED
