@@ -36,6 +36,8 @@ from trying.rooms import Rooms
 from trying.verdicts import GOAL, REFUSED, judged
 
 BYTES_A_JOB = 3 * 2 ** 30
+# How many edits are tried in one check at most: a few minutes, and then there is something to read.
+MOST_TOGETHER = 12
 
 
 @dataclass
@@ -77,7 +79,7 @@ def rounds(edits, is_together):
             alone.append([edit])
             continue
         place = edit.path, function.name
-        fitting = next((it for it in shared if place not in it), None)
+        fitting = next((it for it in shared if place not in it and len(it) < MOST_TOGETHER), None)
         if fitting is None:
             shared.append({place: edit})
         else:
