@@ -1,6 +1,7 @@
 //! Currencies, and how one is found.
 ghost use Rattle.std.specs.Prelude.{◌≡◌, map, nat_eq};
 ghost use Rattle.std.specs.List.{ends_with, list_any, starts_with};
+ghost use Rattle.std.specs.Str.{str_eq_ignore_ascii_case};
 ghost use Rattle.fluent_numerals.specs.Forms.{coded};
 ghost use Rattle.fluent_numerals.specs.Signs.{begins_with_sign, ends_with_sign};
 ghost use Rattle.fluent_numerals.specs.Tagged.{or_else};
@@ -28,11 +29,18 @@ pub(crate) fn first_coded<'a>(rows: &'a [Currency], code: &str) -> Option<&'a Cu
     ensures { found_currency result ≡ coded (currency_views rows.now) code.now }
 {
     for row in rows {
-        if row.code.eq_ignore_ascii_case(code) {
+        if is_code(row.code, code) {
             return Some(row);
         }
     }
     None
+}
+
+/// Whether a text is a code, in letters of either case.
+fn is_code(code: &str, text: &str) -> bool
+    ensures { result ≡ str_eq_ignore_ascii_case code.now text.now }
+{
+    code.eq_ignore_ascii_case(text)
 }
 
 /// The first of two that is there.
