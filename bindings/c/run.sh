@@ -28,20 +28,23 @@ fi
 grep -qF "\`$(cat "$built/first.printed")\`" "$here/README.md"
 diff "$here/expected" "$built/messages.printed"
 
-# Builds the tests with these flags.
+# Builds the tests and languages.c with these flags.
 build_tests() {
     cc -std=c11 -O1 -g -Wall -Wextra "$@" -I "$header" -Wl,--wrap=malloc -Wl,--wrap=realloc -Wl,--wrap=free \
         -o "$built/tests" "$here"/tests/*.c -L "$library" -lfluent_c -L "$kit" -llibc_c
+    cc -O1 -g -Wall -Wextra "$@" -I "$header" -o "$built/languages" "$here/languages.c" -L "$library" -lfluent_c -L "$kit" -llibc_c
 }
 
+checker=
 echo 'int main(void) { return 0; }' >"$built/none.c"
 if cc -fsanitize=address,undefined -o "$built/none" "$built/none.c" 2>/dev/null && "$built/none"; then
     build_tests -fsanitize=address,undefined -fno-sanitize-recover=undefined
-    "$built/tests" >"$built/tests.printed" || { cat "$built/tests.printed"; exit 1; }
 else
     build_tests
     checker=$(command -v valgrind >/dev/null && echo 'valgrind --quiet --error-exitcode=1 --leak-check=full' || echo)
-    $checker "$built/tests" >"$built/tests.printed" || { cat "$built/tests.printed"; exit 1; }
 fi
+$checker "$built/languages" "$root/examples/l10n" | tee "$built/languages.printed"
+diff "$root/examples/l10n/expected" "$built/languages.printed"
+$checker "$built/tests" >"$built/tests.printed" || { cat "$built/tests.printed"; exit 1; }
 cat "$built/tests.printed"
 diff "$here/tests/expected" "$built/tests.printed"

@@ -1,5 +1,5 @@
-/* Fluent for C: the texts of messages, from a bundle that you keep or line by line from sources; what a source is made
- * of, in numbers; and its tree as text.
+/* Fluent for C: the texts of messages, from a bundle that you keep or line by line from sources; which of a program's
+ * languages suit a user; what a source is made of, in numbers; and its tree as text.
  *
  * Link libfluent_c.a with a program that has malloc, realloc and free. A text is its first byte and its length in
  * bytes. It needs no byte 0 at its end, and the library only reads it. A text of length 0 still needs a pointer that
@@ -43,7 +43,7 @@ extern "C" {
 #define FLUENT_NO_MESSAGE 4
 /* The message has no value, or no attribute of the name. */
 #define FLUENT_NO_PATTERN 5
-/* An argument's kind isn't one of those below, or its decimal is no number. */
+/* An argument's kind isn't one of those below, or its decimal is no number; or there is no such strategy. */
 #define FLUENT_BAD_ARGUMENT 6
 /* There is no bundle. */
 #define FLUENT_NO_BUNDLE 7
@@ -123,6 +123,31 @@ uint32_t fluent_answer(
 
 /* Frees a text, if there is one. There is none then. */
 void fluent_free_text(struct FluentText *made);
+
+/* How many of a program's languages are used: all that suit any of the user's, to fall back along; the best one for each
+ * of the user's; or one, the best for the first of the user's that any suits. */
+#define FLUENT_FILTERING 0
+#define FLUENT_MATCHING 1
+#define FLUENT_LOOKUP 2
+
+/* Finds the languages of a program that are used for those that a user asks for. Each is a tag such as "de-AT" or
+ * "zh_Hant_TW"; what is no tag is passed over. docs/reference/languages.md has the rules.
+ *
+ * If it returns FLUENT_READ, `positions` holds where these languages are in `available`, the best first, as many as it has
+ * `room` for, and `count` says how many there are. No position is there twice, so `available_count` places are enough.
+ * Else it returns FLUENT_BAD_ARGUMENT if there is no such strategy, or FLUENT_NO_MEMORY; both are unchanged then.
+ * `requested`, `available` and `positions` need pointers that aren't null, also if a count is 0.
+ */
+uint32_t fluent_negotiate(
+    const struct FluentSource *requested,
+    size_t requested_count,
+    const struct FluentSource *available,
+    size_t available_count,
+    uint32_t strategy,
+    size_t *positions,
+    size_t room,
+    size_t *count
+);
 
 /* A bundle that you keep from call to call, or none. The memory is the library's: change no field.
  *

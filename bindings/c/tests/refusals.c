@@ -9,6 +9,7 @@ struct Kept {
     struct FluentCounts counts;
     struct FluentText text, errors;
     struct FluentBundle bundle;
+    size_t position;
 };
 
 static const struct FluentSource SOURCES[] = {
@@ -32,6 +33,11 @@ static uint32_t format(struct Kept *kept) {
     return fluent_bundle_format(&kept->bundle, TEXT("broken"), TEXT(""), &name, 1, &kept->text, &kept->errors);
 }
 static uint32_t report(struct Kept *kept) { return fluent_bundle_errors(&kept->bundle, &kept->text); }
+static uint32_t negotiate(struct Kept *kept) {
+    static const struct FluentSource tags[] = {BYTES("de"), BYTES("de-AT")};
+    size_t count = 0;
+    return fluent_negotiate(tags, 2, tags, 2, FLUENT_FILTERING, &kept->position, 1, &count);
+}
 static uint32_t has(struct Kept *kept) { return fluent_bundle_has(&kept->bundle, TEXT("welcome"), TEXT("")); }
 
 static const struct {
@@ -48,19 +54,20 @@ static const struct {
     {"fluent_bundle_format", format},
     {"fluent_bundle_errors", report},
     {"fluent_bundle_has", has},
+    {"fluent_negotiate", negotiate},
 };
 
 static const struct Bytes TEXT_BEFORE = BYTES("\xe2\x81\xa8{$absent}\xe2\x81\xa9 and {nothing}");
 static const struct Bytes ERRORS_BEFORE = BYTES("Unknown variable: $absent\nUnknown message: nothing\n");
 
 static bool is_unchanged(const struct Kept *kept, const struct Kept *before) {
-    return kept->counts.messages == before->counts.messages && is_same(&kept->text, &before->text, TEXT_BEFORE)
+    return kept->counts.messages == before->counts.messages && kept->position == before->position && is_same(&kept->text, &before->text, TEXT_BEFORE)
         && is_same(&kept->errors, &before->errors, ERRORS_BEFORE) && kept->bundle.desk == before->bundle.desk;
 }
 
 /* Makes a call whose allocation after `count` others is refused. Gives by `refused` whether there was such an allocation. */
 static bool is_right(uint32_t (*call)(struct Kept *), bool is_held, long count, bool *refused) {
-    struct Kept kept = {.counts = {.messages = 90}};
+    struct Kept kept = {.counts = {.messages = 90}, .position = 91};
     if (make(&kept) != FLUENT_READ || (is_held && format(&kept) != FLUENT_READ))
         return false;
     const struct Kept before = kept;

@@ -52,6 +52,7 @@ bool try_texts(void);
 bool try_answers(void);
 bool try_bundles(void);
 bool try_formats(void);
+bool try_languages(void);
 bool try_refusals(void);
 
 #endif

@@ -15,6 +15,8 @@ from ._errors import (
     SourceError,
     UnknownLocaleError,
 )
+from ._languages import accepted_languages, negotiate_languages, system_languages
+from ._localization import Localization, LocalizedAnswer
 from ._values import Formatter, Number, Value
 
 __version__ = "0.1.0"
@@ -25,10 +27,15 @@ __all__ = [
     "FluentError",
     "FluentWarning",
     "Formatter",
+    "Localization",
+    "LocalizedAnswer",
     "MissingMessageError",
     "Number",
     "ResolverError",
     "SourceError",
     "UnknownLocaleError",
     "Value",
+    "accepted_languages",
+    "negotiate_languages",
+    "system_languages",
 ]

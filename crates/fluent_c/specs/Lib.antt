@@ -8,4 +8,5 @@ pub mod Texts
 pub mod Answering
 pub mod Arguments
 pub mod Bundles
+pub mod Languages
 pub mod Statuses

@@ -6,6 +6,7 @@ use Rattle.fluent_kept.specs.declared.handle.FluentBundle.{FluentBundle}
 use Rattle.fluent_c.specs.Answering.{AreUtf8, HoldsOther, plurals_in}
 use Rattle.fluent_c.specs.Arguments.{AreTaken, HoldsBad}
 use Rattle.fluent_c.specs.Bundles.{AreNames, HasNoMessage, HasNoPattern, HasOther, KeepsNone, pattern_in}
+use Rattle.fluent_c.specs.Languages.{strategy_of}
 use Rattle.fluent_c.specs.declared.TheConstants.{FLUENT_READ, FLUENT_NOT_UTF8, FLUENT_NO_MEMORY, FLUENT_UNKNOWN_LOCALE, FLUENT_NO_MESSAGE, FLUENT_NO_PATTERN, FLUENT_BAD_ARGUMENT, FLUENT_NO_BUNDLE}
 use Rattle.fluent_c.specs.declared.answering.FluentSource.{FluentSource}
 use Rattle.fluent_c.specs.declared.arguments.FluentArgument.{FluentArgument}
@@ -50,3 +51,9 @@ pub record LooksFor (bundle : FluentBundle) (id attribute : Text) (status : ℕ)
   pub no_bundle : status ≡ FLUENT_NO_BUNDLE → KeepsNone bundle
   pub names : status ≢ FLUENT_NOT_UTF8 → AreNames id attribute
   pub held : IsOneOf status (FLUENT_READ ∷ FLUENT_NO_MESSAGE ∷ FLUENT_NO_PATTERN ∷ []) → bundle.held ≡ true
+
+-- what a call returns that finds languages by the strategy of a number
+pub record Negotiates (number status : ℕ) : Type 0 where
+  pub decided : IsOneOf status (FLUENT_READ ∷ FLUENT_NO_MEMORY ∷ FLUENT_BAD_ARGUMENT ∷ [])
+  pub bad_strategy : status ≡ FLUENT_BAD_ARGUMENT → strategy_of number ≡ None
+  pub strategy : status ≢ FLUENT_BAD_ARGUMENT → IsSome (strategy_of number)

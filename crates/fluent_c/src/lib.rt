@@ -1,5 +1,6 @@
 //! Fluent for programs in C and Rust: the texts of messages, from a bundle that is kept ([`fluent_bundle_new`]) or from sources, line
-//! by line ([`fluent_answer`]); what a source is made of, in numbers; and its tree as text, written back or as JSON.
+//! by line ([`fluent_answer`]); which of a program's languages suit a user ([`fluent_negotiate`]); what a source is made of, in
+//! numbers; and its tree as text, written back or as JSON.
 //!
 //! No call takes much of the machine's stack: a source or an answer that nests too deep for 1.5 MB is refused as out of memory, so
 //! a thread with a stack of 2 MB can make each call. A bundle made by [`fluent_bundle_new_within`] has another budget.
@@ -16,6 +17,7 @@ mod bundles;
 mod counts;
 mod filling;
 mod formatting;
+mod languages;
 mod names;
 mod text;
 mod threads;
@@ -30,6 +32,7 @@ pub use bundles::{
 pub use counts::{FluentCounts, fluent_parse, fluent_parse_runtime};
 pub use fluent_kept::FluentBundle;
 pub use formatting::fluent_bundle_format;
+pub use languages::fluent_negotiate;
 pub use text::{FluentText, fluent_free_text};
 pub use threads::texts_are_send;
 pub use writing::{fluent_write, fluent_write_json};
@@ -46,7 +49,7 @@ pub const FLUENT_UNKNOWN_LOCALE: u32 = 3;
 pub const FLUENT_NO_MESSAGE: u32 = 4;
 /// What a call returns that asks for a value or an attribute that the message doesn't have.
 pub const FLUENT_NO_PATTERN: u32 = 5;
-/// What a call returns that has an argument whose kind isn't known, or whose decimal is no number.
+/// What a call returns that has an argument whose kind isn't known, or whose decimal is no number, or that names no strategy.
 pub const FLUENT_BAD_ARGUMENT: u32 = 6;
 /// What a call returns that asks a bundle that isn't there.
 pub const FLUENT_NO_BUNDLE: u32 = 7;
@@ -58,3 +61,9 @@ pub const FLUENT_DECIMAL: u32 = 1;
 pub const FLUENT_INTEGER: u32 = 2;
 /// The kind of an argument that is an unsigned integer.
 pub const FLUENT_UNSIGNED: u32 = 3;
+/// The strategy that finds all languages that suit any of the user's.
+pub const FLUENT_FILTERING: u32 = 0;
+/// The strategy that finds the best language for each of the user's.
+pub const FLUENT_MATCHING: u32 = 1;
+/// The strategy that finds one language: the best for the first of the user's that any suits.
+pub const FLUENT_LOOKUP: u32 = 2;
