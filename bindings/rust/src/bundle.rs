@@ -133,6 +133,14 @@ impl<R: Borrow<FluentResource>> FluentBundle<R> {
         self.message(id).map(FluentMessage::of)
     }
 
+    /// The messages with their ids, in no order.
+    pub fn messages(&self) -> impl Iterator<Item = (&str, FluentMessage<'_>)> {
+        self.entries.iter().filter_map(|(id, held)| match held {
+            Held::Message(message) => Some((&**id, FluentMessage::of(message))),
+            Held::Other => None,
+        })
+    }
+
     /// The text of a pattern. Errors are added to `errors`, and you get the text even if there are errors.
     ///
     /// A text that asks for no argument is lent: the bundle keeps it once it was asked for.
