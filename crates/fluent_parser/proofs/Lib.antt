@@ -23,3 +23,4 @@ pub mod EntryStarts
 pub mod Parts
 pub mod Left
 pub mod Unread
+pub mod Beginnings

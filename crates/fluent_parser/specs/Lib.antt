@@ -18,3 +18,4 @@ pub mod Selects
 pub mod Left
 pub mod Refusals
 pub mod Refused
+pub mod Starts

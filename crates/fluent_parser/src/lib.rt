@@ -19,6 +19,7 @@ mod plain;
 mod refusals;
 mod resource;
 mod select;
+mod starts;
 mod token;
 
 ghost use Rattle.std.specs.Prelude.{map};
@@ -32,6 +33,7 @@ use fluent_text::Slices;
 pub use fluent_text::stack::StackBudget;
 pub use refusals::{Refusal, refusals_at};
 use resource::{parts_of, runtime_parts_of};
+pub use starts::starts_of;
 use std::alloc::Global;
 
 /// The tree of a source, with its comments.

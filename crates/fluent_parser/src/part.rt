@@ -62,7 +62,7 @@ impl<'p, S: Drop, T: Texts<S>> Parser<'p, S, T> {
     }
 
     /// Passes over the rest of junk that begins with this start, from within it on.
-    fn skip_to_next_entry_start(&mut self, start: &str)
+    pub fn skip_to_next_entry_start(&mut self, start: &str)
         requires { length self.old.rest.now ≤ length start.now }
         ensures rest { self.new.rest.now ≡ behind_junk start.now self.old.rest.now }
         ensures advances { Advances self.old self.new }

@@ -2,3 +2,4 @@ pub mod Lined
 pub mod Onto
 pub mod Laid
 pub mod Braces
+pub mod Spacing

@@ -33,7 +33,7 @@ fn write_comment_line(out: &mut String, sign: &str, line: &str) -> Result<(), Al
 }
 
 /// Writes the lines of a comment, each after its sign.
-fn write_comment<'s, S: Slice<'s>>(
+pub(crate) fn write_comment<'s, S: Slice<'s>>(
     out: &mut String,
     sign: &str,
     comment: &Comment<S>,
@@ -62,7 +62,7 @@ fn write_own_comment<'s, S: Slice<'s>>(
 }
 
 /// Writes the line feed before a comment that stands by itself after another entry.
-fn write_gap(out: &mut String, after: bool) -> Result<(), AllocError>
+pub(crate) fn write_gap(out: &mut String, after: bool) -> Result<(), AllocError>
     ensures { Writes result out.old out.new (gap_signs after) }
 {
     if after {
@@ -126,7 +126,10 @@ fn write_value<'s, S: Slice<'s>>(
     }
 }
 
-fn write_message<'s, S: Slice<'s>>(out: &mut String, message: &Message<S>) -> Result<(), AllocError>
+pub(crate) fn write_message<'s, S: Slice<'s>>(
+    out: &mut String,
+    message: &Message<S>,
+) -> Result<(), AllocError>
     ensures { Writes result out.old out.new (message_signs (message_view S S.text message.now)) }
 {
     write_own_comment(out, &message.comment)?;
@@ -137,7 +140,10 @@ fn write_message<'s, S: Slice<'s>>(out: &mut String, message: &Message<S>) -> Re
     write_new_line(out)
 }
 
-fn write_term<'s, S: Slice<'s>>(out: &mut String, term: &Term<S>) -> Result<(), AllocError>
+pub(crate) fn write_term<'s, S: Slice<'s>>(
+    out: &mut String,
+    term: &Term<S>,
+) -> Result<(), AllocError>
     ensures { Writes result out.old out.new (term_signs (term_view S S.text term.now)) }
 {
     write_own_comment(out, &term.comment)?;

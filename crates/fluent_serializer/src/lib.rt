@@ -12,10 +12,12 @@ pub mod laws;
 mod names;
 mod pieces;
 mod shapes;
+mod spaced;
 
 ghost use Rattle.std.specs.Prelude.{◌≡◌, IfOk, string_bytes};
 ghost use Rattle.fluent_grammar.specs.Written.{written, written_with};
 ghost use Rattle.fluent_ast.specs.View.{resource_view};
+ghost use Rattle.fluent_serializer.specs.Spaced.{spaced};
 
 use fluent_ast::Resource;
 use fluent_text::Slice;
@@ -66,5 +68,28 @@ pub fn serialize_with_options<'s, S: Slice<'s>>(
 {
     let mut text = String::new(alloc);
     entries::write_entries(&mut text, options, resource)?;
+    Ok(text)
+}
+
+/// The text of a tree with one blank line at most between two entries, and none before the first or after the last: one
+/// stands before each entry that `apart` marks, by its index in the body, and around comments that stand by themselves.
+/// Junk isn't written. Marks that are missing are taken for `false`.
+///
+/// ```no_run
+/// let text = serialize_spaced(alloc, &resource, &[false, false, true])?; // a blank line before the third entry
+/// ```
+///
+/// # Errors
+/// [`AllocError`] if memory runs out; nothing is kept.
+pub fn serialize_spaced<'s, S: Slice<'s>>(
+    alloc: Global,
+    resource: &Resource<S>,
+    apart: &[bool],
+) -> Result<String, AllocError>
+    ensures { IfOk result (λ out. string_bytes out
+        ≡ spaced apart.now (resource_view S S.text resource.now)) }
+{
+    let mut text = String::new(alloc);
+    spaced::write_spaced(&mut text, resource, apart)?;
     Ok(text)
 }
