@@ -4,3 +4,4 @@ pub mod FilesFound
 pub mod Counted
 pub mod Found
 mod NamedFiles
+pub mod Replies

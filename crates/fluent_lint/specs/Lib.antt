@@ -7,3 +7,4 @@ pub mod KnownIds
 pub mod Missing
 pub mod LintReport
 pub mod LintView
+pub mod RunLaws

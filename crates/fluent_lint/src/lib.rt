@@ -12,6 +12,7 @@ mod counts;
 mod findings;
 mod ids;
 mod known;
+pub mod laws;
 mod linting;
 mod missing;
 mod read;
