@@ -187,9 +187,10 @@ fn asking<'a>(alloc: Global, name: &'a str, about: &'a str) -> Result<Command<'a
     ensures { IfOk result (IsShaped (shaped name.entry.now asking_rules)) }
 {
     let locale = option(alloc, "locale", "TAG").help(
-        "Chooses variants by the plural rules of this locale, and not by those of English",
+        "Chooses variants by the plural rules of this locale, and writes numbers as it does",
     );
-    flagged(alloc, name, about)?.arg(locale)
+    let plain = flag(alloc, "plain-numbers").help("Writes numbers plainly, whatever the locale");
+    flagged(alloc, name, about)?.arg(locale)?.arg(plain)
 }
 
 /// The same with the flags alone.
