@@ -14,6 +14,8 @@ from ._errors import (
     SourceError,
     UnknownLocaleError,
 )
+from ._languages import accepted_languages, negotiate_languages, system_languages
+from ._localization import Localization, LocalizedAnswer
 from ._values import Formatter, Number, Value
 
 __version__ = "0.1.0"
@@ -24,10 +26,15 @@ __all__ = [
     "FluentError",
     "FluentWarning",
     "Formatter",
+    "Localization",
+    "LocalizedAnswer",
     "MissingMessageError",
     "Number",
     "ResolverError",
     "SourceError",
     "UnknownLocaleError",
     "Value",
+    "accepted_languages",
+    "negotiate_languages",
+    "system_languages",
 ]

@@ -110,6 +110,11 @@ def _load() -> ctypes.CDLL:
         ],
         "fluent_bundle_has": [bundle, ctypes.c_char_p, size, ctypes.c_char_p, size],
         "fluent_bundle_errors": [bundle, text],
+        "fluent_negotiate": [
+            ctypes.POINTER(FluentSource), size, ctypes.POINTER(FluentSource), size, ctypes.c_uint32,
+            ctypes.POINTER(size), size, ctypes.POINTER(size),
+        ],
+        "fluent_write_json": [ctypes.c_char_p, size, text],
     }
     for name, parameters in calls.items():
         call = getattr(library, name)

@@ -74,6 +74,16 @@ extern "C" {
         text: *mut FluentText,
         errors: *mut FluentText,
     ) -> u32;
+    pub fn fluent_negotiate(
+        requested: *const FluentSource,
+        requested_count: usize,
+        available: *const FluentSource,
+        available_count: usize,
+        strategy: u32,
+        positions: *mut usize,
+        room: usize,
+        count: *mut usize,
+    ) -> u32;
     pub fn fluent_bundle_errors(bundle: *mut FluentBundle, report: *mut FluentText) -> u32;
     pub fn fluent_bundle_free(bundle: *mut FluentBundle);
     pub fn fluent_free_text(text: *mut FluentText);

@@ -8,6 +8,7 @@
 //! - [`FluentBundle`] holds resources, and formats their messages.
 //! - [`FluentMessage`] is a message of a bundle.
 //! - [`FluentArgs`] are the arguments of a message.
+//! - [`negotiate_languages`] finds which of a program's languages suit a user, and [`Localization`] asks their bundles.
 //!
 //! ```
 //! use kozhvadi::{FluentArgs, FluentBundle, FluentResource};
@@ -34,7 +35,9 @@ mod c;
 mod decimal;
 mod errors;
 mod kept;
+mod languages;
 mod listing;
+mod localization;
 mod message;
 mod number;
 mod options;
@@ -52,6 +55,8 @@ struct Page;
 pub use args::FluentArgs;
 pub use bundle::FluentBundle;
 pub use errors::{EntryKind, FluentError};
+pub use languages::{negotiate_languages, NegotiationStrategy};
+pub use localization::{L10nAttribute, L10nKey, L10nMessage, Localization, LocalizationError};
 pub use message::{FluentAttribute, FluentMessage, Pattern};
 pub use number::FluentNumber;
 pub use parser::{ErrorKind, ParserError};

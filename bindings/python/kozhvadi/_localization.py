@@ -1,0 +1,159 @@
+"""Texts in several languages: a message that the first language lacks comes from the next one that has it."""
+
+from __future__ import annotations
+
+import os
+from collections.abc import Callable, Iterable, Iterator, Mapping
+from pathlib import Path
+from types import TracebackType
+from typing import NamedTuple
+
+from ._bundle import Bundle
+from ._errors import FluentError, MissingMessageError, ResolverError, SourceError, UnknownLocaleError
+from ._languages import negotiate_languages, system_languages
+from ._locks import new_lock
+from ._values import Formatter
+
+
+class LocalizedAnswer(NamedTuple):
+    """The text of a message, its errors, and the locale that it is of."""
+
+    text: str
+    errors: list[ResolverError]
+    locale: str
+
+    def __str__(self) -> str:
+        return self.text
+
+
+class Localization:
+    """Texts by sources in several languages, the one that a user prefers first.
+
+    >>> texts = Localization({"de": "hello = Hallo\\n", "en": "hello = Hello\\nbye = Bye\\n"})
+    >>> texts.format("hello").text, texts.format("bye").locale
+    ('Hallo', 'en')
+
+    A bundle is made when it is first asked. In a locale without plural rules each number is `other`. `isolating`,
+    `overriding` and `formatter` are those of `Bundle`. Raises `UnknownLocaleError` for a locale that is no language tag.
+    """
+
+    def __init__(
+        self,
+        sources: Mapping[str, str | Iterable[str]],
+        *,
+        isolating: bool = True,
+        overriding: bool = False,
+        formatter: Formatter = str,
+    ) -> None:
+        texts = {locale: [given] if isinstance(given, str) else list(given) for locale, given in sources.items()}
+        self._keep(texts, Bundle, isolating=isolating, overriding=overriding, formatter=formatter)
+
+    @classmethod
+    def load(
+        cls,
+        folder: str | os.PathLike[str],
+        files: str | Iterable[str],
+        requested: Iterable[str] | None = None,
+        *,
+        default: str | None = None,
+        isolating: bool = True,
+        overriding: bool = False,
+        formatter: Formatter = str,
+    ) -> Localization:
+        """The files `FOLDER/LOCALE/FILE` of the locales that suit those that are asked for: the system's if none are named.
+
+        Each folder of `folder` whose name is a tag and that has one of the files is an available locale; other folders are
+        passed over, and so is a file that a locale lacks, and a byte order mark. `default` comes last.
+
+        Raises `FileNotFoundError` if there is no such folder, or no locale in it; `FluentError` if the default isn't one
+        of its locales; and, when its language is first asked, `ValueError` with the name of a file that isn't UTF-8.
+        """
+        root, names = Path(folder), [files] if isinstance(files, str) else list(files)
+        available = {path.name: _files(path, names) for path in sorted(root.iterdir()) if _is_tag(path.name)}
+        available = {locale: paths for locale, paths in available.items() if paths}
+        if not available:
+            raise FileNotFoundError(f"no folder of a language in {root} has one of the files {', '.join(names)}")
+        if default is not None and default not in available:
+            raise FluentError(f"the default {default!r} isn't one of the locales in {root}: {', '.join(available)}")
+        wanted = system_languages() if requested is None else requested
+        used = negotiate_languages(wanted, available, default)
+        texts = cls.__new__(cls)
+        paths = {locale: available[locale] for locale in used}
+        texts._keep(paths, Bundle.from_files, isolating=isolating, overriding=overriding, formatter=formatter)
+        return texts
+
+    def _keep(self, sources: Mapping[str, list[str]], make: Callable[..., Bundle], **settings: object) -> None:
+        for locale in sources:
+            if not _is_tag(locale):
+                raise UnknownLocaleError(f"the locale {locale!r} is no language tag")
+        self.locales = list(sources)
+        self._sources, self._make, self._settings = dict(sources), make, settings
+        self._bundles: dict[str, Bundle] = {}
+        self._lock = new_lock()
+
+    def _made(self, locale: str) -> Bundle:
+        """The bundle of a locale, which is made if it isn't there."""
+        with self._lock:
+            if locale not in self._bundles:
+                sources = self._sources[locale]
+                try:
+                    made = self._make(sources, locale=locale, **self._settings)
+                except UnknownLocaleError:
+                    made = self._make(sources, locale="und", **self._settings)
+                self._bundles[locale] = made
+            return self._bundles[locale]
+
+    def _asked(self) -> Iterator[tuple[str, Bundle]]:
+        for locale in self.locales:
+            yield locale, self._made(locale)
+
+    def format(self, id: str, attribute: str | None = None, /, **arguments: object) -> LocalizedAnswer:
+        """The text of a message's value, or of its first attribute of a name, in the first language that has it.
+
+        Raises `MissingMessageError` if none has, and else what `Bundle.format` raises.
+        """
+        for locale, bundle in self._asked():
+            try:
+                text, errors = bundle.format(id, attribute, **arguments)
+            except MissingMessageError:
+                continue
+            return LocalizedAnswer(text, errors, locale)
+        what = f"the message {id!r}" if attribute is None else f"the attribute {attribute!r} of the message {id!r}"
+        raise MissingMessageError(f"no language has {what}: {', '.join(self.locales)}")
+
+    def __contains__(self, key: object) -> bool:
+        """Whether any language has a message of this id with a value, or with an attribute: `("id", "attribute")`."""
+        return any(key in bundle for _, bundle in self._asked())
+
+    @property
+    def errors(self) -> dict[str, list[SourceError]]:
+        """What is wrong with the sources, by locale."""
+        told = {locale: bundle.errors for locale, bundle in self._asked()}
+        return {locale: errors for locale, errors in told.items() if errors}
+
+    def close(self) -> None:
+        """Frees the bundles. They are made again if they are asked."""
+        with self._lock:
+            while self._bundles:
+                self._bundles.popitem()[1].close()
+
+    def __enter__(self) -> Localization:
+        return self
+
+    def __exit__(
+        self,
+        kind: type[BaseException] | None,
+        error: BaseException | None,
+        trace: TracebackType | None,
+    ) -> None:
+        self.close()
+
+
+def _files(folder: Path, names: list[str]) -> list[str]:
+    """Those of these files that a folder has."""
+    return [str(folder / name) for name in names if (folder / name).is_file()]
+
+
+def _is_tag(locale: str) -> bool:
+    """Whether a locale is a language tag: exactly then it suits itself."""
+    return negotiate_languages([locale], [locale]) == [locale]
