@@ -1,5 +1,6 @@
 #!/bin/sh
-# Makes the shared library of the static one, in the folder of the module, and runs the module's tests, and mypy if it is there.
+# Makes the shared library of the static one, in the folder of the module, and runs the module's tests, mypy if it is there, and
+# negotiations next to a model's.
 set -eu
 here=$(cd "$(dirname "$0")" && pwd)
 root=$(cd "$here/../.." && pwd)
@@ -11,3 +12,4 @@ if python3 -c 'import mypy' 2>/dev/null; then
     python3 -m mypy
 fi
 python3 -m unittest discover -s tests -t .
+python3 -B "$root/tools/languages/compare.py" 5000
