@@ -16,3 +16,4 @@ if [ -f kozhvadi/_fast.abi3.so ]; then
     python3 -m unittest discover -s tests -t .
 fi
 KOZHVADI_CTYPES=1 python3 -m unittest discover -s tests -t .
+python3 -B "$root/tools/languages/compare.py" 5000

@@ -1,6 +1,10 @@
 """Languages: which are used, and texts that fall back."""
 
 import doctest
+import os
+import re
+import subprocess
+import sys
 import tempfile
 import unittest
 from pathlib import Path
@@ -14,12 +18,21 @@ from kozhvadi.runtime import (
 )
 
 
+PAGE = Path(__file__).resolve().parents[1] / "README.md"
 L10N = Path(__file__).resolve().parents[3] / "examples" / "l10n"
+
+
+def sessions_of_page():
+    """The sessions of the page after the first, which test_bundle.py tries."""
+    return re.findall(r"^```python\n(.*?)^```$", PAGE.read_text(encoding="utf-8"), re.M | re.S)[1:]
 
 
 def load_tests(loader, tests, pattern):
     for module in (kozhvadi._languages, kozhvadi._localization, kozhvadi.runtime):
         tests.addTests(doctest.DocTestSuite(module))
+    for number, session in enumerate(sessions_of_page(), 2):
+        name = f"README.md, session {number}"
+        tests.addTest(doctest.DocTestCase(doctest.DocTestParser().get_doctest(session, {}, name, str(PAGE), 0)))
     return tests
 
 
@@ -98,6 +111,13 @@ class Texts(unittest.TestCase):
             self.assertEqual([texts.format(id).locale for id in ("thanks", "bye")], ["fr", "en-US"])
             with self.assertRaisesRegex(MissingMessageError, "'nothing': de, fr, en-US"):
                 texts.format("nothing")
+
+    def test_example(self):
+        top = L10N.parents[1]
+        environment = {**os.environ, "PYTHONPATH": str(top / "bindings" / "python")}
+        program = [sys.executable, "examples/python/languages.py"]
+        told = subprocess.run(program, cwd=top, env=environment, capture_output=True, text=True, check=True).stdout
+        self.assertEqual(told, (L10N / "expected").read_text())
 
     def test_bundles_are_made_when_they_are_asked(self):
         with tempfile.TemporaryDirectory() as folder:
