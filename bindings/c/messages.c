@@ -60,9 +60,9 @@ static uint32_t print_message(
         printf("(%s: %u)\n", id, answered);
         return answered;
     }
-    printf("%.*s\n", (int)messages->text.len, (const char *)messages->text.bytes);
+    printf("%s\n", (const char *)messages->text.bytes);
     if (messages->errors.held)
-        printf("  error: %.*s", (int)messages->errors.len, (const char *)messages->errors.bytes);
+        printf("  error: %s", (const char *)messages->errors.bytes);
     return answered;
 }
 

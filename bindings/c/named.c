@@ -6,6 +6,9 @@
 static const char SOURCE[] =
     "a = A\n    .title = T { $x }\nn = { $n ->\n    [one] one\n   *[other] { $n } other\n}\n";
 
+/* The locales of a program that has set none, which have no plural rules but `other`. */
+static const char *const POSIX[] = {"C", "POSIX", "C.UTF-8", "C.utf8", "und", NULL};
+
 static unsigned tried = 0, wrong = 0;
 
 static void check(const char *what, bool is_right) {
@@ -16,7 +19,7 @@ static void check(const char *what, bool is_right) {
 }
 
 static bool holds(const struct FluentText *text, const char *wanted) {
-    return text->held && text->len == strlen(wanted) && memcmp(text->bytes, wanted, text->len) == 0;
+    return text->len == strlen(wanted) && strcmp(fluent_string(text), wanted) == 0;
 }
 
 /* Whether an argument is shown so by the message `n`. */
@@ -33,6 +36,7 @@ static void try_formats(struct FluentBundle *bundle) {
     check("an attribute", fluent_format(bundle, "a", "title", NULL, 0, &text, &errors) == FLUENT_READ
         && holds(&text, "T {$x}") && holds(&errors, "Unknown variable: $x\n"));
     check("errors that aren't wanted", fluent_format(bundle, "a", "title", NULL, 0, &text, NULL) == FLUENT_READ);
+    check("the string of no text", strcmp(fluent_string(NULL), "") == 0);
     check("no errors", fluent_format(bundle, "a", NULL, NULL, 0, &text, &errors) == FLUENT_READ && !errors.held);
     check("no message", fluent_format(bundle, "b", NULL, NULL, 0, &text, NULL) == FLUENT_NO_MESSAGE);
     check("no attribute", fluent_format(bundle, "a", "b", NULL, 0, &text, NULL) == FLUENT_NO_PATTERN);
@@ -60,6 +64,10 @@ int main(void) {
     struct FluentBundle bundle = {0};
     struct FluentCounts counts = {0};
     check("a locale", fluent_bundle_of(SOURCE, "plx", false, &bundle) == FLUENT_UNKNOWN_LOCALE && !bundle.held);
+    for (const char *const *locale = POSIX; *locale; locale++)
+        check(*locale, fluent_bundle_of(SOURCE, *locale, false, &bundle) == FLUENT_READ
+            && shows(&bundle, fluent_integer_argument("n", 1), "1 other"));
+    check("the version", fluent_version() == FLUENT_VERSION);
     check("a bundle", fluent_bundle_of(SOURCE, NULL, false, &bundle) == FLUENT_READ && bundle.held);
     check("counts", fluent_parse(fluent_bytes(SOURCE), fluent_len(SOURCE), &counts) == FLUENT_READ && counts.messages == 2);
     try_formats(&bundle);

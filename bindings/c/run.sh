@@ -9,6 +9,11 @@ root=$(cd "$here/../.." && pwd)
 . "$root/bindings/library.sh"
 built=$(mktemp -d)
 trap 'rm -rf "$built"' EXIT
+# The version of the header is that of the packages.
+version=$(sed -n 's/^version = "\(.*\)"$/\1/p' "$root/bindings/rust/Cargo.toml")
+minor=${version#*.}
+number=$((${version%%.*} * 1000000 + ${minor%%.*} * 1000 + ${version##*.}))
+grep -qx "#define FLUENT_VERSION $number" "$header/fluent_c.h"
 sed -n '/^```c$/,/^```$/p' "$here/README.md" | sed '1d;$d' >"$built/first.c"
 cp "$here/messages.c" "$built"
 cp "$here/named.c" "$built"

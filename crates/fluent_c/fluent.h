@@ -38,6 +38,11 @@ static inline const uint8_t *fluent_bytes(const char *text) { return (const uint
 
 static inline size_t fluent_len(const char *text) { return text ? strlen(text) : 0; }
 
+/* A text as a string, which is empty if there is none. It ends before the first byte 0, if an argument had one in it. */
+static inline const char *fluent_string(const struct FluentText *text) {
+    return text && text->held ? (const char *)text->bytes : "";
+}
+
 /* An argument that is a text. */
 static inline struct FluentArgument fluent_text_argument(const char *name, const char *text) {
     struct FluentArgument argument = {0};

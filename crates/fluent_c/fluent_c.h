@@ -2,8 +2,9 @@
  * languages suit a user; what a source is made of, in numbers; and its tree as text.
  *
  * Link libfluent_c.a with a program that has malloc, realloc and free. A text is its first byte and its length in
- * bytes. It needs no byte 0 at its end, and the library only reads it. A text of length 0 still needs a pointer that
- * isn't null.
+ * bytes. One that you pass needs no byte 0 at its end, and the library only reads it. A text of length 0 still needs a
+ * pointer that isn't null. One that the library makes has a byte 0 after its last byte, which isn't counted. fluent.h has
+ * the calls for texts that end in a byte 0.
  *
  * Each call that returns a number returns one of those below, and its comment says which. If it isn't FLUENT_READ, what
  * you passed for the result is unchanged: a text still has the same bytes at the same address. A call frees all that it
@@ -30,6 +31,12 @@
 #ifdef __cplusplus
 extern "C" {
 #endif
+
+/* The version of this header: a million for the first number, a thousand for the second, and one for the third. */
+#define FLUENT_VERSION 1000
+
+/* The version of the library, which is FLUENT_VERSION if it is that of this header. */
+uint32_t fluent_version(void);
 
 /* The call did what it is for. A source that was read may still have errors. */
 #define FLUENT_READ 0
@@ -73,8 +80,9 @@ uint32_t fluent_parse_runtime(const uint8_t *text, size_t len, struct FluentCoun
 struct FluentText {
     /* Whether there is a text. If there is none, the other fields say nothing. */
     bool held FLUENT_ZERO;
-    /* The first byte. An empty text may have any pointer here. */
+    /* The first byte. */
     const uint8_t *bytes FLUENT_ZERO;
+    /* How many bytes there are. A byte 0 comes after them. */
     size_t len FLUENT_ZERO;
     void *owner FLUENT_ZERO;
 };
@@ -99,7 +107,8 @@ struct FluentSource {
  * `bad`. docs/reference/protocol.md has the rules.
  *
  * Sources may call the function NUMBER. The plural rules of `locale` choose variants: it is a tag such as "pl" or
- * "pt-PT", and the empty tag has the rules of English. docs/reference/plurals.md says which locales have rules. If
+ * "pt-PT", and the empty tag has the rules of English. "C" and "POSIX", also as "C.UTF-8" and "C.utf8", have no rules but
+ * `other`, as "und" has. docs/reference/plurals.md says which locales have rules. If
  * `isolating` is true, placeables are between the marks U+2068 and U+2069. Of duplicate ids the last entry counts if
  * `overriding` is true, and else the first. If a source has errors, only its junk is left out.
  *

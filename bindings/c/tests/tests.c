@@ -21,7 +21,7 @@ bool print_tally(const struct Tally *tally) {
 }
 
 bool holds(const struct FluentText *text, struct Bytes bytes) {
-    return text->held && text->len == bytes.len && memcmp(text->bytes, bytes.at, bytes.len) == 0;
+    return text->held && text->len == bytes.len && memcmp(text->bytes, bytes.at, bytes.len) == 0 && text->bytes[text->len] == 0;
 }
 
 bool is_same(const struct FluentText *text, const struct FluentText *before, struct Bytes bytes) {

@@ -30,7 +30,7 @@ void count_try(struct Tally *tally, const char *row, bool is_right);
 /* Prints the counts. Gives whether none was wrong. */
 bool print_tally(const struct Tally *tally);
 
-/* Whether a text holds these bytes. */
+/* Whether a text holds these bytes, and a byte 0 after them. */
 bool holds(const struct FluentText *text, struct Bytes bytes);
 /* Whether a text is what it was: the same bytes at the same address, or no text as before. `bytes` are those that it had. */
 bool is_same(const struct FluentText *text, const struct FluentText *before, struct Bytes bytes);

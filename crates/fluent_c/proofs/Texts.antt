@@ -1,6 +1,6 @@
 -- A `FluentText` is made of its fields and of what it owns.
 use Rattle.fluent_c.proofs.Steps.{◌≡◌, ℕ, ◌<◌, ◌^◌, List, [], ◌∷◌, refl, sym, Val, vbool, vint, w64, ‵, Item, Goal, Step, step, ◌$◌, fjoin, Is, Ptr, ptr_val, owned}
-use Rattle.std.specs.Prelude.{true, vec_items, vec_len}
+use Rattle.std.specs.Prelude.{suc, true, vec_items, vec_len}
 use Rattle.std.specs.Vec.{vec_ptr}
 use Rattle.std.specs.Global.{Global}
 use Rattle.std.specs.contracts.impls.GlobalAllocator.TheImpl.{ghosts}
@@ -44,10 +44,10 @@ abbrev pub held_by : Ptr → ℕ → Ptr → buffers_row.Denot → the_row.Denot
 held_by start n p v = record { held = true; bytes = start; len = n; owner = p; text = vec_items v.bytes }
 
 module _ {M : Type 1} {𝓤 : Ura M} {𝓛 : Logic 𝓤} {K : Type 0} {Γ : List (Item 𝓤)} {G : Goal 𝓤 𝓛.H} where
-  pub held_in : K → (a : Global) (start : Ptr) (n : ℕ) (p : Ptr) (v : buffers_row.Denot) → vec_ptr v.bytes ≡ start → vec_len v.bytes ≡ n → n < 2 ^ 64
+  pub held_in : K → (a : Global) (start : Ptr) (n : ℕ) (p : Ptr) (v : buffers_row.Denot) → vec_ptr v.bytes ≡ start → vec_len v.bytes ≡ suc n → n < 2 ^ 64
       → Step K 𝓛 (‵ (the_row.own_val (held_by start n p v) (lowered (held_by start n p v) ∷ [])) ∷ Γ) G (‵ (boxed p v a) ∷ Γ) G
   held_in t a start n p v es el fits = step (λ s. fpack t Global (boxed p v) a $
-      feq_i t (List ℕ) (vec_items v.bytes) (vec_items v.bytes) refl $ feq_i t ℕ (vec_len v.bytes) n el $ fjoin t $ feq_i t Ptr (vec_ptr v.bytes) start es $ fjoin t $ move t (1 ∷ 0 ∷ []) $ fjoin t $
+      feq_i t (List ℕ) (vec_items v.bytes) (vec_items v.bytes) refl $ feq_i t ℕ (vec_len v.bytes) (suc n) el $ fjoin t $ feq_i t Ptr (vec_ptr v.bytes) start es $ fjoin t $ move t (1 ∷ 0 ∷ []) $ fjoin t $
       fpack t buffers_row.Denot (λ w. fsep (fex Global (boxed p w)) (told start n (vec_items v.bytes) w)) v $ text_in t (held_by start n p v) fits $ s)
 
   -- a text that is held is buffers in a box; the handle by which the box is freed doesn't matter

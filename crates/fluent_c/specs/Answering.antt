@@ -1,12 +1,13 @@
 -- What request lines are answered, from sources that C hands over.
-use Rattle.std.specs.Prelude.{Bool, List, [], ◌∷◌, Option, None, Some, IsSomeAnd, option_map, map, IsUtf8, All, Contains}
+use Rattle.std.specs.Prelude.{if◌then◌else◌, Bool, List, [], ◌∷◌, Option, None, Some, IsSomeAnd, option_map, map, IsUtf8, All, Contains}
 use Rattle.fluent_answers.specs.Answers.{answers}
 use Rattle.fluent_grammar.specs.Words.{Text}
 use Rattle.fluent_answers.specs.Sources.{Settings}
-use Rattle.fluent_plurals.specs.Plurals.{english_rules, plurals_by, plurals_for}
+use Rattle.fluent_plurals.specs.Plurals.{english_rules, plurals_by, plurals_for, root}
 use Rattle.fluent_plurals.specs.declared.plurals.LanguagePlurals.{LanguagePlurals}
 use Rattle.fluent_run.specs.RunView.{no_text}
 use Rattle.fluent_value.specs.declared.function.NoFunction.{NoFunction}
+use Rattle.fluent_c.specs.Locales.{is_posix}
 use Rattle.fluent_c.specs.Made.{Holds}
 use Rattle.fluent_c.specs.declared.answering.FluentSource.{FluentSource}
 use Rattle.fluent_c.specs.declared.text.FluentText.{FluentText}
@@ -28,10 +29,14 @@ IsUtf8Source source = IsUtf8 source.text.now
 abbrev pub AreUtf8 : List FluentSource → Type 0
 AreUtf8 = All IsUtf8Source
 
--- the plural rules that the tag of a locale names, and those of English for the empty tag
+-- the plural rules that a locale which isn't empty names: for that of a program which has set none, each number is `other`
+abbrev pub plurals_named : Text → Option LanguagePlurals
+plurals_named locale = if is_posix locale then Some root else plurals_for locale
+
+-- the same for any, and the rules of English for the empty one
 abbrev pub plurals_in : Text → Option LanguagePlurals
 plurals_in [] = Some english_rules
-plurals_in (byte ∷ tag) = plurals_for (byte ∷ tag)
+plurals_in (byte ∷ tag) = plurals_named (byte ∷ tag)
 
 -- how answers are made: numbers are written plainly
 abbrev pub settings_of : Bool → Bool → Settings

@@ -5,6 +5,7 @@ pub use Rattle.fluent_syntax.specs.View
 pub mod Counts
 pub mod Made
 pub mod Texts
+pub mod Locales
 pub mod Answering
 pub mod Arguments
 pub mod Bundles

@@ -1,12 +1,16 @@
 -- What a text that a caller got is.
 use Rattle.std.specs.Prelude.{◌≡◌, ℕ, true, false, List}
-use Rattle.fluent_c.specs.Texts.{HeldBy}
+use Rattle.fluent_c.specs.Texts.{HeldBy, with_nul}
 use Rattle.fluent_c.specs.declared.buffers.Buffers.{Buffers}
 use Rattle.fluent_c.specs.declared.text.FluentText.{FluentText}
 
--- there is a text, of these bytes
+-- there is a text, and all its bytes are these
+abbrev pub HoldsBytes : FluentText → List ℕ → Type 0
+HoldsBytes t bytes = (t.held ≡ true) × (t.text ≡ bytes)
+
+-- there is this text, and the byte 0 after it
 abbrev pub Holds : FluentText → List ℕ → Type 0
-Holds t text = (t.held ≡ true) × (t.text ≡ text)
+Holds t text = HoldsBytes t (with_nul text)
 
 -- there is no text
 abbrev pub HoldsNone : FluentText → Type 0

@@ -8,6 +8,7 @@ ghost use Rattle.fluent_c.specs.Statuses.{ReadsSources};
 ghost use Rattle.fluent_c.specs.declared.TheConstants.{FLUENT_READ};
 ghost use Rattle.fluent_c.specs.declared.answering.Refusal.TheVariants.{Memory, NotUtf8, UnknownLocale};
 
+use crate::locales::names_posix;
 use crate::text::FluentText;
 use crate::{FLUENT_NO_MEMORY, FLUENT_NOT_UTF8, FLUENT_READ, FLUENT_UNKNOWN_LOCALE};
 use fluent_plurals::LanguagePlurals;
@@ -105,12 +106,14 @@ fn read_source<'s>(source: &FluentSource<'s>, read: &mut Vec<&'s str>) -> Result
     }
 }
 
-/// The plural rules that the tag of a locale names, and those of English for the empty tag.
+/// The plural rules that the tag of a locale names: those of English for the empty tag, and none but `other` for `C` and `POSIX`.
 pub(crate) fn plurals_of(locale: &[u8]) -> Option<LanguagePlurals>
     ensures { result ≡ plurals_in locale.now }
 {
     if locale.is_empty() {
         Some(LanguagePlurals::english())
+    } else if names_posix(locale) {
+        Some(LanguagePlurals::root())
     } else {
         LanguagePlurals::for_tag_bytes(locale)
     }

@@ -1,19 +1,19 @@
 //! A text in the place of another, in the same box.
 
-ghost use Rattle.std.specs.Prelude.{vec_items, MatchResult};
-ghost use Rattle.fluent_c.specs.Made.{Holds, HoldsBuffers, HoldsSame};
+ghost use Rattle.std.specs.Prelude.{◌≡◌, ◌<◌, suc, vec_items, vec_len, MatchResult};
+ghost use Rattle.fluent_c.specs.Made.{Holds, HoldsBuffers, HoldsBytes, HoldsSame};
 
 use crate::buffers::Buffers;
 use crate::text::FluentText;
 use fluent_kept::Loose;
 use std::alloc::{AllocError, Global};
 
-/// The text of these bytes, in a box that held others, whose memory is spare then.
-fn refilled(owner: Loose<Buffers, Global>, bytes: Vec<u8>) -> FluentText
-    ensures { Holds result (vec_items bytes) }
+/// The text of this many bytes, after which the last is the byte 0, in a box that held others, whose memory is spare then.
+fn refilled(owner: Loose<Buffers, Global>, bytes: Vec<u8>, len: usize) -> FluentText
+    requires { vec_len bytes ≡ suc len }
+    ensures { HoldsBytes result (vec_items bytes) }
 {
     let first = bytes.as_ptr();
-    let len = bytes.len();
     let mut owner = owner.into_box();
     owner.spare = std::mem::replace(&mut owner.bytes, bytes);
     FluentText::holding(first, len, Loose::of(owner))
@@ -21,12 +21,13 @@ fn refilled(owner: Loose<Buffers, Global>, bytes: Vec<u8>) -> FluentText
 
 /// The text of a box again, and its spare memory.
 fn without_spare(owner: Loose<Buffers, Global>, alloc: Global) -> (FluentText, Vec<u8>)
+    requires { 0 < vec_len owner.value.bytes }
     ensures { HoldsBuffers result.0 owner.value }
 {
     let mut owner = owner.into_box();
     let spare = std::mem::replace(&mut owner.spare, Vec::new(alloc));
     let first = owner.bytes.as_ptr();
-    let len = owner.bytes.len();
+    let len = owner.bytes.len() - 1;
     (FluentText::holding(first, len, Loose::of(owner)), spare)
 }
 
@@ -50,19 +51,25 @@ pub(crate) fn take_spare(text: &mut FluentText, alloc: Global) -> String
     }
 }
 
-/// Puts the text of these bytes in the place of a text, whose memory is spare then. If there is one, it allocates nothing and
-/// succeeds.
+/// Puts the text of these bytes in the place of a text, whose memory is spare then. If there is one, it allocates nothing for
+/// it but the room of a byte 0 after the bytes.
 ///
 /// # Errors
-/// [`AllocError`] if memory runs out; there is no text then, as before.
-pub(crate) fn fill(text: &mut FluentText, alloc: Global, bytes: Vec<u8>) -> Result<(), AllocError>
+/// [`AllocError`] if memory runs out; the text is as it was.
+pub(crate) fn fill(
+    text: &mut FluentText,
+    alloc: Global,
+    mut bytes: Vec<u8>,
+) -> Result<(), AllocError>
     ensures { MatchResult result (λ _. Holds text.new (vec_items bytes))
         (λ _. HoldsSame text.new text.old) }
 {
+    let len = bytes.len();
+    bytes.push(0)?;
     match std::mem::replace(text, FluentText::none()).take(alloc) {
-        Some(owner) => text.put(alloc, refilled(owner, bytes)),
+        Some(owner) => text.put(alloc, refilled(owner, bytes, len)),
         None => {
-            let made = FluentText::of(alloc, bytes)?;
+            let made = FluentText::ended(alloc, bytes, len)?;
             text.put(alloc, made);
         }
     }

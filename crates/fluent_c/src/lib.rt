@@ -18,9 +18,11 @@ mod counts;
 mod filling;
 mod formatting;
 mod languages;
+mod locales;
 mod names;
 mod text;
 mod threads;
+mod version;
 mod writing;
 
 pub use answering::{FluentSource, fluent_answer};
@@ -35,8 +37,11 @@ pub use formatting::fluent_bundle_format;
 pub use languages::fluent_negotiate;
 pub use text::{FluentText, fluent_free_text};
 pub use threads::texts_are_send;
+pub use version::fluent_version;
 pub use writing::{fluent_write, fluent_write_json};
 
+/// The version of the library: a million for the first number, a thousand for the second, and one for the third.
+pub const FLUENT_VERSION: u32 = 1000;
 /// What a call returns that did what it is for. A source that was read may still have errors.
 pub const FLUENT_READ: u32 = 0;
 /// What a call returns that was given a text that isn't UTF-8.

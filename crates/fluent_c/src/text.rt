@@ -1,9 +1,9 @@
 //! A text in memory of the library, for a caller that isn't Rattle.
 
-ghost use Rattle.std.specs.Prelude.{◌≡◌, ℕ, List, true, false, vec_items, vec_len, IfOk};
+ghost use Rattle.std.specs.Prelude.{◌≡◌, ℕ, suc, List, true, false, vec_items, vec_len, IfOk};
 ghost use Rattle.std.specs.Vec.{vec_ptr};
 ghost use Rattle.std.specs.Option.{MatchOption};
-ghost use Rattle.fluent_c.specs.Texts.{HeldBy, text_owns};
+ghost use Rattle.fluent_c.specs.Texts.{HeldBy, text_owns, with_nul};
 
 use crate::buffers::Buffers;
 use fluent_kept::Loose;
@@ -21,9 +21,9 @@ use std::marker::Model;
 pub struct FluentText {
     /// Whether there is a text. If there is none, the other fields say nothing.
     held: bool,
-    /// The first byte. An empty text may have any pointer here.
+    /// The first byte.
     bytes: *const u8,
-    /// How many bytes the text has.
+    /// How many bytes the text has. A byte 0 is after them.
     len: usize,
     /// The vector of the bytes and that of the spare memory, in a box.
     owner: *mut u8,
@@ -49,9 +49,9 @@ impl FluentText {
         }
     }
 
-    /// The text of buffers in a box, whose first byte and length these are.
+    /// The text of buffers in a box, whose first byte this is. After this many the last is the byte 0.
     pub(crate) fn holding(bytes: *const u8, len: usize, owner: Loose<Buffers, Global>) -> FluentText
-        requires { (vec_ptr owner.value.bytes ≡ bytes) × (vec_len owner.value.bytes ≡ len) }
+        requires { (vec_ptr owner.value.bytes ≡ bytes) × (vec_len owner.value.bytes ≡ suc len) }
         ensures { HeldBy result.held result.bytes result.len result.text owner.value }
     {
         let Loose { at, alloc: _ } = owner;
@@ -85,17 +85,32 @@ impl FluentText {
     }
 
     /// The text of these bytes.
-    pub(crate) fn of(alloc: Global, bytes: Vec<u8>) -> Result<FluentText, AllocError>
+    ///
+    /// # Errors
+    /// [`AllocError`] if memory runs out; nothing is kept.
+    pub(crate) fn of(alloc: Global, mut bytes: Vec<u8>) -> Result<FluentText, AllocError>
+        ensures { IfOk result (λ text. (text.held ≡ true) × (text.text ≡ with_nul (vec_items bytes))) }
+    {
+        let len = bytes.len();
+        bytes.push(0)?;
+        FluentText::ended(alloc, bytes, len)
+    }
+
+    /// The text of this many bytes, after which the last is the byte 0.
+    ///
+    /// # Errors
+    /// [`AllocError`] if memory runs out; nothing is kept.
+    pub(crate) fn ended(alloc: Global, bytes: Vec<u8>, len: usize) -> Result<FluentText, AllocError>
+        requires { vec_len bytes ≡ suc len }
         ensures { IfOk result (λ text. (text.held ≡ true) × (text.text ≡ vec_items bytes)) }
     {
         let first = bytes.as_ptr();
-        let len = bytes.len();
         let spare = Vec::new(alloc);
         let owner = Box::new(alloc, Buffers { bytes, spare })?;
         Ok(FluentText::holding(first, len, Loose::of(owner)))
     }
 
-    /// The bytes, if there is a text.
+    /// The bytes with the byte 0 after them, if there is a text.
     pub(crate) fn into_bytes(self, alloc: Global) -> Option<Vec<u8>>
         ensures { MatchOption result (self.held ≡ false) (λ bytes. vec_items bytes ≡ self.text) }
     {

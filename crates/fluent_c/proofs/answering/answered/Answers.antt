@@ -5,6 +5,7 @@ use Rattle.fluent_plurals.specs.declared.plurals.LanguagePlurals.{LanguagePlural
 use Rattle.fluent_serve.specs.Texts.{texts}
 use Rattle.fluent_c.specs.Answering.{answers_by, settings_of, texts_of}
 use Rattle.fluent_c.specs.Made.{Holds}
+use Rattle.fluent_c.specs.Texts.{with_nul}
 use Rattle.fluent_c.proofs.answering.answered.Goals as goal
 
 pub returns-clause-answered : goal.returns-clause-answered
@@ -15,4 +16,4 @@ returns-clause-answered c =
     let given = c.in_ok-answers.ensures ∙ (made ∙ ap (answered c.in-Some.plurals) same) in
     let known = sym c.in-Some.is ∙ c.plurals_of.ensures in
     subst (λ found. IsSomeAnd (option_map (λ plurals. answered plurals (texts_of c.args.sources.now)) found) (Holds c.in_ok-of.field-0))
-    known (c.in_ok-of.ensures.0, c.in_ok-of.ensures.1 ∙ given)
+    known (c.in_ok-of.ensures.0, c.in_ok-of.ensures.1 ∙ ap with_nul given)
