@@ -5,7 +5,7 @@ ghost use Rattle.fluent_languages.specs.Steps.{maximized, modern};
 ghost use Rattle.std.specs.Prelude.{map};
 ghost use Rattle.std.specs.Char.{to_ascii_lowercase};
 
-use crate::likely::{find_alias, find_region, find_script};
+use crate::likely::{find_alias, find_subtags};
 use crate::parts::{are_variants, language_fits, split_part, split_region, split_script};
 
 /// A language tag, such as `de`, `zh-Hant-TW` or `ca-ES-valencia`: a language, and a script, a region and variants if they are named.
@@ -55,10 +55,11 @@ impl<'t> LanguageTag<'t> {
     pub fn maximize(&self) -> Self
         ensures { tag_of result ≡ maximized (tag_of self.now) }
     {
+        let likely = find_subtags(self);
         LanguageTag {
             language: self.language,
-            script: part_or(self.script, find_script(self)),
-            region: part_or(self.region, find_region(self)),
+            script: part_or(self.script, likely.script),
+            region: part_or(self.region, likely.region),
             variants: self.variants,
         }
     }
