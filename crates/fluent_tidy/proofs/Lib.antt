@@ -4,3 +4,8 @@ mod LinesEnded
 mod Gathered
 mod Read
 mod Replacing
+mod TidyTexts
+mod TidyRows
+mod PlainTexts
+mod Marks
+mod TidyPlain

@@ -4,3 +4,5 @@ pub mod Sources
 pub mod Trees
 pub mod DeskLaws
 pub mod Replaced
+pub mod TidyText
+pub mod TidyLaws

@@ -2,6 +2,7 @@
 
 ghost use Rattle.fluent_tidy.specs.DeskLaws.{ExportsAreImported, VersionsAreImportedAlike};
 ghost use Rattle.fluent_tidy.specs.Replaced.{ReplacedSourcesKeepAnswers, UnshapedHasNormalText};
+ghost use Rattle.fluent_tidy.specs.TidyLaws.{TidyTextsAreFixed, TidyTextsKeepAnswers, TidyTextsKeepEntries};
 
 pub use fluent_answers::laws::{
     joined_sources_keep_notices, lists_decide, tidied_sources_keep_answers,
@@ -26,6 +27,17 @@ pub fn replaced_sources_keep_answers<C: FluentType, F>()
     exports_are_imported();
     tidied_sources_keep_answers::<C, F>();
     reading_is_unique();
+}
+
+/// A tidy text has the messages, the terms and the comments of the source, as it is read without a byte order mark and with
+/// LF line ends. So all requests have the same answers, with all settings and plural sources. It is its own tidy text,
+/// and the only one of the source.
+pub fn tidy_texts_stay<C: FluentType, F>()
+    ensures entries { TidyTextsKeepEntries }
+    ensures fixed { TidyTextsAreFixed }
+    ensures answers { TidyTextsKeepAnswers C.Meaning F }
+{
+    lists_decide::<C, F>();
 }
 
 /// The JSON tree of a source is imported as the source's normal text, and isn't imported exactly if the source has
