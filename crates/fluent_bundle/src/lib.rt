@@ -27,7 +27,6 @@
 pub mod builtins;
 pub mod bundle;
 pub mod laws;
-pub mod localization;
 pub mod memoizer;
 pub mod resolver;
 pub mod types;
