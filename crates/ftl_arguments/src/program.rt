@@ -11,6 +11,13 @@ use crate::version::VERSION;
 use clap::{Arg, ArgAction, Command};
 use std::alloc::{AllocError, Global};
 
+/// What `run` reads, for its help.
+const REQUESTS: &str =
+    "A request is an id, as `login`, or one with an attribute, as `login.title`, and then arguments,
+each after a tab: NAME=VALUE.
+
+Example: printf 'welcome\\tname=Jane\\n' | ftl run hello.ftl";
+
 /// The program with all its commands.
 pub(crate) fn program<'a>(alloc: Global) -> Result<Command<'a>, AllocError>
     ensures { IfOk result (λ program. app_of program ≡ program_app) }
@@ -30,7 +37,7 @@ fn with_reports<'a>(alloc: Global, program: Command<'a>) -> Result<Command<'a>, 
         alloc,
         program,
         "check",
-        "Reports the syntax errors of sources, and each entry whose id was taken",
+        "Report syntax errors and duplicate ids, for programs; `lint` says more",
     )?;
     with_lint(alloc, program)
 }
@@ -43,27 +50,27 @@ fn with_tidying<'a>(alloc: Global, program: Command<'a>) -> Result<Command<'a>, 
         alloc,
         program,
         "clean",
-        "Takes out the stretches that can't be read",
+        "Print a file without the entries that can't be read",
     )?;
     let program = with_file(
         alloc,
         program,
         "normalize",
-        "Writes a source as the serializer writes it",
+        "Print a file in its normal layout",
     )?;
-    let program = with_files(
-        alloc,
-        program,
-        "join",
-        "Cleans sources and puts them together",
-    )?;
+    let program = with_files(alloc, program, "join", "Print several files as one")?;
     let program = with_file(
         alloc,
         program,
         "export",
-        "Writes the JSON tree of the cleaned source",
+        "Print the syntax tree of a file as JSON",
     )?;
-    with_file(alloc, program, "import", "Writes the text of a JSON tree")
+    with_file(
+        alloc,
+        program,
+        "import",
+        "Print the file of a syntax tree in JSON",
+    )
 }
 
 /// The program before its commands.
@@ -71,7 +78,7 @@ fn bare_program<'a>(alloc: Global) -> Result<Command<'a>, AllocError>
     ensures { IfOk result (λ program. app_of program ≡ bare_program) }
 {
     Command::new(alloc, "ftl")
-        .about("Answers, checks and tidies Fluent sources")
+        .about("Lint, format and tidy Fluent (.ftl) translation files")
         .version(VERSION)
         .no_binary_name(true)
         .subcommand_required(true)
@@ -121,7 +128,13 @@ fn command_of<'a>(
 fn run<'a>(alloc: Global) -> Result<Command<'a>, AllocError>
     ensures { IfOk result (IsShaped run_shape) }
 {
-    asking(alloc, "run", "Answers the request lines of standard input")?.arg(files(alloc))
+    asking(
+        alloc,
+        "run",
+        "Answer requests from standard input, one a line",
+    )?
+    .after_help(REQUESTS)
+    .arg(files(alloc))
 }
 
 /// The program with the command `format`, too.
@@ -136,9 +149,9 @@ fn format<'a>(alloc: Global) -> Result<Command<'a>, AllocError>
     ensures { IfOk result (IsShaped format_shape) }
 {
     let argument = each(alloc, "argument", "NAME=VALUE").help(
-        "Sets an argument, once for each: a number if the value is one, or else a text",
+        "Pass a value (repeatable); `3` and `1.50` are numbers",
     );
-    asking(alloc, "format", "Writes the text of one message")?
+    asking(alloc, "format", "Print the text of one message")?
         .after_help("Example: ftl format welcome hello.ftl --argument name=Jane")
         .arg(argument)?
         .arg(id(alloc))?
@@ -166,8 +179,8 @@ fn reporting<'a>(alloc: Global) -> Result<Command<'a>, AllocError>
     ensures { IfOk result (IsShaped (shaped (codes "lint") linting_rules)) }
 {
     comparing(alloc)?
-        .arg(flag(alloc, "notes").help("Reports notes, too"))?
-        .arg(flag(alloc, "strict").help("Lets warnings count for the status"))?
+        .arg(flag(alloc, "notes").help("Report notes, too"))?
+        .arg(flag(alloc, "strict").help("End with 1 for warnings, too"))?
         .arg(report_format(alloc))
 }
 
@@ -176,7 +189,7 @@ fn comparing<'a>(alloc: Global) -> Result<Command<'a>, AllocError>
     ensures { IfOk result (IsShaped (shaped (codes "lint") known_rules)) }
 {
     Command::new(alloc, "lint")
-        .about("Reports the mistakes of sources that are one catalog, each with its line")
+        .about("Find mistakes and missing translations, with their lines")
         .arg(reference(alloc))?
         .arg(function(alloc))?
         .arg(categories(alloc))
@@ -187,9 +200,9 @@ fn asking<'a>(alloc: Global, name: &'a str, about: &'a str) -> Result<Command<'a
     ensures { IfOk result (IsShaped (shaped name.entry.now asking_rules)) }
 {
     let locale = option(alloc, "locale", "TAG").help(
-        "Chooses variants by the plural rules of this locale, and writes numbers as it does",
+        "Choose variants by the plural rules of this locale, and write numbers as it does",
     );
-    let plain = flag(alloc, "plain-numbers").help("Writes numbers plainly, whatever the locale");
+    let plain = flag(alloc, "plain-numbers").help("Write numbers plainly, whatever the locale");
     flagged(alloc, name, about)?.arg(locale)?.arg(plain)
 }
 
@@ -198,10 +211,10 @@ fn flagged<'a>(alloc: Global, name: &'a str, about: &'a str) -> Result<Command<'
     ensures { IfOk result (IsShaped (shaped name.entry.now flagged_rules)) }
 {
     let isolating = flag(alloc, "no-isolating").help(
-        "Sets no marks around the values of placeables",
+        "Leave out the direction marks U+2068 and U+2069 around inserted values",
     );
     let overriding = flag(alloc, "overriding").help(
-        "Lets the last entry of an id count, and not the first",
+        "Let the last entry of an id count, and not the first",
     );
     Command::new(alloc, name)
         .about(about)
@@ -242,7 +255,7 @@ fn reference<'a>(alloc: Global) -> Arg<'a>
     ensures { IsLocal (each_rule (codes "reference")) result }
 {
     each(alloc, "reference", "FILE").help(
-        "Compares with a file that is translated from, once for each",
+        "Compare with this file of the source language (repeatable)",
     )
 }
 
@@ -250,7 +263,9 @@ fn reference<'a>(alloc: Global) -> Arg<'a>
 fn function<'a>(alloc: Global) -> Arg<'a>
     ensures { IsLocal (each_rule (codes "function")) result }
 {
-    each(alloc, "function", "NAME").help("Names a function that your program adds, once for each")
+    each(alloc, "function", "NAME").help(
+        "A function that your program provides, so that calls of it are known (repeatable)",
+    )
 }
 
 /// The locale whose plural categories `lint` looks for.
@@ -258,7 +273,7 @@ fn categories<'a>(alloc: Global) -> Arg<'a>
     ensures { IsLocal (option_rule (codes "locale")) result }
 {
     option(alloc, "locale", "TAG").help(
-        "Reports plural categories of this locale that have no variant",
+        "Report plural categories of this locale that have no variant",
     )
 }
 
@@ -267,7 +282,7 @@ fn report_format<'a>(alloc: Global) -> Arg<'a>
     ensures { IsLocal (default_rule (codes "format") (codes "text")) result }
 {
     option_or(alloc, "format", "FORMAT", "text").help(
-        "Writes findings as text, line, json or github",
+        "Write findings as text, line, json or github",
     )
 }
 
