@@ -1,5 +1,5 @@
 -- What a report says of the answers to requests.
-use Rattle.std.proofs.Common.{◌≡◌, ◌∙◌, Bool, true, false, List, [], ◌∷◌, Option, Some, None, refl, sym, ap, subst, append-nil}
+use Rattle.std.proofs.Common.{◌≡◌, ◌∙◌, Bool, true, false, List, [], ◌∷◌, ◌++◌, map, Option, Some, None, refl, sym, ap, subst, append-nil}
 use Rattle.std.specs.Prelude.{is_some, codes}
 use Rattle.std.specs.Option.{option_map}
 use Rattle.std.proofs.lemmas.Bool.{false≢true}
@@ -18,13 +18,13 @@ use Rattle.fluent_answers.specs.Sources.{ids_of}
 use Rattle.lint_findings.specs.Comparison.{without}
 use Rattle.lint_findings.specs.Files.{File}
 use Rattle.lint_findings.specs.Findings.{Options, sources, known_functions}
-use Rattle.lint_findings.specs.ReportLaws.{AreFunctions, HasOwnIds, IsClean, IsFlawless, HasTarget}
+use Rattle.lint_findings.specs.ReportLaws.{AreFunctions, HasOwnIds, IsClean, IsFlawless, HasTarget, program_ids}
 use Rattle.lint_findings.proofs.FlawlessCatalogs.{flawless_catalogs_answer}
 use Rattle.lint_findings.proofs.CleanReports.{clean_catalogs_are_flawless, clean_translations_are_flawless}
 use Rattle.lint_findings.proofs.OwnIds.{catalogs_override_nothing, translations_override_nothing}
 use Rattle.lint_findings.proofs.Translations.{translations_answer_all}
 use Rattle.fluent_lint.specs.LintReport.{all_findings}
-use Rattle.fluent_lint.specs.RunLaws.{KnowsNumberAlone, HasErrorsOfRequest, RepliesWell, CleanReportsReplyWell, OwnIdsReplyWell, TranslationsReply}
+use Rattle.fluent_lint.specs.RunLaws.{KnowsNumberAlone, replied, HasErrorsOfRequest, RepliesWell, CleanReportsReplyWell, OwnIdsReplyWell, TranslationsReply}
 
 -- ---- the pattern that is asked for
 
