@@ -1,5 +1,6 @@
 welcome = Witaj, { $nmae }.
 unread = { $count ->
     [one] Jedna nieprzeczytana wiadomość.
-   *[other] { $count } nieprzeczytanych wiadomości.
+    [few] { $count } nieprzeczytane wiadomości.
+   *[other] { $count } nieprzeczytanej wiadomości.
 }
