@@ -1,5 +1,5 @@
 -- Worked answers: sources, request lines, and the bytes that come out.
-use Rattle.std.specs.Prelude.{None, ◌≡◌, refl, ⊤, true, false, List, [], ◌∷◌, ◌++◌, codes, encode_utf8}
+use Rattle.std.specs.Prelude.{◌≡◌, refl, ⊤, true, false, List, [], ◌∷◌, ◌++◌, codes, encode_utf8}
 use Rattle.std.specs.Fmt.{digits}
 use Rattle.std.specs.Str.{is_utf8}
 use Rattle.fluent_grammar.specs.Words.{Text}
@@ -25,13 +25,13 @@ unfolding computing is_utf8 digits read_number number_text operands_of last_digi
 answering = tt
 
 abbrev plain : Settings
-plain = record { isolating = true; overriding = false; numerals = None }
+plain = record { isolating = true; overriding = false }
 
 abbrev bare : Settings
-bare = record { isolating = false; overriding = false; numerals = None }
+bare = record { isolating = false; overriding = false }
 
 abbrev last_counts : Settings
-last_counts = record { isolating = true; overriding = true; numerals = None }
+last_counts = record { isolating = true; overriding = true }
 
 -- English, without values of a program's own type
 abbrev asked : Settings → List Text → Text → Text

@@ -1,8 +1,7 @@
 -- What request lines are answered, from sources that C hands over.
-use Rattle.std.specs.Prelude.{if◌then◌else◌, Bool, List, [], ◌∷◌, Option, None, Some, IsSomeAnd, option_map, map, IsUtf8, All, Contains}
+use Rattle.std.specs.Prelude.{if◌then◌else◌, Bool, List, [], ◌∷◌, Option, Some, IsSomeAnd, option_map, map, IsUtf8, All, Contains}
 use Rattle.fluent_answers.specs.Answers.{answers}
 use Rattle.fluent_grammar.specs.Words.{Text}
-use Rattle.fluent_answers.specs.Sources.{Settings}
 use Rattle.fluent_plurals.specs.Plurals.{english_rules, plurals_by, plurals_for, root}
 use Rattle.fluent_plurals.specs.declared.plurals.LanguagePlurals.{LanguagePlurals}
 use Rattle.fluent_run.specs.RunView.{no_text}
@@ -38,18 +37,15 @@ abbrev pub plurals_in : Text → Option LanguagePlurals
 plurals_in [] = Some english_rules
 plurals_in (byte ∷ tag) = plurals_named (byte ∷ tag)
 
--- how answers are made: numbers are written plainly
-abbrev pub settings_of : Bool → Bool → Settings
-settings_of isolating overriding = record { isolating = isolating; overriding = overriding; numerals = None }
-
 -- the answers to a stream of request lines by plural rules
-abbrev pub answers_by : LanguagePlurals → Settings → List Text → Text → Text
-answers_by plurals = answers NoFunction (plurals_by plurals) no_text
+abbrev pub answers_by : LanguagePlurals → Bool → Bool → List Text → Text → Text
+answers_by plurals isolating overriding sources =
+    answers NoFunction (plurals_by plurals) no_text (record { isolating = isolating; overriding = overriding }) sources
 
 -- the answers by the plural rules of a locale, if it has any
 abbrev pub answers_in : Text → Bool → Bool → List Text → Text → Option Text
 answers_in locale isolating overriding sources requests =
-    option_map (λ plurals. answers_by plurals (settings_of isolating overriding) sources requests) (plurals_in locale)
+    option_map (λ plurals. answers_by plurals isolating overriding sources requests) (plurals_in locale)
 
 -- the locale has plural rules, and the text holds the answers by them
 abbrev pub IsAnswer : Text → Bool → Bool → List FluentSource → Text → FluentText → Type 0

@@ -9,7 +9,7 @@ use Rattle.fluent_ids.specs.Found.{message_in}
 use Rattle.fluent_kept.specs.Catalogs.{Catalog, catalog_environment}
 use Rattle.fluent_kept.specs.declared.handle.FluentBundle.{FluentBundle}
 use Rattle.fluent_serve.specs.Frames.{Reply, ended}
-use Rattle.fluent_c.specs.Answering.{plurals_in, settings_of, texts_of}
+use Rattle.fluent_c.specs.Answering.{plurals_in, texts_of}
 use Rattle.fluent_c.specs.Arguments.{AreRefusedFor, pair_of}
 use Rattle.fluent_c.specs.Made.{Holds, HoldsNone}
 use Rattle.fluent_c.specs.declared.answering.FluentSource.{FluentSource}
@@ -20,7 +20,7 @@ use Rattle.fluent_c.specs.declared.text.FluentText.{FluentText}
 -- what a bundle is made of, if the locale has plural rules
 abbrev pub catalog_in : Text → Bool → Bool → List Text → Option Catalog
 catalog_in locale isolating overriding sources =
-    option_map (λ plurals. record { settings = settings_of isolating overriding; plurals = plurals; sources = sources }) (plurals_in locale)
+    option_map (λ plurals. record { settings = record { isolating = isolating; overriding = overriding }; plurals = plurals; sources = sources }) (plurals_in locale)
 
 -- there is a bundle, of this catalog
 abbrev pub Keeps : FluentBundle → Catalog → Type 0

@@ -2,8 +2,7 @@
 
 ghost use Rattle.std.specs.Prelude.{◌≡◌, ◌≢◌, ◌++◌, ◌∷◌, [], false, IfOk, IfErr, IsTrue, OnOk, IsUtf8, None};
 ghost use Rattle.fluent_serve.specs.Texts.{texts};
-ghost use Rattle.fluent_c.specs.Answering.{texts_of, AreUtf8, HoldsOther, IsAnswer, plurals_in, settings_of};
-ghost use Rattle.fluent_run.specs.RunView.{settings_view};
+ghost use Rattle.fluent_c.specs.Answering.{texts_of, AreUtf8, HoldsOther, IsAnswer, plurals_in};
 ghost use Rattle.fluent_c.specs.Statuses.{ReadsSources};
 ghost use Rattle.fluent_c.specs.declared.TheConstants.{FLUENT_READ};
 ghost use Rattle.fluent_c.specs.declared.answering.Refusal.TheVariants.{Memory, NotUtf8, UnknownLocale};
@@ -119,27 +118,16 @@ pub(crate) fn plurals_of(locale: &[u8]) -> Option<LanguagePlurals>
     }
 }
 
-/// How answers are made: numbers are written plainly.
-pub(crate) fn settings_of(isolating: bool, overriding: bool) -> Settings
-    ensures { settings_view result ≡ settings_of isolating overriding }
-{
-    Settings {
-        isolating,
-        overriding,
-        numerals: None,
-    }
-}
-
 /// The answers to request lines, in memory that the caller frees.
 fn answered(
     alloc: Global,
     sources: &[FluentSource<'_>],
     locale: &[u8],
-    isolating: bool,
-    overriding: bool,
+    settings: Settings,
     requests: &[u8],
 ) -> Result<FluentText, Refusal>
-    ensures answered { IfOk result (IsAnswer locale.now isolating overriding sources.now requests.now) }
+    ensures answered { IfOk result (IsAnswer locale.now settings.isolating settings.overriding
+        sources.now requests.now) }
     ensures utf8 { OnOk result (AreUtf8 sources.now) }
     ensures not_utf8 { IfErr result (λ refusal. refusal ≡ NotUtf8 → HoldsOther sources.now) }
     ensures unknown { IfErr result (λ refusal. refusal ≡ UnknownLocale
@@ -149,7 +137,6 @@ fn answered(
     let Some(plurals) = plurals_of(locale) else {
         return Err(Refusal::UnknownLocale);
     };
-    let settings = settings_of(isolating, overriding);
     let stack = StackBudget::THREAD;
     let answers = answers(alloc, &sources, settings, &plurals, requests, stack)?;
     Ok(FluentText::of(alloc, answers)?)
@@ -184,7 +171,11 @@ pub extern "C" fn fluent_answer(
     if !are_utf8(sources) {
         return FLUENT_NOT_UTF8;
     }
-    match answered(alloc, sources, locale, isolating, overriding, requests) {
+    let settings = Settings {
+        isolating,
+        overriding,
+    };
+    match answered(alloc, sources, locale, settings, requests) {
         Ok(text) => {
             made.put(alloc, text);
             FLUENT_READ

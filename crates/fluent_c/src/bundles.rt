@@ -10,7 +10,7 @@ ghost use Rattle.fluent_c.specs.Statuses.{IsOneOf, LooksFor, ReadsSources};
 ghost use Rattle.fluent_c.specs.declared.TheConstants.{FLUENT_READ, FLUENT_NO_MEMORY, FLUENT_NO_BUNDLE};
 ghost use Rattle.fluent_c.specs.declared.answering.Refusal.TheVariants.{NotUtf8, UnknownLocale};
 
-use crate::answering::{FluentSource, Refusal, are_utf8, checked_texts, plurals_of, settings_of};
+use crate::answering::{FluentSource, Refusal, are_utf8, checked_texts, plurals_of};
 use crate::filling::fill;
 use crate::names::names_of;
 use crate::text::FluentText;
@@ -19,6 +19,7 @@ use crate::{
     FLUENT_READ, FLUENT_UNKNOWN_LOCALE,
 };
 use fluent_kept::{Answer, FluentBundle, Question, Sources};
+use fluent_run::Settings;
 use fluent_text::stack::StackBudget;
 use std::alloc::{AllocError, Global};
 
@@ -45,11 +46,11 @@ fn kept(
     alloc: Global,
     sources: &[FluentSource<'_>],
     locale: &[u8],
-    isolating: bool,
-    overriding: bool,
+    settings: Settings,
     stack: StackBudget,
 ) -> Result<FluentBundle, Refusal>
-    ensures kept { IfOk result (KeepsSources locale.now isolating overriding sources.now) }
+    ensures kept { IfOk result (KeepsSources locale.now settings.isolating settings.overriding
+        sources.now) }
     ensures not_utf8 { IfErr result (λ refusal. refusal ≡ NotUtf8 → HoldsOther sources.now) }
     ensures unknown { IfErr result (λ refusal. refusal ≡ UnknownLocale
         → plurals_in locale.now ≡ None) }
@@ -61,7 +62,7 @@ fn kept(
     let texts = copied(alloc, &borrowed)?;
     let sources = Sources {
         texts,
-        settings: settings_of(isolating, overriding),
+        settings,
         plurals,
         stack,
     };
@@ -116,8 +117,12 @@ pub extern "C" fn fluent_bundle_new_within(
     if !are_utf8(sources) {
         return FLUENT_NOT_UTF8;
     }
+    let settings = Settings {
+        isolating,
+        overriding,
+    };
     let stack = StackBudget::of_bytes(stack);
-    match kept(alloc, sources, locale, isolating, overriding, stack) {
+    match kept(alloc, sources, locale, settings, stack) {
         Ok(bundle) => {
             made.put(alloc, bundle);
             FLUENT_READ

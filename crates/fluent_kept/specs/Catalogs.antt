@@ -1,6 +1,6 @@
 -- What a bundle is made of, and what its parts are of that.
 use Rattle.std.specs.Prelude.{◌≡◌, List, map, vec_items, string_bytes}
-use Rattle.fluent_answers.specs.Sources.{Settings, environment_of}
+use Rattle.fluent_answers.specs.Sources.{environment_of}
 use Rattle.fluent_grammar.specs.Tiling.{runtime_tree}
 use Rattle.fluent_grammar.specs.Words.{Text}
 use Rattle.fluent_meaning.specs.Environment.{Environment}
@@ -9,6 +9,7 @@ use Rattle.fluent_plurals.specs.declared.plurals.LanguagePlurals.{LanguagePlural
 use Rattle.fluent_resource.specs.ResourceView.{entries_view}
 use Rattle.fluent_run.specs.DeskView.{environment_in}
 use Rattle.fluent_run.specs.RunView.{no_text, settings_view}
+use Rattle.fluent_run.specs.declared.settings.Settings.{Settings}
 use Rattle.fluent_value.specs.declared.function.NoFunction.{NoFunction}
 use Rattle.fluent_kept.specs.declared.desk.KeptDesk.{KeptDesk}
 use Rattle.fluent_kept.specs.declared.resources.Resources.{Resources}
@@ -21,11 +22,11 @@ pub record Catalog : Type 0 where
   pub sources : List Text
 
 abbrev pub catalog_of : Sources → Catalog
-catalog_of s = record { settings = settings_view s.settings; plurals = s.plurals; sources = map string_bytes (vec_items s.texts) }
+catalog_of s = record { settings = s.settings; plurals = s.plurals; sources = map string_bytes (vec_items s.texts) }
 
 -- what stays the same while the catalog is asked
 abbrev pub catalog_environment : Catalog → Environment (Unit {0}) NoFunction
-catalog_environment c = environment_of (plurals_by c.plurals) no_text c.settings c.sources
+catalog_environment c = environment_of (plurals_by c.plurals) no_text (settings_view c.settings) c.sources
 
 -- the same, by what a desk has
 abbrev pub desk_environment : KeptDesk → Environment (Unit {0}) NoFunction

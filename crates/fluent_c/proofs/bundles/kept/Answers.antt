@@ -4,15 +4,14 @@ use Rattle.fluent_grammar.specs.Words.{Text}
 use Rattle.fluent_kept.specs.Catalogs.{Catalog}
 use Rattle.fluent_plurals.specs.declared.plurals.LanguagePlurals.{LanguagePlurals}
 use Rattle.fluent_serve.specs.Texts.{texts}
-use Rattle.fluent_c.specs.Answering.{settings_of, texts_of}
+use Rattle.fluent_c.specs.Answering.{texts_of}
 use Rattle.fluent_c.specs.Bundles.{Keeps}
 use Rattle.fluent_c.proofs.bundles.kept.Goals as goal
 
 pub returns-clause-kept : goal.returns-clause-kept
 returns-clause-kept c =
-    let catalog : LanguagePlurals → List Text → Catalog = λ plurals sources. record { settings = settings_of c.args.isolating c.args.overriding; plurals = plurals; sources = sources } in
+    let catalog : LanguagePlurals → List Text → Catalog = λ plurals sources. record { settings = c.args.settings; plurals = plurals; sources = sources } in
     let same = c.in_ok-texts.ensures ∙ ap texts c.deref.ensures.value ∙ c.in_ok-borrowed.ensures.read in
-    let made = ap (λ s. record { settings = s; plurals = c.in-Some.plurals; sources = texts c.in_ok-texts.texts.items }) c.settings_of.ensures in
     let known = sym c.in-Some.is ∙ c.plurals_of.ensures in
     subst (λ found. IsSomeAnd (option_map (λ plurals. catalog plurals (texts_of c.args.sources.now)) found) (Keeps c.in_ok-new.field-0))
-    known (c.in_ok-new.ensures.0, c.in_ok-new.ensures.1 ∙ (made ∙ ap (catalog c.in-Some.plurals) same))
+    known (c.in_ok-new.ensures.0, c.in_ok-new.ensures.1 ∙ ap (catalog c.in-Some.plurals) same)
