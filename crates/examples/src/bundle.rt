@@ -9,7 +9,7 @@ use catalog::Catalog;
 use day::Day;
 use fluent_bundle::{
     EnglishPlurals, FluentArgs, FluentBundle, FluentResource, FluentValue, LanguageBundle,
-    LocalizedBundle, NoFormatter, NoTransform,
+    NoFormatter, NoTransform,
 };
 use opening::IsOpen;
 use std::alloc::Global;
@@ -34,8 +34,7 @@ pub fn main(rt: HostRuntime) -> Result<()> {
     let resource = FluentResource::try_new(rt.alloc(), SOURCE)?;
     show(&rt, &resource)?;
     show_catalog(&rt)?;
-    show_polish(&rt)?;
-    show_german(&rt)
+    show_polish(&rt)
 }
 
 /// Builds a bundle, and prints some of its texts.
@@ -131,28 +130,5 @@ fn count_files(rt: &HostRuntime, resource: FluentResource<'static>) -> Result<()
         let text = bundle.format_pattern(pattern, Some(&args), &mut Vec::new(alloc))?;
         println!(rt; "{text}")?;
     }
-    Ok(())
-}
-
-const GERMAN: &str = "sum = Summe: { NUMBER($amount, style: \"currency\", currency: \"EUR\") }\n";
-
-/// Prints an amount of money as it is written in Germany.
-fn show_german(rt: &HostRuntime) -> Result<()> {
-    let resource = FluentResource::try_new(rt.alloc(), GERMAN)?;
-    show_sum(rt, resource)
-}
-
-fn show_sum(rt: &HostRuntime, resource: FluentResource<'static>) -> Result<()> {
-    let alloc = rt.alloc();
-    let mut bundle = LocalizedBundle::for_tag(alloc, "de").context("unknown locale")?;
-    bundle.set_use_isolating(false);
-    bundle.add_builtins()?;
-    bundle.add_resource(&resource)?;
-    let message = bundle.get_message("sum").context("no such message")?;
-    let pattern = message.value().context("the message has no value")?;
-    let mut args = FluentArgs::new(alloc);
-    args.set("amount", FluentValue::try_number("1234.5"))?;
-    let text = bundle.format_pattern(pattern, Some(&args), &mut Vec::new(alloc))?;
-    println!(rt; "{text}")?;
     Ok(())
 }

@@ -96,7 +96,7 @@ where
     /// as its locale writes them; `None` if no plural rules are known. If CLDR doesn't say how the locale writes numbers, they are
     /// written plainly. It doesn't allocate.
     ///
-    /// ```
+    /// ```no_run
     /// let mut bundle = LocalizedBundle::for_tag(alloc, "de").context("unknown locale")?;
     /// ```
     pub fn for_tag(alloc: Global, tag: &str) -> Option<Self>

@@ -94,7 +94,7 @@ pub type LanguageBundle<'r, 's> = FluentBundle<
 /// A bundle by the plural rules of any language that writes numbers as its locale does, for a program that brings no values,
 /// functions, formatter or transform of its own.
 ///
-/// ```
+/// ```no_run
 /// let mut bundle = LocalizedBundle::for_tag(alloc, "de").context("unknown locale")?;
 /// ```
 pub type LocalizedBundle<'r, 's> = FluentBundle<
