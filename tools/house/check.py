@@ -10,7 +10,8 @@ page names; each page that a comment names is there; no line of prose in a page 
 that docs/style.md leaves out, and no comment of the code has "behind" for "after"; each call in a shell block of a page prints
 what follows it there; each public call that can fail says how, under `# Errors`; no clause is longer than 200 characters, and
 at most 33 are longer than 120; each file that names the version names the same one; the counts of crates and functions in
-the pages on proofs are those of the sources, and each law that is named is there.
+the pages on proofs are those of the sources; and each law, function and clause that a row of `proved.md` names is in the
+row's crates.
 
 Prints what isn't so, then how many of these checks passed and failed, and ends with 1 if one failed. The calls of shell
 blocks need the built program, `crates/ftl/out/ftl`: without it they are skipped. `--calls` runs them alone, and `--sources`
@@ -48,8 +49,12 @@ INNER = {
     'fluent_text': ['Texts', 'Slices', 'StackBudget'],
     'fluent_kept': ['Bundle', 'Loose', 'Question', 'Answer', 'Sources'],
 }
-# The cycles of functions that call each other, with the words in which `proofs.md` says how many these are.
-COUNTED = {'parser': 'fifteen', 'resolving': 'eighteen'}
+# What the pages on proofs count: what is counted, in which sources, and how a page says the number.
+COUNTED = [
+    ('#[cycle(parser)', 'fluent_parser/src/*.rt', r'(\w+) readers call each other'),
+    ('#[cycle(resolving)', 'fluent_resolver/src/*.rt', r'(?:first of|each of the) (\w+) functions'),
+    ('impl From<', 'fluent_number/src/*_integers.rt', r'(\w+) conversions'),
+]
 NUMBERS = """zero one two three four five six seven eight nine ten eleven twelve thirteen fourteen fifteen sixteen seventeen
     eighteen nineteen twenty""".split()
 # What names pages by their paths in comments.
@@ -382,34 +387,59 @@ def uses():
     return {crate: below(crate) for crate in named}
 
 
-def cycle_length(name):
-    return sum(path.read_text().count(f'#[cycle({name})') for path in SOURCES)
-
-
 def wrong_counts():
-    """Counts in the pages that the sources don't have, and laws that no crate has."""
+    """Counts in the pages that the sources don't have."""
     used = uses()
-    proofs, proved = ROOT / 'docs/inside/proofs.md', ROOT / 'docs/inside/proved.md'
-    for crate, count in re.findall(r'^\| `(\w+)` \| (\d+) \|$', proofs.read_text(), re.M):
+    pages = [ROOT / 'docs/inside' / name for name in ('proofs.md', 'proved.md')]
+    for crate, count in re.findall(r'^\| `(\w+)` \| (\d+) \|$', pages[0].read_text(), re.M):
         above = sum(crate in below for below in used.values())
         if above != int(count):
-            yield f'{place_of(proofs)}: {above} crates use {crate}, and not {count}'
-    for cycle, word in COUNTED.items():
-        if cycle_length(cycle) != NUMBERS.index(word):
-            yield f'{place_of(proofs)}: {cycle_length(cycle)} functions are in the cycle {cycle}, and not {word}'
-    for laws, crates in re.findall(r'^\|.*\| (laws? .*) \| (`\w+`.*) \|$', proved.read_text(), re.M):
-        folders = [ROOT / 'crates' / crate / 'src' for crate in re.findall(r'`(\w+)`', crates)]
-        source = '\n'.join(path.read_text() for folder in folders for path in folder.rglob('*.rt'))
-        for law in re.findall(r'`([\w:]+)`', laws.partition(';')[0].partition(':')[0]):
-            if f"fn {law.rpartition('::')[2]}" not in source:
-                yield f'{place_of(proved)}: no crate of {crates} has a law {law}'
+            yield f'{place_of(pages[0])}: {above} crates use {crate}, and not {count}'
+    for counted, files, words in COUNTED:
+        count = sum(path.read_text().count(counted) for path in SOURCES if path.match(files))
+        said = [(page, word) for page in pages for word in re.findall(words, ' '.join(page.read_text().split()))]
+        if not said:
+            yield f'no page on proofs says how many {counted} there are: {count}'
+        for page, word in said:
+            if word.lower() not in (str(count), *NUMBERS[count:count + 1]):
+                yield f'{place_of(page)}: {word} is the count of {counted}, and the sources have {count}'
+
+
+def declared(crates):
+    """The functions of these crates, and all words of theirs that a row may name: types, traits, clauses and definitions."""
+    folders = [ROOT / 'crates' / crate for crate in crates]
+    source = '\n'.join(path.read_text() for folder in folders for path in (folder / 'src').rglob('*.rt'))
+    specs = '\n'.join(path.read_text() for folder in folders for path in (folder / 'specs').rglob('*.antt'))
+    functions = {*re.findall(r'\bfn (\w+)', source)}
+    types = re.findall(r'\b(?:struct|enum|trait|type|ensures|ghost) (\w+)', source)
+    traits = re.findall(r'\bimpl(?:<.*?>)? (?:\w+::)*(\w+)', source)
+    return functions, {*functions, *types, *traits, *re.findall(r'\bpub (?:record |data )?(\w+)', specs)}
+
+
+def wrong_rows():
+    """Laws, functions and clauses that a row of the page names, and its crates don't have."""
+    proved = ROOT / 'docs/inside/proved.md'
+    parts = declared(path.name for path in (ROOT / 'crates').iterdir())[1]
+    for carried, crates in re.findall(r'^\| .* \| (.*`.*) \| (`\w+`.*) \|$', proved.read_text(), re.M):
+        functions, words = declared(re.findall(r'`(\w+)`', crates))
+        for part in carried.split('; '):
+            named, _, ensured = part.partition(': ')
+            known = functions if re.match(r'laws? `', named) else words
+            for name in re.findall(r'`([^`]*)`', re.sub(r'`\w+\.antt`', '', named)):
+                word = re.split(r'::|\.', re.sub(r'<.*>', '', name))[-1].replace('*', r'\w*')
+                if not any(re.fullmatch(word, other) for other in known):
+                    yield f'{place_of(proved)}: {crates}: no {name}'
+            for name in re.findall(r'`([\w.]*)`', re.sub(r'`\w+\.antt`', '', ensured)):
+                first, *others = name.split('.')
+                if first not in words or not {*others} <= parts:
+                    yield f'{place_of(proved)}: {crates}: no clause {name}'
 
 
 def checks():
     """The checks that are asked for."""
     if '--calls' not in OPTIONS:
         yield from (wrong_quotes, types_without_examples, wrong_links, wide_prose, wrong_words, wrong_comments,
-                    silent_calls, long_clauses, other_versions, wrong_counts)
+                    silent_calls, long_clauses, other_versions, wrong_counts, wrong_rows)
     if '--sources' in OPTIONS:
         return
     if PROGRAM.exists():

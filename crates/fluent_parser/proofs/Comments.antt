@@ -205,6 +205,7 @@ no_line_left (c ∷ cs) h = absurd (grind (arith, nat_tests))
 
 fails_unmapped : {A B : Type 0} (e : Fault) (rest : Text) (f : A → B) (x : Reading A) → Fails e rest (mapped f x) → Fails e rest x
 fails_unmapped fault.Memory rest f x h = tt
+fails_unmapped fault.TooDeep rest f x h = tt
 fails_unmapped (fault.Refused kind) rest f (got a u) h = absurd h
 fails_unmapped (fault.Refused kind) rest f (refused x) h = h
 
@@ -216,6 +217,7 @@ content_fails e rest level s old h = fails_bind e rest (comment_line_at (drop le
 -- a line that is there fails for memory alone
 pub content_stands : (e : Fault) (rest : Text) (level : ℕ) (s u : Text) (old : List Text) → is_comment_line (drop level u) ≡ true → Fails e rest (lines_with old (comment_line_at (drop level u))) → Fails e rest (comment_content_by level s)
 content_stands fault.Memory rest level s u old t h = tt
+content_stands fault.TooDeep rest level s u old t h = tt
 content_stands (fault.Refused kind) rest level s u old t h = absurd (comment_line_stands (drop level u) old kind rest t h)
 
 -- the comment fails where its lines do

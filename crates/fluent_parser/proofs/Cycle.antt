@@ -169,7 +169,7 @@ arguments_fail ps ns s u e rest h f = fails_same e rest _ _ h (fails_mapped e re
 pub argument_fail : (names : List Text) (s : Text) (e : Fault) (rest : Text) → (length s == 0) ≡ false → begins_with w.close_paren s ≡ false → Fails e rest (argument_by names s) → Fails e rest (whole.arguments names s)
 argument_fail names s e rest h k f = fails_same e rest _ _ (sym (arguments_more names s h k)) (fails_bind e rest (argument_by names s) _ f)
 
-names_more : (ns : List Named) (n : Named) → names_of (ns ++ n ∷ []) ≡ n.name ∷ names_of ns
+pub names_more : (ns : List Named) (n : Named) → names_of (ns ++ n ∷ []) ≡ n.name ∷ names_of ns
 names_more ns n = ap reverse (map-append (λ n. n.name) ns (n ∷ [])) ∙ reverse-append (map (λ n. n.name) ns) (n.name ∷ [])
 
 read_argument : (ns : List Named) (s rest : Text) (a : Argument) → (length s == 0) ≡ false → begins_with w.close_paren s ≡ false → argument_by (names_of ns) s ≡ got a rest →

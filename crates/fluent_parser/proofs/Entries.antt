@@ -144,6 +144,7 @@ never_refused false kind rest s x h = h
 pub next_attribute_fails : {A : Type 0} (e : Fault) (rest s : Text) (x : Reading A) → Fails e rest (next_attribute_by s) → Fails e rest x
 unfolding next_attribute_by
 next_attribute_fails fault.Memory rest s x h = tt
+next_attribute_fails fault.TooDeep rest s x h = tt
 next_attribute_fails (fault.Refused kind) rest s x h = absurd (never_refused (begins_with dot (skip_spaces s)) kind rest s (attribute_by s) h)
 
 -- no attribute was read yet

@@ -14,15 +14,18 @@ use Rattle.fluent_parser.specs.Reads.{Fails, Gives, Tells}
 
 pub tells_fails : {A : Type 0} (e : Fault) (rest at : Text) (k : Kind) (read : Reading A) → read ≡ refuse k at → rest ≡ at → Tells e k → Fails e rest read
 tells_fails fault.Memory rest at k read f g t = tt
+tells_fails fault.TooDeep rest at k read f g t = tt
 tells_fails (fault.Refused kind) rest at k read f g t = rw f (t, g)
 
 pub fails_bind : {A B : Type 0} (e : Fault) (rest : Text) (x : Reading A) (f : A × Text → Reading B) → Fails e rest x → Fails e rest (x >>= f)
 fails_bind fault.Memory rest x f h = tt
+fails_bind fault.TooDeep rest x f h = tt
 fails_bind (fault.Refused kind) rest (got a u) f h = absurd h
 fails_bind (fault.Refused kind) rest (refused x) f h = h
 
 pub fails_mapped : {A B : Type 0} (e : Fault) (rest : Text) (f : A → B) (x : Reading A) → Fails e rest x → Fails e rest (mapped f x)
 fails_mapped fault.Memory rest f x h = tt
+fails_mapped fault.TooDeep rest f x h = tt
 fails_mapped (fault.Refused kind) rest f (got a u) h = absurd h
 fails_mapped (fault.Refused kind) rest f (refused x) h = h
 

@@ -59,6 +59,7 @@ feed_pieces (c ∷ cs) h =
 -- what stands after a refusal
 fails_by : (e : Fault) (rest u : Text) (b : Bool) (x : Reading (Option (Piece × Bool))) → Fails e rest (cond b (got None u) x) → Fails e rest x
 fails_by fault.Memory rest u b x f = tt
+fails_by fault.TooDeep rest u b x f = tt
 fails_by (fault.Refused kind) rest u true x f = absurd f
 fails_by (fault.Refused kind) rest u false x f = f
 

@@ -5,6 +5,9 @@ pub mod PatternPieces
 pub mod Steps
 pub mod Whole
 pub mod Failing
+pub mod Deepening
+pub mod Nests
+pub mod Weights
 pub mod Cycle
 pub mod LastFeeds
 pub mod OneLine

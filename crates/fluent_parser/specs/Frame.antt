@@ -9,17 +9,19 @@ use Rattle.fluent_parser.specs.Reads.{Gives}
 use Rattle.fluent_parser.specs.declared.fault.Fault.{Fault}
 use Rattle.fluent_parser.specs.declared.parser.Parser.{Parser}
 
--- it reads the same text, from its place on or from after it, and as much of the stack is open as before
+-- it reads the same text, from its place on or from after it, and as much of the stack is open as before, of the same budget
 pub record Advances {S T : Type 0} {texts : Ghosts T S} (old new : Parser S T texts) : Type 0 where
   pub text : new.text.now ≡ old.text.now
   pub onward : length new.rest.now ≤ length old.rest.now
   pub stack : new.stack.taken ≡ old.stack.taken
+  pub budget : new.stack.budget ≡ old.stack.budget
 
 -- the same, but if the construct is refused, or memory runs out, more may be open
 pub record Closes {X E S T : Type 0} {texts : Ghosts T S} (result : Result X E) (old new : Parser S T texts) : Type 0 where
   pub text : new.text.now ≡ old.text.now
   pub onward : length new.rest.now ≤ length old.rest.now
   pub stack : OnOk result (new.stack.taken ≡ old.stack.taken)
+  pub budget : new.stack.budget ≡ old.stack.budget
 
 -- one placeable more is open
 abbrev pub OpensPlaceable : {S T : Type 0} {texts : Ghosts T S} → Parser S T texts → Parser S T texts → Type 0
@@ -34,6 +36,7 @@ pub record Stays {S T : Type 0} {texts : Ghosts T S} (old new : Parser S T texts
   pub text : new.text.now ≡ old.text.now
   pub rest : new.rest.now ≡ old.rest.now
   pub stack : new.stack.taken ≡ old.stack.taken
+  pub budget : new.stack.budget ≡ old.stack.budget
 
 -- What a reader returned, seen by view, and where its parser stands then, are what reading gives from where it stood,
 -- unless memory ran out.

@@ -19,3 +19,6 @@ pub mod Left
 pub mod Refusals
 pub mod Refused
 pub mod Starts
+pub mod Nesting
+pub mod Weights
+pub mod Depth

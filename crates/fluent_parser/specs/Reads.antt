@@ -15,9 +15,10 @@ abbrev pub Refuses : {A : Type 0} → ErrorKind → Text → Reading A → Type 
 Refuses kind rest (got a behind) = ⊥
 Refuses kind rest (refused fault) = (kind_view kind ≡ told fault.kind) × (rest ≡ fault.at)
 
--- what a reader that failed returned is what reading gives, unless memory ran out
+-- what a reader that failed returned is what reading gives, unless memory ran out or the text nests too deep
 abbrev pub Fails : {A : Type 0} → Fault → Text → Reading A → Type 0
 Fails fault.Memory rest read = Unit {0}
+Fails fault.TooDeep rest read = Unit {0}
 Fails (fault.Refused kind) rest read = Refuses kind rest read
 
 -- What a reader returned, seen by view, and what it left, are what reading gives, unless memory ran out.
@@ -38,11 +39,13 @@ whole = record {
 -- a refusal is told of this kind
 abbrev pub Tells : Fault → Kind → Type 0
 Tells fault.Memory told_of = Unit {0}
+Tells fault.TooDeep told_of = ⊥
 Tells (fault.Refused kind) told_of = kind_view kind ≡ told told_of
 
 -- a refusal where characters of this range are missing
 abbrev pub IsRange : Fault → Text → Type 0
 IsRange fault.Memory range = Unit {0}
+IsRange fault.TooDeep range = ⊥
 IsRange (fault.Refused kind) range = kind_view kind ≡ expected_char_range range
 
 -- a byte that has to stand here

@@ -4,6 +4,8 @@
 ghost use Rattle.std.specs.Prelude.{◌≡◌, ◌≤◌, ◌<◌, [], true, IfOk, OnOk, length, drop, take};
 ghost use Rattle.fluent_grammar.specs.Words as w;
 ghost use Rattle.fluent_parser.specs.Frame.{Advances, Closes};
+ghost use Rattle.fluent_parser.specs.Depth.{IfTooDeep, IsShallow, Past, TakesAfterParenthesis};
+ghost use Rattle.fluent_parser.specs.Nesting.{TakesInline};
 
 use crate::fault::Fault;
 use crate::named_arguments::NamedArguments;
@@ -39,11 +41,13 @@ impl<'p, S: Drop, T: Texts<S>> Parser<'p, S, T> {
     ///
     /// # Errors
     /// [`Fault::Refused`] if these are no arguments of a call; the parser then stands at the place of the refusal.
-    /// [`Fault::Memory`] if memory runs out, or what is there nests past the budget of the stack.
+    /// [`Fault::Memory`] if memory runs out.
+    /// [`Fault::TooDeep`] if what is there nests past the budget of the stack.
     #[cycle(parser)]
     pub fn get_call_arguments(&mut self) -> Result<CallArguments<S>, Fault>
         requires parenthesis { w.begins_with w.open_paren self.old.rest.now ≡ true }
         ensures gives { Reads (arguments_view S T.text) self.old self.new result call_arguments_at }
+        ensures deep { IfTooDeep result (Past TakesAfterParenthesis self.old) }
         ensures advances { Closes result self.old self.new }
     {
         let mut positional = Vec::new(self.alloc);
@@ -75,6 +79,7 @@ impl<'p, S: Drop, T: Texts<S>> Parser<'p, S, T> {
         ensures gives { Reads (argument_view S T.text) self.old self.new result
             (argument_with S T.text others.now) }
         ensures named { IfOk result (IsNamed S T.text) }
+        ensures deep { IfTooDeep result (Past TakesInline self.old) }
         ensures advances { Closes result self.old self.new }
     {
         let start = self.rest();
@@ -100,6 +105,7 @@ impl<'p, S: Drop, T: Texts<S>> Parser<'p, S, T> {
     ) -> Result<Argument<'p, S>, Fault>
         ensures gives { Reads (argument_view S T.text) self.now self.now result
             (positional_with S T.text others.now argument) }
+        ensures shallow { IsShallow result }
         ensures named { IfOk result (IsNamed S T.text) }
     {
         if others.all.is_empty() {
@@ -135,6 +141,7 @@ impl<'p, S: Drop, T: Texts<S>> Parser<'p, S, T> {
         requires colon { w.begins_with w.colon self.old.rest.now ≡ true }
         ensures gives { Reads (inline_view S T.text) self.old self.new result
             (value_with S T.text others.now name.now) }
+        ensures shallow { IsShallow result }
         ensures advances { Advances self.old self.new }
     {
         if others.has_name(self.texts, name) {

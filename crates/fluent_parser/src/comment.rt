@@ -7,6 +7,7 @@ ghost use Rattle.fluent_tokens.specs.Counted.{is_comment_line};
 ghost use Rattle.fluent_grammar.specs.Reading.{comment_of};
 ghost use Rattle.fluent_ast.specs.View.{entry_view};
 ghost use Rattle.fluent_parser.specs.Frame.{Advances};
+ghost use Rattle.fluent_parser.specs.Depth.{IsShallow};
 
 use crate::fault::Fault;
 use crate::parser::Parser;
@@ -44,6 +45,7 @@ impl<'p, S: Drop, T: Texts<S>> Parser<'p, S, T> {
     pub fn get_comment(&mut self) -> Result<Entry<S>, Fault>
         requires sign { w.begins_with w.number_sign self.old.rest.now ≡ true }
         ensures gives { Reads (entry_view S T.text) self.old self.new result comment_at }
+        ensures shallow { IsShallow result }
         ensures advances { Advances self.old self.new }
     {
         let level = words::comment_level(self.bytes());
@@ -57,6 +59,7 @@ impl<'p, S: Drop, T: Texts<S>> Parser<'p, S, T> {
         requires some { 0 < level }
         ensures gives { Reads (λ lines. map T.text lines.items) self.old self.new result
             (comment_content_by level) }
+        ensures shallow { IsShallow result }
         ensures advances { Advances self.old self.new }
     {
         let mut lines = Vec::new(self.alloc);
@@ -83,6 +86,7 @@ impl<'p, S: Drop, T: Texts<S>> Parser<'p, S, T> {
         ensures gives { ReadsLine T.text level lines.old.items lines.new.items self.old self.new
             result }
         ensures past { length self.new.rest.now ≤ length self.old.rest.now - level }
+        ensures shallow { IsShallow result }
         ensures advances { Advances self.old self.new }
     {
         self.advance(level);
@@ -96,6 +100,7 @@ impl<'p, S: Drop, T: Texts<S>> Parser<'p, S, T> {
     #[inline(always)]
     fn get_comment_line(&mut self) -> Result<Option<S>, Fault>
         ensures gives { Reads (line_of T.text) self.old self.new result comment_line_at }
+        ensures shallow { IsShallow result }
         ensures advances { Advances self.old self.new }
     {
         if self.bytes().is_empty() {

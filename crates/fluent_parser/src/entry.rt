@@ -5,6 +5,8 @@ ghost use Rattle.std.specs.Prelude.{◌≡◌, ◌≤◌, true, length, option_m
 ghost use Rattle.fluent_grammar.specs.Words as w;
 ghost use Rattle.fluent_grammar.specs.Refusal as r;
 ghost use Rattle.fluent_parser.specs.Frame.{Advances};
+ghost use Rattle.fluent_parser.specs.Depth.{IfTooDeep, Past, PastSomewhere};
+ghost use Rattle.fluent_parser.specs.Nesting.{TakesPattern};
 
 use crate::fault::Fault;
 use crate::parser::Parser;
@@ -30,10 +32,12 @@ impl<'p, S: Drop, T: Texts<S>> Parser<'p, S, T> {
     ///
     /// # Errors
     /// [`Fault::Refused`] if no entry stands here; the parser then stands at the place of the refusal.
-    /// [`Fault::Memory`] if memory runs out, or what is there nests past the budget of the stack.
+    /// [`Fault::Memory`] if memory runs out.
+    /// [`Fault::TooDeep`] if what is there nests past the budget of the stack.
     #[tactic(auto, using(crate::proofs::Failing::handed), unfolding(fluent_grammar::specs::Reading::entry_at))]
     pub fn get_entry(&mut self) -> Result<Entry<S>, Fault>
         ensures gives { Reads (entry_view S T.text) self.old self.new result entry_at }
+        ensures deep { IfTooDeep result (PastSomewhere self.old) }
         ensures advances { Advances self.old self.new }
     {
         if self.is_current_byte(b'#') {
@@ -52,6 +56,7 @@ impl<'p, S: Drop, T: Texts<S>> Parser<'p, S, T> {
     fn get_message(&mut self) -> Result<Message<S>, Fault>
         ensures gives { Reads (λ m. t.message (message_view S T.text m)) self.old self.new result
             message_by }
+        ensures deep { IfTooDeep result (PastSomewhere self.old) }
         ensures advances { Advances self.old self.new }
     {
         let Head { id, value } = self.get_head()?;
@@ -74,6 +79,7 @@ impl<'p, S: Drop, T: Texts<S>> Parser<'p, S, T> {
         requires minus { w.begins_with w.hyphen self.old.rest.now ≡ true }
         ensures gives { Reads (λ m. t.term (term_view S T.text m)) self.old self.new result
             term_by }
+        ensures deep { IfTooDeep result (PastSomewhere self.old) }
         ensures advances { Advances self.old self.new }
     {
         self.advance(1);
@@ -116,6 +122,7 @@ impl<'p, S: Drop, T: Texts<S>> Parser<'p, S, T> {
     #[inline(always)]
     fn get_head(&mut self) -> Result<Head<S>, Fault>
         ensures gives { Reads (head_view S T.text) self.old self.new result head_by }
+        ensures deep { IfTooDeep result (PastSomewhere self.old) }
         ensures advances { Advances self.old self.new }
     {
         let id = self.get_identifier()?;
@@ -130,6 +137,7 @@ impl<'p, S: Drop, T: Texts<S>> Parser<'p, S, T> {
     fn get_value(&mut self) -> Result<Option<Pattern<S>>, Fault>
         ensures gives { Reads (option_map (pattern_view S T.text)) self.old self.new result
             pattern_by }
+        ensures deep { IfTooDeep result (Past TakesPattern self.old) }
         ensures advances { Advances self.old self.new }
     {
         let stack = self.stack();
@@ -142,6 +150,7 @@ impl<'p, S: Drop, T: Texts<S>> Parser<'p, S, T> {
     fn get_attributes(&mut self) -> Result<Vec<Attribute<S>>, Fault>
         ensures gives { Reads (λ all. attributes_view S T.text all.items) self.old self.new result
             attributes_by }
+        ensures deep { IfTooDeep result (PastSomewhere self.old) }
         ensures advances { Advances self.old self.new }
     {
         let mut attributes = Vec::new(self.alloc);
@@ -156,6 +165,7 @@ impl<'p, S: Drop, T: Texts<S>> Parser<'p, S, T> {
     fn next_attribute(&mut self) -> Result<Option<Attribute<S>>, Fault>
         ensures gives { Reads (option_map (attribute_view S T.text)) self.old self.new result
             next_attribute_by }
+        ensures deep { IfTooDeep result (PastSomewhere self.old) }
         ensures advances { Advances self.old self.new }
     {
         if !self.is_attribute_line() {
@@ -165,6 +175,7 @@ impl<'p, S: Drop, T: Texts<S>> Parser<'p, S, T> {
         match self.get_attribute() {
             Ok(attribute) => Ok(Some(attribute)),
             Err(Fault::Memory) => Err(Fault::Memory),
+            Err(Fault::TooDeep) => Err(Fault::TooDeep),
             Err(Fault::Refused(_)) => {
                 self.set_rest(line);
                 Ok(None)
@@ -190,6 +201,7 @@ impl<'p, S: Drop, T: Texts<S>> Parser<'p, S, T> {
     pub fn get_attribute(&mut self) -> Result<Attribute<S>, Fault>
         requires dot { w.begins_with w.dot (w.skip_spaces self.old.rest.now) ≡ true }
         ensures gives { Reads (attribute_view S T.text) self.old self.new result attribute_by }
+        ensures deep { IfTooDeep result (PastSomewhere self.old) }
         ensures advances { Advances self.old self.new }
     {
         self.skip_blank_inline();

@@ -4,6 +4,7 @@
 ghost use Rattle.std.specs.Prelude.{◌≡◌, ◌<◌, ◌≤◌, length};
 ghost use Rattle.fluent_grammar.specs.Refusal as r;
 ghost use Rattle.fluent_parser.specs.Frame.{Advances};
+ghost use Rattle.fluent_parser.specs.Depth.{IsShallow};
 
 use crate::fault::Fault;
 use crate::parser::Parser;
@@ -21,6 +22,7 @@ impl<'p, S: Drop, T: Texts<S>> Parser<'p, S, T> {
     pub fn expect_byte(&mut self, byte: u8) -> Result<(), Fault>
         requires { byte < 128 }
         ensures gives { Reads (λ u. u) self.old self.new result (byte_at byte) }
+        ensures shallow { IsShallow result }
         ensures advances { Advances self.old self.new }
     {
         if self.take_byte_if(byte) {

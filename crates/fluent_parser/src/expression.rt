@@ -1,12 +1,15 @@
 //! Expressions.
 #![tactic(auto, using(crate::proofs::Failing::handed, fluent_tokens::proofs::Counted::cuts, crate::proofs::Steps::placeable_is))]
 
-ghost use Rattle.std.specs.Prelude.{◌≡◌, ℕ, List, ◌≤◌, ◌<◌, OnOk, true, length, drop, option_map};
+ghost use Rattle.std.specs.Prelude.{◌≡◌, ℕ, List, ◌≤◌, ◌<◌, IfErr, OnOk, true, length, drop, option_map};
 ghost use Rattle.fluent_ast.specs.View.{expression_view};
 ghost use Rattle.fluent_parser.specs.Selects.{expression_with};
 ghost use Rattle.std.specs.List.{list_all};
 ghost use Rattle.fluent_grammar.specs.Words as w;
 ghost use Rattle.fluent_parser.specs.Frame.{Advances, Closes, ClosesPlaceable, OpensPlaceable};
+ghost use Rattle.fluent_parser.specs.Depth.{IfTooDeep, IsShallow, Past, TakesSelectAfter};
+ghost use Rattle.fluent_parser.specs.Nesting.{TakesInline, TakesPlaceable, TakesSelect};
+ghost use Rattle.fluent_parser.specs.declared.fault.Fault.TheVariants.{TooDeep};
 
 use crate::fault::Fault;
 use crate::parser::Parser;
@@ -15,7 +18,6 @@ use fluent_parsed::ErrorKind;
 use fluent_text::Texts;
 use fluent_text::stack::reading;
 use fluent_tokens as words;
-use std::alloc::AllocError;
 
 /// An expression with these variants, or the selector alone.
 fn expression_of<S>(
@@ -46,13 +48,16 @@ impl<'p, S: Drop, T: Texts<S>> Parser<'p, S, T> {
     /// Passes over the opening brace of a placeable and the blank after it.
     ///
     /// # Errors
-    /// [`AllocError`] if a placeable is more than is left of the budget of the stack; nothing is opened.
-    pub fn open_placeable(&mut self) -> Result<(), AllocError>
+    /// [`Fault::TooDeep`] if a placeable is more than is left of the budget of the stack; nothing is opened.
+    pub fn open_placeable(&mut self) -> Result<(), Fault>
         requires brace { w.begins_with w.open_brace self.old.rest.now ≡ true }
         ensures rest { self.new.rest.now ≡ w.skip_blank (drop 1 self.old.rest.now) }
         ensures less { length self.new.rest.now < length self.old.rest.now }
         ensures opened { OnOk result (OpensPlaceable self.old self.new) }
+        ensures deep { IfTooDeep result (Past TakesPlaceable self.old) }
+        ensures told { IfErr result (λ fault. fault ≡ TooDeep) }
         ensures text { self.new.text.now ≡ self.old.text.now }
+        ensures budget { self.new.stack.budget ≡ self.old.stack.budget }
     {
         self.advance(1);
         self.skip_blank();
@@ -67,6 +72,7 @@ impl<'p, S: Drop, T: Texts<S>> Parser<'p, S, T> {
     fn get_nested_placeable(&mut self) -> Result<InlineExpression<S>, Fault>
         requires brace { w.begins_with w.open_brace self.old.rest.now ≡ true }
         ensures gives { Reads (inline_view S T.text) self.old self.new result nested_by }
+        ensures deep { IfTooDeep result (Past TakesPlaceable self.old) }
         ensures advances { Closes result self.old self.new }
     {
         self.open_placeable()?;
@@ -89,8 +95,10 @@ impl<'p, S: Drop, T: Texts<S>> Parser<'p, S, T> {
     ) -> Result<InlineExpression<S>, Fault>
         ensures gives { Reads (inline_view S T.text) self.old self.new result
             (nested_end_by S T.text selector variants) }
+        ensures shallow { IsShallow result }
         ensures closed { OnOk result (ClosesPlaceable self.old self.new) }
         ensures text { self.new.text.now ≡ self.old.text.now }
+        ensures budget { self.new.stack.budget ≡ self.old.stack.budget }
         ensures onward { length self.new.rest.now ≤ length self.old.rest.now }
     {
         let expression = self.close_placeable(selector, variants)?;
@@ -111,8 +119,10 @@ impl<'p, S: Drop, T: Texts<S>> Parser<'p, S, T> {
     ) -> Result<Expression<S>, Fault>
         ensures gives { Reads (expression_view S T.text) self.old self.new result
             (closed_by (expression_with S T.text selector variants)) }
+        ensures shallow { IsShallow result }
         ensures closed { OnOk result (ClosesPlaceable self.old self.new) }
         ensures text { self.new.text.now ≡ self.old.text.now }
+        ensures budget { self.new.stack.budget ≡ self.old.stack.budget }
         ensures onward { length self.new.rest.now ≤ length self.old.rest.now }
     {
         let expression = expression_of(selector, variants);
@@ -127,7 +137,8 @@ impl<'p, S: Drop, T: Texts<S>> Parser<'p, S, T> {
     /// # Errors
     /// [`Fault::Refused`] if what follows is no select, or the selector can't stand alone; the parser then stands at the
     /// place of the refusal.
-    /// [`Fault::Memory`] if memory runs out, or what is there nests past the budget of the stack.
+    /// [`Fault::Memory`] if memory runs out.
+    /// [`Fault::TooDeep`] if what is there nests past the budget of the stack.
     #[cycle(parser)]
     #[tactic(auto, using(crate::proofs::Failing::handed, fluent_tokens::proofs::Counted::cuts), unfolding(fluent_grammar::specs::Reading::select_or_inline_at))]
     #[inline(never)]
@@ -137,6 +148,7 @@ impl<'p, S: Drop, T: Texts<S>> Parser<'p, S, T> {
     ) -> Result<Option<Vec<Variant<S>>>, Fault>
         ensures gives { Reads (expression_with S T.text selector.now) self.old self.new result
             (select_or_inline_by S T.text selector.now) }
+        ensures deep { IfTooDeep result (Past TakesSelectAfter self.old) }
         ensures advances { Closes result self.old self.new }
     {
         self.skip_blank();
@@ -157,6 +169,7 @@ impl<'p, S: Drop, T: Texts<S>> Parser<'p, S, T> {
         requires arrow { w.begins_arrow self.old.rest.now ≡ true }
         ensures gives { Reads (select_view S T.text selector.now) self.old self.new result
             (select_by S T.text selector.now) }
+        ensures deep { IfTooDeep result (Past TakesSelect self.old) }
         ensures advances { Closes result self.old self.new }
     {
         if let Some(kind) = self.selector_fault(selector) {
@@ -177,8 +190,9 @@ impl<'p, S: Drop, T: Texts<S>> Parser<'p, S, T> {
     /// None for an expression that no arrow follows.
     #[inline(always)]
     fn no_variants(&self, inline: &InlineExpression<S>) -> Result<Option<Vec<Variant<S>>>, Fault>
-        ensures { Reads (expression_with S T.text inline.now) self.now self.now result
+        ensures gives { Reads (expression_with S T.text inline.now) self.now self.now result
             (inline_by (inline_view S T.text inline.now)) }
+        ensures shallow { IsShallow result }
     {
         if let InlineExpression::TermReference {
             attribute: Some(_),
@@ -194,10 +208,12 @@ impl<'p, S: Drop, T: Texts<S>> Parser<'p, S, T> {
     ///
     /// # Errors
     /// [`Fault::Refused`] if no inline expression stands here; the parser then stands at the place of the refusal.
-    /// [`Fault::Memory`] if memory runs out, or what is there nests past the budget of the stack.
+    /// [`Fault::Memory`] if memory runs out.
+    /// [`Fault::TooDeep`] if what is there nests past the budget of the stack.
     #[cycle(parser)]
     pub fn get_inline_expression(&mut self) -> Result<InlineExpression<S>, Fault>
         ensures gives { Reads (inline_view S T.text) self.old self.new result whole.inline }
+        ensures deep { IfTooDeep result (Past TakesInline self.old) }
         ensures advances { Closes result self.old self.new }
     {
         let bytes = self.bytes();
@@ -227,6 +243,7 @@ impl<'p, S: Drop, T: Texts<S>> Parser<'p, S, T> {
         requires minus { w.begins_with w.hyphen self.old.rest.now ≡ true }
         ensures gives { Reads (inline_view S T.text) self.old self.new result
             (λ s. term_at whole (drop 1 s)) }
+        ensures deep { IfTooDeep result (Past TakesInline self.old) }
         ensures advances { Closes result self.old self.new }
     {
         self.advance(1);
@@ -255,6 +272,7 @@ impl<'p, S: Drop, T: Texts<S>> Parser<'p, S, T> {
     #[tactic(auto, using(crate::proofs::Failing::handed, fluent_tokens::proofs::Counted::cuts), unfolding(fluent_grammar::specs::Reading::named_at, fluent_grammar::specs::Reading::called_at, fluent_grammar::specs::Reading::function_of))]
     fn get_named_reference(&mut self) -> Result<InlineExpression<S>, Fault>
         ensures gives { Reads (inline_view S T.text) self.old self.new result (named_at whole) }
+        ensures deep { IfTooDeep result (Past TakesInline self.old) }
         ensures advances { Closes result self.old self.new }
     {
         let id = self.get_identifier()?;
@@ -280,6 +298,7 @@ impl<'p, S: Drop, T: Texts<S>> Parser<'p, S, T> {
     /// [`Fault::Memory`] if memory runs out.
     pub fn get_literal(&mut self) -> Result<InlineExpression<S>, Fault>
         ensures gives { Reads (inline_view S T.text) self.old self.new result string_or_number_at }
+        ensures shallow { IsShallow result }
         ensures advances { Advances self.old self.new }
     {
         if self.take_byte_if(b'"') {
@@ -295,6 +314,7 @@ impl<'p, S: Drop, T: Texts<S>> Parser<'p, S, T> {
     fn get_variable_reference(&mut self) -> Result<InlineExpression<S>, Fault>
         requires dollar { w.begins_with w.dollar self.old.rest.now ≡ true }
         ensures gives { Reads (inline_view S T.text) self.old self.new result variable_at }
+        ensures shallow { IsShallow result }
         ensures advances { Advances self.old self.new }
     {
         self.advance(1);
@@ -306,6 +326,7 @@ impl<'p, S: Drop, T: Texts<S>> Parser<'p, S, T> {
     #[tactic(auto, using(crate::proofs::Failing::handed), unfolding(fluent_grammar::specs::Reading::accessor_at))]
     fn get_attribute_accessor(&mut self) -> Result<Option<Identifier<S>>, Fault>
         ensures gives { Reads (option_map (name_of S T.text)) self.old self.new result accessor_at }
+        ensures shallow { IsShallow result }
         ensures advances { Advances self.old self.new }
     {
         if !self.take_byte_if(b'.') {

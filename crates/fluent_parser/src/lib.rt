@@ -7,6 +7,7 @@
 mod arguments;
 mod blank;
 mod comment;
+mod depth;
 mod entry;
 mod expected;
 mod expression;
@@ -27,12 +28,11 @@ ghost use Rattle.fluent_grammar.specs.Tiling.{tree, errors, runtime_tree, runtim
 ghost use Rattle.fluent_parsed.specs.ErrorView.{error_told};
 ghost use Rattle.fluent_parsed.specs.Collected.{HasTree, HasErrors};
 
+pub use depth::{TooDeep, parse_runtime_unless_too_deep, parse_unless_too_deep};
 pub use fluent_parsed::{Error, ErrorKind, ParserError, Result, laws};
 pub use fluent_text::Slice;
-use fluent_text::Slices;
 pub use fluent_text::stack::StackBudget;
 pub use refusals::{Refusal, refusals_at};
-use resource::{parts_of, runtime_parts_of};
 pub use starts::starts_of;
 use std::alloc::Global;
 
@@ -78,9 +78,9 @@ pub fn parse_within<'s, S: Slice<'s>>(alloc: Global, input: S, budget: StackBudg
     ensures tree { HasTree S S.text result (tree (S.text input)) }
     ensures errors { HasErrors S result (map error_told (errors (S.text input))) }
 {
-    match parts_of(alloc, &Slices::new(), &input, budget) {
-        Ok(parts) => parts.finish(),
-        Err(_) => Err(Error::Memory),
+    match parse_unless_too_deep(alloc, input, budget) {
+        Ok(read) => read,
+        Err(TooDeep) => Err(Error::Memory),
     }
 }
 
@@ -114,8 +114,8 @@ pub fn parse_runtime_within<'s, S: Slice<'s>>(
     ensures tree { HasTree S S.text result (runtime_tree (S.text input)) }
     ensures errors { HasErrors S result (map error_told (runtime_errors (S.text input))) }
 {
-    match runtime_parts_of(alloc, &Slices::new(), &input, budget) {
-        Ok(parts) => parts.finish(),
-        Err(_) => Err(Error::Memory),
+    match parse_runtime_unless_too_deep(alloc, input, budget) {
+        Ok(read) => read,
+        Err(TooDeep) => Err(Error::Memory),
     }
 }

@@ -1,7 +1,7 @@
 //! The parser's place in its source.
 #![tactic(auto, using(fluent_tokens::proofs::Counted::cuts))]
 
-ghost use Rattle.std.specs.Prelude.{◌≡◌, ◌+◌, ◌-◌, ◌<◌, ◌≤◌, length, drop, map, take, true, false, IfOk, IfSome, OnErr, OnOk};
+ghost use Rattle.std.specs.Prelude.{◌≡◌, ◌+◌, ◌-◌, ◌<◌, ◌≤◌, length, drop, map, take, true, false, IfErr, IfOk, IfSome, OnErr, OnOk};
 ghost use Rattle.std.specs.Str.{IsUtf8};
 ghost use Rattle.fluent_tokens.specs.Counted.{Cuts, IsLine, IsText};
 ghost use Rattle.fluent_tokens.specs.Lookup.{IsOneLine, is_last_feed, past_comments};
@@ -11,7 +11,9 @@ ghost use Rattle.fluent_tokens.specs.Table as table;
 ghost use Rattle.fluent_grammar.specs.Words as w;
 ghost use Rattle.fluent_grammar.specs.Tiling.{resume};
 ghost use Rattle.fluent_parser.specs.Reads.{past_byte};
+ghost use Rattle.fluent_parser.specs.declared.fault.Fault.TheVariants.{TooDeep};
 
+use crate::fault::Fault;
 use fluent_text::Texts;
 use fluent_text::stack::{Stack, StackBudget};
 use fluent_tokens as words;
@@ -79,15 +81,20 @@ impl<'p, S: Drop, T: Texts<S>> Parser<'p, S, T> {
     /// Opens what takes so many bytes of the machine's stack to read.
     ///
     /// # Errors
-    /// [`AllocError`] if that is more than is left of the budget; nothing is opened.
-    pub fn open(&mut self, bytes: usize) -> Result<(), AllocError>
+    /// [`Fault::TooDeep`] if that is more than is left of the budget; nothing is opened.
+    pub fn open(&mut self, bytes: usize) -> Result<(), Fault>
         ensures opened { OnOk result (self.new.stack.taken ≡ self.old.stack.taken + bytes) }
         ensures past { OnErr result (self.old.stack.budget.bytes < self.old.stack.taken + bytes) }
+        ensures told { IfErr result (λ fault. fault ≡ TooDeep) }
         ensures refused { OnErr result (self.new.stack.taken ≡ self.old.stack.taken) }
         ensures rest { self.new.rest.now ≡ self.old.rest.now }
         ensures text { self.new.text.now ≡ self.old.text.now }
+        ensures budget { self.new.stack.budget ≡ self.old.stack.budget }
     {
-        self.stack.open(bytes)
+        match self.stack.open(bytes) {
+            Ok(()) => Ok(()),
+            Err(_) => Err(Fault::TooDeep),
+        }
     }
 
     /// Closes what took so many bytes.
@@ -95,13 +102,15 @@ impl<'p, S: Drop, T: Texts<S>> Parser<'p, S, T> {
         ensures closed { self.new.stack.taken ≡ self.old.stack.taken - bytes }
         ensures rest { self.new.rest.now ≡ self.old.rest.now }
         ensures text { self.new.text.now ≡ self.old.text.now }
+        ensures budget { self.new.stack.budget ≡ self.old.stack.budget }
     {
         self.stack.close(bytes);
     }
 
     /// What is open, to come back to by `close_to`.
     pub fn stack(&self) -> Stack
-        ensures { result.taken ≡ self.now.stack.taken }
+        ensures taken { result.taken ≡ self.now.stack.taken }
+        ensures budget { result.budget ≡ self.now.stack.budget }
     {
         self.stack
     }
@@ -109,6 +118,7 @@ impl<'p, S: Drop, T: Texts<S>> Parser<'p, S, T> {
     /// Closes what was opened since then, also what a refused construct left open.
     pub fn close_to(&mut self, stack: Stack)
         ensures closed { self.new.stack.taken ≡ stack.taken }
+        ensures budget { self.new.stack.budget ≡ stack.budget }
         ensures rest { self.new.rest.now ≡ self.old.rest.now }
         ensures text { self.new.text.now ≡ self.old.text.now }
     {
@@ -136,6 +146,7 @@ impl<'p, S: Drop, T: Texts<S>> Parser<'p, S, T> {
         ensures rest { self.new.rest.now ≡ rest.now }
         ensures text { self.new.text.now ≡ self.old.text.now }
         ensures stack { self.new.stack.taken ≡ self.old.stack.taken }
+        ensures budget { self.new.stack.budget ≡ self.old.stack.budget }
     {
         self.rest = rest;
     }

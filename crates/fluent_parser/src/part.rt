@@ -7,13 +7,13 @@ ghost use Rattle.fluent_grammar.specs.Tiling.{behind_junk, resume};
 ghost use Rattle.fluent_parsed.specs.ErrorView.{error_view, kind_view};
 ghost use Rattle.fluent_parser.specs.Places.{error_by};
 ghost use Rattle.fluent_parser.specs.Frame.{Advances, Stays};
+ghost use Rattle.fluent_parser.specs.Depth.{IfHalted, PastSomewhere};
 
-use crate::fault::Fault;
+use crate::fault::{Fault, Halt};
 use crate::parser::Parser;
 use fluent_parsed::{Collected, ErrorKind, ParserError};
 use fluent_text::Texts;
 use fluent_tokens::begins_entry;
-use std::alloc::AllocError;
 
 impl<'p, S: Drop, T: Texts<S>> Parser<'p, S, T> {
     ghost use Rattle.fluent_grammar.specs.Reading.{entry_at};
@@ -25,9 +25,9 @@ impl<'p, S: Drop, T: Texts<S>> Parser<'p, S, T> {
     /// the place of the refusal, at column 0, before a letter, `-` or `#`.
     ///
     /// # Errors
-    /// [`AllocError`] if memory runs out, or the part nests past the budget of the stack; the part may be
-    /// there without its error.
-    pub fn get_part(&mut self, collected: &mut Collected<S>, apart: bool) -> Result<(), AllocError>
+    /// [`Halt::Memory`] if memory runs out; the part may be there without its error.
+    /// [`Halt::TooDeep`] if the part nests past the budget of the stack; nothing is put there.
+    pub fn get_part(&mut self, collected: &mut Collected<S>, apart: bool) -> Result<(), Halt>
         requires some { 0 < length self.old.rest.now }
         requires closed { self.old.stack.taken ≡ 0 }
         ensures entries { OnOk result (TakesEntries S T.text collected.old collected.new
@@ -37,8 +37,10 @@ impl<'p, S: Drop, T: Texts<S>> Parser<'p, S, T> {
         ensures rest { OnOk result (self.new.rest.now
             ≡ behind_piece self.old.rest.now (entry_at self.old.rest.now)) }
         ensures less { OnOk result (length self.new.rest.now < length self.old.rest.now) }
+        ensures deep { IfHalted result (PastSomewhere self.old) }
         ensures text { self.new.text.now ≡ self.old.text.now }
         ensures closed { self.new.stack.taken ≡ 0 }
+        ensures budget { self.new.stack.budget ≡ self.old.stack.budget }
     {
         let start = self.rest();
         let slice_start = self.place();
@@ -47,7 +49,8 @@ impl<'p, S: Drop, T: Texts<S>> Parser<'p, S, T> {
                 collected.push_entry(entry, apart)?;
                 Ok(())
             }
-            Err(Fault::Memory) => Err(AllocError),
+            Err(Fault::Memory) => Err(Halt::Memory),
+            Err(Fault::TooDeep) => Err(Halt::TooDeep),
             Err(Fault::Refused(kind)) => {
                 let place = self.place();
                 self.skip_to_next_entry_start(start);

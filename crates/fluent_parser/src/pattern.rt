@@ -8,6 +8,8 @@ ghost use Rattle.fluent_parser.specs.Steps.{text_piece};
 ghost use Rattle.fluent_tokens.specs.Lookup.{IsOneLine};
 ghost use Rattle.fluent_tokens.specs.IndentedTexts.{IsTextStart};
 ghost use Rattle.fluent_parser.specs.Frame.{Advances, Closes, ClosesPlaceable, StartsLine};
+ghost use Rattle.fluent_parser.specs.Depth.{IfTooDeep, IsShallow, Past};
+ghost use Rattle.fluent_parser.specs.Nesting.{TakesLines, TakesPattern, TakesPieces, TakesPlaceable};
 
 use crate::expression::discard;
 use crate::fault::Fault;
@@ -46,11 +48,13 @@ impl<'p, S: Drop, T: Texts<S>> Parser<'p, S, T> {
     ///
     /// # Errors
     /// [`Fault::Refused`] if a piece of the pattern is refused; the parser then stands at the place of the refusal.
-    /// [`Fault::Memory`] if memory runs out, or what is there nests past the budget of the stack.
+    /// [`Fault::Memory`] if memory runs out.
+    /// [`Fault::TooDeep`] if what is there nests past the budget of the stack.
     #[cycle(parser)]
     pub fn get_pattern(&mut self) -> Result<Option<Pattern<S>>, Fault>
         ensures gives { Reads (option_map (pattern_view S T.text)) self.old self.new result
             pattern_by }
+        ensures deep { IfTooDeep result (Past TakesPattern self.old) }
         ensures advances { Closes result self.old self.new }
     {
         self.skip_blank_inline();
@@ -65,6 +69,7 @@ impl<'p, S: Drop, T: Texts<S>> Parser<'p, S, T> {
         requires line { IsOneLine self.old.rest.now (Some count) }
         ensures gives { Reads (option_map (pattern_view S T.text)) self.old self.new result
             pattern_behind }
+        ensures shallow { IsShallow result }
         ensures advances { Advances self.old self.new }
     {
         let mut value = self.take(count)?;
@@ -80,6 +85,7 @@ impl<'p, S: Drop, T: Texts<S>> Parser<'p, S, T> {
     fn get_lines(&mut self) -> Result<Option<Pattern<S>>, Fault>
         ensures gives { Reads (option_map (pattern_view S T.text)) self.old self.new result
             pattern_behind }
+        ensures deep { IfTooDeep result (Past TakesLines self.old) }
         ensures advances { Closes result self.old self.new }
     {
         if let Some(pattern) = self.get_plain_lines()? {
@@ -122,6 +128,7 @@ impl<'p, S: Drop, T: Texts<S>> Parser<'p, S, T> {
             (kept_piece_by at_line_start) }
         ensures less { IfOk result (λ found. IfSome found
             (λ ends. length self.new.rest.now < length self.old.rest.now)) }
+        ensures deep { IfTooDeep result (Past (TakesPieces at_line_start) self.old) }
         ensures advances { Closes result self.old self.new }
     {
         if !at_line_start {
@@ -152,6 +159,7 @@ impl<'p, S: Drop, T: Texts<S>> Parser<'p, S, T> {
             (piece_from at_line_start indent) }
         ensures less { IfOk result (λ found. IfSome found
             (λ ends. length self.new.rest.now < length self.old.rest.now)) }
+        ensures deep { IfTooDeep result (Past (TakesPieces at_line_start) self.old) }
         ensures advances { Closes result self.old self.new }
     {
         let behind = words::from(self.bytes(), indent);
@@ -184,6 +192,7 @@ impl<'p, S: Drop, T: Texts<S>> Parser<'p, S, T> {
         ensures gives { ReadsPiece T.text gathered.old gathered.new self.old self.new result
             (placeable_piece_by column_zero) }
         ensures less { length self.new.rest.now < length self.old.rest.now }
+        ensures deep { IfTooDeep result (Past TakesPlaceable self.old) }
         ensures advances { Closes result self.old self.new }
     {
         self.open_placeable()?;
@@ -208,8 +217,10 @@ impl<'p, S: Drop, T: Texts<S>> Parser<'p, S, T> {
     ) -> Result<Option<bool>, Fault>
         ensures gives { ReadsPiece T.text gathered.old gathered.new self.old self.new result
             (piece_end_by S T.text column_zero selector variants) }
+        ensures shallow { IsShallow result }
         ensures closed { OnOk result (ClosesPlaceable self.old self.new) }
         ensures text { self.new.text.now ≡ self.old.text.now }
+        ensures budget { self.new.stack.budget ≡ self.old.stack.budget }
         ensures onward { length self.new.rest.now ≤ length self.old.rest.now }
     {
         let expression = self.close_placeable(selector, variants)?;
@@ -231,6 +242,7 @@ impl<'p, S: Drop, T: Texts<S>> Parser<'p, S, T> {
             (text_from at_line_start indent) }
         ensures less { IfOk result (λ found. IfSome found
             (λ ends. length self.new.rest.now < length self.old.rest.now)) }
+        ensures shallow { IsShallow result }
         ensures advances { Advances self.old self.new }
     {
         let behind = words::from(self.bytes(), indent);

@@ -3,6 +3,7 @@
 
 ghost use Rattle.std.specs.Prelude.{◌≡◌, ◌<◌, IfOk, IfSome, length, drop, false};
 ghost use Rattle.fluent_parser.specs.Frame.{Advances, StartsLine, Stays};
+ghost use Rattle.fluent_parser.specs.Depth.{IsShallow};
 ghost use Rattle.fluent_parser.specs.PlainLines.{IsNextText, GivesPlain, EndsPattern, said};
 
 use crate::fault::Fault;
@@ -33,6 +34,7 @@ impl<'p, S: Drop, T: Texts<S>> Parser<'p, S, T> {
     #[inline(always)]
     pub fn get_plain_lines(&mut self) -> Result<Option<Pattern<S>>, Fault>
         ensures gives { GivesPlain S T.text self.old.rest.now self.new.rest.now result }
+        ensures shallow { IsShallow result }
         ensures advances { Advances self.old self.new }
     {
         match self.plain_lines() {
@@ -45,6 +47,7 @@ impl<'p, S: Drop, T: Texts<S>> Parser<'p, S, T> {
     #[inline(never)]
     fn get_lines_as_told(&mut self, told: PlainLines) -> Result<Option<Pattern<S>>, Fault>
         ensures gives { GivesPlain S T.text self.old.rest.now self.new.rest.now result }
+        ensures shallow { IsShallow result }
         ensures advances { Advances self.old self.new }
     {
         let before = self.rest();

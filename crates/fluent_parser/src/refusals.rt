@@ -120,7 +120,7 @@ impl<'p, S: Drop, T: Texts<S>> Parser<'p, S, T> {
         }
         match self.get_entry() {
             Ok(_) => Ok(None),
-            Err(Fault::Memory) => Err(AllocError),
+            Err(Fault::Memory | Fault::TooDeep) => Err(AllocError),
             Err(Fault::Refused(kind)) => Ok(Some(kind)),
         }
     }
@@ -142,7 +142,7 @@ impl<'p, S: Drop, T: Texts<S>> Parser<'p, S, T> {
                 self.set_rest(line);
                 Ok(None)
             }
-            Err(Fault::Memory) => Err(AllocError),
+            Err(Fault::Memory | Fault::TooDeep) => Err(AllocError),
             Err(Fault::Refused(kind)) => Ok(Some(kind)),
         }
     }

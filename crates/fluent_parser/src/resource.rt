@@ -7,13 +7,15 @@ ghost use Rattle.fluent_parsed.specs.Collected.{entries_with, errors_with};
 ghost use Rattle.fluent_parsed.specs.ErrorView.{error_told};
 ghost use Rattle.fluent_tokens.specs.Lookup.{past_comments};
 ghost use Rattle.fluent_parser.specs.Frame.{Advances};
+ghost use Rattle.fluent_parser.specs.Depth.{IfHalted, NestsPast, PastSomewhere};
 
+use crate::fault::Halt;
 use crate::parser::Parser;
 use fluent_parsed::Collected;
 use fluent_text::Texts;
 use fluent_text::stack::StackBudget;
 use fluent_tokens::line_table;
-use std::alloc::{AllocError, Global};
+use std::alloc::Global;
 
 /// How many bytes a short entry has, about. Room to spare, which there is for longer ones, is never touched.
 const SHORT: usize = 64;
@@ -21,17 +23,18 @@ const SHORT: usize = 64;
 /// The parts of a source, with their comments.
 ///
 /// # Errors
-/// [`AllocError`] if memory runs out, or a message or a term nests past the budget; nothing is kept.
+/// [`Halt`] if memory runs out, or a message or a term nests past the budget; nothing is kept.
 pub fn parts_of<S: Drop, T: Texts<S>>(
     alloc: Global,
     texts: &T,
     source: &S,
     budget: StackBudget,
-) -> Result<Collected<S>, AllocError>
+) -> Result<Collected<S>, Halt>
     ensures entries { IfOk result (λ all. entries_with S T.text all []
         ≡ tree (T.text source.now)) }
     ensures errors { IfOk result (λ all. errors_with S all []
         ≡ map error_told (errors (T.text source.now))) }
+    ensures deep { IfHalted result (NestsPast budget.bytes (T.text source.now)) }
 {
     let rows = line_table(alloc, texts.as_str(source).as_bytes())?;
     let mut parser = Parser::new(alloc, texts, source, &rows, budget);
@@ -41,17 +44,18 @@ pub fn parts_of<S: Drop, T: Texts<S>>(
 /// The parts of a source, without comments.
 ///
 /// # Errors
-/// [`AllocError`] if memory runs out, or a message or a term nests past the budget; nothing is kept.
+/// [`Halt`] if memory runs out, or a message or a term nests past the budget; nothing is kept.
 pub fn runtime_parts_of<S: Drop, T: Texts<S>>(
     alloc: Global,
     texts: &T,
     source: &S,
     budget: StackBudget,
-) -> Result<Collected<S>, AllocError>
+) -> Result<Collected<S>, Halt>
     ensures entries { IfOk result (λ all. entries_with S T.text all []
         ≡ runtime_tree (T.text source.now)) }
     ensures errors { IfOk result (λ all. errors_with S all []
         ≡ map error_told (runtime_errors (T.text source.now))) }
+    ensures deep { IfHalted result (NestsPast budget.bytes (T.text source.now)) }
 {
     let rows = line_table(alloc, texts.as_str(source).as_bytes())?;
     let mut parser = Parser::new(alloc, texts, source, &rows, budget);
@@ -67,13 +71,14 @@ impl<'p, S: Drop, T: Texts<S>> Parser<'p, S, T> {
     /// All parts that are left, with their comments.
     ///
     /// # Errors
-    /// [`AllocError`] if memory runs out, or a part nests past the budget; the parts that were read are dropped.
-    pub fn get_parts(&mut self) -> Result<Collected<S>, AllocError>
+    /// [`Halt`] if memory runs out, or a part nests past the budget; the parts that were read are dropped.
+    pub fn get_parts(&mut self) -> Result<Collected<S>, Halt>
         requires closed { self.old.stack.taken ≡ 0 }
         ensures entries { IfOk result (λ all. entries_with S T.text all []
             ≡ entries_of None (pieces_ahead self.old)) }
         ensures errors { IfOk result (λ all. errors_with S all []
             ≡ map error_told (errors_of (pieces_ahead self.old))) }
+        ensures deep { IfHalted result (PastSomewhere self.old) }
     {
         let mut collected = Collected::with_capacity(self.alloc, self.bytes().len() / SHORT + 1)?;
         'parts: loop {
@@ -89,13 +94,14 @@ impl<'p, S: Drop, T: Texts<S>> Parser<'p, S, T> {
     /// whatever follows.
     ///
     /// # Errors
-    /// [`AllocError`] if memory runs out, or a part nests past the budget; the parts that were read are dropped.
-    pub fn get_runtime_parts(&mut self) -> Result<Collected<S>, AllocError>
+    /// [`Halt`] if memory runs out, or a part nests past the budget; the parts that were read are dropped.
+    pub fn get_runtime_parts(&mut self) -> Result<Collected<S>, Halt>
         requires closed { self.old.stack.taken ≡ 0 }
         ensures entries { IfOk result (λ all. entries_with S T.text all []
             ≡ entries_of None (runtime_ahead self.old)) }
         ensures errors { IfOk result (λ all. errors_with S all []
             ≡ map error_told (errors_of (runtime_ahead self.old))) }
+        ensures deep { IfHalted result (PastSomewhere self.old) }
     {
         let mut collected = Collected::with_capacity(self.alloc, self.bytes().len() / SHORT + 1)?;
         'parts: loop {

@@ -5,6 +5,8 @@ ghost use Rattle.std.specs.Prelude.{◌≡◌, ◌≤◌, ◌<◌, true, false, 
 ghost use Rattle.fluent_grammar.specs.Words as w;
 ghost use Rattle.fluent_grammar.specs.Reading.{selector_fault};
 ghost use Rattle.fluent_parser.specs.Frame.{Advances, Closes};
+ghost use Rattle.fluent_parser.specs.Depth.{IfTooDeep, IsShallow, Past};
+ghost use Rattle.fluent_parser.specs.Nesting.{TakesVariant, TakesVariants};
 
 use crate::fault::Fault;
 use crate::parser::Parser;
@@ -44,11 +46,13 @@ impl<'p, S: Drop, T: Texts<S>> Parser<'p, S, T> {
     ///
     /// # Errors
     /// [`Fault::Refused`] if these are no variants, or not exactly one is the default; the parser then stands at the place of the refusal.
-    /// [`Fault::Memory`] if memory runs out, or what is there nests past the budget of the stack.
+    /// [`Fault::Memory`] if memory runs out.
+    /// [`Fault::TooDeep`] if what is there nests past the budget of the stack.
     #[cycle(parser)]
     pub fn get_variants(&mut self) -> Result<Vec<Variant<S>>, Fault>
         ensures gives { Reads (λ vs. variants_view S T.text vs.items) self.old self.new result
             (whole.variants false) }
+        ensures deep { IfTooDeep result (Past (TakesVariants false) self.old) }
         ensures advances { Closes result self.old self.new }
     {
         let mut variants = Vec::new(self.alloc);
@@ -73,6 +77,7 @@ impl<'p, S: Drop, T: Texts<S>> Parser<'p, S, T> {
     fn take_default_mark(&mut self, has_default: bool) -> Result<bool, Fault>
         ensures gives { Reads (λ found. found) self.old self.new result
             (default_mark_at has_default) }
+        ensures shallow { IsShallow result }
         ensures advances { Advances self.old self.new }
     {
         let found = self.take_byte_if(b'*');
@@ -90,6 +95,7 @@ impl<'p, S: Drop, T: Texts<S>> Parser<'p, S, T> {
         ensures gives { Reads (variant_view S T.text) self.old self.new result
             (variant_by default) }
         ensures less { length self.new.rest.now < length self.old.rest.now }
+        ensures deep { IfTooDeep result (Past TakesVariant self.old) }
         ensures advances { Closes result self.old self.new }
     {
         self.advance(1);
@@ -107,6 +113,7 @@ impl<'p, S: Drop, T: Texts<S>> Parser<'p, S, T> {
     /// A variant's key with its closing bracket. Production `VariantKey`.
     fn get_variant_key(&mut self) -> Result<VariantKey<S>, Fault>
         ensures gives { Reads (key_of S T.text) self.old self.new result key_in_brackets_at }
+        ensures shallow { IsShallow result }
         ensures advances { Advances self.old self.new }
     {
         self.skip_blank();
@@ -120,6 +127,7 @@ impl<'p, S: Drop, T: Texts<S>> Parser<'p, S, T> {
     #[tactic(auto, using(crate::proofs::Failing::handed), unfolding(fluent_grammar::specs::Reading::key_at))]
     fn get_key(&mut self) -> Result<VariantKey<S>, Fault>
         ensures gives { Reads (key_of S T.text) self.old self.new result key_at }
+        ensures shallow { IsShallow result }
         ensures advances { Advances self.old self.new }
     {
         if words::begins_number(self.bytes()) {

@@ -83,7 +83,7 @@ impl<'p, S: Drop, T: Texts<S>> Parser<'p, S, T> {
         let start = self.rest();
         match self.get_entry() {
             Ok(_) => Ok(()),
-            Err(Fault::Memory) => Err(AllocError),
+            Err(Fault::Memory | Fault::TooDeep) => Err(AllocError),
             Err(Fault::Refused(_)) => {
                 self.skip_to_next_entry_start(start);
                 Ok(())

@@ -8,6 +8,7 @@ ghost use Rattle.fluent_grammar.specs.Words as w;
 ghost use Rattle.fluent_grammar.specs.Refusal as r;
 ghost use Rattle.fluent_grammar.specs.Reading.{first_char};
 ghost use Rattle.fluent_parser.specs.Frame.{Advances};
+ghost use Rattle.fluent_parser.specs.Depth.{IsShallow};
 ghost use Rattle.fluent_parser.specs.Reads.{with_next_char};
 
 use crate::fault::Fault;
@@ -49,6 +50,7 @@ impl<'p, S: Drop, T: Texts<S>> Parser<'p, S, T> {
     #[inline(always)]
     pub fn get_identifier(&mut self) -> Result<Identifier<S>, Fault>
         ensures gives { Reads (name_of S T.text) self.old self.new result identifier_at }
+        ensures shallow { IsShallow result }
         ensures advances { Advances self.old self.new }
     {
         let count = words::identifier_len(self.bytes());
@@ -66,6 +68,7 @@ impl<'p, S: Drop, T: Texts<S>> Parser<'p, S, T> {
     /// [`Fault::Memory`] if memory runs out.
     pub fn get_number_literal(&mut self) -> Result<S, Fault>
         ensures gives { Reads T.text self.old self.new result number_at }
+        ensures shallow { IsShallow result }
         ensures advances { Advances self.old self.new }
     {
         match words::number_len(self.bytes()) {
@@ -87,6 +90,7 @@ impl<'p, S: Drop, T: Texts<S>> Parser<'p, S, T> {
     /// [`Fault::Memory`] if memory runs out.
     pub fn get_string_content(&mut self) -> Result<S, Fault>
         ensures gives { Reads T.text self.old self.new result string_content }
+        ensures shallow { IsShallow result }
         ensures advances { Advances self.old self.new }
     {
         match words::string_end(self.bytes()) {

@@ -4,6 +4,8 @@ use Rattle.fluent_grammar.specs.Tiling.{Piece, entries_of, errors_of}
 use Rattle.fluent_parsed.specs.ErrorView.{ErrorView, error_told}
 use Rattle.fluent_parsed.specs.Collected.{entries_with, errors_with}
 use Rattle.fluent_parser.proofs.Left.{whole_left_at_runtime}
+use Rattle.fluent_parser.specs.Depth.{NestsPast, PastSomewhere}
+use Rattle.fluent_parser.proofs.Deepening.{halted_same, nests}
 use Rattle.fluent_parser.proofs.resource.runtime_parts_of.Goals as goal
 
 pub returns-clause-entries : goal.returns-clause-entries
@@ -15,3 +17,8 @@ pub returns-clause-errors : goal.returns-clause-errors
 returns-clause-errors g c =
     let whole = whole_left_at_runtime (g.T.Texts.text c.args.source.now) c.new-parser.result.text.now c.new-parser.result.rest.now c.new-parser.ensures.text c.new-parser.ensures.rest in
     subst (λ (es : List ErrorView). IfOk c.get_runtime_parts.result (λ all. errors_with g.row.S.Denot all [] ≡ es)) (ap (λ (ps : List Piece). map error_told (errors_of ps)) whole) c.get_runtime_parts.ensures.errors
+
+pub returns-clause-deep : goal.returns-clause-deep
+returns-clause-deep g c =
+    halted_same c.get_runtime_parts.result (PastSomewhere c.new-parser.result) (NestsPast c.args.budget.bytes (g.T.Texts.text c.args.source.now)) c.get_runtime_parts.ensures.deep
+    (nests c.new-parser.result c.args.budget.bytes (g.T.Texts.text c.args.source.now) c.new-parser.ensures.closed (ap (λ z. z.bytes) c.new-parser.ensures.budget) c.new-parser.ensures.text)

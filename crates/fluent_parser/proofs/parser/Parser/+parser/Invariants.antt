@@ -1,9 +1,11 @@
 -- What the parser's readers go down by: what is left of the text, and the order in which they call each other on it.
-use Rattle.std.proofs.Common.{◌≡◌, ◌+◌, ◌*◌, ◌<◌, ◌≤◌, [], length, drop, map}
+use Rattle.std.proofs.Common.{◌≡◌, ℕ, ◌+◌, ◌*◌, ◌<◌, ◌≤◌, [], length, drop, map}
 use Rattle.std.specs.Prelude.{false}
 use Rattle.fluent_grammar.specs.Words as w
 use Rattle.fluent_grammar.specs.Refusal.{mapped}
 use Rattle.fluent_parser.specs.Frame.{StartsLine}
+use Rattle.fluent_parser.specs.Nesting.{TakesArguments, TakesLines, TakesPieces, TakesVariants}
+use Rattle.fluent_parser.specs.Depth.{TakesAfterParenthesis}
 use Rattle.fluent_parser.specs.Reads.{whole}
 use Rattle.fluent_parser.specs.Steps.{arguments_behind, names_of, variants_behind}
 use Rattle.fluent_parser.specs.Indexed.{IsIndexed}
@@ -63,9 +65,11 @@ invariant-get_call_arguments-loop-self g l =
     record {
       text : l.self.text.now ≡ l.fn.self.text.now;
       stack : l.self.stack.taken ≡ l.fn.self.stack.taken;
+      budget : l.self.stack.budget ≡ l.fn.self.stack.budget;
       onward : length l.self.rest.now < length l.fn.self.rest.now;
       same : mapped (arguments_behind positional named) (whole.arguments (names_of named) l.self.rest.now) ≡ whole.arguments [] (w.skip_blank (drop 1 l.fn.self.rest.now));
       indexed : IsIndexed g.row.S.Denot g.T.Texts.text l.named;
+      inner : (n : ℕ) → TakesArguments (names_of named) l.self.rest.now n → TakesAfterParenthesis l.fn.self.rest.now n;
     }
 
 abbrev pub decreases-get_call_arguments-loop-self : goal.decreases-get_call_arguments-loop-self
@@ -75,9 +79,11 @@ abbrev pub invariant-get_lines-loop-gathered : goal.invariant-get_lines-loop-gat
 invariant-get_lines-loop-gathered g l = record {
   text : l.self.text.now ≡ l.fn.self.text.now;
   stack : l.self.stack.taken ≡ l.fn.self.stack.taken;
+  budget : l.self.stack.budget ≡ l.fn.self.stack.budget;
   onward : length l.self.rest.now ≤ length l.fn.self.rest.now;
   gathers : Gathers g.row.S.Denot g.T.Texts.text l.gathered l.at_line_start l.self.rest.now l.fn.self.rest.now;
   line_start : StartsLine l.at_line_start l.self.text.now l.self.rest.now;
+  inner : (n : ℕ) → TakesPieces l.at_line_start l.self.rest.now n → TakesLines l.fn.self.rest.now n;
 }
 
 abbrev pub decreases-get_lines-loop-gathered : goal.decreases-get_lines-loop-gathered
@@ -87,8 +93,10 @@ abbrev pub invariant-get_variants-loop-variants : goal.invariant-get_variants-lo
 invariant-get_variants-loop-variants g l = record {
   text : l.self.text.now ≡ l.fn.self.text.now;
   stack : l.self.stack.taken ≡ l.fn.self.stack.taken;
+  budget : l.self.stack.budget ≡ l.fn.self.stack.budget;
   onward : length l.self.rest.now ≤ length l.fn.self.rest.now;
   same : mapped (variants_behind (map (variant_view g.row.S.Denot g.T.Texts.text) l.variants.items)) (whole.variants l.has_default l.self.rest.now) ≡ whole.variants false l.fn.self.rest.now;
+  inner : (n : ℕ) → TakesVariants l.has_default l.self.rest.now n → TakesVariants false l.fn.self.rest.now n;
 }
 
 abbrev pub decreases-get_variants-loop-variants : goal.decreases-get_variants-loop-variants

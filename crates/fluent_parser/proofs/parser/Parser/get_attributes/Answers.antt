@@ -3,6 +3,8 @@ use Rattle.std.proofs.lemmas.List.{map-append}
 use Rattle.fluent_ast.specs.View.{attribute_view}
 use Rattle.fluent_parser.specs.Entries.{attributes_by}
 use Rattle.fluent_parser.proofs.Entries.{next_attribute_is, next_attribute_fails, attributes_begin, attributes_go_on, attributes_end}
+use Rattle.fluent_parser.specs.Depth.{PastSomewhere}
+use Rattle.fluent_parser.proofs.Deepening.{deep_map, moved}
 use Rattle.fluent_parser.proofs.parser.Parser.get_attributes.Goals as goal
 
 none_of : {A : Type 0} (x : Option A) → ((v : A) → x ≡ Some v → ⊥) → x ≡ None
@@ -15,6 +17,7 @@ loop-attributes-init g c =
     record {
       text = refl;
       stack = refl;
+      budget = refl;
       onward = omega arith;
       read = attributes_begin c.args.self.now.rest.now _ none;
     }
@@ -31,6 +34,7 @@ loop-attributes-preserved g c =
     record {
       text = c.next_attribute.ensures.advances.text ∙ c.loop-attributes.invariant.text;
       stack = c.next_attribute.ensures.advances.stack ∙ c.loop-attributes.invariant.stack;
+      budget = c.next_attribute.ensures.advances.budget ∙ c.loop-attributes.invariant.budget;
       onward = omega (arith, c.next_attribute.ensures.advances.onward, c.loop-attributes.invariant.onward);
       read = attributes_go_on c.args.self.now.rest.now c.loop-attributes.self.rest.now _ (map view c.loop-attributes.attributes.items) _ _
           (ap (map view) c.in_ok-push_tight.ensures ∙ map-append view c.loop-attributes.attributes.items _) (rw c.in-Some.is at c.in_ok-attribute.ensures.gives) c.loop-attributes.invariant.read;
@@ -40,3 +44,11 @@ pub returns-clause-gives : goal.returns-clause-gives
 returns-clause-gives g c =
     let none : c.in_ok-attribute.field-0 ≡ None = none_of c.in_ok-attribute.field-0 c.in_default.not-Some in
     attributes_end c.args.self.now.rest.now c.loop-attributes.self.rest.now _ _ (rw none at c.in_ok-attribute.ensures.gives) c.loop-attributes.invariant.read
+
+pub returns-in_err-attribute-clause-deep : goal.returns-in_err-attribute-clause-deep
+returns-in_err-attribute-clause-deep g c =
+    search (
+      rules,
+      deep_map c.in_err-attribute.field-0.0 (PastSomewhere c.loop-attributes.self) (PastSomewhere c.args.self.now) c.in_err-attribute.ensures.deep
+          (moved c.args.self.now c.loop-attributes.self c.loop-attributes.invariant.text c.loop-attributes.invariant.stack c.loop-attributes.invariant.budget),
+    )

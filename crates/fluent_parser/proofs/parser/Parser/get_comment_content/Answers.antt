@@ -12,6 +12,7 @@ loop-self-init g c =
     record {
       text = c.push_comment_line.ensures.advances.text;
       stack = c.push_comment_line.ensures.advances.stack;
+      budget = c.push_comment_line.ensures.advances.budget;
       onward = omega (arith, c.push_comment_line.ensures.past);
       read = content_begins c.args.level c.args.self.now.rest.now _ _ _ none c.in_ok-push_comment_line.ensures.gives;
     }
@@ -24,6 +25,7 @@ loop-self-preserved g c =
     record {
       text = c.push_comment_line-in-loop-self.ensures.advances.text ∙ c.loop-self.invariant.text;
       stack = c.push_comment_line-in-loop-self.ensures.advances.stack ∙ c.loop-self.invariant.stack;
+      budget = c.push_comment_line-in-loop-self.ensures.advances.budget ∙ c.loop-self.invariant.budget;
       onward = omega (arith, c.push_comment_line-in-loop-self.ensures.past, c.loop-self.invariant.onward);
       read = content_goes_on c.args.level c.args.self.now.rest.now u _ _ _ t.0 (omega (arith, c.push_comment_line-in-loop-self.ensures.past, c.requires.some)) c.in_ok-push_comment_line-2.ensures.gives c.loop-self.invariant.read;
     }

@@ -7,6 +7,7 @@ abbrev pub invariant-loop-self : goal.invariant-loop-self
 invariant-loop-self g l = record {
   text : l.self.text.now ≡ l.fn.self.text.now;
   stack : l.self.stack.taken ≡ l.fn.self.stack.taken;
+  budget : l.self.stack.budget ≡ l.fn.self.stack.budget;
   onward : length l.self.rest.now ≤ length l.fn.self.rest.now;
   read : comment_content_by l.level l.fn.self.rest.now ≡ got (map g.T.Texts.text l.lines.items ++ (lines_left l.level l.self.rest.now).0) (lines_left l.level l.self.rest.now).1;
 }

@@ -15,6 +15,7 @@ loop-dedented-init g c =
     record {
       text = text;
       stack = c.skip_to_line-at_line_start.ensures.advances.stack;
+      budget = c.skip_to_line-at_line_start.ensures.advances.budget;
       onward = c.skip_to_line-at_line_start.ensures.advances.onward;
       gathers = plain_none g.row.S.Denot g.T.Texts.text c.in_ok-dedented.dedented line rest u c.in_ok-dedented.ensures.elements c.in_ok-dedented.ensures.common_indent place;
       line_start = subst (λ (z : List ℕ). StartsLine line z rest) (sym text) (first_starts line c.args.self.now.text.now u rest c.args.self.now.is_tail place);
@@ -31,6 +32,7 @@ loop-dedented-preserved g c =
     record {
       text = c.get_plain_line.ensures.advances.text ∙ c.loop-dedented.invariant.text;
       stack = c.get_plain_line.ensures.advances.stack ∙ c.loop-dedented.invariant.stack;
+      budget = c.get_plain_line.ensures.advances.budget ∙ c.loop-dedented.invariant.budget;
       onward = omega (arith, c.get_plain_line.ensures.advances.onward, c.loop-dedented.invariant.onward);
       gathers = plain_more g.row.S.Denot g.T.Texts.text old new line c.in-Some.ends_line s rest c.args.self.now.rest.now c.loop-dedented.invariant.gathers put;
       line_start = subst (λ (z : List ℕ). StartsLine c.in-Some.ends_line z rest) (sym c.get_plain_line.ensures.advances.text)

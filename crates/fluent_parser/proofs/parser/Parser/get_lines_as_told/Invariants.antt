@@ -7,6 +7,7 @@ abbrev pub invariant-loop-dedented : goal.invariant-loop-dedented
 invariant-loop-dedented g l = record {
   text : l.self.text.now ≡ l.fn.self.text.now;
   stack : l.self.stack.taken ≡ l.fn.self.stack.taken;
+  budget : l.self.stack.budget ≡ l.fn.self.stack.budget;
   onward : length l.self.rest.now ≤ length l.fn.self.rest.now;
   gathers : GathersPlain g.row.S.Denot g.T.Texts.text l.dedented l.at_line_start l.self.rest.now l.fn.self.rest.now;
   line_start : StartsLine l.at_line_start l.self.text.now l.self.rest.now;

@@ -9,6 +9,7 @@ abbrev pub invariant-parts : goal.invariant-parts
 invariant-parts g l = record {
   text : l.self.text.now ≡ l.fn.self.text.now;
   closed : l.self.stack.taken ≡ 0;
+  budget : l.self.stack.budget ≡ l.fn.self.stack.budget;
   within : length l.self.rest.now ≤ length l.fn.self.text.now;
   entries : entries_with g.row.S.Denot g.T.Texts.text l.collected (pieces_left (length l.fn.self.text.now) l.self.rest.now) ≡ entries_of None (pieces_left (length l.fn.self.text.now) l.fn.self.rest.now);
   errors : errors_with g.row.S.Denot l.collected (pieces_left (length l.fn.self.text.now) l.self.rest.now) ≡ map error_told (errors_of (pieces_left (length l.fn.self.text.now) l.fn.self.rest.now));

@@ -1,6 +1,6 @@
 use Rattle.std.proofs.Common.{◌∙◌, ◌-◌, ◌+◌, ◌≤◌, ℕ, List, drop, take, map, sym, ap, subst, arith, refl, ◌++◌, ◌∷◌, []}
 use Rattle.std.proofs.lemmas.List.{map-append}
-use Rattle.fluent_grammar.specs.Lines.{ends_line, lesser}
+use Rattle.fluent_grammar.specs.Lines.{lesser}
 use Rattle.fluent_tokens.specs.Counted.{Cuts}
 use Rattle.fluent_ast.specs.View.{element_view}
 use Rattle.fluent_ast.proofs.Views.{element_view-TextElement}

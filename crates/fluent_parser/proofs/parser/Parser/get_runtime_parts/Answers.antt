@@ -8,6 +8,8 @@ use Rattle.fluent_parser.specs.Parts.{piece_of}
 use Rattle.fluent_parsed.proofs.CollectedEntries.{test_some}
 use Rattle.fluent_parser.proofs.Left.{nothing_left_at_runtime, piece_left_at_runtime, comments_passed, comments_less}
 use Rattle.fluent_tokens.proofs.Scanned.{test_of}
+use Rattle.fluent_parser.specs.Depth.{PastSomewhere}
+use Rattle.fluent_parser.proofs.Deepening.{halted_map, moved}
 use Rattle.fluent_parser.proofs.parser.Parser.get_runtime_parts.Goals as goal
 
 pub returns-then-is_empty-clause-entries : goal.returns-then-is_empty-clause-entries
@@ -42,6 +44,7 @@ parts-preserved-then-is_current_byte g c =
     comments_passed total s u rest c.parts.invariant.within c.skip_blank_block.ensures.rest (test_some (length u) z) (sym c.is_current_byte.ensures ∙ c.if-is_current_byte.true) c.skip_comments.ensures.rest in
     record {
       closed = c.skip_comments.ensures.advances.stack ∙ c.skip_blank_block.ensures.advances.stack ∙ c.parts.invariant.closed;
+      budget = c.skip_comments.ensures.advances.budget ∙ c.skip_blank_block.ensures.advances.budget ∙ c.parts.invariant.budget;
       text = c.skip_comments.ensures.advances.text ∙ c.skip_blank_block.ensures.advances.text ∙ c.parts.invariant.text;
       within = omega (arith, less, c.skip_blank_block.ensures.advances.onward, c.parts.invariant.within);
       entries = ap (λ (ps : List Piece). entries_with g.row.S.Denot g.T.Texts.text c.parts.collected ps) (sym step) ∙ c.parts.invariant.entries;
@@ -67,8 +70,17 @@ parts-preserved g c =
     c.in_ok-get_part.ensures.errors more ∙ ap (λ (n : ℕ). errors_with g.row.S.Denot old (piece_of (n - length u) false u (entry_at u) ∷ more)) here in
     record {
       closed = c.get_part.ensures.closed;
+      budget = c.get_part.ensures.budget ∙ c.skip_blank_block.ensures.advances.budget ∙ c.parts.invariant.budget;
       text = c.get_part.ensures.text ∙ c.skip_blank_block.ensures.advances.text ∙ c.parts.invariant.text;
       within = omega (arith, less, c.skip_blank_block.ensures.advances.onward, c.parts.invariant.within);
       entries = put ∙ ap (λ (ps : List Piece). entries_with g.row.S.Denot g.T.Texts.text old ps) (sym step) ∙ c.parts.invariant.entries;
       errors = told ∙ ap (λ (ps : List Piece). errors_with g.row.S.Denot old ps) (sym step) ∙ c.parts.invariant.errors;
     }
+
+pub returns-in_err-get_part-clause-deep : goal.returns-in_err-get_part-clause-deep
+returns-in_err-get_part-clause-deep g c =
+    search (
+      rules,
+      halted_map c.in_err-get_part.field-0.0 (PastSomewhere c.skip_blank_block.new.self) (PastSomewhere c.args.self.now) c.in_err-get_part.ensures.deep
+          (moved c.args.self.now c.skip_blank_block.new.self (c.skip_blank_block.ensures.advances.text ∙ c.parts.invariant.text) (c.skip_blank_block.ensures.advances.stack ∙ c.parts.invariant.closed ∙ sym c.requires.closed) (c.skip_blank_block.ensures.advances.budget ∙ c.parts.invariant.budget)),
+    )

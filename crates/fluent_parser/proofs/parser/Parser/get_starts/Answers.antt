@@ -1,4 +1,4 @@
-use Rattle.std.proofs.Common.{◌≡◌, ◌∙◌, ◌-◌, ◌<◌, ◌++◌, ℕ, Bool, true, false, List, ◌∷◌, length, sym, ap, arith, rules, append-nil}
+use Rattle.std.proofs.Common.{◌≡◌, ◌∙◌, ◌-◌, ◌<◌, ◌++◌, true, false, ◌∷◌, length, sym, ap, arith, rules, append-nil}
 use Rattle.std.specs.Prelude.{◌==◌}
 use Rattle.fluent_parser.specs.Starts.{starts_left}
 use Rattle.fluent_parsed.proofs.CollectedEntries.{test_some}

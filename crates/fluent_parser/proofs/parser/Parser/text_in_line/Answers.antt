@@ -1,5 +1,5 @@
 use Rattle.std.proofs.Common.{◌∙◌, ℕ, List, take, length, sym, ap, refl}
-use Rattle.std.specs.Prelude.{◌==◌, Ok}
+use Rattle.std.specs.Prelude.{◌==◌}
 use Rattle.fluent_grammar.specs.Words.{open_brace, begins_with, begins_crlf}
 use Rattle.fluent_grammar.specs.Lines.{ends_line, is_blank_text}
 use Rattle.fluent_parser.proofs.PlainEnds.{in_line_on}
