@@ -8,6 +8,7 @@ pub mod Failing
 pub mod Deepening
 pub mod Nests
 pub mod Weights
+pub mod NestingRows
 pub mod Cycle
 pub mod LastFeeds
 pub mod OneLine
