@@ -106,9 +106,10 @@ struct FluentSource {
  * after a tab. The answer to it is a line `ok B E`, the text of B bytes, and E lines of errors; or a line `none` or
  * `bad`. docs/reference/protocol.md has the rules.
  *
- * Sources may call the function NUMBER. The plural rules of `locale` choose variants: it is a tag such as "pl" or
- * "pt-PT", and the empty tag has the rules of English. "C" and "POSIX", also as "C.UTF-8" and "C.utf8", have no rules but
- * `other`, as "und" has. docs/reference/plurals.md says which locales have rules. If
+ * Sources may call the function NUMBER. The plural rules of `locale` choose variants, and numbers are written as it writes
+ * them: it is a tag such as "pl" or "pt-PT". The empty tag has the rules of English, and plain numbers, such as 1234.5.
+ * "C" and "POSIX", also as "C.UTF-8" and "C.utf8", have no rules but `other`, as "und" has, and plain numbers.
+ * docs/reference/plurals.md says which locales have rules, and docs/reference/numerals.md how numbers are written. If
  * `isolating` is true, placeables are between the marks U+2068 and U+2069. Of duplicate ids the last entry counts if
  * `overriding` is true, and else the first. If a source has errors, only its junk is left out.
  *
@@ -119,6 +120,19 @@ struct FluentSource {
  * pointers that aren't null, also if `count` or `locale_len` is 0.
  */
 uint32_t fluent_answer(
+    const struct FluentSource *sources,
+    size_t count,
+    const uint8_t *locale,
+    size_t locale_len,
+    bool isolating,
+    bool overriding,
+    const uint8_t *requests,
+    size_t len,
+    struct FluentText *answers
+);
+
+/* The same with plain numbers, whatever the locale. */
+uint32_t fluent_answer_plain(
     const struct FluentSource *sources,
     size_t count,
     const uint8_t *locale,
@@ -193,6 +207,18 @@ uint32_t fluent_bundle_new(
  * read, for each answer of the bundle, and for fluent_bundle_errors. A thread that makes the bundle or asks it needs
  * 400 KB of stack beside it; with 6,291,456, which is what `ftl` has, 8 MB are enough. */
 uint32_t fluent_bundle_new_within(
+    const struct FluentSource *sources,
+    size_t count,
+    const uint8_t *locale,
+    size_t locale_len,
+    bool isolating,
+    bool overriding,
+    size_t stack,
+    struct FluentBundle *made
+);
+
+/* The same as fluent_bundle_new_within with plain numbers, whatever the locale. */
+uint32_t fluent_bundle_new_plain(
     const struct FluentSource *sources,
     size_t count,
     const uint8_t *locale,

@@ -1,8 +1,11 @@
-/* fluent_bundle_new, fluent_bundle_new_within, fluent_bundle_has, fluent_bundle_errors and fluent_bundle_free. */
+/* fluent_bundle_new, fluent_bundle_new_within, fluent_bundle_new_plain, fluent_bundle_has, fluent_bundle_errors and
+ * fluent_bundle_free. */
 #include "tests.h"
 
 /* The budget that fluent_bundle_new has. */
 #define THREAD 1572864
+/* What stands for fluent_bundle_new_plain within that budget, in the place of a budget. */
+#define PLAIN SIZE_MAX
 
 struct Row {
     const char *name;
@@ -50,6 +53,8 @@ static const struct Found FOUND[] = {
 };
 
 static uint32_t make(const struct Row *row, size_t stack, struct FluentBundle *made) {
+    if (stack == PLAIN)
+        return fluent_bundle_new_plain(row->sources, row->count, row->locale.at, row->locale.len, false, false, THREAD, made);
     if (stack != 0)
         return fluent_bundle_new_within(row->sources, row->count, row->locale.at, row->locale.len, false, false, stack, made);
     return fluent_bundle_new(row->sources, row->count, row->locale.at, row->locale.len, false, false, made);
@@ -117,6 +122,37 @@ static void try_depths(struct Tally *made, struct Tally *within) {
     count_try(within, "a greater budget", is_made(&deep, 2 * THREAD, true));
 }
 
+/* What bundles of these calls have for a number: `locale` names the numbers, and the calls of the budgets 0 and PLAIN are made. */
+struct Number {
+    const char *name;
+    struct Bytes locale;
+    size_t stack;
+    struct Bytes text;
+};
+
+static const struct Number NUMBERS[] = {
+    {"German numbers", BYTES("de_AT.UTF-8"), 0, BYTES("\xe2\x82\xac\xc2\xa0" "1.234,50")},
+    {"German numbers within a budget", BYTES("de"), THREAD, BYTES("1.234,50\xc2\xa0\xe2\x82\xac")},
+    {"plain numbers in German", BYTES("de"), PLAIN, BYTES("1234.5")},
+    {"no locale", NONE, THREAD, BYTES("1234.5")},
+};
+
+/* Whether a bundle writes 1234.5 euros so. */
+static bool writes(const struct Number *number) {
+    const struct Row row = {
+        number->name, {BYTES("sum = { NUMBER($n, style: \"currency\", currency: \"EUR\") }\n")}, 1, number->locale, FLUENT_READ, NONE};
+    const struct FluentArgument n = {
+        .name = (const uint8_t *)"n", .name_len = 1, .text = (const uint8_t *)"1234.5", .text_len = 6, .kind = FLUENT_DECIMAL};
+    struct FluentBundle bundle = {0};
+    struct FluentText text = {0}, errors = {0};
+    bool is_right = make(&row, number->stack, &bundle) == FLUENT_READ
+        && fluent_bundle_format(&bundle, (const uint8_t *)"sum", 3, (const uint8_t *)"", 0, &n, 1, &text, &errors) == FLUENT_READ
+        && holds(&text, number->text) && !errors.held;
+    fluent_free_text(&text);
+    fluent_bundle_free(&bundle);
+    return is_right;
+}
+
 static bool try_found(void) {
     struct Tally tally = {"fluent_bundle_has", 0, 0};
     struct FluentBundle bundle = {0};
@@ -135,12 +171,18 @@ bool try_bundles(void) {
     for (size_t i = 0; i < sizeof ROWS / sizeof *ROWS; i++)
         try_row(&made, &within, &ROWS[i]);
     try_depths(&made, &within);
+    struct Tally plain = {"fluent_bundle_new_plain", 0, 0};
+    for (size_t i = 0; i < sizeof ROWS / sizeof *ROWS; i++)
+        count_try(&plain, ROWS[i].name, is_made(&ROWS[i], PLAIN, i % 2));
+    for (size_t i = 0; i < sizeof NUMBERS / sizeof *NUMBERS; i++)
+        count_try(NUMBERS[i].stack == PLAIN ? &plain : NUMBERS[i].stack ? &within : &made, NUMBERS[i].name, writes(&NUMBERS[i]));
     struct Tally reported = {"fluent_bundle_errors", 0, 0};
     struct FluentBundle none = {0};
     count_try(&reported, "no bundle", reports(&none, false, FLUENT_NO_BUNDLE, (struct Bytes)NONE));
     count_try(&reported, "no bundle", reports(&none, true, FLUENT_NO_BUNDLE, (struct Bytes)NONE));
     bool is_right = print_tally(&made);
     is_right &= print_tally(&within);
+    is_right &= print_tally(&plain);
     is_right &= print_tally(&reported);
     return try_found() && is_right;
 }

@@ -26,8 +26,8 @@ static const struct FluentSource SOURCES[] = {
 static const struct Row ROWS[] = {
     {"an integer", BYTES("n"), NONE, {{NAMED("n"), TEXT(""), .integer = -3, .kind = FLUENT_INTEGER}}, 1, FLUENT_READ, BYTES("-3 few"), {0}},
     {"an unsigned integer", BYTES("n"), NONE, {{NAMED("n"), TEXT(""), .unsigned_integer = UINT64_MAX, .kind = FLUENT_UNSIGNED}}, 1, FLUENT_READ,
-     BYTES("18446744073709551615 other"), {0}},
-    {"a decimal", BYTES("n"), NONE, {{NAMED("n"), TEXT("1.50"), .kind = FLUENT_DECIMAL}}, 1, FLUENT_READ, BYTES("1.50 other"), {0}},
+     BYTES("18\xc2\xa0" "446\xc2\xa0" "744\xc2\xa0" "073\xc2\xa0" "709\xc2\xa0" "551\xc2\xa0" "615 other"), {0}},
+    {"a decimal", BYTES("n"), NONE, {{NAMED("n"), TEXT("1.50"), .kind = FLUENT_DECIMAL}}, 1, FLUENT_READ, BYTES("1,50 other"), {0}},
     {"the decimal 1", BYTES("n"), NONE, {{NAMED("n"), TEXT("1"), .kind = FLUENT_DECIMAL}}, 1, FLUENT_READ, BYTES("one"), {0}},
     {"the text 1", BYTES("n"), NONE, {{NAMED("n"), TEXT("1"), .kind = FLUENT_TEXT}}, 1, FLUENT_READ, BYTES("1 other"), {0}},
     {"a text", BYTES("welcome"), NONE, {{NAMED("name"), TEXT("Jane"), .kind = FLUENT_TEXT}}, 1, FLUENT_READ, BYTES("Welcome, Jane."), {0}},

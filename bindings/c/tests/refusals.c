@@ -28,6 +28,12 @@ static uint32_t make(struct Kept *kept) { return fluent_bundle_new(SOURCES, 2, T
 static uint32_t make_within(struct Kept *kept) {
     return fluent_bundle_new_within(SOURCES, 2, TEXT("pl"), true, false, 100000, &kept->bundle);
 }
+static uint32_t make_plain(struct Kept *kept) {
+    return fluent_bundle_new_plain(SOURCES, 2, TEXT("pl"), true, false, 100000, &kept->bundle);
+}
+static uint32_t answer_plain(struct Kept *kept) {
+    return fluent_answer_plain(SOURCES, 2, TEXT("pl"), true, false, TEXT("welcome\tname=Jane\nbroken\n"), &kept->text);
+}
 static uint32_t format(struct Kept *kept) {
     static const struct FluentArgument name = {.name = AT("name"), .name_len = 4, .text = AT("Jane"), .text_len = 4, .kind = FLUENT_TEXT};
     return fluent_bundle_format(&kept->bundle, TEXT("broken"), TEXT(""), &name, 1, &kept->text, &kept->errors);
@@ -49,8 +55,10 @@ static const struct {
     {"fluent_write", write_tree},
     {"fluent_write_json", write_json},
     {"fluent_answer", answer},
+    {"fluent_answer_plain", answer_plain},
     {"fluent_bundle_new", make},
     {"fluent_bundle_new_within", make_within},
+    {"fluent_bundle_new_plain", make_plain},
     {"fluent_bundle_format", format},
     {"fluent_bundle_errors", report},
     {"fluent_bundle_has", has},

@@ -50,10 +50,12 @@ class _Texts:
 class Bundle:
     """Messages and terms of sources, which are read once and kept.
 
-    `locale` names the language whose plural rules choose variants, such as "pl"; English without one. With `isolating`
-    the values of placeables are between marks that keep their direction from that of the text around them. With
-    `overriding` the last entry of an id counts, and else the first. `formatter` makes a text or a number of an argument
-    that is neither, such as a date or `None`: `str` if you set none.
+    `locale` names the language whose plural rules choose variants, such as "pl", and as which numbers are written:
+    1234.5 is "1.234,5" in German. Without one the rules are those of English, and numbers are written plainly; with
+    `numbers=False` they are, too, whatever the locale. With `isolating` the values of placeables are between marks that
+    keep their direction from that of the text around them. With `overriding` the last entry of an id counts, and else
+    the first. `formatter` makes a text or a number of an argument that is neither, such as a date or `None`: `str` if
+    you set none.
 
     `stack` is how many bytes of the machine's stack a message or a term may take when it is read, and an answer: the
     usual 1.5 MB suit a thread with 2 MB. What nests deeper raises `MemoryError`. A thread that makes or asks the bundle
@@ -68,6 +70,7 @@ class Bundle:
         sources: str | Iterable[str],
         *,
         locale: str | None = None,
+        numbers: bool = True,
         isolating: bool = True,
         overriding: bool = False,
         formatter: Formatter = str,
@@ -75,7 +78,7 @@ class Bundle:
     ) -> None:
         texts = _texts_of(sources)
         named = [(f"source {number}", text) for number, text in enumerate(texts, 1)]
-        self._make(named, locale, isolating, overriding, formatter, stack)
+        self._make(named, locale, numbers, isolating, overriding, formatter, stack)
 
     @classmethod
     def from_files(
@@ -83,6 +86,7 @@ class Bundle:
         paths: Paths,
         *,
         locale: str | None = None,
+        numbers: bool = True,
         isolating: bool = True,
         overriding: bool = False,
         formatter: Formatter = str,
@@ -94,13 +98,14 @@ class Bundle:
         """
         each = [paths] if isinstance(paths, (str, os.PathLike)) else list(paths)
         bundle = cls.__new__(cls)
-        bundle._make([_file(path) for path in each], locale, isolating, overriding, formatter, stack)
+        bundle._make([_file(path) for path in each], locale, numbers, isolating, overriding, formatter, stack)
         return bundle
 
     def _make(
         self,
         named: list[tuple[str, bytes]],
         locale: str | None,
+        numbers: bool,
         isolating: bool,
         overriding: bool,
         formatter: Formatter,
@@ -115,7 +120,8 @@ class Bundle:
         # What `errors` needs, until it was asked.
         self._sources: list[tuple[str, bytes]] | None = named
         self._errors: list[SourceError] = []
-        made = self._read([text for _, text in named], tag, bool(isolating), self._handle)
+        new = c.library.fluent_bundle_new_within if numbers else c.library.fluent_bundle_new_plain
+        made = self._read([text for _, text in named], tag, bool(isolating), self._handle, new)
         if made == c.UNKNOWN_LOCALE:
             raise UnknownLocaleError(f"the locale {locale!r} has no plural rules")
         if made != c.READ:
@@ -123,18 +129,17 @@ class Bundle:
         self._free = weakref.finalize(self, c.library.fluent_bundle_free, self._handle)
         self._calls = calls_type(ctypes.addressof(self._handle), self._handle, self._lock) if calls_type else None
 
-    def _read(self, texts: list[bytes], tag: bytes, isolating: bool, handle: c.FluentBundle) -> int:
+    def _read(
+        self, texts: list[bytes], tag: bytes, isolating: bool, handle: c.FluentBundle, new: Callable[..., int]
+    ) -> int:
         array, count = c.sources(texts)
-        made: int = c.library.fluent_bundle_new_within(
-            array, count, tag, len(tag), isolating, self._overriding, self._stack, handle
-        )
-        return made
+        return new(array, count, tag, len(tag), isolating, self._overriding, self._stack, handle)
 
     def _too_deep(self, named: list[tuple[str, bytes]]) -> str:
         """Which source can't be read."""
         for name, text in named:
             alone = c.FluentBundle()
-            made = self._read([text], b"", True, alone)
+            made = self._read([text], b"", True, alone, c.library.fluent_bundle_new_plain)
             c.library.fluent_bundle_free(alone)
             if made != c.READ:
                 return f"{name} nests too deep for {self._stack} bytes of the stack, or memory ran out"

@@ -101,10 +101,12 @@ def _load() -> ctypes.CDLL:
     bundle = ctypes.POINTER(FluentBundle)
     text = ctypes.POINTER(FluentText)
     size = ctypes.c_size_t
+    making: list[object] = [
+        ctypes.POINTER(FluentSource), size, ctypes.c_char_p, size, ctypes.c_bool, ctypes.c_bool, size, bundle,
+    ]
     calls: dict[str, list[object]] = {
-        "fluent_bundle_new_within": [
-            ctypes.POINTER(FluentSource), size, ctypes.c_char_p, size, ctypes.c_bool, ctypes.c_bool, size, bundle,
-        ],
+        "fluent_bundle_new_within": making,
+        "fluent_bundle_new_plain": making,
         "fluent_bundle_format": [
             bundle, ctypes.c_char_p, size, ctypes.c_char_p, size, ctypes.POINTER(FluentArgument), size, text, text,
         ],

@@ -33,20 +33,22 @@ class Localization:
     >>> texts.format("hello").text, texts.format("bye").locale
     ('Hallo', 'en')
 
-    A bundle is made when it is first asked. In a locale without plural rules each number is `other`. `isolating`,
-    `overriding` and `formatter` are those of `Bundle`. Raises `UnknownLocaleError` for a locale that is no language tag.
+    A bundle is made when it is first asked. In a locale without plural rules each number is `other`, and is written
+    plainly. `numbers`, `isolating`, `overriding` and `formatter` are those of `Bundle`. Raises `UnknownLocaleError` for
+    a locale that is no language tag.
     """
 
     def __init__(
         self,
         sources: Mapping[str, str | Iterable[str]],
         *,
+        numbers: bool = True,
         isolating: bool = True,
         overriding: bool = False,
         formatter: Formatter = str,
     ) -> None:
         texts = {locale: [given] if isinstance(given, str) else list(given) for locale, given in sources.items()}
-        self._keep(texts, Bundle, isolating=isolating, overriding=overriding, formatter=formatter)
+        self._keep(texts, Bundle, numbers=numbers, isolating=isolating, overriding=overriding, formatter=formatter)
 
     @classmethod
     def load(
@@ -56,6 +58,7 @@ class Localization:
         requested: Iterable[str] | None = None,
         *,
         default: str | None = None,
+        numbers: bool = True,
         isolating: bool = True,
         overriding: bool = False,
         formatter: Formatter = str,
@@ -79,7 +82,8 @@ class Localization:
         used = negotiate_languages(wanted, available, default)
         texts = cls.__new__(cls)
         paths = {locale: available[locale] for locale in used}
-        texts._keep(paths, Bundle.from_files, isolating=isolating, overriding=overriding, formatter=formatter)
+        settings = {"numbers": numbers, "isolating": isolating, "overriding": overriding, "formatter": formatter}
+        texts._keep(paths, Bundle.from_files, **settings)
         return texts
 
     def _keep(self, sources: Mapping[str, list[str]], make: Callable[..., Bundle], **settings: object) -> None:
@@ -99,7 +103,8 @@ class Localization:
                 try:
                     made = self._make(sources, locale=locale, **self._settings)
                 except UnknownLocaleError:
-                    made = self._make(sources, locale="und", **self._settings)
+                    settings: dict[str, object] = {**self._settings, "numbers": False}
+                    made = self._make(sources, locale="und", **settings)
                 self._bundles[locale] = made
             return self._bundles[locale]
 

@@ -150,6 +150,12 @@ class Texts(unittest.TestCase):
         texts = Localization({"tt": "n = { $n ->\n    [one] one\n   *[other] other\n}\n"})
         self.assertEqual(texts.format("n", n=1).text, "other")
 
+    def test_numbers(self):
+        sources = {locale: f"{locale} = {{ $n }}\n" for locale in ("de", "io", "tt", "en")}
+        for numbers, shown in [(True, ["1.234,5", "1234.5", "1234.5", "1,234.5"]), (False, ["1234.5"] * 4)]:
+            texts = Localization(sources, numbers=numbers, isolating=False)
+            self.assertEqual([texts.format(locale, n=1234.5).text for locale in sources], shown)
+
 
 class Runtime(unittest.TestCase):
     """What the pages of `fluent.runtime` show."""

@@ -2,7 +2,7 @@
 
 use crate::args::FluentArgs;
 use crate::errors::{EntryKind, FluentError};
-use crate::kept::{Kept, Refusal};
+use crate::kept::{Kept, Refusal, Settings};
 use crate::listing::Entry;
 use crate::message::{FluentMessage, Message, Pattern};
 use crate::resolver::{ReferenceKind, ResolverError};
@@ -22,11 +22,12 @@ use std::sync::{Arc, OnceLock};
 /// It is `Send` and `Sync`: the bundle that the library keeps is under a lock, which an answer holds for about a
 /// microsecond. So threads can share one, and threads that do nothing but format are faster with a bundle each.
 pub struct FluentBundle<R = FluentResource> {
-    /// The locales that [`FluentBundle::new`] was given, as texts. The plural rules stay those that it chose.
+    /// The locales that [`FluentBundle::new`] was given, as texts. Plural rules and numbers stay those that it chose.
     pub locales: Vec<String>,
     /// The first of the locales that has plural rules, or the empty one, whose rules are those of English.
     rules: String,
     isolating: bool,
+    plain_numbers: bool,
     resources: Vec<Added<R>>,
     /// The entry of each id that counts.
     entries: HashMap<Arc<str>, Held>,
@@ -57,16 +58,19 @@ impl Held {
 }
 
 impl<R: Borrow<FluentResource>> FluentBundle<R> {
-    /// A bundle without resources, for the first of these locales that has plural rules, and else for English.
+    /// A bundle without resources, for the first of these locales that has plural rules. It writes numbers as that one
+    /// does. If none has, the rules are those of English, and numbers are written plainly.
     pub fn new<L: fmt::Display>(locales: Vec<L>) -> Self {
         static BUNDLES: AtomicU64 = AtomicU64::new(0);
         let locales: Vec<String> = locales.iter().map(L::to_string).collect();
-        let has_rules = |locale: &&String| Kept::of(&[], locale, true, false).is_some();
+        let plain = Settings { isolating: true, last_counts: false, plain_numbers: true };
+        let has_rules = |locale: &&String| Kept::of(&[], locale, plain).is_some();
         let rules = locales.iter().filter(|locale| !locale.is_empty()).find(has_rules).cloned().unwrap_or_default();
         FluentBundle {
             locales,
             rules,
             isolating: true,
+            plain_numbers: false,
             resources: Vec::new(),
             entries: HashMap::from([(Arc::from("NUMBER"), Held::Other)]),
             number: BUNDLES.fetch_add(1, Ordering::Relaxed),
@@ -121,6 +125,13 @@ impl<R: Borrow<FluentResource>> FluentBundle<R> {
     pub fn set_use_isolating(&mut self, value: bool) {
         self.forget();
         self.isolating = value;
+    }
+
+    /// Whether numbers are written plainly, such as `1234.5`, whatever the locale. At first they are written as the
+    /// locale does it, such as `1.234,5` in German.
+    pub fn set_plain_numbers(&mut self, value: bool) {
+        self.forget();
+        self.plain_numbers = value;
     }
 
     /// Whether an id is that of a message.
@@ -252,7 +263,8 @@ impl<R: Borrow<FluentResource>> FluentBundle<R> {
                 self.added(true).rev().chain(self.added(false)).collect()
             };
             let sources: Vec<&str> = resources.into_iter().map(FluentResource::readable).collect();
-            Kept::of(&sources, &self.rules, self.isolating, last_counts).unwrap_or_else(|| out_of_memory())
+            let settings = Settings { isolating: self.isolating, last_counts, plain_numbers: self.plain_numbers };
+            Kept::of(&sources, &self.rules, settings).unwrap_or_else(|| out_of_memory())
         })
     }
 

@@ -8,6 +8,9 @@ pub const FLUENT_DECIMAL: u32 = 1;
 pub const FLUENT_INTEGER: u32 = 2;
 pub const FLUENT_UNSIGNED: u32 = 3;
 
+/// What a message or an answer may take of the machine's stack: what suits a thread with 2 MB.
+pub const THREAD_STACK: usize = 1_572_864;
+
 #[repr(C)]
 pub struct FluentSource {
     pub text: *const u8,
@@ -54,13 +57,24 @@ pub struct FluentArgument {
 extern "C" {
     pub fn fluent_parse(text: *const u8, len: usize, counts: *mut FluentCounts) -> u32;
     pub fn fluent_write(text: *const u8, len: usize, with_junk: bool, made: *mut FluentText) -> u32;
-    pub fn fluent_bundle_new(
+    pub fn fluent_bundle_new_within(
         sources: *const FluentSource,
         count: usize,
         locale: *const u8,
         locale_len: usize,
         isolating: bool,
         overriding: bool,
+        stack: usize,
+        made: *mut FluentBundle,
+    ) -> u32;
+    pub fn fluent_bundle_new_plain(
+        sources: *const FluentSource,
+        count: usize,
+        locale: *const u8,
+        locale_len: usize,
+        isolating: bool,
+        overriding: bool,
+        stack: usize,
         made: *mut FluentBundle,
     ) -> u32;
     pub fn fluent_bundle_format(

@@ -15,6 +15,17 @@ pub(crate) enum Refusal {
     Memory,
 }
 
+/// How a bundle is asked.
+#[derive(Clone, Copy)]
+pub(crate) struct Settings {
+    /// Whether the values of placeables are between marks of direction.
+    pub isolating: bool,
+    /// Whether the last entry of an id counts, and not the first.
+    pub last_counts: bool,
+    /// Whether numbers are written plainly, whatever the locale.
+    pub plain_numbers: bool,
+}
+
 /// A bundle that the library keeps. It is freed when it is dropped.
 ///
 /// One call at a time may use it, so it is under a lock, which no call of a program's own code holds.
@@ -31,22 +42,23 @@ struct Asked {
 unsafe impl Send for Asked {}
 
 impl Kept {
-    /// A bundle of copies of sources, in which the first or the last entry of an id counts; or `None` if the locale has
-    /// no plural rules or the library was refused memory.
-    pub(crate) fn of(sources: &[&str], locale: &str, isolating: bool, last_counts: bool) -> Option<Kept> {
+    /// A bundle of copies of sources; or `None` if the locale has no plural rules or the library was refused memory.
+    pub(crate) fn of(sources: &[&str], locale: &str, settings: Settings) -> Option<Kept> {
+        let make = if settings.plain_numbers { c::fluent_bundle_new_plain } else { c::fluent_bundle_new_within };
         let sources: Vec<c::FluentSource> =
             sources.iter().map(|source| c::FluentSource { text: source.as_ptr(), len: source.len() }).collect();
         let mut handle =
             c::FluentBundle { held: false, sources: ptr::null_mut(), read: ptr::null_mut(), desk: ptr::null_mut() };
         // SAFETY: each pointer is that of a slice of the length next to it, and the handle holds no bundle yet.
         let made = unsafe {
-            c::fluent_bundle_new(
+            make(
                 sources.as_ptr(),
                 sources.len(),
                 locale.as_ptr(),
                 locale.len(),
-                isolating,
-                last_counts,
+                settings.isolating,
+                settings.last_counts,
+                c::THREAD_STACK,
                 &mut handle,
             )
         };

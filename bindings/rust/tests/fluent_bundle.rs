@@ -92,6 +92,7 @@ fn a_bundle_in_a_static_is_shared_by_threads() {
         let mut bundle = concurrent::FluentBundle::new_concurrent(vec!["en"]);
         bundle.add_resource(resource("a = { $n }\nb = B\n")).expect("A message was there before.");
         bundle.set_use_isolating(false);
+        bundle.set_plain_numbers(true);
         bundle
     });
     std::thread::scope(|scope| {

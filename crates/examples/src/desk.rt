@@ -35,6 +35,7 @@ pub fn main(rt: HostRuntime) -> Result<()> {
     let settings = Settings {
         isolating: false,
         overriding: false,
+        numerals: None,
     };
     let plurals = LanguagePlurals::root();
     let requests = "key2\tx=3\n".as_bytes();

@@ -1,5 +1,5 @@
 -- Worked answers: sources, request lines, and the bytes that come out.
-use Rattle.std.specs.Prelude.{◌≡◌, refl, ⊤, true, false, List, [], ◌∷◌, ◌++◌, codes, encode_utf8}
+use Rattle.std.specs.Prelude.{None, ◌≡◌, refl, ⊤, true, false, List, [], ◌∷◌, ◌++◌, codes, encode_utf8}
 use Rattle.std.specs.Fmt.{digits}
 use Rattle.std.specs.Str.{is_utf8}
 use Rattle.fluent_grammar.specs.Words.{Text}
@@ -25,13 +25,13 @@ unfolding computing is_utf8 digits read_number number_text operands_of last_digi
 answering = tt
 
 abbrev plain : Settings
-plain = record { isolating = true; overriding = false }
+plain = record { isolating = true; overriding = false; numerals = None }
 
 abbrev bare : Settings
-bare = record { isolating = false; overriding = false }
+bare = record { isolating = false; overriding = false; numerals = None }
 
 abbrev last_counts : Settings
-last_counts = record { isolating = true; overriding = true }
+last_counts = record { isolating = true; overriding = true; numerals = None }
 
 -- English, without values of a program's own type
 abbrev asked : Settings → List Text → Text → Text

@@ -1,7 +1,9 @@
 -- What request lines are answered, from sources that C hands over.
-use Rattle.std.specs.Prelude.{if◌then◌else◌, Bool, List, [], ◌∷◌, Option, Some, IsSomeAnd, option_map, map, IsUtf8, All, Contains}
+use Rattle.std.specs.Prelude.{if◌then◌else◌, Bool, List, [], ◌∷◌, Option, Some, None, IsSomeAnd, option_map, map, IsUtf8, All, Contains}
 use Rattle.fluent_answers.specs.Answers.{answers}
 use Rattle.fluent_grammar.specs.Words.{Text}
+use Rattle.fluent_answers.specs.Sources.{Settings}
+use Rattle.fluent_numerals.specs.Lookup.{Locale, locale_for}
 use Rattle.fluent_plurals.specs.Plurals.{english_rules, plurals_by, plurals_for, root}
 use Rattle.fluent_plurals.specs.declared.plurals.LanguagePlurals.{LanguagePlurals}
 use Rattle.fluent_run.specs.RunView.{no_text}
@@ -37,17 +39,26 @@ abbrev pub plurals_in : Text → Option LanguagePlurals
 plurals_in [] = Some english_rules
 plurals_in (byte ∷ tag) = plurals_named (byte ∷ tag)
 
+-- how answers are made
+abbrev pub settings_of : Option Locale → Bool → Bool → Settings
+settings_of numerals isolating overriding = record { isolating = isolating; overriding = overriding; numerals = numerals }
+
 -- the answers to a stream of request lines by plural rules
-abbrev pub answers_by : LanguagePlurals → Bool → Bool → List Text → Text → Text
-answers_by plurals isolating overriding sources =
-    answers NoFunction (plurals_by plurals) no_text (record { isolating = isolating; overriding = overriding }) sources
+abbrev pub answers_by : LanguagePlurals → Settings → List Text → Text → Text
+answers_by plurals = answers NoFunction (plurals_by plurals) no_text
 
 -- the answers by the plural rules of a locale, if it has any
-abbrev pub answers_in : Text → Bool → Bool → List Text → Text → Option Text
-answers_in locale isolating overriding sources requests =
-    option_map (λ plurals. answers_by plurals isolating overriding sources requests) (plurals_in locale)
+abbrev pub answers_in : Settings → Text → List Text → Text → Option Text
+answers_in settings locale sources requests = option_map (λ plurals. answers_by plurals settings sources requests) (plurals_in locale)
 
 -- the locale has plural rules, and the text holds the answers by them
+abbrev pub IsAnswerBy : Settings → Text → List FluentSource → Text → FluentText → Type 0
+IsAnswerBy settings locale sources requests made = IsSomeAnd (answers_in settings locale (texts_of sources) requests) (Holds made)
+
+-- numbers are written as the locale writes them, and plainly if CLDR doesn't say how
 abbrev pub IsAnswer : Text → Bool → Bool → List FluentSource → Text → FluentText → Type 0
-IsAnswer locale isolating overriding sources requests made =
-    IsSomeAnd (answers_in locale isolating overriding (texts_of sources) requests) (Holds made)
+IsAnswer locale isolating overriding = IsAnswerBy (settings_of (locale_for locale) isolating overriding) locale
+
+-- numbers are written plainly
+abbrev pub IsPlain : Text → Bool → Bool → List FluentSource → Text → FluentText → Type 0
+IsPlain locale isolating overriding = IsAnswerBy (settings_of None isolating overriding) locale

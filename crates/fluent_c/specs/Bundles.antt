@@ -1,5 +1,5 @@
 -- What C learns of a bundle that it keeps.
-use Rattle.std.specs.Prelude.{◌≡◌, ◌⊎◌, Bool, true, false, List, [], ◌∷◌, Option, Some, None, IsNone, IsSome, IsSomeAnd, IsUtf8, map, option_copied, option_map}
+use Rattle.std.specs.Prelude.{◌≡◌, ◌⊎◌, Bool, true, false, List, [], ◌∷◌, Option, Some, None, IsNone, IsSome, IsSomeAnd, IsUtf8, map, option_and_then, option_copied, option_map}
 use Rattle.std.specs.List.{flat_map}
 use denote.Ref.{Bor}
 use Rattle.fluent_answers.specs.Answers.{pattern_asked, reply_to}
@@ -8,28 +8,41 @@ use Rattle.fluent_grammar.specs.Words.{Text}
 use Rattle.fluent_ids.specs.Found.{message_in}
 use Rattle.fluent_kept.specs.Catalogs.{Catalog, catalog_environment}
 use Rattle.fluent_kept.specs.declared.handle.FluentBundle.{FluentBundle}
+use Rattle.fluent_answers.specs.Sources.{Settings}
+use Rattle.fluent_numerals.specs.Lookup.{locale_for}
 use Rattle.fluent_serve.specs.Frames.{Reply, ended}
-use Rattle.fluent_c.specs.Answering.{plurals_in, texts_of}
+use Rattle.fluent_c.specs.Answering.{plurals_in, settings_of, texts_of}
 use Rattle.fluent_c.specs.Arguments.{AreRefusedFor, pair_of}
 use Rattle.fluent_c.specs.Made.{Holds, HoldsNone}
 use Rattle.fluent_c.specs.declared.answering.FluentSource.{FluentSource}
+use Rattle.fluent_c.specs.declared.bundles.Asking.{Asking}
 use Rattle.fluent_c.specs.declared.arguments.ArgumentRefusal.TheVariants.{NotUtf8}
 use Rattle.fluent_c.specs.declared.arguments.FluentArgument.{FluentArgument}
 use Rattle.fluent_c.specs.declared.text.FluentText.{FluentText}
 
 -- what a bundle is made of, if the locale has plural rules
-abbrev pub catalog_in : Text → Bool → Bool → List Text → Option Catalog
-catalog_in locale isolating overriding sources =
-    option_map (λ plurals. record { settings = record { isolating = isolating; overriding = overriding }; plurals = plurals; sources = sources }) (plurals_in locale)
+abbrev pub catalog_in : Settings → Text → List Text → Option Catalog
+catalog_in settings locale sources = option_map (λ plurals. record { settings = settings; plurals = plurals; sources = sources }) (plurals_in locale)
+
+-- how a bundle is asked: numbers are written as the locale of a tag writes them, and plainly without one
+abbrev pub settings_asked : Option (Bor Text) → Asking → Settings
+settings_asked tag asking = settings_of (option_and_then locale_for (option_copied tag)) asking.isolating asking.overriding
 
 -- there is a bundle, of this catalog
 abbrev pub Keeps : FluentBundle → Catalog → Type 0
 Keeps bundle catalog = (bundle.held ≡ true) × (bundle.catalog ≡ catalog)
 
 -- there is a bundle of these sources, for a locale that has plural rules and with these settings
+abbrev pub KeepsBy : Settings → Text → List FluentSource → FluentBundle → Type 0
+KeepsBy settings locale sources bundle = IsSomeAnd (catalog_in settings locale (texts_of sources)) (Keeps bundle)
+
+-- it writes numbers as the locale writes them, and plainly if CLDR doesn't say how
 abbrev pub KeepsSources : Text → Bool → Bool → List FluentSource → FluentBundle → Type 0
-KeepsSources locale isolating overriding sources bundle =
-    IsSomeAnd (catalog_in locale isolating overriding (texts_of sources)) (Keeps bundle)
+KeepsSources locale isolating overriding = KeepsBy (settings_of (locale_for locale) isolating overriding) locale
+
+-- it writes them plainly
+abbrev pub KeepsPlain : Text → Bool → Bool → List FluentSource → FluentBundle → Type 0
+KeepsPlain locale isolating overriding = KeepsBy (settings_of None isolating overriding) locale
 
 -- there is no bundle
 abbrev pub KeepsNone : FluentBundle → Type 0

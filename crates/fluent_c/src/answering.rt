@@ -2,7 +2,8 @@
 
 ghost use Rattle.std.specs.Prelude.{◌≡◌, ◌≢◌, ◌++◌, ◌∷◌, [], false, IfOk, IfErr, IsTrue, OnOk, IsUtf8, None};
 ghost use Rattle.fluent_serve.specs.Texts.{texts};
-ghost use Rattle.fluent_c.specs.Answering.{texts_of, AreUtf8, HoldsOther, IsAnswer, plurals_in};
+ghost use Rattle.fluent_c.specs.Answering.{texts_of, AreUtf8, HoldsOther, IsAnswer, IsAnswerBy, IsPlain, plurals_in};
+ghost use Rattle.fluent_run.specs.RunView.{settings_view};
 ghost use Rattle.fluent_c.specs.Statuses.{ReadsSources};
 ghost use Rattle.fluent_c.specs.declared.TheConstants.{FLUENT_READ};
 ghost use Rattle.fluent_c.specs.declared.answering.Refusal.TheVariants.{Memory, NotUtf8, UnknownLocale};
@@ -10,6 +11,7 @@ ghost use Rattle.fluent_c.specs.declared.answering.Refusal.TheVariants.{Memory, 
 use crate::locales::names_posix;
 use crate::text::FluentText;
 use crate::{FLUENT_NO_MEMORY, FLUENT_NOT_UTF8, FLUENT_READ, FLUENT_UNKNOWN_LOCALE};
+use fluent_numerals::LocaleNumerals;
 use fluent_plurals::LanguagePlurals;
 use fluent_run::{Settings, answers};
 use fluent_text::stack::StackBudget;
@@ -126,7 +128,7 @@ fn answered(
     settings: Settings,
     requests: &[u8],
 ) -> Result<FluentText, Refusal>
-    ensures answered { IfOk result (IsAnswer locale.now settings.isolating settings.overriding
+    ensures answered { IfOk result (IsAnswerBy (settings_view settings) locale.now
         sources.now requests.now) }
     ensures utf8 { OnOk result (AreUtf8 sources.now) }
     ensures not_utf8 { IfErr result (λ refusal. refusal ≡ NotUtf8 → HoldsOther sources.now) }
@@ -142,12 +144,41 @@ fn answered(
     Ok(FluentText::of(alloc, answers)?)
 }
 
+/// Puts the answers to request lines into `made`.
+fn answer(
+    alloc: Global,
+    sources: &[FluentSource<'_>],
+    locale: &[u8],
+    settings: Settings,
+    requests: &[u8],
+    made: &mut FluentText,
+) -> u32
+    ensures status { ReadsSources sources.now locale.now result }
+    ensures made { result ≡ FLUENT_READ
+        → IsAnswerBy (settings_view settings) locale.now sources.now requests.now made.new }
+    ensures unchanged { result ≢ FLUENT_READ → made.new ≡ made.old }
+{
+    if !are_utf8(sources) {
+        return FLUENT_NOT_UTF8;
+    }
+    match answered(alloc, sources, locale, settings, requests) {
+        Ok(text) => {
+            made.put(alloc, text);
+            FLUENT_READ
+        }
+        Err(Refusal::NotUtf8) => FLUENT_NOT_UTF8,
+        Err(Refusal::UnknownLocale) => FLUENT_UNKNOWN_LOCALE,
+        Err(Refusal::Memory) => FLUENT_NO_MEMORY,
+    }
+}
+
 /// Answers request lines from the messages and terms of sources, as the command `ftl run` does.
 ///
-/// The function `NUMBER` is there, and variants are chosen by the plural rules of the locale, a tag such as `pl` or `pt-PT`, and by
-/// those of English if it is empty. Placeables are between marks if `isolating` is true. Of duplicate ids the last
-/// entry counts if `overriding` is true, and otherwise the first. `docs/reference/protocol.md` says what a request line
-/// and its answer are, and `docs/reference/plurals.md` which locales have plural rules.
+/// The function `NUMBER` is there. Variants are chosen by the plural rules of the locale, a tag such as `pl` or `pt-PT`, and numbers
+/// are written as it writes them. The empty locale has the rules of English, and plain numbers. Placeables are between marks if
+/// `isolating` is true. Of duplicate ids the last entry counts if `overriding` is true, and otherwise the first.
+/// `docs/reference/protocol.md` says what a request line and its answer are, `docs/reference/plurals.md` which locales have plural
+/// rules, and `docs/reference/numerals.md` how numbers are written.
 ///
 /// The call returns [`FLUENT_READ`], also if a source has errors or a request is bad: then `made` holds the answers, and
 /// what it held before is freed. It returns [`FLUENT_NOT_UTF8`] if a source isn't UTF-8, which is seen before
@@ -168,20 +199,34 @@ pub extern "C" fn fluent_answer(
         → IsAnswer locale.now isolating overriding sources.now requests.now made.new }
     ensures unchanged { result ≢ FLUENT_READ → made.new ≡ made.old }
 {
-    if !are_utf8(sources) {
-        return FLUENT_NOT_UTF8;
-    }
     let settings = Settings {
         isolating,
         overriding,
+        numerals: LocaleNumerals::for_tag_bytes(locale),
     };
-    match answered(alloc, sources, locale, settings, requests) {
-        Ok(text) => {
-            made.put(alloc, text);
-            FLUENT_READ
-        }
-        Err(Refusal::NotUtf8) => FLUENT_NOT_UTF8,
-        Err(Refusal::UnknownLocale) => FLUENT_UNKNOWN_LOCALE,
-        Err(Refusal::Memory) => FLUENT_NO_MEMORY,
-    }
+    answer(alloc, sources, locale, settings, requests, made)
+}
+
+/// As [`fluent_answer`], but numbers are written plainly, whatever the locale.
+#[unsafe(no_mangle)]
+pub extern "C" fn fluent_answer_plain(
+    alloc: Global,
+    sources: &[FluentSource<'_>],
+    locale: &[u8],
+    isolating: bool,
+    overriding: bool,
+    requests: &[u8],
+    made: &mut FluentText,
+) -> u32
+    ensures status { ReadsSources sources.now locale.now result }
+    ensures answered { result ≡ FLUENT_READ
+        → IsPlain locale.now isolating overriding sources.now requests.now made.new }
+    ensures unchanged { result ≢ FLUENT_READ → made.new ≡ made.old }
+{
+    let settings = Settings {
+        isolating,
+        overriding,
+        numerals: None,
+    };
+    answer(alloc, sources, locale, settings, requests, made)
 }

@@ -1,10 +1,10 @@
 //! Bundles that a caller which isn't Rattle keeps from call to call: how they are made, asked and freed.
 
-ghost use Rattle.std.specs.Prelude.{◌≡◌, ◌≢◌, ◌∷◌, [], true, IfErr, IfOk, None, map, string_bytes};
+ghost use Rattle.std.specs.Prelude.{◌≡◌, ◌≢◌, ◌∷◌, [], true, IfErr, IfOk, None, map, option_copied, option_map, string_bytes, vec_items};
 ghost use Rattle.fluent_serve.specs.Texts.{texts};
 ghost use Rattle.fluent_check.specs.Report.{report_text};
 ghost use Rattle.fluent_c.specs.Answering.{HoldsOther, plurals_in};
-ghost use Rattle.fluent_c.specs.Bundles.{KeepsNone, KeepsSame, KeepsSources};
+ghost use Rattle.fluent_c.specs.Bundles.{KeepsBy, KeepsNone, KeepsPlain, KeepsSame, KeepsSources, settings_asked};
 ghost use Rattle.fluent_c.specs.Made.{Holds, HoldsSame};
 ghost use Rattle.fluent_c.specs.Statuses.{IsOneOf, LooksFor, ReadsSources};
 ghost use Rattle.fluent_c.specs.declared.TheConstants.{FLUENT_READ, FLUENT_NO_MEMORY, FLUENT_NO_BUNDLE};
@@ -19,7 +19,6 @@ use crate::{
     FLUENT_READ, FLUENT_UNKNOWN_LOCALE,
 };
 use fluent_kept::{Answer, FluentBundle, Question, Sources};
-use fluent_run::Settings;
 use fluent_text::stack::StackBudget;
 use std::alloc::{AllocError, Global};
 
@@ -37,7 +36,36 @@ fn copied(alloc: Global, borrowed: &[&str]) -> Result<Vec<String>, AllocError>
     Ok(owned)
 }
 
-/// A bundle of copies of sources, which reads and answers within a budget of the machine's stack.
+/// A copy of a tag, if there is one.
+///
+/// # Errors
+/// [`AllocError`] if memory runs out; nothing is kept.
+fn copied_tag(alloc: Global, tag: Option<&[u8]>) -> Result<Option<Vec<u8>>, AllocError>
+    ensures { IfOk result (λ owned. option_map vec_items owned ≡ option_copied tag.entry) }
+{
+    match tag {
+        Some(tag) => {
+            let mut owned = Vec::new(alloc);
+            owned.extend_from_slice(tag)?;
+            Ok(Some(owned))
+        }
+        None => Ok(None),
+    }
+}
+
+/// How a bundle is asked.
+#[derive(Clone, Copy)]
+struct Asking {
+    /// Whether placeables are between isolation marks.
+    isolating: bool,
+    /// Whether the last entry of an id counts, and not the first.
+    overriding: bool,
+    /// What reading and an answer may take of the machine's stack.
+    stack: StackBudget,
+}
+
+/// A bundle of copies of sources, which reads and answers within a budget of the machine's stack. Numbers are written as the locale
+/// of the tag `numerals` writes them, and plainly without one.
 ///
 /// # Errors
 /// [`Refusal::UnknownLocale`] if the locale has no plural rules, [`Refusal::NotUtf8`] if a source isn't UTF-8, and
@@ -46,11 +74,10 @@ fn kept(
     alloc: Global,
     sources: &[FluentSource<'_>],
     locale: &[u8],
-    settings: Settings,
-    stack: StackBudget,
+    numerals: Option<&[u8]>,
+    asking: Asking,
 ) -> Result<FluentBundle, Refusal>
-    ensures kept { IfOk result (KeepsSources locale.now settings.isolating settings.overriding
-        sources.now) }
+    ensures kept { IfOk result (KeepsBy (settings_asked numerals.entry asking) locale.now sources.now) }
     ensures not_utf8 { IfErr result (λ refusal. refusal ≡ NotUtf8 → HoldsOther sources.now) }
     ensures unknown { IfErr result (λ refusal. refusal ≡ UnknownLocale
         → plurals_in locale.now ≡ None) }
@@ -60,13 +87,44 @@ fn kept(
     };
     let borrowed = checked_texts(alloc, sources)?;
     let texts = copied(alloc, &borrowed)?;
+    let numerals = copied_tag(alloc, numerals)?;
     let sources = Sources {
         texts,
-        settings,
+        isolating: asking.isolating,
+        overriding: asking.overriding,
+        numerals,
         plurals,
-        stack,
+        stack: asking.stack,
     };
     Ok(FluentBundle::new(alloc, sources)?)
+}
+
+/// Puts such a bundle into `made`.
+fn keep(
+    alloc: Global,
+    sources: &[FluentSource<'_>],
+    locale: &[u8],
+    numerals: Option<&[u8]>,
+    asking: Asking,
+    made: &mut FluentBundle,
+) -> u32
+    ensures status { ReadsSources sources.now locale.now result }
+    ensures made { result ≡ FLUENT_READ
+        → KeepsBy (settings_asked numerals.entry asking) locale.now sources.now made.new }
+    ensures unchanged { result ≢ FLUENT_READ → made.new ≡ made.old }
+{
+    if !are_utf8(sources) {
+        return FLUENT_NOT_UTF8;
+    }
+    match kept(alloc, sources, locale, numerals, asking) {
+        Ok(bundle) => {
+            made.put(alloc, bundle);
+            FLUENT_READ
+        }
+        Err(Refusal::NotUtf8) => FLUENT_NOT_UTF8,
+        Err(Refusal::UnknownLocale) => FLUENT_UNKNOWN_LOCALE,
+        Err(Refusal::Memory) => FLUENT_NO_MEMORY,
+    }
 }
 
 /// Reads sources, and keeps a bundle of them, which answers as [`fluent_answer`](crate::fluent_answer) does.
@@ -114,23 +172,36 @@ pub extern "C" fn fluent_bundle_new_within(
         → KeepsSources locale.now isolating overriding sources.now made.new }
     ensures unchanged { result ≢ FLUENT_READ → made.new ≡ made.old }
 {
-    if !are_utf8(sources) {
-        return FLUENT_NOT_UTF8;
-    }
-    let settings = Settings {
+    let asking = Asking {
         isolating,
         overriding,
+        stack: StackBudget::of_bytes(stack),
     };
-    let stack = StackBudget::of_bytes(stack);
-    match kept(alloc, sources, locale, settings, stack) {
-        Ok(bundle) => {
-            made.put(alloc, bundle);
-            FLUENT_READ
-        }
-        Err(Refusal::NotUtf8) => FLUENT_NOT_UTF8,
-        Err(Refusal::UnknownLocale) => FLUENT_UNKNOWN_LOCALE,
-        Err(Refusal::Memory) => FLUENT_NO_MEMORY,
-    }
+    keep(alloc, sources, locale, Some(locale), asking, made)
+}
+
+/// As [`fluent_bundle_new_within`], but numbers are written plainly, whatever the locale.
+#[unsafe(no_mangle)]
+pub extern "C" fn fluent_bundle_new_plain(
+    alloc: Global,
+    sources: &[FluentSource<'_>],
+    locale: &[u8],
+    isolating: bool,
+    overriding: bool,
+    stack: usize,
+    made: &mut FluentBundle,
+) -> u32
+    ensures status { ReadsSources sources.now locale.now result }
+    ensures made { result ≡ FLUENT_READ
+        → KeepsPlain locale.now isolating overriding sources.now made.new }
+    ensures unchanged { result ≢ FLUENT_READ → made.new ≡ made.old }
+{
+    let asking = Asking {
+        isolating,
+        overriding,
+        stack: StackBudget::of_bytes(stack),
+    };
+    keep(alloc, sources, locale, None, asking, made)
 }
 
 /// Whether a bundle has what is asked for: a message's value, or its first attribute of a name, and the value for the empty name.

@@ -25,11 +25,11 @@ mod threads;
 mod version;
 mod writing;
 
-pub use answering::{FluentSource, fluent_answer};
+pub use answering::{FluentSource, fluent_answer, fluent_answer_plain};
 pub use arguments::FluentArgument;
 pub use bundles::{
     fluent_bundle_errors, fluent_bundle_free, fluent_bundle_has, fluent_bundle_new,
-    fluent_bundle_new_within,
+    fluent_bundle_new_plain, fluent_bundle_new_within,
 };
 pub use counts::{FluentCounts, fluent_parse, fluent_parse_runtime};
 pub use fluent_kept::FluentBundle;

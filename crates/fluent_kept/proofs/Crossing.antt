@@ -16,6 +16,9 @@ use Rattle.fluent_ast.specs.contracts.Resource as resource
 use Rattle.fluent_ast.specs.contracts.Term as term
 use Rattle.fluent_ids.specs.contracts.entry.Entry as entry
 use Rattle.fluent_ids.specs.contracts.ids.FluentIds as ids
+use Rattle.core.specs.contracts.option.Option as option
+use Rattle.fluent_numerals.proofs.numerals.LocaleNumerals.TheSendSync as numerals_crossing
+use Rattle.fluent_numerals.specs.contracts.numerals.LocaleNumerals as numerals
 use Rattle.fluent_plurals.proofs.plurals.LanguagePlurals.TheSendSync as plurals_crossing
 use Rattle.fluent_plurals.specs.contracts.plurals.LanguagePlurals as plurals
 use Rattle.fluent_resource.specs.contracts.resource.FluentResource as read
@@ -48,11 +51,14 @@ module _ (r s : NamedLft) where
   plurals_sync : IsSync plurals.the_row
   plurals_sync = plurals_crossing.the_sync
 
+  numerals_send : IsSend (option.the_field numerals.the_row).row
+  numerals_send = let a = numerals_crossing.the_send in search sendable depth 40
+
   sources_sync : IsSync sources_row
   sources_sync = sources.the_sync
 
   run_desk_send : IsSend (run_desk.the_field s r s plurals.the_row).row
-  run_desk_send = let a = ids_send in let b = plurals_sync in search sendable depth 60 fits 20000
+  run_desk_send = let a = ids_send in let b = plurals_sync in let c = numerals_send in search sendable depth 60 fits 20000
 
   pub desk_send : IsSend (kept_desk.the_row r s)
   desk_send = let a = run_desk_send in let b = sources_sync in search sendable depth 60 fits 20000

@@ -1,12 +1,15 @@
 -- A desk over what was read of a catalog answers from the catalog's environment.
-use Rattle.std.proofs.Common.{◌≡◌, Bool, List, [], ◌∷◌, map, None, ap, ◌∙◌}
-use Rattle.fluent_answers.specs.Sources.{ids_of}
+use Rattle.std.proofs.Common.{◌≡◌, Bool, List, [], ◌∷◌, map, Option, ap, ◌∙◌}
+use Rattle.std.specs.Prelude.{option_map}
+use Rattle.fluent_answers.specs.Sources.{formatted_in, ids_of}
 use Rattle.fluent_run.proofs.ResourceIds.{all_by_id-read}
 use Rattle.fluent_grammar.specs.Tiling.{runtime_tree}
 use Rattle.fluent_meaning.specs.Environment.{Environment}
 use Rattle.fluent_meaning.specs.Ids.{Ids, find, number_pair, with_ids}
 use Rattle.fluent_plurals.specs.Plurals.{plurals_by}
 use Rattle.fluent_plurals.specs.declared.plurals.LanguagePlurals.{LanguagePlurals}
+use Rattle.fluent_numerals.specs.Views.{locale_view}
+use Rattle.fluent_numerals.specs.Lookup.{Locale}
 use Rattle.fluent_resource.specs.ResourceView.{entries_view}
 use Rattle.fluent_resource.specs.declared.resource.FluentResource.{FluentResource}
 use Rattle.fluent_run.specs.DeskView.{desk_ids, ids_added}
@@ -17,22 +20,24 @@ use Rattle.fluent_kept.specs.Catalogs.{Catalog, catalog_environment, desk_enviro
 use Rattle.fluent_kept.specs.declared.desk.KeptDesk.{KeptDesk}
 
 -- an environment, by what makes it
-abbrev environment-of : Ids NoFunction → Bool → LanguagePlurals → Environment (Unit {0}) NoFunction
-environment-of ids isolating plurals = record {
+abbrev environment-of : Ids NoFunction → Bool → Option Locale → LanguagePlurals → Environment (Unit {0}) NoFunction
+environment-of ids isolating numerals plurals = record {
   find = find ids;
   call = λ f values pairs. error;
   isolating = isolating;
   transformed = λ s. s;
-  formatted = λ v. None;
+  formatted = formatted_in numerals;
   plurals = plurals_by plurals;
   shown = no_text;
 }
 
 pub environment-same : (desk : KeptDesk) (catalog : Catalog) (resources : List FluentResource) → map entries_view resources ≡ map runtime_tree catalog.sources →
     desk_ids desk.desk ≡ ids_added catalog.settings.overriding resources → desk.desk.plurals.now ≡ catalog.plurals → desk.desk.isolating ≡ catalog.settings.isolating →
+    option_map locale_view desk.desk.numerals ≡ catalog.settings.numerals →
     desk_environment desk ≡ catalog_environment catalog
-environment-same desk catalog resources read ids by isolating =
+environment-same desk catalog resources read ids by isolating numerals =
     let overriding = catalog.settings.overriding in
-    ap (λ x. environment-of x desk.desk.isolating desk.desk.plurals.now) (ids ∙ ap (with_ids overriding (number_pair ∷ [])) (all_by_id-read resources catalog.sources read))
-    ∙ ap (λ x. environment-of (ids_of overriding catalog.sources) x desk.desk.plurals.now) isolating
-    ∙ ap (λ x. environment-of (ids_of overriding catalog.sources) catalog.settings.isolating x) by
+    ap (λ x. environment-of x desk.desk.isolating (option_map locale_view desk.desk.numerals) desk.desk.plurals.now) (ids ∙ ap (with_ids overriding (number_pair ∷ [])) (all_by_id-read resources catalog.sources read))
+    ∙ ap (λ x. environment-of (ids_of overriding catalog.sources) x (option_map locale_view desk.desk.numerals) desk.desk.plurals.now) isolating
+    ∙ ap (λ x. environment-of (ids_of overriding catalog.sources) catalog.settings.isolating x desk.desk.plurals.now) numerals
+    ∙ ap (λ x. environment-of (ids_of overriding catalog.sources) catalog.settings.isolating catalog.settings.numerals x) by

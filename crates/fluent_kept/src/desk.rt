@@ -34,7 +34,7 @@ impl<'r, 's> KeptDesk<'r, 's> {
         let desk = Desk::new(
             alloc,
             &read.list,
-            sources.settings,
+            sources.settings(),
             &sources.plurals,
             sources.stack,
         )?;

@@ -1,8 +1,12 @@
 //! The sources that a bundle keeps, and how they are asked.
 
-ghost use Rattle.std.specs.Prelude.{◌≡◌, IfOk, map, string_bytes};
+ghost use Rattle.std.specs.Prelude.{◌≡◌, IfOk, map, option_map, string_bytes};
+ghost use Rattle.fluent_numerals.specs.Views.{locale_view};
+ghost use Rattle.fluent_run.specs.RunView.{settings_view};
 ghost use Rattle.fluent_serve.specs.Texts.{texts};
+ghost use Rattle.fluent_kept.specs.Catalogs.{catalog_of, numerals_of};
 
+use fluent_numerals::LocaleNumerals;
 use fluent_plurals::LanguagePlurals;
 use fluent_run::Settings;
 use fluent_text::stack::StackBudget;
@@ -13,12 +17,39 @@ use std::alloc::{AllocError, Global};
 pub struct Sources {
     /// The texts of the sources.
     pub texts: Vec<String>,
-    /// How answers are made.
-    pub settings: Settings,
+    /// Whether the values of placeables stand between isolation marks.
+    pub isolating: bool,
+    /// Whether the last entry of an id counts, and not the first.
+    pub overriding: bool,
+    /// The tag of the locale whose numbers are written; `None` if they are written plainly.
+    pub numerals: Option<Vec<u8>>,
     /// The rules by which variants are chosen.
     pub plurals: LanguagePlurals,
     /// How much of the machine's stack a message or a term takes when it is read, and an answer.
     pub stack: StackBudget,
+}
+
+impl Sources {
+    /// How answers are made.
+    pub(crate) fn settings(&self) -> Settings
+        ensures { settings_view result ≡ (catalog_of self.now).settings }
+    {
+        Settings {
+            isolating: self.isolating,
+            overriding: self.overriding,
+            numerals: self.locale_numerals(),
+        }
+    }
+
+    /// How numbers are written, if a locale is named and CLDR says how it writes them.
+    fn locale_numerals(&self) -> Option<LocaleNumerals>
+        ensures { option_map locale_view result ≡ numerals_of self.now }
+    {
+        match &self.numerals {
+            Some(tag) => LocaleNumerals::for_tag_bytes(tag),
+            None => None,
+        }
+    }
 }
 
 /// The texts, borrowed, in their order.

@@ -2,6 +2,7 @@
 use Rattle.std.specs.Prelude.{◌≡◌, Bool, List, [], ◌∷◌, Option, Some, None, map, option_copied, option_map}
 use denote.Ref.{Bor}
 use Rattle.fluent_answers.specs.Answers.{line_from, pattern_asked, told}
+use Rattle.fluent_answers.specs.Sources.{formatted_in}
 use Rattle.fluent_ast.specs.View.{pattern_view}
 use Rattle.fluent_ast.specs.declared.Pattern.{Pattern}
 use Rattle.fluent_run.specs.ResourceIds.{all_by_id}
@@ -13,6 +14,7 @@ use Rattle.fluent_meaning.specs.Environment.{Environment}
 use Rattle.fluent_meaning.specs.Ids.{Ids, find, number_pair, with_ids}
 use Rattle.fluent_meaning.specs.Substitution.{answer_written}
 use Rattle.fluent_serve.specs.Frames.{Answer, Reply, bad, frame_of, ok}
+use Rattle.fluent_numerals.specs.Views.{locale_view}
 use Rattle.fluent_resource.specs.declared.resource.FluentResource.{FluentResource}
 use Rattle.fluent_run.specs.declared.desk.Desk.{Desk}
 use Rattle.fluent_run.specs.declared.reply.Reply as code
@@ -66,14 +68,15 @@ message_reply env id attribute args = option_map (λ es. told (answer_written en
 
 -- By what a plural source means, its categories and how it shows values.
 module _ {M : Type 0} (category_of : M → Plurals) (stringified : M → (S : Type 0) → (S → Text) → S → Text) where
-  -- What stays the same while lines are answered. There are no functions but `NUMBER`, no formatter and no transform.
+  -- What stays the same while lines are answered. There are no functions but `NUMBER`, no transform, and no formatter but that of a
+  -- locale's numbers.
   abbrev pub environment_in : Desk M → Environment (Unit {0}) NoFunction
   environment_in desk = record {
     find = find (desk_ids desk);
     call = λ f values pairs. error;
     isolating = desk.isolating;
     transformed = λ s. s;
-    formatted = λ v. None;
+    formatted = formatted_in (option_map locale_view desk.numerals);
     plurals = category_of desk.plurals.now;
     shown = stringified desk.plurals.now (Unit {0}) no_text;
   }

@@ -1,11 +1,12 @@
 -- What a run answers, by the code's own values.
-use Rattle.std.specs.Prelude.{◌≡◌, List, [], Result, IfSome, IsErrOf, OnOk}
+use Rattle.std.specs.Prelude.{◌≡◌, List, [], Result, IfSome, IsErrOf, OnOk, option_map}
 use Rattle.std.specs.Io.KnownBytes.{Appends, IsAtEnd}
 use denote.Ref.{Bor}
 use Rattle.fluent_answers.specs.Answers.{line_answered, answers}
 use Rattle.fluent_answers.specs.Sources as plain
 use Rattle.fluent_grammar.specs.Words.{Text}
 use Rattle.fluent_tidy_laws.specs.Tidied.{Tidied}
+use Rattle.fluent_numerals.specs.Views.{locale_view}
 use Rattle.fluent_run.specs.declared.settings.Settings.{Settings}
 use Rattle.fluent_serve.specs.Devices.{HasFailed}
 use Rattle.fluent_serve.specs.Exchange.{GivesUp, Runs}
@@ -20,7 +21,7 @@ use Rattle.fluent_value.specs.declared.plurals.MemoizerKind.{Ghosts as KindGhost
 
 -- the settings, as plain data
 abbrev pub settings_view : Settings → plain.Settings
-settings_view s = record { isolating = s.isolating; overriding = s.overriding }
+settings_view s = record { isolating = s.isolating; overriding = s.overriding; numerals = option_map locale_view s.numerals }
 
 -- No program's own type of values is around: there is one value of it, which is shown as nothing.
 abbrev pub no_text : Unit {0} → Text

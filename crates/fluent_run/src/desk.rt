@@ -18,6 +18,7 @@ use crate::settings::Settings;
 use fluent_ast::Pattern;
 use fluent_ids::laws::attributes_agree;
 use fluent_ids::{FluentIds, FluentMessage};
+use fluent_numerals::LocaleNumerals;
 use fluent_progress::{Lent, Place};
 use fluent_resolver::answer::lone_text;
 use fluent_resource::FluentResource;
@@ -25,16 +26,17 @@ use fluent_serve::answer::Answer;
 use fluent_serve::request::{Asked, read_arguments};
 use fluent_serve::serve::Engine;
 use fluent_text::stack::StackBudget;
-use fluent_value::{FluentArgs, MemoizerKind, NoCustom, NoFormatter, NoFunction, NoTransform};
+use fluent_value::{FluentArgs, MemoizerKind, NoCustom, NoFunction, NoTransform};
 use std::alloc::{AllocError, Global};
 
-/// What lines are answered from: the ids of the sources, the plural source, whether placeables stand between isolation marks, and
-/// how much of the machine's stack an answer may take.
+/// What lines are answered from: the ids of the sources, the plural source, whether placeables stand between isolation marks, how
+/// numbers are written, and how much of the machine's stack an answer may take.
 #[derive(Drop)]
 pub struct Desk<'b, 'r, 's, M> {
     ids: FluentIds<'r, 's, NoFunction>,
     plurals: &'b M,
     isolating: bool,
+    numerals: Option<LocaleNumerals>,
     stack: StackBudget,
 }
 
@@ -54,12 +56,14 @@ impl<'b, 'r, 's, M: MemoizerKind> Desk<'b, 'r, 's, M> {
             ≡ ids_added settings.overriding resources.now) }
         ensures plurals { IfOk result (λ desk. desk.plurals.now ≡ plurals.now) }
         ensures isolating { IfOk result (λ desk. desk.isolating ≡ settings.isolating) }
+        ensures numerals { IfOk result (λ desk. desk.numerals ≡ settings.numerals) }
     {
         let ids = ids_of(alloc, resources, settings.overriding)?;
         Ok(Desk {
             ids,
             plurals,
             isolating: settings.isolating,
+            numerals: settings.numerals,
             stack,
         })
     }
@@ -147,11 +151,11 @@ impl<'b, 'r, 's, M: MemoizerKind> Desk<'b, 'r, 's, M> {
         ensures { IfOk result (λ reply. reply_view reply
             ≡ reply_to M.MemoizerKind self.now arguments.now pattern.now) }
     {
-        let context: Lent<'_, M, NoFormatter, NoTransform> = Lent {
+        let context: Lent<'_, M, LocaleNumerals, NoTransform> = Lent {
             plurals: self.plurals,
             isolating: self.isolating,
             transform: None,
-            formatter: None,
+            formatter: self.numerals.as_ref(),
             alloc,
         };
         let locals: Option<&'x FluentArgs<'s, NoCustom>> = None;

@@ -14,7 +14,7 @@ use std::alloc::{AllocError, Global};
 /// and each answer, may take this budget of the machine's stack.
 ///
 /// ```
-/// let settings = Settings { isolating: false, overriding: false };
+/// let settings = Settings { isolating: false, overriding: false, numerals: None };
 /// let plurals = LanguagePlurals::root();
 /// let requests = "key2\tx=3\n".as_bytes();
 /// let stack = StackBudget::PROGRAM;

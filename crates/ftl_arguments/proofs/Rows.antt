@@ -46,24 +46,29 @@ unfolding clap_on_literals
 a_version_of_run = refl
 
 two_files : command_of (codes "run" ∷ codes "a" ∷ codes "b-" ∷ [])
-    ≡ Some (run (record { isolating = true; overriding = false; locale = None; files = codes "a" ∷ codes "b-" ∷ [] }))
+    ≡ Some (run (record { isolating = true; overriding = false; locale = None; plain_numbers = false; files = codes "a" ∷ codes "b-" ∷ [] }))
 unfolding clap_on_literals
 two_files = refl
 
 options_between_files : command_of (codes "run" ∷ codes "a" ∷ codes "--no-isolating" ∷ codes "--overriding" ∷ codes "b" ∷ [])
-    ≡ Some (run (record { isolating = false; overriding = true; locale = None; files = codes "a" ∷ codes "b" ∷ [] }))
+    ≡ Some (run (record { isolating = false; overriding = true; locale = None; plain_numbers = false; files = codes "a" ∷ codes "b" ∷ [] }))
 unfolding clap_on_literals
 options_between_files = refl
 
 a_locale : command_of (codes "run" ∷ codes "--locale" ∷ codes "pl_PL.UTF-8" ∷ codes "a" ∷ [])
-    ≡ Some (run (record { isolating = true; overriding = false; locale = Some (codes "pl_PL.UTF-8"); files = codes "a" ∷ [] }))
+    ≡ Some (run (record { isolating = true; overriding = false; locale = Some (codes "pl_PL.UTF-8"); plain_numbers = false; files = codes "a" ∷ [] }))
 unfolding clap_on_literals
 a_locale = refl
 
 a_locale_behind_its_sign : command_of (codes "run" ∷ codes "a" ∷ codes "--locale=pl" ∷ [])
-    ≡ Some (run (record { isolating = true; overriding = false; locale = Some (codes "pl"); files = codes "a" ∷ [] }))
+    ≡ Some (run (record { isolating = true; overriding = false; locale = Some (codes "pl"); plain_numbers = false; files = codes "a" ∷ [] }))
 unfolding clap_on_literals
 a_locale_behind_its_sign = refl
+
+plain_numbers : command_of (codes "run" ∷ codes "--plain-numbers" ∷ codes "--locale" ∷ codes "de" ∷ codes "a" ∷ [])
+    ≡ Some (run (record { isolating = true; overriding = false; locale = Some (codes "de"); plain_numbers = true; files = codes "a" ∷ [] }))
+unfolding clap_on_literals
+plain_numbers = refl
 
 no_locale : faults_of (codes "run" ∷ codes "a" ∷ codes "--locale" ∷ []) ≡ InvalidValue ∷ []
 unfolding clap_on_literals
@@ -94,6 +99,7 @@ one_message : command_of (codes "format" ∷ codes "login.title" ∷ codes "a" �
       isolating = true;
       overriding = false;
       locale = None;
+      plain_numbers = false;
       request = record { id = codes "login"; attribute = Some (codes "title"); arguments = (codes "n", codes "-1") ∷ (codes "n", codes "x=y") ∷ [] };
       files = codes "a" ∷ codes "b" ∷ [];
     }))
@@ -105,6 +111,7 @@ a_message_with_options : command_of (codes "format" ∷ codes "--overriding" ∷
       isolating = false;
       overriding = true;
       locale = Some (codes "pl");
+      plain_numbers = false;
       request = record { id = codes "hi"; attribute = None; arguments = [] };
       files = codes "a" ∷ [];
     }))

@@ -43,6 +43,7 @@ format_view f = record {
   isolating = f.isolating;
   overriding = f.overriding;
   locale = option_map (λ l. l.now) f.locale;
+  plain_numbers = f.plain_numbers;
   request = record { id = f.id.now; attribute = option_copied f.attribute; arguments = arguments_view f.arguments.items };
   files = texts f.files.items;
 }
@@ -59,8 +60,8 @@ lint_view l = record {
 }
 
 abbrev pub command_view : Command → Asked
-command_view (command.Run isolating overriding locale files) =
-    asked.run (record { isolating = isolating; overriding = overriding; locale = option_map (λ l. l.now) locale; files = texts files.items })
+command_view (command.Run isolating overriding locale plain_numbers files) =
+    asked.run (record { isolating = isolating; overriding = overriding; locale = option_map (λ l. l.now) locale; plain_numbers = plain_numbers; files = texts files.items })
 command_view (command.Format f) = asked.format (format_view f)
 command_view (command.Check files) = asked.check (texts files.items)
 command_view (command.Lint l) = asked.lint (lint_view l)

@@ -49,7 +49,7 @@ flagged_rules = flag_rule (codes "no-isolating") ∷ flag_rule (codes "overridin
 
 -- the options that say how texts are made
 abbrev pub asking_rules : List Rule
-asking_rules = flagged_rules ++ option_rule (codes "locale") ∷ []
+asking_rules = flagged_rules ++ option_rule (codes "locale") ∷ flag_rule (codes "plain-numbers") ∷ []
 
 abbrev pub run_shape : Shape
 run_shape = shaped (codes "run") (asking_rules ++ files_rule ∷ [])

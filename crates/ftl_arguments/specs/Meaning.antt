@@ -13,8 +13,10 @@ use Rattle.ftl_arguments.specs.Linting.{Lint, lint_in}
 pub record Run : Type 0 where
   pub isolating : Bool
   pub overriding : Bool
-  -- the tag of the locale whose plural rules choose variants, if one is given
+  -- the tag of the locale whose plural rules choose variants and whose numbers are written, if one is given
   pub locale : Option Text
+  -- whether numbers are written plainly, whatever the locale
+  pub plain_numbers : Bool
   pub files : List Text
 
 -- write the text of the message that is asked for, from the sources in these files
@@ -22,6 +24,7 @@ pub record Format : Type 0 where
   pub isolating : Bool
   pub overriding : Bool
   pub locale : Option Text
+  pub plain_numbers : Bool
   pub request : Request Text
   pub files : List Text
 
@@ -60,6 +63,7 @@ run_in rows = record {
   isolating = not (is_given (codes "no-isolating") rows);
   overriding = is_given (codes "overriding") rows;
   locale = locale_in rows;
+  plain_numbers = is_given (codes "plain-numbers") rows;
   files = files_in rows;
 }
 
@@ -69,6 +73,7 @@ format_with rows request = record {
   isolating = not (is_given (codes "no-isolating") rows);
   overriding = is_given (codes "overriding") rows;
   locale = locale_in rows;
+  plain_numbers = is_given (codes "plain-numbers") rows;
   request = request;
   files = files_in rows;
 }

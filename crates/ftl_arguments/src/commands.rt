@@ -22,8 +22,10 @@ pub enum Command<'words> {
         isolating: bool,
         /// Whether the last entry of an id counts, and not the first.
         overriding: bool,
-        /// The tag of the locale whose plural rules choose variants, if one is given.
+        /// The tag of the locale whose plural rules choose variants and whose numbers are written, if one is given.
         locale: Option<&'words str>,
+        /// Whether numbers are written plainly, whatever the locale.
+        plain_numbers: bool,
         /// The names of the sources' files.
         files: Vec<&'words str>,
     },
@@ -47,8 +49,10 @@ pub struct Format<'words> {
     pub isolating: bool,
     /// Whether the last entry of an id counts, and not the first.
     pub overriding: bool,
-    /// The tag of the locale whose plural rules choose variants, if one is given.
+    /// The tag of the locale whose plural rules choose variants and whose numbers are written, if one is given.
     pub locale: Option<&'words str>,
+    /// Whether numbers are written plainly, whatever the locale.
+    pub plain_numbers: bool,
     /// The id of the message.
     pub id: &'words str,
     /// The attribute of the message, if its text is asked for.

@@ -34,6 +34,7 @@ pub(crate) fn format_in<'words>(
         isolating: !is_given(found, "no-isolating"),
         overriding: is_given(found, "overriding"),
         locale: locale_in(found),
+        plain_numbers: is_given(found, "plain-numbers"),
         id,
         attribute,
         arguments,

@@ -200,9 +200,10 @@ fn asking<'a>(alloc: Global, name: &'a str, about: &'a str) -> Result<Command<'a
     ensures { IfOk result (IsShaped (shaped name.entry.now asking_rules)) }
 {
     let locale = option(alloc, "locale", "TAG").help(
-        "Choose variants by the plural rules of this locale, in place of those of English",
+        "Choose variants by the plural rules of this locale, and write numbers as it does",
     );
-    flagged(alloc, name, about)?.arg(locale)
+    let plain = flag(alloc, "plain-numbers").help("Write numbers plainly, whatever the locale");
+    flagged(alloc, name, about)?.arg(locale)?.arg(plain)
 }
 
 /// The same with the flags alone.

@@ -102,6 +102,7 @@ fn command_named<'words>(
             isolating: !is_given(found, "no-isolating"),
             overriding: is_given(found, "overriding"),
             locale: locale_in(found),
+            plain_numbers: is_given(found, "plain-numbers"),
             files: files_in(alloc, found)?,
         }),
         "format" => Ok(Command::Format(format_in(alloc, found)?)),

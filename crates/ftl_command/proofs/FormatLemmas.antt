@@ -8,7 +8,7 @@ use Rattle.ftl_command.specs.Shown.{Shown, error_line, shown}
 use Rattle.ftl_command.specs.declared.message.Formatted.{Formatted}
 use Rattle.ftl_arguments.specs.Meaning.{Format, format}
 use Rattle.ftl_command.specs.Faults.{end_status}
-use Rattle.ftl_command.specs.Plurals.{plurals_asked}
+use Rattle.ftl_command.specs.Plurals.{rules_asked}
 use Rattle.ftl_command.specs.Program.{EndsWith, IsFound, OnFound, errors_in, reply_for, status_by}
 use Rattle.ftl_command.specs.Refusals.{IsEarlyFault}
 use Rattle.ftl_command.specs.declared.ended.Ended.{Ended}
@@ -24,7 +24,7 @@ if_some (Some x) f p = f x p
 pub on_found : {P Q : Option Reply → Type 0} (contents : Text → Option Text) (f : Format) → ((found : Option Reply) → P found → Q found) →
     OnFound contents f P → OnFound contents f Q
 on_found contents f each found =
-    if_some (plurals_asked f.locale) (λ plurals on. record { sources = on.sources; held = on.held; outcome = each (reply_for plurals f on.sources) on.outcome }) found
+    if_some (rules_asked f.plain_numbers f.locale) (λ by on. record { sources = on.sources; held = on.held; outcome = each (reply_for by f on.sources) on.outcome }) found
 
 -- a reply that is written so
 pub on_shown : {P : Reply → Type 0} (written : Shown) → ((reply : Reply) → written ≡ shown reply → P reply) →

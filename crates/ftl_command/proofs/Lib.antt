@@ -6,3 +6,4 @@ pub mod Refusals
 pub mod RunLemmas
 pub mod TellLemmas
 pub mod Environments
+mod NumeralRows

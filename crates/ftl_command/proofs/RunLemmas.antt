@@ -13,10 +13,9 @@ use Rattle.ftl_command.specs.declared.ended.Ended.TheVariants.{Done}
 use Rattle.ftl_command.specs.declared.fault.Fault.{Fault}
 use Rattle.ftl_command.specs.declared.fault.Fault.TheVariants.{Output}
 use Rattle.ftl_command.specs.Files.{AreHeld}
-use Rattle.ftl_command.specs.Plurals.{plurals_asked}
+use Rattle.ftl_command.specs.Plurals.{Rules, rules_asked}
 use Rattle.ftl_arguments.specs.Version.{version_line}
 use Rattle.ftl_command.specs.Program.{OnRun, OnRunBy, AfterMemory, AnswersFirstBy, ShowsVersion, WithoutInput, WritesFront, line_for}
-use Rattle.ftl_command.specs.declared.plurals.RunPlurals.{RunPlurals}
 use Rattle.fluent_serve.proofs.Runs.{nothing_served}
 
 -- what a file holds, or nothing where that is not known
@@ -62,30 +61,30 @@ pub by_plurals : {X : Type 0} (asked : Option X) (plurals : X) (Outcome : X → 
 by_plurals asked plurals Outcome known outcome = rw known outcome
 
 -- nothing is read and nothing written: no line is answered
-nothing_by : (plurals : RunPlurals) (contents : Text → Option Text) (r : Run) (left held : Option Text) → OnRunBy plurals contents r (AnswersFirst (devices_of left left held held))
+nothing_by : (plurals : Rules) (contents : Text → Option Text) (r : Run) (left held : Option Text) → OnRunBy plurals contents r (AnswersFirst (devices_of left left held held))
 nothing_by plurals contents r left held = record {
   sources = texts_of contents r.files;
   held = are_held contents r.files;
   outcome = nothing_served left held (line_for plurals r (texts_of contents r.files));
 }
 
-pub before_answers : (plurals : RunPlurals) (contents : Text → Option Text) (r : Run) (left held : Option Text) → plurals_asked r.locale ≡ Some plurals → OnRun contents r (AnswersFirst (devices_of left left held held))
-before_answers plurals contents r left held known = by_plurals (plurals_asked r.locale) plurals _ known (nothing_by plurals contents r left held)
+pub before_answers : (plurals : Rules) (contents : Text → Option Text) (r : Run) (left held : Option Text) → rules_asked r.plain_numbers r.locale ≡ Some plurals → OnRun contents r (AnswersFirst (devices_of left left held held))
+before_answers plurals contents r left held known = by_plurals (rules_asked r.plain_numbers r.locale) plurals _ known (nothing_by plurals contents r left held)
 
 -- the same where it is not known whether the locale has plural rules
-first_none : (asked : Option RunPlurals) (contents : Text → Option Text) (r : Run) (left held : Option Text) → AnswersFirstBy asked contents (devices_of left left held held) r
+first_none : (asked : Option Rules) (contents : Text → Option Text) (r : Run) (left held : Option Text) → AnswersFirstBy asked contents (devices_of left left held held) r
 first_none None contents r left held = refl
 first_none (Some plurals) contents r left held = nothing_by plurals contents r left held
 
 -- the first lines are answered by the plural rules that are asked for
-pub first_by : (asked : Option RunPlurals) (contents : Text → Option Text) (d : Devices) (r : Run) → IsSomeAnd asked (λ plurals. OnRunBy plurals contents r (AnswersFirst d)) → AnswersFirstBy asked contents d r
+pub first_by : (asked : Option Rules) (contents : Text → Option Text) (d : Devices) (r : Run) → IsSomeAnd asked (λ plurals. OnRunBy plurals contents r (AnswersFirst d)) → AnswersFirstBy asked contents d r
 first_by None contents d r outcome = absurd outcome
 first_by (Some plurals) contents d r outcome = outcome
 
 -- the same of every command: nothing is done
 pub nothing_done : (contents : Text → Option Text) (left held : Option Text) (asked : Option Asked) → AfterMemory contents (devices_of left left held held) asked
 nothing_done contents left held None = refl
-nothing_done contents left held (Some (run r)) = first_none (plurals_asked r.locale) contents r left held
+nothing_done contents left held (Some (run r)) = first_none (rules_asked r.plain_numbers r.locale) contents r left held
 nothing_done contents left held (Some (format f)) = refl
 nothing_done contents left held (Some (check files)) = refl
 nothing_done contents left held (Some (lint l)) = refl

@@ -12,7 +12,6 @@ use Rattle.fluent_serve.specs.Texts.{texts}
 use Rattle.fluent_serve.specs.declared.stream.Sink.{Ghosts as SinkGhosts}
 use Rattle.fluent_serve.specs.declared.stream.Source.{Ghosts as SourceGhosts}
 use Rattle.fluent_run.specs.RunView.{no_text}
-use Rattle.fluent_run.specs.declared.settings.Settings.{Settings}
 use denote.Ref.{Bor}
 use Rattle.serde_json.specs.Data.{Data}
 use Rattle.serde_json.specs.Read.{read as read_text}
@@ -35,9 +34,9 @@ use Rattle.ftl_arguments.specs.Linting.{Lint}
 use Rattle.ftl_arguments.specs.Meaning.{Asked, Run, Format, Tidy, run, format, check, lint, tidy, clean, normalize, join, export, import}
 use Rattle.ftl_command.specs.Files.{OnFile, OnTexts}
 use Rattle.ftl_command.specs.Faults.{end_status}
-use Rattle.ftl_command.specs.Plurals.{category_in, language_asked, plurals_asked}
-use Rattle.ftl_command.specs.declared.plurals.RunPlurals.{RunPlurals}
+use Rattle.ftl_command.specs.Plurals.{Rules, category_in, language_asked, plurals_asked, rules_asked}
 use Rattle.ftl_command.specs.declared.ended.Ended.{Ended}
+use Rattle.ftl_command.specs.declared.running.RunOptions.{RunOptions}
 use Rattle.ftl_command.specs.declared.ended.Ended.TheVariants.{Done, Found, Incomplete}
 use Rattle.ftl_command.specs.declared.fault.Fault.{Fault}
 use Rattle.ftl_command.specs.declared.fault.Fault.TheVariants.{Input, Output, Memory}
@@ -45,26 +44,27 @@ use Rattle.ftl_command.specs.declared.folder.Folder.{Ghosts as FolderGhosts}
 
 -- ---- a run
 
--- a run with these settings, by the plural rules of this locale, on these files
-abbrev pub run_of : Settings → Option (Bor Text) → List (Bor Text) → Run
-run_of settings locale files =
-    record { isolating = settings.isolating; overriding = settings.overriding; locale = option_map (λ l. l.now) locale; files = texts files }
+-- a run with these options, on these files
+abbrev pub run_of : RunOptions → List (Bor Text) → Run
+run_of o files =
+    record { isolating = o.isolating; overriding = o.overriding; locale = option_map (λ l. l.now) o.locale; plain_numbers = o.plain_numbers; files = texts files }
 
 -- what such a run asks for
-abbrev pub run_asked : Settings → Option (Bor Text) → List (Bor Text) → Option Asked
-run_asked settings locale files = Some (run (run_of settings locale files))
+abbrev pub run_asked : RunOptions → List (Bor Text) → Option Asked
+run_asked o files = Some (run (run_of o files))
 
--- what is written for a line, from sources, by these plural rules
-abbrev pub line_for : RunPlurals → Run → List Text → Text → Text
-line_for plurals r sources = line_answered NoFunction (category_in plurals) no_text (record { isolating = r.isolating; overriding = r.overriding }) sources
+-- what is written for a line, from sources, by these rules of a locale
+abbrev pub line_for : Rules → Run → List Text → Text → Text
+line_for by r sources =
+    line_answered NoFunction (category_in by.plurals) no_text (record { isolating = r.isolating; overriding = r.overriding; numerals = by.numerals }) sources
 
--- the outcome holds of the answers from the files' texts by plural rules: of what is written for a line
-abbrev pub OnRunBy : RunPlurals → (Text → Option Text) → Run → ((Text → Text) → Type 0) → Type 0
-OnRunBy plurals contents r Outcome = OnTexts contents r.files (λ sources. Outcome (line_for plurals r sources))
+-- the outcome holds of the answers from the files' texts by a locale's rules: of what is written for a line
+abbrev pub OnRunBy : Rules → (Text → Option Text) → Run → ((Text → Text) → Type 0) → Type 0
+OnRunBy by contents r Outcome = OnTexts contents r.files (λ sources. Outcome (line_for by r sources))
 
 -- the locale that is asked for has plural rules, or none is, and the outcome holds of the answers by those
 abbrev pub OnRun : (Text → Option Text) → Run → ((Text → Text) → Type 0) → Type 0
-OnRun contents r Outcome = IsSomeAnd (plurals_asked r.locale) (λ plurals. OnRunBy plurals contents r Outcome)
+OnRun contents r Outcome = IsSomeAnd (rules_asked r.plain_numbers r.locale) (λ by. OnRunBy by contents r Outcome)
 
 -- The answers to all of the input are written, and nothing else. Of a reader whose bytes aren't known: to those that it gave.
 pub record Answered (d : Devices) (line : Text → Text) : Type 0 where
@@ -73,12 +73,12 @@ pub record Answered (d : Devices) (line : Text → Text) : Type 0 where
   pub end : IsAtEnd d.left_after
 
 -- Of whatever the sources are tidied into, what is written is the answers too.
-abbrev pub AnsweredAlike : Devices → RunPlurals → Run → List Text → Type 0
-AnsweredAlike d plurals r sources = (others : List Text) → tidying.Tidied sources others → IfSome d.left_before (λ input. Appends d.held_before d.held_after (answers (line_for plurals r others) input))
+abbrev pub AnsweredAlike : Devices → Rules → Run → List Text → Type 0
+AnsweredAlike d by r sources = (others : List Text) → tidying.Tidied sources others → IfSome d.left_before (λ input. Appends d.held_before d.held_after (answers (line_for by r others) input))
 
--- so it is of the files' texts, by the plural rules that are asked for
+-- so it is of the files' texts, by the rules of the locale that is asked for
 abbrev pub OnRunAlike : (Text → Option Text) → Devices → Run → Type 0
-OnRunAlike contents d r = IsSomeAnd (plurals_asked r.locale) (λ plurals. OnTexts contents r.files (AnsweredAlike d plurals r))
+OnRunAlike contents d r = IsSomeAnd (rules_asked r.plain_numbers r.locale) (λ by. OnTexts contents r.files (AnsweredAlike d by r))
 
 -- what became of a run on files, by how it ended; `failed` says that the input failed
 pub record RunEnds (contents : Text → Option Text) (d : Devices) (failed : Type 0) (r : Run) (result : Result Ended Fault) : Type 0 where
@@ -159,15 +159,16 @@ pub record LintEnds {F W : Type 0} (folders : FolderGhosts F) (folder : F) (l : 
 
 -- ---- the text of a message
 
--- what the sources have for the message, by these plural rules
-abbrev pub reply_for : RunPlurals → Format → List Text → Option Reply
-reply_for plurals f sources =
-    reply_asked NoFunction (category_in plurals) no_text (record { isolating = f.isolating; overriding = f.overriding }) sources f.request
+-- what the sources have for the message, by these rules of a locale
+abbrev pub reply_for : Rules → Format → List Text → Option Reply
+reply_for by f sources =
+    reply_asked NoFunction (category_in by.plurals) no_text (record { isolating = f.isolating; overriding = f.overriding; numerals = by.numerals }) sources
+    f.request
 
 -- The locale that is asked for has plural rules, or none is, and the outcome holds of what the files' texts have for the message by
 -- those.
 abbrev pub OnFound : (Text → Option Text) → Format → (Option Reply → Type 0) → Type 0
-OnFound contents f Outcome = IsSomeAnd (plurals_asked f.locale) (λ plurals. OnTexts contents f.files (λ sources. Outcome (reply_for plurals f sources)))
+OnFound contents f Outcome = IsSomeAnd (rules_asked f.plain_numbers f.locale) (λ by. OnTexts contents f.files (λ sources. Outcome (reply_for by f sources)))
 
 -- the code's text and lines are those that are written of it, if it is there
 abbrev pub IsFound : (Text → Option Text) → Format → Option Formatted → Type 0
@@ -266,15 +267,15 @@ IsDoneAlike contents d (Some (check files)) = ⊤
 IsDoneAlike contents d (Some (lint l)) = ⊤
 IsDoneAlike contents d (Some (tidy t)) = ⊤
 
--- the first lines of a run are answered by these plural rules; if the locale has none, nothing is written
-abbrev pub AnswersFirstBy : Option RunPlurals → (Text → Option Text) → Devices → Run → Type 0
+-- the first lines of a run are answered by these rules; if the locale has none, nothing is written
+abbrev pub AnswersFirstBy : Option Rules → (Text → Option Text) → Devices → Run → Type 0
 AnswersFirstBy None contents d r = d.held_after ≡ d.held_before
-AnswersFirstBy (Some plurals) contents d r = OnRunBy plurals contents r (AnswersFirst d)
+AnswersFirstBy (Some by) contents d r = OnRunBy by contents r (AnswersFirst d)
 
 -- memory ran out: the first lines of a run are answered, and of another command nothing is written
 abbrev pub AfterMemory : (Text → Option Text) → Devices → Option Asked → Type 0
 AfterMemory contents d None = d.held_after ≡ d.held_before
-AfterMemory contents d (Some (run r)) = AnswersFirstBy (plurals_asked r.locale) contents d r
+AfterMemory contents d (Some (run r)) = AnswersFirstBy (rules_asked r.plain_numbers r.locale) contents d r
 AfterMemory contents d (Some (format f)) = d.held_after ≡ d.held_before
 AfterMemory contents d (Some (check files)) = d.held_after ≡ d.held_before
 AfterMemory contents d (Some (lint l)) = d.held_after ≡ d.held_before

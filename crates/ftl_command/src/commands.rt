@@ -13,10 +13,9 @@ use crate::folder::{Folder, FromFiles};
 use crate::formatting::write_formatted;
 use crate::linting::lint_files;
 use crate::output::write_asked;
-use crate::running::run_files;
+use crate::running::{RunOptions, run_files};
 use crate::telling::{tell_errors_on, tell_on};
 use crate::tidying::write_tidied;
-use fluent_run::Settings;
 use fluent_serve::stream::{FromRead, FromWrite, Sink, Source};
 use ftl_arguments::{Command, Invocation, WordsError, command};
 use std::alloc::Global;
@@ -134,13 +133,16 @@ fn do_command<'words, F: Folder, I: Source, O: Sink>(
             isolating,
             overriding,
             locale,
+            plain_numbers,
             files,
         } => {
-            let settings = Settings {
+            let options = RunOptions {
                 isolating: *isolating,
                 overriding: *overriding,
+                locale: *locale,
+                plain_numbers: *plain_numbers,
             };
-            run_files(folder, alloc, settings, *locale, files, reader, writer)
+            run_files(folder, alloc, options, files, reader, writer)
         }
         Command::Format(format) => write_formatted(folder, alloc, format, writer),
         Command::Check { files } => check_files(folder, alloc, files, writer),

@@ -5,6 +5,7 @@ ghost use Rattle.ftl_command.specs.FormatView.{IsWrittenAs};
 ghost use Rattle.ftl_arguments.specs.CommandView.{format_view};
 ghost use Rattle.ftl_arguments.specs.Meaning as asked;
 ghost use Rattle.ftl_command.specs.Faults.{end_status};
+ghost use Rattle.ftl_command.specs.Plurals.{rules_view};
 ghost use Rattle.ftl_command.specs.Program.{FormatEnds, IsFound, errors_in, reply_for, status_by};
 ghost use Rattle.ftl_command.specs.Refusals.{IsEarlyFault, IsFaultOf, IsTextFault, TextWorks};
 
@@ -14,7 +15,7 @@ use crate::fault::Fault;
 use crate::files::read_text_files;
 use crate::folder::Folder;
 use crate::output::write_to_stream;
-use crate::plurals::RunPlurals;
+use crate::plurals::RunRules;
 use crate::{Formatted, format_message};
 use fluent_run::Settings;
 use fluent_serve::stream::Sink;
@@ -69,31 +70,32 @@ fn formatted_on<'words, F: Folder>(
         (asked.format (format_view format.now))) }
     ensures opens { OnOk result (F.failures folder.new ≡ F.failures folder.old) }
 {
-    let plurals = RunPlurals::of_locale(format.locale)?;
+    let rules = RunRules::of_locale(format.locale, format.plain_numbers)?;
     let texts = read_text_files(folder, alloc, &format.files)?;
     let sources = borrow_texts(alloc, &texts)?;
-    formatted_from(alloc, format, &plurals, &sources)?.ok_or(Fault::NoMessage)
+    formatted_from(alloc, format, &rules, &sources)?.ok_or(Fault::NoMessage)
 }
 
 /// What is written of it from these sources.
 fn formatted_from(
     alloc: Global,
     format: &Format<'_>,
-    plurals: &RunPlurals,
+    rules: &RunRules,
     sources: &[&str],
 ) -> Result<Option<Formatted>, AllocError>
     ensures { IfOk result (IsWrittenAs
-        (reply_for plurals.now (format_view format.now) (texts sources.now))) }
+        (reply_for (rules_view rules.now) (format_view format.now) (texts sources.now))) }
 {
     let settings = Settings {
         isolating: format.isolating,
         overriding: format.overriding,
+        numerals: rules.numerals,
     };
     format_message(
         alloc,
         sources,
         settings,
-        plurals,
+        &rules.plurals,
         format.id,
         format.attribute,
         &format.arguments,

@@ -1,10 +1,12 @@
-//! The plural rules that choose the variants of a run.
+//! What the locale of a run decides: the plural rules that choose variants, and how numbers are written.
 ghost use Rattle.std.specs.Prelude.{◌≡◌, IfOk, IfErr, Some, option_map};
 ghost use Rattle.ftl_command.specs.Faults.{IsOfLocale, SaysUnknown};
-ghost use Rattle.ftl_command.specs.Plurals.{category_in, language_asked, plurals_asked};
+ghost use Rattle.fluent_numerals.specs.Views.{locale_view};
+ghost use Rattle.ftl_command.specs.Plurals.{category_in, language_asked, numerals_asked, plurals_asked, rules_asked, rules_view};
 
 use crate::fault::Fault;
 use fluent_number::{PluralCategory, PluralOperands, PluralRuleType};
+use fluent_numerals::LocaleNumerals;
 use fluent_plurals::LanguagePlurals;
 use fluent_value::{EnglishPlurals, FluentType, MemoizerKind};
 use std::alloc::{AllocError, Global};
@@ -37,6 +39,48 @@ impl RunPlurals {
             Some(plurals) => Ok(RunPlurals::Language(plurals)),
             None => Err(Fault::UnknownLocale { tag }),
         }
+    }
+}
+
+/// What the locale of a run decides.
+#[derive(Clone, Copy)]
+pub struct RunRules {
+    /// The plural rules.
+    pub plurals: RunPlurals,
+    /// How numbers are written; `None` if they are written plainly.
+    pub numerals: Option<LocaleNumerals>,
+}
+
+impl RunRules {
+    /// What the locale with this tag decides. Without one the plural rules are those of English, and numbers are written plainly;
+    /// so they are, too, if that is asked for, or if CLDR doesn't say how the locale writes them.
+    ///
+    /// # Errors
+    /// [`Fault::UnknownLocale`] if the locale has no plural rules.
+    pub fn of_locale<'words>(
+        locale: Option<&'words str>,
+        plain: bool,
+    ) -> Result<Self, Fault<'words>>
+        ensures known { IfOk result (λ r.
+            rules_asked plain (option_map (λ tag. tag.now) locale.entry) ≡ Some (rules_view r)) }
+        ensures unknown { IfErr result (SaysUnknown (option_map (λ tag. tag.now) locale.entry)) }
+        ensures fault { IfErr result IsOfLocale }
+    {
+        let plurals = RunPlurals::of_locale(locale)?;
+        Ok(RunRules {
+            plurals,
+            numerals: numerals_of(locale, plain),
+        })
+    }
+}
+
+/// How the locale with this tag writes numbers, if there is one and CLDR knows, and if they aren't to be plain.
+fn numerals_of(locale: Option<&str>, plain: bool) -> Option<LocaleNumerals>
+    ensures { option_map locale_view result ≡ numerals_asked plain (option_map (λ tag. tag.now) locale.entry) }
+{
+    match locale {
+        Some(tag) if !plain => LocaleNumerals::for_tag(tag),
+        _ => None,
     }
 }
 

@@ -90,6 +90,7 @@ fn answers(alloc: Global, source: &str, budget: StackBudget) -> bool {
         Settings {
             isolating: true,
             overriding: false,
+            numerals: None,
         },
         &EnglishPlurals,
         b"m1\n",

@@ -106,6 +106,7 @@ fn try_sources(alloc: Global, row: &Value, sources: &[&str], trial: Trial) -> Re
         settings: Settings {
             isolating: is_set(row, "isolating", true),
             overriding: is_set(row, "overriding", false),
+            numerals: None,
         },
         script: &script,
     };

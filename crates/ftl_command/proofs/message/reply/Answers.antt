@@ -9,5 +9,5 @@ returns g c =
     let m = g.M.MemoizerKind in
     let ids = c.in_ok-desk.ensures in
     let same = message_same m.category_of m.stringified c.in_ok-desk.desk c.args.plurals.now c.args.settings c.deref.result.now c.in_ok-resources.resources.items c.args.sources.now
-    c.deref.ensures.value c.in_ok-resources.ensures ids.ids ids.plurals ids.isolating c.args.id.now (option_copied c.args.attribute) (arguments_view c.args.arguments.now) in
+    c.deref.ensures.value c.in_ok-resources.ensures ids.ids ids.plurals ids.isolating ids.numerals c.args.id.now (option_copied c.args.attribute) (arguments_view c.args.arguments.now) in
     IfOk-weaker c.format.result _ _ (λ reply is. is ∙ same) c.format.ensures

@@ -3,6 +3,7 @@ use Rattle.std.proofs.lemmas.Grind.{common_steps}
 use Rattle.ftl_command.proofs.RunLemmas.{before_answers, by_plurals, known_alike}
 use Rattle.fluent_serve.specs.Texts.{texts}
 use Rattle.ftl_command.specs.Files.{AreHeld}
+use Rattle.ftl_command.specs.Plurals.{rules_view}
 use Rattle.ftl_command.specs.Program.{run_asked, run_of}
 use Rattle.ftl_arguments.specs.Meaning.{run}
 use Rattle.ftl_command.specs.Faults.{run_fault}
@@ -15,8 +16,8 @@ returns-in_err-texts-clause-ran g c = record {
   answered = search rules;
   tidied = search rules;
   memory = λ is.
-      before_answers c.in_ok-plurals.plurals (g.F.Folder.contents c.args.folder.now) (run_of c.args.settings c.args.locale c.args.files.now)
-      (g.I.Source.remaining c.args.reader.now) (g.O.Sink.contents c.args.writer.now) c.in_ok-plurals.ensures.known;
+      before_answers (rules_view c.in_ok-rules.rules) (g.F.Folder.contents c.args.folder.now) (run_of c.args.options c.args.files.now)
+      (g.I.Source.remaining c.args.reader.now) (g.O.Sink.contents c.args.writer.now) c.in_ok-rules.ensures.known;
   input = first_of (search rules, grind (arith, common_steps));
   output = first_of (search rules, grind (arith, common_steps));
 }
@@ -26,8 +27,8 @@ returns-in_err-sources-clause-ran g c = record {
   answered = search rules;
   tidied = search rules;
   memory = λ is.
-      before_answers c.in_ok-plurals.plurals (g.F.Folder.contents c.args.folder.now) (run_of c.args.settings c.args.locale c.args.files.now)
-      (g.I.Source.remaining c.args.reader.now) (g.O.Sink.contents c.args.writer.now) c.in_ok-plurals.ensures.known;
+      before_answers (rules_view c.in_ok-rules.rules) (g.F.Folder.contents c.args.folder.now) (run_of c.args.options c.args.files.now)
+      (g.I.Source.remaining c.args.reader.now) (g.O.Sink.contents c.args.writer.now) c.in_ok-rules.ensures.known;
   input = first_of (search rules, grind (arith, common_steps));
   output = first_of (search rules, grind (arith, common_steps));
 }
@@ -37,7 +38,7 @@ returns-clause-ran g c =
     let same : map string_bytes c.in_ok-texts.texts.items ≡ texts c.deref-2.result.now = search rules in
     let held = subst (AreHeld (g.F.Folder.contents c.args.folder.now) (texts c.args.files.now)) same c.in_ok-texts.ensures.held in
     record {
-      answered = by_plurals _ c.in_ok-plurals.plurals _ c.in_ok-plurals.ensures.known (record {
+      answered = by_plurals _ (rules_view c.in_ok-rules.rules) _ c.in_ok-rules.ensures.known (record {
         sources = texts c.deref-2.result.now;
         held = held;
         outcome = record {
@@ -46,7 +47,7 @@ returns-clause-ran g c =
           end = c.in_ok-run_before_exit.ensures.end;
         };
       });
-      tidied = by_plurals _ c.in_ok-plurals.plurals _ c.in_ok-plurals.ensures.known (record {
+      tidied = by_plurals _ (rules_view c.in_ok-rules.rules) _ c.in_ok-rules.ensures.known (record {
         sources = texts c.deref-2.result.now;
         held = held;
         outcome = λ others steps. known_alike _ (g.I.Source.remaining c.args.reader.now) _ (c.in_ok-run_before_exit.ensures.answered.tidied) others steps;
@@ -67,36 +68,36 @@ returns-in_err-run_before_exit-clause-ran g c =
     record {
       answered = search rules;
       tidied = search rules;
-      memory = λ is. by_plurals _ c.in_ok-plurals.plurals _ c.in_ok-plurals.ensures.known (record { sources = texts c.deref-2.result.now; held = held; outcome = search rules });
-      input = λ is. by_plurals _ c.in_ok-plurals.plurals _ c.in_ok-plurals.ensures.known (record { sources = texts c.deref-2.result.now; held = held; outcome = search rules });
-      output = λ is. by_plurals _ c.in_ok-plurals.plurals _ c.in_ok-plurals.ensures.known (record { sources = texts c.deref-2.result.now; held = held; outcome = search rules });
+      memory = λ is. by_plurals _ (rules_view c.in_ok-rules.rules) _ c.in_ok-rules.ensures.known (record { sources = texts c.deref-2.result.now; held = held; outcome = search rules });
+      input = λ is. by_plurals _ (rules_view c.in_ok-rules.rules) _ c.in_ok-rules.ensures.known (record { sources = texts c.deref-2.result.now; held = held; outcome = search rules });
+      output = λ is. by_plurals _ (rules_view c.in_ok-rules.rules) _ c.in_ok-rules.ensures.known (record { sources = texts c.deref-2.result.now; held = held; outcome = search rules });
     }
 
-pub returns-in_err-plurals-clause-fault : goal.returns-in_err-plurals-clause-fault
-returns-in_err-plurals-clause-fault g c =
-    let asked = run (run_of c.args.settings c.args.locale c.args.files.now) in
-    let early = of_locale g.F.Folder c.args.folder.now asked c.in_err-plurals.field-0.0 c.in_err-plurals.ensures.fault c.in_err-plurals.ensures.unknown in
-    let says : IsFaultOf g.F.Folder c.args.folder.now c.args.folder.now (Some asked) c.in_err-plurals.field-0.0 = early.says in
+pub returns-in_err-rules-clause-fault : goal.returns-in_err-rules-clause-fault
+returns-in_err-rules-clause-fault g c =
+    let asked = run (run_of c.args.options c.args.files.now) in
+    let early = of_locale g.F.Folder c.args.folder.now asked c.in_err-rules.field-0.0 c.in_err-rules.ensures.fault c.in_err-rules.ensures.unknown in
+    let says : IsFaultOf g.F.Folder c.args.folder.now c.args.folder.now (Some asked) c.in_err-rules.field-0.0 = early.says in
     search rules
 
-pub returns-in_err-plurals-clause-stops : goal.returns-in_err-plurals-clause-stops
-returns-in_err-plurals-clause-stops g c =
-    let asked = run (run_of c.args.settings c.args.locale c.args.files.now) in
-    let early = of_locale g.F.Folder c.args.folder.now asked c.in_err-plurals.field-0.0 c.in_err-plurals.ensures.fault c.in_err-plurals.ensures.unknown in
-    let stops : IsDeviceFault g.I.Source c.args.reader.now c.args.reader.now g.O.Sink c.args.writer.now c.args.writer.now c.in_err-plurals.field-0.0 =
-    untouched_devices g.I.Source g.O.Sink c.args.reader.now c.args.writer.now c.in_err-plurals.field-0.0 early.not_input early.not_output in
+pub returns-in_err-rules-clause-stops : goal.returns-in_err-rules-clause-stops
+returns-in_err-rules-clause-stops g c =
+    let asked = run (run_of c.args.options c.args.files.now) in
+    let early = of_locale g.F.Folder c.args.folder.now asked c.in_err-rules.field-0.0 c.in_err-rules.ensures.fault c.in_err-rules.ensures.unknown in
+    let stops : IsDeviceFault g.I.Source c.args.reader.now c.args.reader.now g.O.Sink c.args.writer.now c.args.writer.now c.in_err-rules.field-0.0 =
+    untouched_devices g.I.Source g.O.Sink c.args.reader.now c.args.writer.now c.in_err-rules.field-0.0 early.not_input early.not_output in
     search rules
 
 pub returns-in_err-texts-clause-fault : goal.returns-in_err-texts-clause-fault
 returns-in_err-texts-clause-fault g c =
-    let asked = run (run_of c.args.settings c.args.locale c.args.files.now) in
+    let asked = run (run_of c.args.options c.args.files.now) in
     let early = of_files g.F.Folder c.args.folder.now c.read_text_files.new.folder asked c.in_err-texts.field-0.0 c.in_err-texts.ensures.fault in
     let says : IsFaultOf g.F.Folder c.args.folder.now c.read_text_files.new.folder (Some asked) c.in_err-texts.field-0.0 = early.says in
     search rules
 
 pub returns-in_err-texts-clause-stops : goal.returns-in_err-texts-clause-stops
 returns-in_err-texts-clause-stops g c =
-    let asked = run (run_of c.args.settings c.args.locale c.args.files.now) in
+    let asked = run (run_of c.args.options c.args.files.now) in
     let early = of_files g.F.Folder c.args.folder.now c.read_text_files.new.folder asked c.in_err-texts.field-0.0 c.in_err-texts.ensures.fault in
     let stops : IsDeviceFault g.I.Source c.args.reader.now c.args.reader.now g.O.Sink c.args.writer.now c.args.writer.now c.in_err-texts.field-0.0 =
     untouched_devices g.I.Source g.O.Sink c.args.reader.now c.args.writer.now c.in_err-texts.field-0.0 early.not_input early.not_output in
@@ -104,8 +105,8 @@ returns-in_err-texts-clause-stops g c =
 
 pub returns-in_err-run_before_exit-clause-fault : goal.returns-in_err-run_before_exit-clause-fault
 returns-in_err-run_before_exit-clause-fault g c =
-    let says : IsFaultOf g.F.Folder c.args.folder.now c.read_text_files.new.folder (run_asked c.args.settings c.args.locale c.args.files.now) (run_fault c.in_err-run_before_exit.field-0.0) =
-    of_run g.F.Folder c.args.folder.now c.read_text_files.new.folder (run_asked c.args.settings c.args.locale c.args.files.now) c.in_ok-texts.ensures.opens c.in_err-run_before_exit.field-0.0 in
+    let says : IsFaultOf g.F.Folder c.args.folder.now c.read_text_files.new.folder (run_asked c.args.options c.args.files.now) (run_fault c.in_err-run_before_exit.field-0.0) =
+    of_run g.F.Folder c.args.folder.now c.read_text_files.new.folder (run_asked c.args.options c.args.files.now) c.in_ok-texts.ensures.opens c.in_err-run_before_exit.field-0.0 in
     search rules
 
 pub returns-in_err-run_before_exit-clause-stops : goal.returns-in_err-run_before_exit-clause-stops

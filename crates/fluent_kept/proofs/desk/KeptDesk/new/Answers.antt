@@ -1,5 +1,6 @@
 use Rattle.std.proofs.Common.{ap, ◌∙◌}
-use Rattle.std.specs.Prelude.{vec_items}
+use Rattle.std.specs.Prelude.{option_map, vec_items}
+use Rattle.fluent_numerals.specs.Views.{locale_view}
 use Rattle.fluent_run.specs.DeskView.{ids_added}
 use Rattle.fluent_kept.proofs.Environments.{environment-same}
 use Rattle.fluent_kept.proofs.desk.KeptDesk.new.Goals as goal
@@ -8,12 +9,14 @@ pub returns : goal.returns
 returns c =
     let read = c.args.read.now in
     let made = c.in_ok-desk.ensures in
+    let settings = c.settings.ensures in
     record {
       of_catalog = λ catalog is. record {
         sources = is.sources;
         environment = environment-same (record { sources = read.sources; desk = c.in_ok-desk.desk }) catalog (vec_items read.list) is.entries
-            (made.ids ∙ ap (ids_added read.sources.now.settings.overriding) c.deref.ensures.value ∙ ap (λ k. ids_added k.settings.overriding (vec_items read.list)) is.sources)
+            (made.ids ∙ ap (ids_added c.settings.result.overriding) c.deref.ensures.value ∙ ap (λ s. ids_added s.overriding (vec_items read.list)) settings ∙ ap (λ k. ids_added k.settings.overriding (vec_items read.list)) is.sources)
             (made.plurals ∙ ap (λ k. k.plurals) is.sources)
-            (made.isolating ∙ ap (λ k. k.settings.isolating) is.sources);
+            (made.isolating ∙ ap (λ s. s.isolating) settings ∙ ap (λ k. k.settings.isolating) is.sources)
+            (ap (option_map locale_view) made.numerals ∙ ap (λ s. s.numerals) settings ∙ ap (λ k. k.settings.numerals) is.sources);
       };
     }

@@ -1,6 +1,6 @@
 -- `none` makes a struct that owns nothing.
 use Rattle.fluent_kept.proofs.Steps.{[], ◌∷◌, refl, proved, ftrue, ‵, raw, ◌$◌, ◌∵◌, !, qed, done, drop, suffices, enter, lit, false_lit, no_more, and_then, returns, alloc_all, pass_all, free_all, look_at, sets, agg, null_ptr, nothing, on_entry, walk_of, says, ends_at}
-use Rattle.std.specs.Prelude.{false}
+use Rattle.std.specs.Prelude.{None, false}
 use Rattle.fluent_plurals.specs.Plurals.{root}
 use Rattle.fluent_kept.proofs.HandleMade.{handle_in, handle_good}
 use Rattle.fluent_kept.proofs.handle.FluentBundle.TheLaws.{lowered}
@@ -10,7 +10,7 @@ use Rattle.fluent_kept.proofs.handle.FluentBundle.none.Statement.{statement}
 use Rattle.fluent_kept.proofs.handle.FluentBundle.none.Code as code
 
 abbrev nothing_held : the_row.Denot
-nothing_held = record { held = false; sources = null_ptr; read = null_ptr; desk = null_ptr; catalog = record { settings = record { isolating = false; overriding = false }; plurals = root; sources = [] } }
+nothing_held = record { held = false; sources = null_ptr; read = null_ptr; desk = null_ptr; catalog = record { settings = record { isolating = false; overriding = false; numerals = None }; plurals = root; sources = [] } }
 
 pub none_spec : {M : Type 1} → statement M
 none_spec 𝓤 𝓛 𝓜 𝓡 wired =

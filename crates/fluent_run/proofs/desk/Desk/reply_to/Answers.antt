@@ -5,6 +5,7 @@ use Rattle.fluent_resource.proofs.Loops.{if_ok-map}
 use Rattle.fluent_meaning.proofs.EqualEnvironments.{one_environment}
 use Rattle.fluent_meaning.specs.Substitution.{answer_written}
 use Rattle.fluent_run.specs.DeskView.{arguments_view, environment_in}
+use Rattle.fluent_run.proofs.Numerals.{numerals-formatted}
 use Rattle.fluent_run.proofs.desk.Desk.reply_to.Goals as goal
 
 pub returns : goal.returns
@@ -15,7 +16,7 @@ returns g c =
       call = λ f values pairs. refl;
       isolating = refl;
       transformed = λ s. refl;
-      formatted = λ v. refl;
+      formatted = numerals-formatted c.args.self.now.plurals.now c.as_ref.result c.args.self.now.numerals c.as_ref.ensures.value;
       plurals = λ rule operands. refl;
       shown = λ v. refl;
     }) in
