@@ -14,7 +14,7 @@ use Rattle.lint_findings.specs.Findings.{Options, FileFinding, FileTile, Rules, 
 use Rattle.fluent_lint.specs.InOrder.{in_order, put}
 use Rattle.fluent_lint.specs.LintReport.{all_findings}
 use Rattle.fluent_lint.specs.Reported.{declarations_in, kept, reported, reported_in, reported_missing, reported_of_files}
-use Rattle.fluent_lint.specs.RunLaws.{AreReported, ReportsAreFindings}
+use Rattle.fluent_lint.specs.RunLaws.{NoneIsIgnored, ReportsAreFindings}
 
 -- ---- counts of lists
 
@@ -128,7 +128,7 @@ reports_are_findings options ignored (r ∷ rs) files test =
 -- ---- codes
 
 -- a code that is ignored is none of those that aren't
-other_code : (name : Text) (ignored names : List Text) → AreReported names ignored → is_among name ignored ≡ true → is_among name names ≡ false
+other_code : (name : Text) (ignored names : List Text) → NoneIsIgnored names ignored → is_among name ignored ≡ true → is_among name names ≡ false
 other_code name ignored [] h is = refl
 other_code name ignored (x ∷ xs) h is =
     elim (cases_Bool (bytes_eq x name)) [
@@ -144,7 +144,7 @@ not_kept false h = absurd (false≢true (sym h))
 
 module _ (options : Options) (ignored : List Text) (references files : List File) where
   -- If no finding with such a code is reported, and none is ignored, none is found.
-  pub none_found : (names : List Text) → AreReported names ignored →
+  pub none_found : (names : List Text) → NoneIsIgnored names ignored →
       All (λ (f : FileFinding). is_among f.finding.code names ≡ false) (reported options ignored references files) →
       All (λ (f : FileFinding). is_among f.finding.code names ≡ false) (all_findings options references files)
   none_found names shown none =

@@ -28,8 +28,8 @@ ReportsAreFindings = (options : Options) (ignored : List Text) (references files
     ≡ count_by test (kept (λ (f : FileFinding). f.finding) ignored (all_findings options references files))
 
 -- none of these codes is ignored
-abbrev pub AreReported : List Text → List Text → Type 0
-AreReported names ignored = All (λ name. is_among name ignored ≡ false) names
+abbrev pub NoneIsIgnored : List Text → List Text → Type 0
+NoneIsIgnored names ignored = All (λ name. is_among name ignored ≡ false) names
 
 -- ---- what it says of replies
 
@@ -56,18 +56,18 @@ RepliesWell S F overriding files = (env : Environment S F) (r : Request (Value S
 -- only errors that depend on the request.
 abbrev pub CleanReportsReplyWell : Type 0 → Type 0 → Type 0
 CleanReportsReplyWell S F = (options : Options) (ignored : List Text) (references files : List File) → KnowsNumberAlone options references →
-    AreReported harmful_codes ignored → IsClean (reported options ignored references files) → RepliesWell S F false files
+    NoneIsIgnored harmful_codes ignored → IsClean (reported options ignored references files) → RepliesWell S F false files
 
 -- If it has none of a taken id either, so has each reply with `--overriding`.
 abbrev pub OwnIdsReplyWell : Type 0 → Type 0 → Type 0
 OwnIdsReplyWell S F = (options : Options) (ignored : List Text) (references files : List File) → KnowsNumberAlone options references →
-    AreReported (codes "duplicate-id" ∷ harmful_codes) ignored → IsClean (reported options ignored references files) →
+    NoneIsIgnored (codes "duplicate-id" ∷ harmful_codes) ignored → IsClean (reported options ignored references files) →
     HasOwnIds (reported options ignored references files) → RepliesWell S F true files
 
 -- If it says of nothing that it is missing, and these codes aren't ignored, `ftl run` has a reply from its files to each
 -- request that it has a reply to from the reference.
 abbrev pub TranslationsReply : Type 0 → Type 0 → Type 0
 TranslationsReply S F = (options : Options) (ignored : List Text) (references files : List File) → KnowsNumberAlone options references →
-    AreReported missing_codes ignored → LacksNothing (reported options ignored references files) →
+    NoneIsIgnored missing_codes ignored → LacksNothing (reported options ignored references files) →
     (env : Environment S F) (r : Request (Value S)) →
     is_some (replied env false (sources references) r) ≡ true → is_some (replied env false (sources files) r) ≡ true
