@@ -1,16 +1,13 @@
 -- What is known and found of a catalog and of its reference.
 use Rattle.std.proofs.Common.{◌≡◌, ◌∙◌, List, [], ◌∷◌, ◌++◌, map, sym, ap, subst, append-nil, Bor}
-use Rattle.std.specs.List.{flat_map}
 use Rattle.fluent_ast.specs.Borrowed.{entries_of}
 use Rattle.fluent_ast.specs.declared.Resource.{Resource}
-use Rattle.lint_files.proofs.TilesFound.{tiles_found}
 use Rattle.lint_endless.specs.Catalog.{AreDeclaredIn}
 use Rattle.lint_finding.specs.declared.records.File as code
 use Rattle.lint_findings.specs.ComparisonFindings.{message_findings}
 use Rattle.lint_findings.specs.Files.{File}
-use Rattle.lint_files.specs.PartFindings.{findings_of_files}
 use Rattle.lint_findings.specs.Finding.{Finding}
-use Rattle.lint_findings.specs.Findings.{Options, Rules, called_functions, catalog_rules, findings, findings_of_tiles, findings_with_reference, known_functions, known_ids, sources, tiles_in, translation_rules}
+use Rattle.lint_findings.specs.Findings.{Options, FileFinding, Rules, called_functions, catalog_rules, known_functions, known_ids, sources, translation_rules}
 use Rattle.lint_findings.specs.Flaws.{catalog_ids}
 use Rattle.fluent_grammar.specs.Tree as t
 use Rattle.fluent_grammar.specs.Words.{Text}
@@ -19,10 +16,11 @@ use Rattle.lint_comparison.proofs.MissingParts.{missing_found}
 use Rattle.fluent_lint.specs.FileTiles.{files_view}
 use Rattle.fluent_lint.specs.Known.{by_ids, trees_by_id}
 use Rattle.fluent_lint.specs.KnownIds.{compare_by}
-use Rattle.fluent_lint.specs.Missing.{missing_in_files}
+use Rattle.fluent_lint.specs.Missing.{reported_missing_in}
+use Rattle.fluent_lint.specs.Reported.{kept, reported, reported_missing, reported_of_files}
 use Rattle.fluent_lint.specs.Reading.{bare_tree, sources_of}
-use Rattle.fluent_lint.specs.Found.{found_by}
-use Rattle.fluent_lint.specs.LintReport.{all_findings}
+use Rattle.fluent_lint.specs.Found.{reported_by, reported_by_files}
+use Rattle.fluent_lint.proofs.Kept.{files_reported}
 use Rattle.fluent_lint.proofs.Trees.{are_declared, ids_are, sources_viewed}
 
 -- the functions that the sources of a reference call are those that its files call
@@ -42,7 +40,7 @@ module _ (options : Options) (references : List File) (files : List code.File) (
 
 -- ---- findings
 
-module _ (options : Options) (files : List File) where
+module _ (options : Options) (ignored : List Text) (files : List File) where
   abbrev rules_by : Ids (Unit {0}) → Ids (Unit {0}) → (Text → t.Entry → Text → List Finding) → Rules
   rules_by functions ids compare = record { functions = functions; ids = ids; plurals = options.plurals; compare = compare }
 
@@ -50,36 +48,36 @@ module _ (options : Options) (files : List File) where
   known references of = known_ids options references of
 
   -- by the ids that are known, of a catalog by itself
-  alone : found_by (rules_by (known [] []) (known [] files) (λ source e s. [])) [] files ≡ findings options files
+  alone : reported_by (rules_by (known [] []) (known [] files) (λ source e s. [])) ignored [] files ≡ reported options ignored [] files
   alone =
-      append-nil (findings_of_files (rules_by (known [] []) (known [] files) (λ source e s. [])) [] files)
-      ∙ ap (λ names. findings_of_files (rules_by (catalog_ids names []) (catalog_ids names (sources files)) (λ source e s. [])) [] files) (append-nil options.functions)
-      ∙ sym (tiles_found (catalog_rules options files) files [])
+      append-nil (reported_by_files (rules_by (known [] []) (known [] files) (λ source e s. [])) ignored [] files)
+      ∙ ap (λ names. reported_by_files (rules_by (catalog_ids names []) (catalog_ids names (sources files)) (λ source e s. [])) ignored [] files) (append-nil options.functions)
+      ∙ files_reported (catalog_rules options files) ignored files []
 
   -- and with a reference
   compared : (references : List File) →
-      found_by (rules_by (known references []) (known references files) (message_findings (known references files) (known references references))) references files
-      ≡ findings_with_reference options references files
+      reported_by (rules_by (known references []) (known references files) (message_findings (known references files) (known references references))) ignored references files
+      ≡ reported_of_files (translation_rules options references files) ignored [] files ++ reported_missing options ignored references files
   compared references =
       let rules = translation_rules options references files in
-      ap (λ found. found ++ missing_in_files (known references files) references) (sym (tiles_found rules files []))
-      ∙ ap (λ found. findings_of_tiles rules [] (flat_map tiles_in files) ++ found) (sym (missing_found (known references files) references))
+      ap (λ found. found ++ reported_missing_in (known references files) ignored references) (files_reported rules ignored files [])
+      ∙ ap (λ found. reported_of_files rules ignored [] files ++ kept (λ (f : FileFinding). f.finding) ignored found) (sym (missing_found (known references files) references))
 
   by_known : (references : List code.File) →
-      found_by (rules_by (known (files_view references) []) (known (files_view references) files) (compare_by (known (files_view references) files) (known (files_view references) (files_view references)) references)) (files_view references) files
-      ≡ all_findings options (files_view references) files
+      reported_by (rules_by (known (files_view references) []) (known (files_view references) files) (compare_by (known (files_view references) files) (known (files_view references) (files_view references)) references)) ignored (files_view references) files
+      ≡ reported options ignored (files_view references) files
   by_known [] = alone
   by_known (r ∷ rs) = compared (files_view (r ∷ rs))
 
-  -- By the ids that are known, these are all findings of the files with the reference, if it has files.
+  -- By the ids that are known, this is all that is reported of the files with the reference, if it has files.
   pub all_found : (references : List code.File) (functions ids reference : Ids (Unit {0})) (compare : Text → t.Entry → Text → List Finding) →
       functions ≡ known (files_view references) [] → ids ≡ known (files_view references) files → reference ≡ known (files_view references) (files_view references) →
       compare ≡ compare_by ids reference references →
-      found_by (rules_by functions ids compare) (files_view references) files ≡ all_findings options (files_view references) files
+      reported_by (rules_by functions ids compare) ignored (files_view references) files ≡ reported options ignored (files_view references) files
   all_found references functions ids reference compare functions_are ids_are reference_is compares =
       let rs = files_view references in
-      ap (λ these. found_by (rules_by functions ids these) rs files) compares
-      ∙ ap (λ these. found_by (rules_by these ids (compare_by ids reference references)) rs files) functions_are
-      ∙ ap (λ these. found_by (rules_by (known rs []) these (compare_by these reference references)) rs files) ids_are
-      ∙ ap (λ these. found_by (rules_by (known rs []) (known rs files) (compare_by (known rs files) these references)) rs files) reference_is
+      ap (λ these. reported_by (rules_by functions ids these) ignored rs files) compares
+      ∙ ap (λ these. reported_by (rules_by these ids (compare_by ids reference references)) ignored rs files) functions_are
+      ∙ ap (λ these. reported_by (rules_by (known rs []) these (compare_by these reference references)) ignored rs files) ids_are
+      ∙ ap (λ these. reported_by (rules_by (known rs []) (known rs files) (compare_by (known rs files) these references)) ignored rs files) reference_is
       ∙ by_known references

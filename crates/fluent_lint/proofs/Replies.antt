@@ -1,9 +1,9 @@
 -- What a report says of the answers to requests.
-use Rattle.std.proofs.Common.{◌≡◌, ◌∙◌, Bool, true, false, List, [], ◌∷◌, ◌++◌, map, Option, Some, None, refl, sym, ap, subst, append-nil}
+use Rattle.std.proofs.Common.{◌≡◌, ◌∙◌, Bool, true, false, List, [], ◌∷◌, Option, Some, None, refl, sym, ap, subst, append-nil, ◌⊎◌, inl, inr, if◌then◌else◌}
 use Rattle.std.specs.Prelude.{is_some, codes}
 use Rattle.std.specs.Option.{option_map}
 use Rattle.std.proofs.lemmas.Bool.{false≢true}
-use Rattle.fluent_grammar.specs.Words.{Text}
+use Rattle.fluent_grammar.specs.Words.{Text, is_among}
 use Rattle.fluent_grammar.specs.Tree.{Elements}
 use Rattle.fluent_value.specs.Args.{all_set}
 use Rattle.fluent_value.specs.Value.{Value}
@@ -18,12 +18,14 @@ use Rattle.fluent_answers.specs.Sources.{ids_of}
 use Rattle.lint_findings.specs.Comparison.{without}
 use Rattle.lint_findings.specs.Files.{File}
 use Rattle.lint_findings.specs.Findings.{Options, sources, known_functions}
-use Rattle.lint_findings.specs.ReportLaws.{AreFunctions, HasOwnIds, IsClean, IsFlawless, HasTarget, program_ids}
+use Rattle.lint_findings.specs.ReportLaws.{AreFunctions, HasOwnIds, IsClean, IsFlawless, HasTarget, harmful_codes, missing_codes}
 use Rattle.lint_findings.proofs.FlawlessCatalogs.{flawless_catalogs_answer}
 use Rattle.lint_findings.proofs.CleanReports.{clean_catalogs_are_flawless, clean_translations_are_flawless}
 use Rattle.lint_findings.proofs.OwnIds.{catalogs_override_nothing, translations_override_nothing}
 use Rattle.lint_findings.proofs.Translations.{translations_answer_all}
 use Rattle.fluent_lint.specs.LintReport.{all_findings}
+use Rattle.fluent_lint.proofs.SameFindings.{none_found, one_found}
+use Rattle.std.proofs.lemmas.List.Elements.{All-head, All-tail}
 use Rattle.fluent_lint.specs.RunLaws.{KnowsNumberAlone, replied, HasErrorsOfRequest, RepliesWell, CleanReportsReplyWell, OwnIdsReplyWell, TranslationsReply}
 
 -- ---- the pattern that is asked for
@@ -95,17 +97,41 @@ own_ids F options [] files alone own = catalogs_override_nothing options files [
 own_ids F options (file ∷ references) files alone own = translations_override_nothing options (file ∷ references) files [] (no_functions F options (file ∷ references) alone) own
 
 pub clean_reports_reply_well : {S F : Type 0} → CleanReportsReplyWell S F
-clean_reports_reply_well {S} {F} options references files alone clean = replies_well false files (flawless F options references files alone clean)
+clean_reports_reply_well {S} {F} options ignored references files alone shown clean =
+    replies_well false files (flawless F options references files alone (none_found options ignored references files harmful_codes shown clean))
 
 pub own_ids_reply_well : {S F : Type 0} → OwnIdsReplyWell S F
-own_ids_reply_well {S} {F} options references files alone clean own =
-    replies_well true files (subst IsFlawless (sym (own_ids F options references files alone own)) (flawless F options references files alone clean))
+own_ids_reply_well {S} {F} options ignored references files alone shown clean own =
+    let of_id = All-head (λ name. is_among name ignored ≡ false) (codes "duplicate-id") harmful_codes shown in
+    let of_others = All-tail (λ name. is_among name ignored ≡ false) (codes "duplicate-id") harmful_codes shown in
+    let clean_there = none_found options ignored references files harmful_codes of_others clean in
+    let own_there = one_found options ignored references files (codes "duplicate-id") of_id own in
+    replies_well true files (subst IsFlawless (sym (own_ids F options references files alone own_there)) (flawless F options references files alone clean_there))
+
+-- from no source there is no reply
+module _ {S F : Type 0} (env : Environment S F) (r : Request (Value S)) where
+  none_asked : (o : Option (Meaning F)) → (o ≡ None) ⊎ (o ≡ Some number_function) → pattern_asked r.attribute o ≡ None
+  none_asked o (inl none) = ap (pattern_asked r.attribute) none
+  none_asked o (inr number) = ap (pattern_asked r.attribute) number
+
+  number_alone : (b : Bool) (m : Meaning F) → ((if b then Some m else None) ≡ None) ⊎ ((if b then Some m else None) ≡ Some m)
+  number_alone true m = inr refl
+  number_alone false m = inl refl
+
+  no_reply : is_some (replied env false [] r) ≡ true → ⊥
+  no_reply h =
+      let ids = ids_of {F = F} false [] in
+      let none = none_asked (find ids r.id) (number_alone _ number_function) in
+      false≢true (sym (mapped_some _ (asked env r ids) ∙ ap is_some none) ∙ h)
 
 pub translations_reply : {S F : Type 0} → TranslationsReply S F
-translations_reply {S} {F} options references files alone complete env r h =
+translations_reply {S} {F} options ignored [] files alone shown complete env r h = absurd (no_reply env r h)
+translations_reply {S} {F} options ignored (file ∷ more) files alone shown complete env r h =
+    let references = file ∷ more in
     let reference = ids_of {F = F} false (sources references) in
     let ids = ids_of {F = F} false (sources files) in
     let own = found_some (asked env r reference) (sym (mapped_some _ (asked env r reference)) ∙ h) in
     let target : HasTarget reference r.id r.attribute = (own.0, asked_is_target r.id r.attribute (find reference r.id) own.0 own.1) in
-    let found = translations_answer_all options references files [] (no_functions F options references alone) complete r.id r.attribute target in
+    let lacks = none_found options ignored references files missing_codes shown complete in
+    let found = translations_answer_all options references files [] (no_functions F options references alone) lacks r.id r.attribute target in
     mapped_some _ (asked env r ids) ∙ target_is_asked r.id r.attribute (find ids r.id) found.0 found.1

@@ -1,6 +1,10 @@
 pub mod Reading
 pub mod Known
 pub mod FileTiles
+pub mod InOrder
+pub mod Reported
+pub mod Lacking
+pub mod Totals
 pub mod Found
 pub mod Reports
 pub mod KnownIds

@@ -1,6 +1,6 @@
 -- What a report says of `ftl run`, by the definitions of its answers.
-use Rattle.std.specs.Prelude.{◌≡◌, Bool, true, false, List, [], ◌∷◌, map, All, Option, Some, None, is_some, codes}
-use Rattle.fluent_grammar.specs.Words.{Text}
+use Rattle.std.specs.Prelude.{◌≡◌, Bool, true, false, List, [], ◌∷◌, map, All, Option, Some, None, count_by, is_some, codes}
+use Rattle.fluent_grammar.specs.Words.{Text, is_among}
 use Rattle.fluent_errors.specs.Errors.{Unresolved}
 use Rattle.fluent_errors.specs.Texts.{resolver_text}
 use Rattle.fluent_value.specs.Args.{all_set}
@@ -14,9 +14,24 @@ use Rattle.fluent_answers.specs.Answers.{reply_to}
 use Rattle.fluent_answers.specs.Sources.{ids_of}
 use Rattle.lint_findings.specs.Comparison.{without}
 use Rattle.lint_findings.specs.Files.{File}
-use Rattle.lint_findings.specs.Findings.{Options, findings_with_reference, known_functions, sources}
-use Rattle.lint_findings.specs.ReportLaws.{HasOwnIds, IsClean, IsOfRequest, LacksNothing}
+use Rattle.lint_findings.specs.Findings.{Options, FileFinding, known_functions, sources}
+use Rattle.lint_findings.specs.ReportLaws.{HasOwnIds, IsClean, IsOfRequest, LacksNothing, harmful_codes, missing_codes}
 use Rattle.fluent_lint.specs.LintReport.{all_findings}
+use Rattle.fluent_lint.specs.Reported.{kept, reported}
+
+-- ---- what is reported
+
+-- A report has the findings whose code isn't ignored, and each as often: a test passes as many of the one as of the other.
+abbrev pub ReportsAreFindings : Type 0
+ReportsAreFindings = (options : Options) (ignored : List Text) (references files : List File) (test : FileFinding → Bool) →
+    count_by test (reported options ignored references files)
+    ≡ count_by test (kept (λ (f : FileFinding). f.finding) ignored (all_findings options references files))
+
+-- none of these codes is ignored
+abbrev pub NoneIsIgnored : List Text → List Text → Type 0
+NoneIsIgnored names ignored = All (λ name. is_among name ignored ≡ false) names
+
+-- ---- what it says of replies
 
 -- No function is known but `NUMBER`, the one that `ftl run` has.
 abbrev pub KnowsNumberAlone : Options → List File → Type 0
@@ -37,21 +52,22 @@ abbrev pub RepliesWell : Type 0 → Type 0 → Bool → List File → Type 0
 RepliesWell S F overriding files = (env : Environment S F) (r : Request (Value S)) →
     HasErrorsOfRequest (all_set [] r.arguments) (replied env overriding (sources files) r)
 
--- If a report has no harmful finding, each reply of `ftl run` from its files has only errors that depend on the
--- request.
+-- If a report has no harmful finding, and no code of such findings is ignored, each reply of `ftl run` from its files has
+-- only errors that depend on the request.
 abbrev pub CleanReportsReplyWell : Type 0 → Type 0 → Type 0
-CleanReportsReplyWell S F = (options : Options) (references files : List File) → KnowsNumberAlone options references →
-    IsClean (all_findings options references files) → RepliesWell S F false files
+CleanReportsReplyWell S F = (options : Options) (ignored : List Text) (references files : List File) → KnowsNumberAlone options references →
+    NoneIsIgnored harmful_codes ignored → IsClean (reported options ignored references files) → RepliesWell S F false files
 
 -- If it has none of a taken id either, so has each reply with `--overriding`.
 abbrev pub OwnIdsReplyWell : Type 0 → Type 0 → Type 0
-OwnIdsReplyWell S F = (options : Options) (references files : List File) → KnowsNumberAlone options references →
-    IsClean (all_findings options references files) → HasOwnIds (all_findings options references files) →
-    RepliesWell S F true files
+OwnIdsReplyWell S F = (options : Options) (ignored : List Text) (references files : List File) → KnowsNumberAlone options references →
+    NoneIsIgnored (codes "duplicate-id" ∷ harmful_codes) ignored → IsClean (reported options ignored references files) →
+    HasOwnIds (reported options ignored references files) → RepliesWell S F true files
 
--- If it says of nothing that it is missing, `ftl run` has a reply from its files to each request that it has a reply to
--- from the reference.
+-- If it says of nothing that it is missing, and these codes aren't ignored, `ftl run` has a reply from its files to each
+-- request that it has a reply to from the reference.
 abbrev pub TranslationsReply : Type 0 → Type 0 → Type 0
-TranslationsReply S F = (options : Options) (references files : List File) → KnowsNumberAlone options references →
-    LacksNothing (findings_with_reference options references files) → (env : Environment S F) (r : Request (Value S)) →
+TranslationsReply S F = (options : Options) (ignored : List Text) (references files : List File) → KnowsNumberAlone options references →
+    NoneIsIgnored missing_codes ignored → LacksNothing (reported options ignored references files) →
+    (env : Environment S F) (r : Request (Value S)) →
     is_some (replied env false (sources references) r) ≡ true → is_some (replied env false (sources files) r) ≡ true

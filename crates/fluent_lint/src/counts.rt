@@ -1,26 +1,75 @@
 //! The counts of the files of a catalog and of its reference.
 #![tactic(auto)]
 
-ghost use Rattle.std.specs.Prelude.{◌≡◌, All, IfOk, map};
+ghost use Rattle.std.specs.Prelude.{◌≡◌, All, IfOk, filter, map};
 ghost use Rattle.lint_finding.specs.View.{findings_view};
 ghost use Rattle.fluent_lint.specs.FileTiles.{AreTilesOf, files_of, files_view};
-ghost use Rattle.fluent_lint.specs.Reports.{counts_of, summaries_of};
+ghost use Rattle.fluent_lint.specs.Reports.{AreShown, counts_by, counts_of, summaries_of};
+ghost use Rattle.fluent_lint.specs.Lacking.{is_lacking};
 ghost use Rattle.lint_report.specs.ReportView.{summary_view};
 ghost use Rattle.lint_report.specs.Counted as counted;
 ghost use Rattle.lint_report.specs.Counted.{IsCounted};
 
+use crate::Output;
 use crate::tiles::FileTiles;
 use lint_entries::message_count;
 use lint_finding::FileFindings;
-use lint_report::{FileMessages, Summary, summaries};
+use lint_report::{FileMessages, Format, Summary, summaries};
 use std::alloc::{AllocError, Global};
+
+/// The counts that are shown.
+///
+/// # Errors
+/// [`AllocError`] if memory runs out; nothing is kept.
+pub fn shown_counts<'s>(
+    alloc: Global,
+    output: Output<'_>,
+    references: &[FileTiles<'_, 's>],
+    files: &[FileTiles<'_, 's>],
+    found: &[FileFindings],
+) -> Result<Vec<Summary<'s>>, AllocError>
+    requires references { All AreTilesOf references.now }
+    requires files { All AreTilesOf files.now }
+    ensures { IfOk result (AreShown output.entry found.now references.now files.now) }
+{
+    let mut counts = counts_by_reference(alloc, references, files, found)?;
+    keep_shown(output, &mut counts);
+    Ok(counts)
+}
+
+/// Leaves out the counts that aren't shown.
+fn keep_shown(output: Output<'_>, counts: &mut Vec<Summary>)
+    ensures { map summary_view counts.new.items ≡ counts_by output.entry (map summary_view counts.old.items) }
+{
+    match output.format {
+        Format::Text if !output.counts => keep_lacking(counts),
+        _ => {}
+    }
+}
+
+/// Leaves out the counts of files of which no message is missing.
+fn keep_lacking(counts: &mut Vec<Summary>)
+    ensures { map summary_view counts.new.items ≡ filter is_lacking (map summary_view counts.old.items) }
+{
+    counts.retain(|summary| is_lacking(summary));
+}
+
+/// Whether the catalog lacks some messages of a file.
+fn is_lacking(summary: &Summary) -> bool
+    ensures { result ≡ is_lacking (summary_view summary.now) }
+{
+    match summary.missing {
+        Some(count) => 0 < count,
+        None => false,
+    }
+}
 
 /// The counts of the files of a catalog, and then those of its reference, by all findings of the catalog. Without files
 /// of a reference there are none.
 ///
 /// # Errors
 /// [`AllocError`] if memory runs out; nothing is kept.
-pub fn counts_by_reference<'s>(
+fn counts_by_reference<'s>(
     alloc: Global,
     references: &[FileTiles<'_, 's>],
     files: &[FileTiles<'_, 's>],

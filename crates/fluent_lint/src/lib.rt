@@ -16,8 +16,10 @@ pub mod laws;
 mod linting;
 mod missing;
 mod read;
+mod reported;
 mod reports;
 mod tiles;
+mod totals;
 
 pub use linting::lint_sources;
 pub use reports::{Options, Output, Report, report_findings};

@@ -65,7 +65,9 @@ fn report_on(
     };
     let output = Output {
         format: lint.format,
+        ignored: &lint.ignored,
         notes: lint.notes,
+        counts: lint.counts,
         strict: lint.strict,
     };
     report_findings(alloc, &options, output, references, files)

@@ -1,18 +1,20 @@
 //! Reports of findings.
 #![tactic(auto)]
 
-ghost use Rattle.std.specs.Prelude.{IfOk, map};
+ghost use Rattle.std.specs.Prelude.{IfOk, OnOk, map};
 ghost use Rattle.fluent_lint.specs.Reading.{IsRead};
-ghost use Rattle.fluent_lint.specs.Reports.{IsReportBy, IsReportOf, IsReportOn};
+ghost use Rattle.fluent_lint.specs.Reports.{IsReportBy, IsReportOf, IsReportOn, ending};
 ghost use Rattle.lint_files.specs.RulesView.{rules_view};
 ghost use Rattle.lint_finding.specs.View.{findings_view};
+ghost use Rattle.lint_report.specs.Changes.{Appends};
 ghost use Rattle.lint_report.specs.ReportView.{summary_view};
 
-use crate::counts::counts_by_reference;
+use crate::counts::shown_counts;
 use crate::findings::all_findings;
 use crate::known::Known;
 use crate::read::{ReadFiles, read_files};
 use crate::tiles::tiles_of_files;
+use crate::totals::push_totals;
 use fluent_plurals::LanguagePlurals;
 use lint_endless::EndlessPatterns;
 use lint_entries::Catalog;
@@ -32,10 +34,14 @@ pub struct Options<'a> {
 
 /// What is written of findings, and which of them fail.
 #[derive(Clone, Copy)]
-pub struct Output {
+pub struct Output<'a> {
     pub format: Format,
+    /// The codes of findings that are as if they weren't found.
+    pub ignored: &'a [&'a str],
     /// Whether notes are written.
     pub notes: bool,
+    /// Whether text has the counts of each file, also of one of which no message is missing.
+    pub counts: bool,
     /// Whether warnings fail.
     pub strict: bool,
 }
@@ -47,9 +53,9 @@ pub struct Report {
     pub has_failed: bool,
 }
 
-/// The report of a catalog: all findings of its files, and whether one of them fails. With files of a reference, which it
-/// is translated from, also the messages that it lacks and the counts of all files; the functions that the reference calls
-/// are known then.
+/// The report of a catalog: the findings of its files whose code isn't ignored, and whether one of them fails. With files
+/// of a reference, which it is translated from, also the messages that it lacks and the counts of files; the functions that
+/// the reference calls are known then.
 ///
 /// # Errors
 /// [`AllocError`] if memory runs out, or a file nests so deep that reading it would take more of the machine's stack
@@ -57,11 +63,11 @@ pub struct Report {
 pub fn report_findings<'s>(
     alloc: Global,
     options: &Options,
-    output: Output,
+    output: Output<'_>,
     references: &[File<'s>],
     files: &[File<'s>],
 ) -> Result<Report, AllocError>
-    ensures { IfOk result (IsReportOn options.now output references.now files.now) }
+    ensures { IfOk result (IsReportOn options.now output.entry references.now files.now) }
 {
     let references = read_files(alloc, references)?;
     let files = read_files(alloc, files)?;
@@ -73,13 +79,13 @@ pub fn report_findings<'s>(
 fn report_of_read<'r, 's: 'r>(
     alloc: Global,
     options: &Options,
-    output: Output,
+    output: Output<'_>,
     references: &'r ReadFiles<'_, 's>,
     files: &'r ReadFiles<'_, 's>,
 ) -> Result<Report, AllocError>
     requires references { IsRead references.now }
     requires files { IsRead files.now }
-    ensures { IfOk result (IsReportOn options.now output references.now.files.now files.now.files.now) }
+    ensures { IfOk result (IsReportOn options.now output.entry references.now.files.now files.now.files.now) }
 {
     let known = Known::of(alloc, options, references, files)?;
     let endless = EndlessPatterns::new(alloc, &known.ids, &files.trees)?;
@@ -97,34 +103,52 @@ fn report_of_read<'r, 's: 'r>(
 /// The same, by the rules for findings.
 fn report_by_rules<'r, 's: 'r>(
     alloc: Global,
-    output: Output,
+    output: Output<'_>,
     rules: &Rules<'_, '_, 's>,
     references: &'r ReadFiles<'_, 's>,
     files: &'r ReadFiles<'_, 's>,
 ) -> Result<Report, AllocError>
     requires references { IsRead references.now }
     requires files { IsRead files.now }
-    ensures { IfOk result (IsReportBy (rules_view rules.now) references.now.files.now files.now.files.now output) }
+    ensures { IfOk result (IsReportBy (rules_view rules.now) references.now.files.now files.now.files.now output.entry) }
 {
+    let count = files.files.len();
     let references = tiles_of_files(alloc, references)?;
     let files = tiles_of_files(alloc, files)?;
-    let found = all_findings(alloc, rules, &references, &files)?;
-    let counts = counts_by_reference(alloc, &references, &files, &found)?;
-    report_of(alloc, output, &found, &counts)
+    let found = all_findings(alloc, rules, output.ignored, &references, &files)?;
+    let counts = shown_counts(alloc, output, &references, &files, &found)?;
+    report_of(alloc, output, count, &found, &counts)
 }
 
-/// The report of findings, with these summaries.
+/// The report of findings of this many files, with these summaries.
 fn report_of(
     alloc: Global,
-    output: Output,
+    output: Output<'_>,
+    files: usize,
     found: &[FileFindings],
     summaries: &[Summary],
 ) -> Result<Report, AllocError>
-    ensures { IfOk result (IsReportOf (findings_view found.now) (map summary_view summaries.now) output) }
+    ensures { IfOk result (IsReportOf (findings_view found.now) (map summary_view summaries.now) files output.entry) }
 {
-    let text = report(alloc, output.format, output.notes, found, summaries)?;
+    let mut text = report(alloc, output.format, output.notes, found, summaries)?;
+    push_ending(&mut text, output, files, found)?;
     Ok(Report {
         text,
         has_failed: has_failed(output.strict, found),
     })
+}
+
+/// Appends what follows the counts.
+fn push_ending(
+    text: &mut String,
+    output: Output<'_>,
+    files: usize,
+    found: &[FileFindings],
+) -> Result<(), AllocError>
+    ensures { OnOk result (Appends text.old text.new (ending output.entry files (findings_view found.now))) }
+{
+    match output.format {
+        Format::Text => push_totals(text, output.notes, files, found),
+        Format::Line | Format::Json | Format::Github => Ok(()),
+    }
 }

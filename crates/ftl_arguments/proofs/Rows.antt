@@ -127,7 +127,7 @@ unfolding clap_on_literals
 no_file_to_format = refl
 
 a_lint : command_of (codes "lint" ∷ codes "a" ∷ [])
-    ≡ Some (lint (record { references = []; functions = []; locale = None; notes = false; strict = false; format = text; files = codes "a" ∷ [] }))
+    ≡ Some (lint (record { references = []; functions = []; ignored = []; locale = None; notes = false; counts = false; strict = false; format = text; files = codes "a" ∷ [] }))
 unfolding clap_on_literals
 a_lint = refl
 
@@ -135,8 +135,10 @@ a_lint_with_options : command_of (codes "lint" ∷ codes "--reference" ∷ codes
     ≡ Some (lint (record {
       references = codes "r1" ∷ codes "r2" ∷ [];
       functions = codes "F" ∷ codes "G" ∷ [];
+      ignored = [];
       locale = Some (codes "pl_PL.UTF-8");
       notes = true;
+      counts = false;
       strict = true;
       format = json;
       files = codes "a" ∷ codes "b" ∷ [];
@@ -145,7 +147,7 @@ unfolding clap_on_literals
 a_lint_with_options = refl
 
 lint_after_two_hyphens : command_of (codes "lint" ∷ codes "--format=github" ∷ codes "--" ∷ codes "-a" ∷ codes "--notes" ∷ [])
-    ≡ Some (lint (record { references = []; functions = []; locale = None; notes = false; strict = false; format = github; files = codes "-a" ∷ codes "--notes" ∷ [] }))
+    ≡ Some (lint (record { references = []; functions = []; ignored = []; locale = None; notes = false; counts = false; strict = false; format = github; files = codes "-a" ∷ codes "--notes" ∷ [] }))
 unfolding clap_on_literals
 lint_after_two_hyphens = refl
 
@@ -156,6 +158,25 @@ no_such_format = refl
 a_format_in_capitals : command_of (codes "lint" ∷ codes "--format=JSON" ∷ codes "a" ∷ []) ≡ None
 unfolding clap_on_literals
 a_format_in_capitals = refl
+
+codes_to_ignore : command_of (codes "lint" ∷ codes "--ignore" ∷ codes "untranslated" ∷ codes "--counts" ∷ codes "a" ∷ codes "--ignore=no-value" ∷ [])
+    ≡ Some (lint (record {
+      references = [];
+      functions = [];
+      ignored = codes "untranslated" ∷ codes "no-value" ∷ [];
+      locale = None;
+      notes = false;
+      counts = true;
+      strict = false;
+      format = text;
+      files = codes "a" ∷ [];
+    }))
+unfolding clap_on_literals
+codes_to_ignore = refl
+
+no_such_code : command_of (codes "lint" ∷ codes "--ignore" ∷ codes "untranslated" ∷ codes "--ignore" ∷ codes "value" ∷ codes "a" ∷ []) ≡ None
+unfolding clap_on_literals
+no_such_code = refl
 
 two_formats : faults_of (codes "lint" ∷ codes "--format=json" ∷ codes "--format=line" ∷ codes "a" ∷ []) ≡ ArgumentConflict ∷ []
 unfolding clap_on_literals

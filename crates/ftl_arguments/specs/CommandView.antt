@@ -52,8 +52,10 @@ abbrev pub lint_view : linted.Lint → Lint
 lint_view l = record {
   references = texts l.references.items;
   functions = texts l.functions.items;
+  ignored = texts l.ignored.items;
   locale = option_map (λ l. l.now) l.locale;
   notes = l.notes;
+  counts = l.counts;
   strict = l.strict;
   format = report.format_view l.format;
   files = texts l.files.items;

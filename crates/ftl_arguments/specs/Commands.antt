@@ -61,9 +61,13 @@ format_shape = shaped (codes "format") (asking_rules ++ each_rule (codes "argume
 abbrev pub known_rules : List Rule
 known_rules = each_rule (codes "reference") ∷ each_rule (codes "function") ∷ option_rule (codes "locale") ∷ []
 
--- the same, and how findings are reported
+-- the same, and what is reported
+abbrev pub reported_rules : List Rule
+reported_rules = known_rules ++ each_rule (codes "ignore") ∷ flag_rule (codes "notes") ∷ flag_rule (codes "counts") ∷ []
+
+-- and how
 abbrev pub linting_rules : List Rule
-linting_rules = known_rules ++ flag_rule (codes "notes") ∷ flag_rule (codes "strict") ∷ default_rule (codes "format") (codes "text") ∷ []
+linting_rules = reported_rules ++ flag_rule (codes "strict") ∷ default_rule (codes "format") (codes "text") ∷ []
 
 abbrev pub lint_shape : Shape
 lint_shape = shaped (codes "lint") (linting_rules ++ files_rule ∷ [])

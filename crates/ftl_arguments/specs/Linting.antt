@@ -1,5 +1,6 @@
 -- What `lint` is asked for.
-use Rattle.std.specs.Prelude.{Bool, if◌then◌else◌, List, Option, Some, None, option_map, option_and_then, codes}
+use Rattle.std.specs.Prelude.{Bool, if◌then◌else◌, List, [], ◌∷◌, Option, Some, None, option_map, option_and_then, codes}
+use Rattle.std.specs.List.{list_all, list_any}
 use Rattle.std.specs.Str.{bytes_eq}
 use Rattle.clap.specs.Words.{Row, Text, first_of}
 use Rattle.ftl_arguments.specs.Found.{is_given, values_in, locale_in, files_in}
@@ -11,15 +12,35 @@ pub record Lint : Type 0 where
   pub references : List Text
   -- the names of functions that the program adds
   pub functions : List Text
+  -- the codes of findings that are left out
+  pub ignored : List Text
   -- the tag of the locale whose plural categories are looked for, if one is given
   pub locale : Option Text
   -- notes are reported, too
   pub notes : Bool
+  -- each file has its counts, also if nothing is missing
+  pub counts : Bool
   -- warnings count for the status
   pub strict : Bool
   -- how findings are written
   pub format : Format
   pub files : List Text
+
+-- the codes that findings have
+abbrev pub finding_codes : List Text
+finding_codes =
+    codes "syntax" ∷ codes "duplicate-id" ∷ codes "unknown-message" ∷ codes "unknown-term" ∷ codes "unknown-attribute"
+    ∷ codes "no-value" ∷ codes "no-default" ∷ codes "cyclic-reference" ∷ codes "unknown-function" ∷ codes "duplicate-attribute"
+    ∷ codes "duplicate-variant" ∷ codes "invalid-escape" ∷ codes "missing-category" ∷ codes "missing-message"
+    ∷ codes "missing-value" ∷ codes "missing-attribute" ∷ codes "obsolete-value" ∷ codes "obsolete-attribute"
+    ∷ codes "unknown-variable" ∷ codes "unused-variable" ∷ codes "obsolete-message" ∷ codes "untranslated" ∷ []
+
+abbrev pub is_code : Text → Bool
+is_code name = list_any (λ code. bytes_eq name code) finding_codes
+
+-- the values of `--ignore`
+abbrev pub ignored_in : List Row → List Text
+ignored_in rows = values_in (codes "ignore") rows
 
 abbrev pub format_named : Text → Option Format
 format_named name =
@@ -38,13 +59,16 @@ abbrev pub lint_with : List Row → Format → Lint
 lint_with rows report_format = record {
   references = values_in (codes "reference") rows;
   functions = values_in (codes "function") rows;
+  ignored = ignored_in rows;
   locale = locale_in rows;
   notes = is_given (codes "notes") rows;
+  counts = is_given (codes "counts") rows;
   strict = is_given (codes "strict") rows;
   format = report_format;
   files = files_in rows;
 }
 
--- With another format nothing is asked for.
+-- With another format nothing is asked for, nor with a code to ignore that no finding has.
 abbrev pub lint_in : List Row → Option Lint
-lint_in rows = option_map (lint_with rows) (report_format_in rows)
+lint_in rows =
+    if list_all is_code (ignored_in rows) then option_map (lint_with rows) (report_format_in rows) else None

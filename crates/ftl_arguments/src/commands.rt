@@ -70,10 +70,14 @@ pub struct Lint<'words> {
     pub references: Vec<&'words str>,
     /// The names of the functions that the program adds.
     pub functions: Vec<&'words str>,
+    /// The codes of findings that are left out.
+    pub ignored: Vec<&'words str>,
     /// The tag of the locale whose plural categories are looked for, if one is given.
     pub locale: Option<&'words str>,
     /// Whether notes are reported, too.
     pub notes: bool,
+    /// Whether each file has its counts, also if nothing is missing.
+    pub counts: bool,
     /// Whether warnings count for the status.
     pub strict: bool,
     /// How findings are written.

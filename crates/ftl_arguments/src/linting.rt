@@ -1,6 +1,8 @@
 //! What `lint` is asked for.
-ghost use Rattle.std.specs.Prelude.{◌≡◌, IfOk, Some, None, option_map};
-ghost use Rattle.ftl_arguments.specs.Linting.{format_named, lint_in, report_format_in};
+ghost use Rattle.std.specs.Prelude.{◌≡◌, IfErr, IfOk, Some, None, false, option_map, true};
+ghost use Rattle.std.specs.List.{list_all};
+ghost use Rattle.ftl_arguments.specs.Linting.{format_named, ignored_in, is_code, lint_in, report_format_in};
+ghost use Rattle.ftl_arguments.specs.Meaning.{texts};
 ghost use Rattle.ftl_arguments.specs.CommandView.{found_rows, lint_view, IfRefused};
 ghost use Rattle.lint_report.specs.Formats.{format_view};
 
@@ -13,7 +15,7 @@ use std::alloc::Global;
 /// What was found for `lint`.
 ///
 /// # Errors
-/// [`WordsError::Bad`]: there is no such format. [`WordsError::Memory`]: memory ran out.
+/// [`WordsError::Bad`]: there is no such format, or no finding has such a code. [`WordsError::Memory`]: memory ran out.
 pub(crate) fn lint_in<'words>(
     alloc: Global,
     found: &ArgMatches<'words>,
@@ -28,12 +30,69 @@ pub(crate) fn lint_in<'words>(
     Ok(Lint {
         references: values_in(alloc, found, "reference")?,
         functions: values_in(alloc, found, "function")?,
+        ignored: ignored_in(alloc, found)?,
         locale: locale_in(found),
         notes: is_given(found, "notes"),
+        counts: is_given(found, "counts"),
         strict: is_given(found, "strict"),
         format,
         files: files_in(alloc, found)?,
     })
+}
+
+/// The codes of findings that are to be left out, if findings have them.
+fn ignored_in<'words>(
+    alloc: Global,
+    found: &ArgMatches<'words>,
+) -> Result<Vec<&'words str>, WordsError>
+    ensures values { IfOk result (λ values. texts values.items ≡ ignored_in (found_rows found.now)) }
+    ensures known { IfOk result (λ _. list_all is_code (ignored_in (found_rows found.now)) ≡ true) }
+    ensures unknown { IfRefused result (list_all is_code (ignored_in (found_rows found.now)) ≡ false) }
+{
+    let values = values_in(alloc, found, "ignore")?;
+    if are_codes(&values) {
+        Ok(values)
+    } else {
+        Err(WordsError::Bad)
+    }
+}
+
+/// Whether findings have each of these codes.
+fn are_codes(names: &[&str]) -> bool
+    ensures { result ≡ list_all (λ name. is_code name.now) names.now }
+{
+    names.iter().all(|name| is_code(name))
+}
+
+/// Whether findings have this code.
+fn is_code(name: &str) -> bool
+    ensures { result ≡ is_code name.now }
+{
+    matches!(
+        name,
+        "syntax"
+            | "duplicate-id"
+            | "unknown-message"
+            | "unknown-term"
+            | "unknown-attribute"
+            | "no-value"
+            | "no-default"
+            | "cyclic-reference"
+            | "unknown-function"
+            | "duplicate-attribute"
+            | "duplicate-variant"
+            | "invalid-escape"
+            | "missing-category"
+            | "missing-message"
+            | "missing-value"
+            | "missing-attribute"
+            | "obsolete-value"
+            | "obsolete-attribute"
+            | "unknown-variable"
+            | "unused-variable"
+            | "obsolete-message"
+            | "untranslated"
+    )
 }
 
 /// How findings are to be written, if there is such a format.

@@ -5,7 +5,7 @@ ghost use Rattle.ftl_arguments.specs.Commands.{IsShaped, IsLocal, shaped, with_c
 ghost use Rattle.ftl_arguments.specs.Commands.{flag_rule, option_rule, each_rule, default_rule};
 ghost use Rattle.ftl_arguments.specs.Commands.{id_rule, file_rule, files_rule};
 ghost use Rattle.ftl_arguments.specs.Commands.{bare_program, program_app, asking_rules, flagged_rules, format_shape, run_shape};
-ghost use Rattle.ftl_arguments.specs.Commands.{known_rules, lint_shape, linting_rules, with_reports, with_tidying};
+ghost use Rattle.ftl_arguments.specs.Commands.{known_rules, lint_shape, linting_rules, reported_rules, with_reports, with_tidying};
 
 use crate::version::VERSION;
 use clap::{Arg, ArgAction, Command};
@@ -178,10 +178,19 @@ fn lint<'a>(alloc: Global) -> Result<Command<'a>, AllocError>
 fn reporting<'a>(alloc: Global) -> Result<Command<'a>, AllocError>
     ensures { IfOk result (IsShaped (shaped (codes "lint") linting_rules)) }
 {
-    comparing(alloc)?
-        .arg(flag(alloc, "notes").help("Report notes, too"))?
+    choosing(alloc)?
         .arg(flag(alloc, "strict").help("End with 1 for warnings, too"))?
         .arg(report_format(alloc))
+}
+
+/// The same without the options that say how findings are reported.
+fn choosing<'a>(alloc: Global) -> Result<Command<'a>, AllocError>
+    ensures { IfOk result (IsShaped (shaped (codes "lint") reported_rules)) }
+{
+    comparing(alloc)?
+        .arg(ignored(alloc))?
+        .arg(flag(alloc, "notes").help("Report notes, too"))?
+        .arg(counts(alloc))
 }
 
 /// The same with the options alone that say what is known of the program and of the language.
@@ -265,6 +274,24 @@ fn function<'a>(alloc: Global) -> Arg<'a>
 {
     each(alloc, "function", "NAME").help(
         "A function that your program provides, so that calls of it are known (repeatable)",
+    )
+}
+
+/// A code of findings that `lint` leaves out.
+fn ignored<'a>(alloc: Global) -> Arg<'a>
+    ensures { IsLocal (each_rule (codes "ignore")) result }
+{
+    each(alloc, "ignore", "CODE").help(
+        "Leave out findings with this code, which stands in brackets after each (repeatable)",
+    )
+}
+
+/// Whether `lint` counts in each file what the reference has.
+fn counts<'a>(alloc: Global) -> Arg<'a>
+    ensures { IsLocal (flag_rule (codes "counts")) result }
+{
+    flag(alloc, "counts").help(
+        "With a reference, count the messages of each file, also where none is missing",
     )
 }
 

@@ -13,7 +13,7 @@ use Rattle.fluent_grammar.specs.Words.{Text, skip_blank_block}
 use Rattle.lint_findings.specs.DuplicateIds.{Declaration, declarations, id_of}
 use Rattle.lint_findings.specs.Files.{File}
 use Rattle.lint_findings.specs.Finding.{Finding}
-use Rattle.lint_findings.specs.Findings.{FileTile, Rules, findings_in, findings_of_entry, findings_of_tiles, tiles_in}
+use Rattle.lint_findings.specs.Findings.{FileTile, Rules, declarations_of_tile, findings_in, findings_of_entry, findings_of_tiles, tiles_in}
 use Rattle.lint_findings.specs.SyntaxFindings.{syntax_finding, syntax_findings}
 use Rattle.lint_findings.specs.Tiles.{Tile, entry_tile, junk_tile, tiles, and_tiles, tiles_from}
 use Rattle.lint_entries.specs.Kept.{kept_tiles, part_of_tile, parts}
@@ -98,3 +98,28 @@ tiles_found rules [] before = refl
 tiles_found rules (file ∷ files) before =
     found rules file (tiles file.source) (are_placed file (suc (length file.source)) 0 file.source refl) before (flat_map tiles_in files)
     ∙ ap (λ l. findings_in file (findings_of_parts rules file before (syntax_findings (tiles file.source)) (parts file.source)) ++ l) (tiles_found rules files (before ++ declared_in file))
+
+-- ---- what is declared
+
+module _ (rules : Rules) (file : File) where
+  abbrev declared_in_tiles : List Tile → List Declaration
+  declared_in_tiles ts = flat_map (λ (t : FileTile). declarations_of_tile rules t.file t.tile) (here rules file ts)
+
+  entry_declared : (at : ℕ) (s : Text) (e : t.Entry) (ts : List Tile) → at ≡ offset_in file s → declared_in_tiles ts ≡ declared rules file ts →
+      declarations file e at (id_of e) ++ declared_in_tiles ts ≡ declarations file e (offset_in file s) (id_of e) ++ declared rules file ts
+  entry_declared at s e ts is later =
+      ap (λ a. declarations file e a (id_of e) ++ declared_in_tiles ts) is ∙ ap (λ l. declarations file e (offset_in file s) (id_of e) ++ l) later
+
+  declared_are : (ts : List Tile) → ArePlaced file ts → declared_in_tiles ts ≡ declared rules file ts
+  declared_are [] placed = refl
+  declared_are (entry_tile at s (t.message m) ∷ ts) placed = entry_declared at s (t.message m) ts placed.0 (declared_are ts placed.1)
+  declared_are (entry_tile at s (t.term m) ∷ ts) placed = entry_declared at s (t.term m) ts placed.0 (declared_are ts placed.1)
+  declared_are (entry_tile at s (t.comment c) ∷ ts) placed = declared_are ts placed.1
+  declared_are (entry_tile at s (t.group_comment c) ∷ ts) placed = declared_are ts placed.1
+  declared_are (entry_tile at s (t.resource_comment c) ∷ ts) placed = declared_are ts placed.1
+  declared_are (entry_tile at s (t.junk x) ∷ ts) placed = declared_are ts placed.1
+  declared_are (junk_tile at s refusal ∷ ts) placed = declared_are ts placed
+
+-- The declarations of the tiles of a file are those of the file.
+pub tiles_declared : (rules : Rules) (file : File) → flat_map (λ (t : FileTile). declarations_of_tile rules t.file t.tile) (tiles_in file) ≡ declared_in file
+tiles_declared rules file = declared_are rules file (tiles file.source) (are_placed file (suc (length file.source)) 0 file.source refl)

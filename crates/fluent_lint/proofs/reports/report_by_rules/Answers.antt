@@ -1,15 +1,16 @@
-use Rattle.std.proofs.Common.{◌≡◌, ◌∙◌, List, ap, map, subst, sym}
+use Rattle.std.proofs.Common.{◌≡◌, ◌∙◌, ℕ, List, length, ap, map, subst, sym}
+use Rattle.std.proofs.lemmas.List.{length-map}
 use Rattle.std.specs.Prelude.{All, IfOk}
 use Rattle.lint_files.specs.RulesView.{rules_view}
-use Rattle.lint_finding.specs.View.{findings_view}
+use Rattle.lint_finding.specs.View.{file_view, findings_view}
 use Rattle.lint_finding.specs.declared.records.File.{File}
 use Rattle.lint_findings.specs.Findings.{FileFinding}
 use Rattle.lint_findings.specs.Summary.{Summary}
 use Rattle.lint_report.specs.ReportView.{summary_view}
 use Rattle.fluent_lint.specs.FileTiles.{AreTilesOf, files_of, files_view}
-use Rattle.fluent_lint.specs.Found.{found_by}
+use Rattle.fluent_lint.specs.Found.{reported_by}
 use Rattle.fluent_lint.specs.LintReport.{all_summaries}
-use Rattle.fluent_lint.specs.Reports.{IsReportOf}
+use Rattle.fluent_lint.specs.Reports.{IsReportOf, counts_by, ignored_by}
 use Rattle.fluent_lint.proofs.reports.report_by_rules.Goals as goal
 
 pub all_findings-requires-clause-references : goal.all_findings-requires-clause-references
@@ -18,27 +19,31 @@ all_findings-requires-clause-references c = subst (All AreTilesOf) (sym c.deref.
 pub all_findings-requires-clause-files : goal.all_findings-requires-clause-files
 all_findings-requires-clause-files c = subst (All AreTilesOf) (sym c.deref-2.ensures.value) c.in_ok-files.ensures.tiles
 
-pub counts_by_reference-requires-clause-references : goal.counts_by_reference-requires-clause-references
-counts_by_reference-requires-clause-references c = subst (All AreTilesOf) (sym c.deref-3.ensures.value) c.in_ok-references.ensures.tiles
+pub shown_counts-requires-clause-references : goal.shown_counts-requires-clause-references
+shown_counts-requires-clause-references c = subst (All AreTilesOf) (sym c.deref-3.ensures.value) c.in_ok-references.ensures.tiles
 
-pub counts_by_reference-requires-clause-files : goal.counts_by_reference-requires-clause-files
-counts_by_reference-requires-clause-files c = subst (All AreTilesOf) (sym c.deref-4.ensures.value) c.in_ok-files.ensures.tiles
+pub shown_counts-requires-clause-files : goal.shown_counts-requires-clause-files
+shown_counts-requires-clause-files c = subst (All AreTilesOf) (sym c.deref-4.ensures.value) c.in_ok-files.ensures.tiles
 
 pub returns : goal.returns
 returns c =
     let rules = rules_view c.args.rules.now in
+    let output = c.args.output in
+    let ignored = ignored_by output in
     let references = c.args.references.now.files.now in
     let files = c.args.files.now.files.now in
-    let found = found_by rules (files_view references) (files_view files) in
+    let found = reported_by rules ignored (files_view references) (files_view files) in
     let found_there : findings_view c.in_ok-found.found.items ≡ found =
     c.in_ok-found.ensures
-    ∙ ap (λ (fs : List File). found_by rules (files_view fs) (files_view (files_of c.deref-2.result.now))) (ap files_of c.deref.ensures.value ∙ c.in_ok-references.ensures.files)
-    ∙ ap (λ (fs : List File). found_by rules (files_view references) (files_view fs)) (ap files_of c.deref-2.ensures.value ∙ c.in_ok-files.ensures.files) in
-    let counts : map summary_view c.deref-7.result.now ≡ all_summaries (files_view references) (files_view files) found =
+    ∙ ap (λ (fs : List File). reported_by rules ignored (files_view fs) (files_view (files_of c.deref-2.result.now))) (ap files_of c.deref.ensures.value ∙ c.in_ok-references.ensures.files)
+    ∙ ap (λ (fs : List File). reported_by rules ignored (files_view references) (files_view fs)) (ap files_of c.deref-2.ensures.value ∙ c.in_ok-files.ensures.files) in
+    let counts : map summary_view c.deref-7.result.now ≡ counts_by output (all_summaries (files_view references) (files_view files) found) =
     ap (map summary_view) c.deref-7.ensures.value
     ∙ c.in_ok-counts.ensures
-    ∙ ap (λ (fs : List FileFinding). all_summaries (files_view (files_of c.deref-3.result.now)) (files_view (files_of c.deref-4.result.now)) fs) (ap findings_view c.deref-5.ensures.value ∙ found_there)
-    ∙ ap (λ (fs : List File). all_summaries (files_view fs) (files_view (files_of c.deref-4.result.now)) found) (ap files_of c.deref-3.ensures.value ∙ c.in_ok-references.ensures.files)
-    ∙ ap (λ (fs : List File). all_summaries (files_view references) (files_view fs) found) (ap files_of c.deref-4.ensures.value ∙ c.in_ok-files.ensures.files) in
-    subst (λ (ss : List Summary). IfOk c.report_of.result (IsReportOf found ss c.args.output)) counts
-    (subst (λ (fs : List FileFinding). IfOk c.report_of.result (IsReportOf fs (map summary_view c.deref-7.result.now) c.args.output)) (ap findings_view c.deref-6.ensures.value ∙ found_there) c.report_of.ensures)
+    ∙ ap (λ (fs : List FileFinding). counts_by output (all_summaries (files_view (files_of c.deref-3.result.now)) (files_view (files_of c.deref-4.result.now)) fs)) (ap findings_view c.deref-5.ensures.value ∙ found_there)
+    ∙ ap (λ (fs : List File). counts_by output (all_summaries (files_view fs) (files_view (files_of c.deref-4.result.now)) found)) (ap files_of c.deref-3.ensures.value ∙ c.in_ok-references.ensures.files)
+    ∙ ap (λ (fs : List File). counts_by output (all_summaries (files_view references) (files_view fs) found)) (ap files_of c.deref-4.ensures.value ∙ c.in_ok-files.ensures.files) in
+    let number : length files ≡ length (files_view files) = sym (length-map files file_view) in
+    subst (λ (n : ℕ). IfOk c.report_of.result (IsReportOf found (counts_by output (all_summaries (files_view references) (files_view files) found)) n output)) number
+    (subst (λ (ss : List Summary). IfOk c.report_of.result (IsReportOf found ss (length files) output)) counts
+    (subst (λ (fs : List FileFinding). IfOk c.report_of.result (IsReportOf fs (map summary_view c.deref-7.result.now) (length files) output)) (ap findings_view c.deref-6.ensures.value ∙ found_there) c.report_of.ensures))

@@ -1,12 +1,10 @@
-use Rattle.std.proofs.Common.{◌≡◌, ◌∙◌, ◌++◌, [], ap}
+use Rattle.std.proofs.Common.{◌∙◌, ◌++◌, [], ap}
 use Rattle.std.proofs.lemmas.Result.{on_ok_weaker}
-use Rattle.fluent_ids.specs.IdsView.{ids_view}
 use Rattle.fluent_resource.specs.Sources.{texts}
 use Rattle.fluent_lint.specs.FileTiles.{files_view}
 use Rattle.fluent_lint.specs.Known.{by_ids, trees_by_id}
 use Rattle.fluent_lint.specs.Reports.{options_view}
 use Rattle.fluent_lint.proofs.Found.{known_are}
-use Rattle.lint_findings.specs.Findings.{known_ids}
 use Rattle.lint_findings.specs.Flaws.{catalog_ids}
 use Rattle.fluent_lint.proofs.known.Known.add.Goals as goal
 
