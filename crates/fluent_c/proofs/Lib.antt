@@ -2,4 +2,4 @@ mod Steps
 mod Texts
 mod Sources
 mod Given
-mod Damage
+mod Reports

@@ -30,6 +30,10 @@ pub record HoldsOtherFile (files : List FluentFile) : Type 0 where
   pub stands : Contains files file
   pub other : ¬ (IsUtf8File file)
 
+-- one of these files or of those isn't
+abbrev pub HoldOther : List FluentFile → List FluentFile → Type 0
+HoldOther files references = HoldsOtherFile files ⊎ HoldsOtherFile references
+
 abbrev pub files_given : List FluentFile → List File
 files_given = map (λ (file : FluentFile). record { name = file.name.now; source = file.text.now })
 
@@ -52,10 +56,14 @@ lint_asked options = record {
   files = [];
 }
 
--- the report of that on these files, if the locale has plural rules
+-- the report of that on these files, by plural rules
+abbrev pub report_by : Lint → Option LanguagePlurals → List FluentFile → List FluentFile → LintReport
+report_by lint plurals files references = lint_report lint plurals (files_given references) (files_given files)
+
+-- the same by those of the locale, if it has any
 abbrev pub report_in : FluentLintOptions → List FluentFile → List FluentFile → Option LintReport
 report_in options files references =
-    option_map (λ plurals. lint_report (lint_asked options) plurals (files_given references) (files_given files)) (plurals_looked_for options.locale.now)
+    option_map (λ plurals. report_by (lint_asked options) plurals files references) (plurals_looked_for options.locale.now)
 
 -- ---- what comes back
 
@@ -80,7 +88,7 @@ IsReport options files references status made =
 
 -- a name or a text of the files isn't UTF-8, or the name of a function isn't
 abbrev pub HasOtherFile : FluentLintOptions → List FluentFile → List FluentFile → Type 0
-HasOtherFile options files references = (HoldsOtherFile files ⊎ HoldsOtherFile references) ⊎ HoldsOther options.functions.now
+HasOtherFile options files references = HoldOther files references ⊎ HoldsOther options.functions.now
 
 -- each of them is
 abbrev pub AreAllUtf8 : FluentLintOptions → List FluentFile → List FluentFile → Type 0

@@ -1,7 +1,9 @@
 -- The tidy text of a source, for C.
-use Rattle.std.specs.Prelude.{◌≡◌, ◌≢◌, ℕ, List, [], ◌∷◌, Option, None, Some, IsTrue, IsUtf8}
+use Rattle.std.specs.Prelude.{◌≡◌, ◌≢◌, ℕ, List, [], ◌∷◌, Option, None, Some, IsTrue, IsUtf8, map}
 use Rattle.fluent_grammar.specs.Tiling.{ParserError, errors}
 use Rattle.fluent_grammar.specs.Words.{Text}
+use Rattle.fluent_parsed.specs.ErrorView.{error_told, error_view}
+use Rattle.fluent_parsed.specs.declared.errors.ParserError.{ParserError as code}
 use Rattle.fluent_tidy.specs.Sources.{holds_return}
 use Rattle.fluent_tidy.specs.TidyText.{HasNoTidyText, IsTidyText, laid_anew, plain}
 use Rattle.lint_findings.specs.Position.{Position, position_of}
@@ -13,6 +15,10 @@ use Rattle.fluent_c.specs.declared.tidying.FluentPlace.{FluentPlace}
 
 abbrev pub place_told : FluentPlace → Position
 place_told place = record { line = place.line; column = place.column }
+
+-- what the code has of errors is these
+abbrev pub AreTold : List code → List ParserError → Type 0
+AreTold found es = map error_view found ≡ map error_told es
 
 -- where the first of some errors of a source is, if there is one
 abbrev pub first_place : Text → List ParserError → Option Position

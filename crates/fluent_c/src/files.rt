@@ -13,7 +13,7 @@ use std::alloc::Global;
 /// A file: its name and its text, each as its first byte and its length in bytes.
 ///
 /// ```c
-/// const struct FluentFile files[] = {{bytes_of(name), strlen(name), bytes_of(text), strlen(text)}};
+/// const struct FluentFile reference = fluent_file("en.ftl", "hi = { F() }\n");
 /// ```
 #[repr(C)]
 #[derive(Clone, Copy)]

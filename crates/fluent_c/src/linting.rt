@@ -1,11 +1,10 @@
 //! What is found in a catalog.
 
-ghost use Rattle.std.specs.Prelude.{◌≡◌, ◌≢◌, ◌⊎◌, false, IfErr, IfOk, IsTrue, None, Some};
-ghost use Rattle.fluent_lint.specs.LintReport.{lint_report};
+ghost use Rattle.std.specs.Prelude.{◌≡◌, ◌≢◌, false, IfErr, IfOk, IsTrue, None, Some};
 ghost use Rattle.fluent_lint.specs.LintView.{report_view};
 ghost use Rattle.ftl_arguments.specs.CommandView.{lint_view};
 ghost use Rattle.fluent_c.specs.Answering.{HoldsOther};
-ghost use Rattle.fluent_c.specs.Linting.{AreAllUtf8, HasOtherFile, HasReport, HoldsOtherFile, IsReport, IsReported, Lints, files_given, lint_asked, lint_status, plurals_looked_for, report_in};
+ghost use Rattle.fluent_c.specs.Linting.{AreAllUtf8, HasOtherFile, HasReport, HoldOther, IsReport, IsReported, Lints, lint_asked, lint_status, plurals_looked_for, report_by, report_in};
 ghost use Rattle.fluent_c.specs.declared.answering.Refusal.TheVariants.{NotUtf8, UnknownLocale};
 
 use crate::answering::{FluentSource, Refusal, are_utf8, checked_texts};
@@ -25,7 +24,8 @@ use std::alloc::Global;
 /// What is looked for in a catalog, and what of it is reported.
 ///
 /// ```c
-/// const struct FluentLintOptions options = {functions, 0, bytes_of(locale), strlen(locale), .notes = true, .strict = false};
+/// struct FluentLintOptions strict = {0};
+/// strict.strict = true;
 /// ```
 #[repr(C)]
 #[derive(Clone, Copy)]
@@ -114,10 +114,10 @@ fn report_by(
     files: &[FluentFile<'_>],
     references: &[FluentFile<'_>],
 ) -> Result<Report, Refusal>
-    ensures report { IfOk result (λ report. report_view report
-        ≡ lint_report (lint_view lint.now) plurals (files_given references.now) (files_given files.now)) }
+    ensures report { IfOk result (λ r. report_view r
+        ≡ report_by (lint_view lint.now) plurals files.now references.now) }
     ensures not_utf8 { IfErr result (λ refusal. refusal ≡ NotUtf8
-        → HoldsOtherFile files.now ⊎ HoldsOtherFile references.now) }
+        → HoldOther files.now references.now) }
     ensures no_locale { IfErr result (λ refusal. refusal ≢ UnknownLocale) }
 {
     let files = checked_files(alloc, files)?;

@@ -1,11 +1,10 @@
 //! The tidy text of a source.
 
-ghost use Rattle.std.specs.Prelude.{◌≡◌, ◌≢◌, ◌∷◌, [], List, None, IfOk, map, option_map, string_bytes};
+ghost use Rattle.std.specs.Prelude.{◌≡◌, ◌≢◌, ◌∷◌, [], List, None, IfOk, option_map, string_bytes};
 ghost use Rattle.fluent_grammar.specs.Tiling.{errors, ParserError as Fault};
-ghost use Rattle.fluent_parsed.specs.ErrorView.{error_told, error_view};
 ghost use Rattle.fluent_c.specs.Made.{Holds};
 ghost use Rattle.fluent_c.specs.Statuses.{IsOneOf};
-ghost use Rattle.fluent_c.specs.Tidying.{HoldsTidy, IsDamagedAt, Tidies, damaged_place, first_place, place_told};
+ghost use Rattle.fluent_c.specs.Tidying.{AreTold, HoldsTidy, IsDamagedAt, Tidies, damaged_place, first_place, place_told};
 ghost use Rattle.fluent_c.specs.declared.TheConstants.{FLUENT_READ, FLUENT_NO_MEMORY, FLUENT_DAMAGED};
 
 use crate::text::FluentText;
@@ -34,7 +33,7 @@ pub struct FluentPlace {
 
 /// The place of the first of some errors of a source, if there is one.
 fn first_place(source: &str, errors: &[ParserError]) -> Option<FluentPlace>
-    ensures { (es : List Fault) → map error_view errors.now ≡ map error_told es
+    ensures { (es : List Fault) → AreTold errors.now es
         → option_map place_told result ≡ first_place source.now es }
 {
     let error = errors.first()?;

@@ -35,12 +35,7 @@ impl<'f, 's> ReadFiles<'f, 's> {
     }
 
     /// Reads one more source, within this budget of the machine's stack for each message and term.
-    fn read(
-        &mut self,
-        alloc: Global,
-        source: &'s str,
-        stack: StackBudget,
-    ) -> Result<(), AllocError>
+    fn read(&mut self, alloc: Global, source: &'s str, stack: StackBudget) -> Result<(), AllocError>
         ensures files { self.new.files.now ≡ self.old.files.now }
         ensures trees { OnOk result (trees_in self.new ≡ trees_in self.old ++ bare_tree source.now ∷ []) }
         ensures errors { OnOk result (errors_in self.new ≡ errors_in self.old ++ errors_told source.now ∷ []) }
