@@ -60,6 +60,30 @@ static void try_arguments(struct FluentBundle *bundle) {
     check("none", fluent_bad_argument(bundle, arguments, 1) == 1 && fluent_bad_argument(bundle, NULL, 0) == 0);
 }
 
+static void try_tidy(void) {
+    struct FluentText text = {0};
+    struct FluentPlace place = {0};
+    check("a tidy text", fluent_tidy_of("a  =  b", &text, NULL) == FLUENT_READ && holds(&text, "a = b\n"));
+    check("damage", fluent_tidy_of("a = b\nc\n", &text, &place) == FLUENT_DAMAGED && place.line == 2 && place.column == 2
+        && holds(&text, "a = b\n"));
+    check("damage whose place isn't wanted", fluent_tidy_of("c", &text, NULL) == FLUENT_DAMAGED);
+    check("the tidy text of NULL", fluent_tidy_of(NULL, &text, NULL) == FLUENT_READ && holds(&text, ""));
+    fluent_free_text(&text);
+}
+
+static void try_lint(void) {
+    struct FluentText report = {0};
+    const struct FluentFile files[] = {fluent_file("de.ftl", "hi = { F() }\n"), fluent_file("", NULL)};
+    const struct FluentFile reference = fluent_file("en.ftl", "hi = { F() }\n");
+    struct FluentLintOptions strict = {0};
+    strict.strict = true;
+    check("no file", fluent_lint_of(NULL, 0, NULL, 0, NULL, &report) == FLUENT_READ && holds(&report, ""));
+    check("a warning", fluent_lint_of(files, 2, NULL, 0, NULL, &report) == FLUENT_READ && report.len > 0);
+    check("a warning that counts", fluent_lint_of(files, 2, NULL, 0, &strict, &report) == FLUENT_HAS_ERRORS);
+    check("a function of the reference", fluent_lint_of(files, 1, &reference, 1, &strict, &report) == FLUENT_READ);
+    fluent_free_text(&report);
+}
+
 int main(void) {
     struct FluentBundle bundle = {0};
     struct FluentCounts counts = {0};
@@ -72,11 +96,13 @@ int main(void) {
     check("counts", fluent_parse(fluent_bytes(SOURCE), fluent_len(SOURCE), &counts) == FLUENT_READ && counts.messages == 2);
     try_formats(&bundle);
     try_arguments(&bundle);
+    try_tidy();
+    try_lint();
     check("a value is there", fluent_has(&bundle, "a", NULL) == FLUENT_READ);
     check("an attribute isn't", fluent_has(&bundle, "n", "title") == FLUENT_NO_PATTERN);
     fluent_bundle_free(&bundle);
     check("a bundle isn't there", fluent_has(&bundle, "a", NULL) == FLUENT_NO_BUNDLE);
-    for (uint32_t status = FLUENT_READ; status <= FLUENT_NO_BUNDLE; status++)
+    for (uint32_t status = FLUENT_READ; status <= FLUENT_NOT_TIDY; status++)
         check("the words of a status", strcmp(fluent_status_text(status), fluent_status_text(99)) != 0);
     printf("fluent.h: %u tried, %u wrong\n", tried, wrong);
     return wrong == 0 ? 0 : 1;

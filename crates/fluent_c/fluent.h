@@ -28,6 +28,14 @@ static inline const char *fluent_status_text(uint32_t status) {
         return "an argument's kind isn't known, or its decimal is no number";
     case FLUENT_NO_BUNDLE:
         return "there is no bundle";
+    case FLUENT_HAS_ERRORS:
+        return "the report has an error, or a warning that counts";
+    case FLUENT_DAMAGED:
+        return "the source can't be read somewhere";
+    case FLUENT_CARRIAGE_RETURN:
+        return "the source has a carriage return that ends no line";
+    case FLUENT_NOT_TIDY:
+        return "the source has no tidy text";
     default:
         return "no call returns this number";
     }
@@ -102,6 +110,44 @@ static inline uint32_t fluent_format(
 /* fluent_bundle_has. `attribute` is NULL for the value. */
 static inline uint32_t fluent_has(struct FluentBundle *bundle, const char *id, const char *attribute) {
     return fluent_bundle_has(bundle, fluent_bytes(id), fluent_len(id), fluent_bytes(attribute), fluent_len(attribute));
+}
+
+/* fluent_tidy. `place` may be NULL if you don't want it. */
+static inline uint32_t fluent_tidy_of(const char *source, struct FluentText *made, struct FluentPlace *place) {
+    struct FluentPlace unwanted = {0};
+    return fluent_tidy(fluent_bytes(source), fluent_len(source), made, place ? place : &unwanted);
+}
+
+/* A file. */
+static inline struct FluentFile fluent_file(const char *name, const char *text) {
+    struct FluentFile file = {0};
+    file.name = fluent_bytes(name);
+    file.name_len = fluent_len(name);
+    file.text = fluent_bytes(text);
+    file.text_len = fluent_len(text);
+    return file;
+}
+
+/* fluent_lint. `references` may be NULL if there are none, and so may `options`, its functions and its locale. */
+static inline uint32_t fluent_lint_of(
+    const struct FluentFile *files, size_t count, const struct FluentFile *references, size_t reference_count,
+    const struct FluentLintOptions *options, struct FluentText *report) {
+    static const struct FluentFile no_file = {0};
+    static const struct FluentSource no_function = {0};
+    struct FluentLintOptions asked = {0};
+    if (options)
+        asked = *options;
+    if (!asked.functions) {
+        asked.functions = &no_function;
+        asked.function_count = 0;
+    }
+    if (!asked.locale) {
+        asked.locale = fluent_bytes(NULL);
+        asked.locale_len = 0;
+    }
+    return fluent_lint(
+        files ? files : &no_file, files ? count : 0, references ? references : &no_file, references ? reference_count : 0,
+        &asked, report);
 }
 
 /* The number of the first argument that fluent_format refuses with FLUENT_BAD_ARGUMENT, or `argument_count` if it refuses

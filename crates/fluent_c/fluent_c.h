@@ -1,5 +1,6 @@
 /* Fluent for C: the texts of messages, from a bundle that you keep or line by line from sources; which of a program's
- * languages suit a user; what a source is made of, in numbers; and its tree as text.
+ * languages suit a user; what is wrong with the files of a catalog; and a source's tidy text, what it is made of, in
+ * numbers, and its tree as text.
  *
  * Link libfluent_c.a with a program that has malloc, realloc and free. A text is its first byte and its length in
  * bytes. One that you pass needs no byte 0 at its end, and the library only reads it. A text of length 0 still needs a
@@ -7,7 +8,8 @@
  * the calls for texts that end in a byte 0.
  *
  * Each call that returns a number returns one of those below, and its comment says which. If it isn't FLUENT_READ, what
- * you passed for the result is unchanged: a text still has the same bytes at the same address. A call frees all that it
+ * you passed for the result is unchanged, unless the comment says otherwise: a text still has the same bytes at the same
+ * address. A call frees all that it
  * allocates, except for a text that it hands out and a bundle that it makes.
  *
  * A thread with a stack of 2 MB can make each call. If the placeables, calls and selects of a source or of an answer nest
@@ -54,6 +56,14 @@ uint32_t fluent_version(void);
 #define FLUENT_BAD_ARGUMENT 6
 /* There is no bundle. */
 #define FLUENT_NO_BUNDLE 7
+/* fluent_lint made its report, and it has an error, or a warning if warnings count. */
+#define FLUENT_HAS_ERRORS 8
+/* The source can't be read somewhere. */
+#define FLUENT_DAMAGED 9
+/* The source has a carriage return that isn't part of CR LF. */
+#define FLUENT_CARRIAGE_RETURN 10
+/* The source has no tidy text: what would be written isn't read as the same messages. */
+#define FLUENT_NOT_TIDY 11
 
 struct FluentCounts {
     size_t messages FLUENT_ZERO;
@@ -99,6 +109,62 @@ struct FluentSource {
     const uint8_t *text FLUENT_ZERO;
     size_t len FLUENT_ZERO;
 };
+
+/* A place in a source: its line and its column, from 1. A column counts characters. */
+struct FluentPlace {
+    size_t line FLUENT_ZERO;
+    size_t column FLUENT_ZERO;
+};
+
+/* Tidies a source: writes it as a formatter writes code, with the messages, the terms and the comments that it has. One
+ * blank line stays where there are some, a byte order mark is left out, and lines end in LF.
+ *
+ * It returns FLUENT_READ, and `made` is the text; FLUENT_DAMAGED if the source can't be read somewhere, and `place` is the
+ * first such place; FLUENT_CARRIAGE_RETURN; FLUENT_NOT_TIDY if it has one of the few shapes of
+ * docs/reference/normal-text.md; FLUENT_NOT_UTF8 or FLUENT_NO_MEMORY. Only FLUENT_DAMAGED changes `place`, and `made` is
+ * as it was then. */
+uint32_t fluent_tidy(const uint8_t *text, size_t len, struct FluentText *made, struct FluentPlace *place);
+
+/* A file: its name, as findings have it, and its text. */
+struct FluentFile {
+    const uint8_t *name FLUENT_ZERO;
+    size_t name_len FLUENT_ZERO;
+    const uint8_t *text FLUENT_ZERO;
+    size_t text_len FLUENT_ZERO;
+};
+
+/* What fluent_lint looks for, and what it reports. The two pointers aren't null, also if there are no functions or the
+ * locale is empty. */
+struct FluentLintOptions {
+    /* The names of the functions that your program adds. */
+    const struct FluentSource *functions FLUENT_ZERO;
+    size_t function_count FLUENT_ZERO;
+    /* The tag of the locale whose plural categories are looked for. If it is empty, none are. */
+    const uint8_t *locale FLUENT_ZERO;
+    size_t locale_len FLUENT_ZERO;
+    /* Whether notes are reported, too. */
+    bool notes FLUENT_ZERO;
+    /* Whether warnings count for the status. */
+    bool strict FLUENT_ZERO;
+};
+
+/* Reports what is wrong with the files of a catalog, as the command `ftl lint --format json` does: a line of JSON for each
+ * finding, and with `references`, the files that the catalog is translated from, a line of counts for each file.
+ * docs/reference/lint.md has the rules, and the keys of the lines.
+ *
+ * It returns FLUENT_READ if the catalog has no error, and with `strict` no warning, and else FLUENT_HAS_ERRORS: in both
+ * cases `report` is the report, which is empty if nothing was found. Else it returns FLUENT_NOT_UTF8 if a name or a text
+ * isn't UTF-8, FLUENT_UNKNOWN_LOCALE if the locale has no plural rules, or FLUENT_NO_MEMORY, and `report` is unchanged.
+ * `files` and `references` need pointers that aren't null, also if a count is 0.
+ */
+uint32_t fluent_lint(
+    const struct FluentFile *files,
+    size_t count,
+    const struct FluentFile *references,
+    size_t reference_count,
+    const struct FluentLintOptions *options,
+    struct FluentText *report
+);
 
 /* Answers request lines from the messages and terms of sources, in their order, as the command `ftl run` does.
  *

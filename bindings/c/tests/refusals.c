@@ -10,6 +10,7 @@ struct Kept {
     struct FluentText text, errors;
     struct FluentBundle bundle;
     size_t position;
+    struct FluentPlace place;
 };
 
 static const struct FluentSource SOURCES[] = {
@@ -44,6 +45,20 @@ static uint32_t negotiate(struct Kept *kept) {
     size_t count = 0;
     return fluent_negotiate(tags, 2, tags, 2, FLUENT_FILTERING, &kept->position, 1, &count);
 }
+static uint32_t lint(struct Kept *kept) {
+    static const struct FluentFile files[] = {
+        {AT("a.ftl"), 5, AT("a = { b } { F() }\na = c\n"), 24}, {AT("b.ftl"), 5, AT("g@Rb@ge\n"), 8}};
+    static const struct FluentFile references[] = {{AT("en.ftl"), 6, AT("a = { $x }\nd = e\n"), 17}};
+    static const struct FluentSource functions[] = {BYTES("F")};
+    static const struct FluentLintOptions options = {functions, 1, TEXT("pl"), true, true};
+    uint32_t status = fluent_lint(files, 2, references, 1, &options, &kept->text);
+    return status == FLUENT_HAS_ERRORS ? FLUENT_READ : status;
+}
+static uint32_t tidy(struct Kept *kept) { return fluent_tidy(TEXT("a  =  b\r\n\r\n# c\r\nd = e"), &kept->text, &kept->place); }
+static uint32_t find_damage(struct Kept *kept) {
+    uint32_t status = fluent_tidy(TEXT("a  =  b\r\nc"), &kept->text, &kept->place);
+    return status == FLUENT_DAMAGED ? FLUENT_READ : status;
+}
 static uint32_t has(struct Kept *kept) { return fluent_bundle_has(&kept->bundle, TEXT("welcome"), TEXT("")); }
 
 static const struct {
@@ -63,13 +78,17 @@ static const struct {
     {"fluent_bundle_errors", report},
     {"fluent_bundle_has", has},
     {"fluent_negotiate", negotiate},
+    {"fluent_lint", lint},
+    {"fluent_tidy", tidy},
+    {"fluent_tidy of damage", find_damage},
 };
 
 static const struct Bytes TEXT_BEFORE = BYTES("\xe2\x81\xa8{$absent}\xe2\x81\xa9 and {nothing}");
 static const struct Bytes ERRORS_BEFORE = BYTES("Unknown variable: $absent\nUnknown message: nothing\n");
 
 static bool is_unchanged(const struct Kept *kept, const struct Kept *before) {
-    return kept->counts.messages == before->counts.messages && kept->position == before->position && is_same(&kept->text, &before->text, TEXT_BEFORE)
+    return kept->counts.messages == before->counts.messages && kept->position == before->position && kept->place.line == before->place.line
+        && is_same(&kept->text, &before->text, TEXT_BEFORE)
         && is_same(&kept->errors, &before->errors, ERRORS_BEFORE) && kept->bundle.desk == before->bundle.desk;
 }
 

@@ -53,6 +53,8 @@ bool try_answers(void);
 bool try_bundles(void);
 bool try_formats(void);
 bool try_languages(void);
+bool try_linting(void);
+bool try_tidying(void);
 bool try_refusals(void);
 
 #endif

@@ -2,6 +2,11 @@
 
 pub const FLUENT_READ: u32 = 0;
 pub const FLUENT_NO_MEMORY: u32 = 2;
+pub const FLUENT_UNKNOWN_LOCALE: u32 = 3;
+pub const FLUENT_HAS_ERRORS: u32 = 8;
+pub const FLUENT_DAMAGED: u32 = 9;
+pub const FLUENT_CARRIAGE_RETURN: u32 = 10;
+pub const FLUENT_NOT_TIDY: u32 = 11;
 
 pub const FLUENT_TEXT: u32 = 0;
 pub const FLUENT_DECIMAL: u32 = 1;
@@ -15,6 +20,30 @@ pub const THREAD_STACK: usize = 1_572_864;
 pub struct FluentSource {
     pub text: *const u8,
     pub len: usize,
+}
+
+#[repr(C)]
+pub struct FluentFile {
+    pub name: *const u8,
+    pub name_len: usize,
+    pub text: *const u8,
+    pub text_len: usize,
+}
+
+#[repr(C)]
+pub struct FluentLintOptions {
+    pub functions: *const FluentSource,
+    pub function_count: usize,
+    pub locale: *const u8,
+    pub locale_len: usize,
+    pub notes: bool,
+    pub strict: bool,
+}
+
+#[repr(C)]
+pub struct FluentPlace {
+    pub line: usize,
+    pub column: usize,
 }
 
 #[repr(C)]
@@ -57,6 +86,15 @@ pub struct FluentArgument {
 extern "C" {
     pub fn fluent_parse(text: *const u8, len: usize, counts: *mut FluentCounts) -> u32;
     pub fn fluent_write(text: *const u8, len: usize, with_junk: bool, made: *mut FluentText) -> u32;
+    pub fn fluent_tidy(text: *const u8, len: usize, made: *mut FluentText, place: *mut FluentPlace) -> u32;
+    pub fn fluent_lint(
+        files: *const FluentFile,
+        count: usize,
+        references: *const FluentFile,
+        reference_count: usize,
+        options: *const FluentLintOptions,
+        report: *mut FluentText,
+    ) -> u32;
     pub fn fluent_bundle_new_within(
         sources: *const FluentSource,
         count: usize,

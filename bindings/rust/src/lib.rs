@@ -9,6 +9,7 @@
 //! - [`FluentMessage`] is a message of a bundle.
 //! - [`FluentArgs`] are the arguments of a message.
 //! - [`negotiate_languages`] finds which of a program's languages suit a user, and [`Localization`] asks their bundles.
+//! - [`lint()`] finds what is wrong with the files of a catalog, and [`tidy`] formats a source.
 //!
 //! ```
 //! use kozhvadi::{FluentArgs, FluentBundle, FluentResource};
@@ -36,15 +37,18 @@ mod decimal;
 mod errors;
 mod kept;
 mod languages;
+mod linting;
 mod listing;
 mod localization;
 mod message;
 mod number;
 mod options;
 mod parser;
+mod report;
 pub mod resolver;
 mod resource;
 mod text;
+mod tidying;
 mod value;
 
 /// The page of this package, whose example is a test.
@@ -56,12 +60,14 @@ pub use args::FluentArgs;
 pub use bundle::FluentBundle;
 pub use errors::{EntryKind, FluentError};
 pub use languages::{negotiate_languages, NegotiationStrategy};
+pub use linting::{lint, FileCounts, Finding, LintError, LintOptions, Report, Severity};
 pub use localization::{L10nAttribute, L10nKey, L10nMessage, Localization, LocalizationError};
 pub use message::{FluentAttribute, FluentMessage, Pattern};
 pub use number::FluentNumber;
 pub use parser::{ErrorKind, ParserError};
 pub use resolver::{ReferenceKind, ResolverError};
 pub use resource::FluentResource;
+pub use tidying::{tidy, TidyError};
 pub use value::FluentValue;
 
 /// Bundles that threads share: each bundle is one.

@@ -2,3 +2,4 @@ mod Steps
 mod Texts
 mod Sources
 mod Given
+mod Reports

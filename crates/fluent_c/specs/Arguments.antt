@@ -8,7 +8,7 @@ use Rattle.fluent_value.specs.Value.{Value, none, number, text}
 use Rattle.fluent_value.specs.View.{value_view}
 use Rattle.fluent_value.specs.declared.custom.NoCustom.{NoCustom}
 use Rattle.fluent_value.specs.declared.value.FluentValue.{FluentValue}
-use Rattle.fluent_c.specs.declared.TheConstants.{FLUENT_TEXT, FLUENT_DECIMAL, FLUENT_INTEGER, FLUENT_UNSIGNED}
+use Rattle.fluent_c.specs.declared.TheConstants.{FLUENT_TEXT, FLUENT_DECIMAL, FLUENT_UNSIGNED}
 use Rattle.fluent_c.specs.declared.arguments.ArgumentRefusal.{ArgumentRefusal}
 use Rattle.fluent_c.specs.declared.arguments.ArgumentRefusal.TheVariants.{Memory, NotUtf8, NoValue}
 use Rattle.fluent_c.specs.declared.arguments.FluentArgument.{FluentArgument}

@@ -10,4 +10,6 @@ pub mod Answering
 pub mod Arguments
 pub mod Bundles
 pub mod Languages
+pub mod Linting
 pub mod Statuses
+pub mod Tidying

@@ -15,13 +15,16 @@ mod arguments;
 mod buffers;
 mod bundles;
 mod counts;
+mod files;
 mod filling;
 mod formatting;
 mod languages;
+mod linting;
 mod locales;
 mod names;
 mod text;
 mod threads;
+mod tidying;
 mod version;
 mod writing;
 
@@ -32,11 +35,14 @@ pub use bundles::{
     fluent_bundle_new_plain, fluent_bundle_new_within,
 };
 pub use counts::{FluentCounts, fluent_parse, fluent_parse_runtime};
+pub use files::FluentFile;
 pub use fluent_kept::FluentBundle;
 pub use formatting::fluent_bundle_format;
 pub use languages::fluent_negotiate;
+pub use linting::{FluentLintOptions, fluent_lint};
 pub use text::{FluentText, fluent_free_text};
 pub use threads::texts_are_send;
+pub use tidying::{FluentPlace, fluent_tidy};
 pub use version::fluent_version;
 pub use writing::{fluent_write, fluent_write_json};
 
@@ -58,6 +64,14 @@ pub const FLUENT_NO_PATTERN: u32 = 5;
 pub const FLUENT_BAD_ARGUMENT: u32 = 6;
 /// What a call returns that asks a bundle that isn't there.
 pub const FLUENT_NO_BUNDLE: u32 = 7;
+/// What [`fluent_lint`] returns if its report has an error, or if warnings count and it has one: the report is there.
+pub const FLUENT_HAS_ERRORS: u32 = 8;
+/// What a call returns that is given a source with a stretch that can't be read.
+pub const FLUENT_DAMAGED: u32 = 9;
+/// What a call returns that is given a source with a carriage return that ends no line.
+pub const FLUENT_CARRIAGE_RETURN: u32 = 10;
+/// What a call returns whose source has no tidy text.
+pub const FLUENT_NOT_TIDY: u32 = 11;
 /// The kind of an argument that is a text.
 pub const FLUENT_TEXT: u32 = 0;
 /// The kind of an argument that is a number, written as a decimal.

@@ -6,6 +6,7 @@ ghost use Rattle.fluent_lint.specs.LintReport.{named_files};
 ghost use Rattle.fluent_lint.specs.LintView.{report_asked, report_on_files, report_view};
 
 use crate::{Options, Output, Report, report_findings};
+use fluent_parser::StackBudget;
 use fluent_plurals::LanguagePlurals;
 use ftl_arguments::Lint;
 use lint_finding::File;
@@ -28,7 +29,8 @@ pub fn lint_sources(
 {
     let references = named_files(alloc, &lint.references, references)?;
     let files = named_files(alloc, &lint.files, sources)?;
-    report_on(alloc, lint, plurals, &references, &files)
+    let stack = StackBudget::PROGRAM;
+    lint_files(alloc, lint, plurals, &references, &files, stack)
 }
 
 /// Files of these names, with these texts.
@@ -48,13 +50,18 @@ fn named_files<'a>(
     Ok(files)
 }
 
-/// The report on these files, with those of the reference.
-fn report_on(
+/// The report on the files of a catalog, with those of the reference. What a command line names as files isn't looked at.
+/// Each message and term that is read may take this budget of the machine's stack.
+///
+/// # Errors
+/// [`AllocError`] if memory runs out, or the budget does; nothing is kept.
+pub fn lint_files(
     alloc: Global,
     lint: &Lint,
     plurals: Option<LanguagePlurals>,
     references: &[File],
     files: &[File],
+    stack: StackBudget,
 ) -> Result<Report, AllocError>
     ensures { IfOk result (λ report. report_view report
         ≡ report_on_files lint.now plurals references.now files.now) }
@@ -70,5 +77,5 @@ fn report_on(
         counts: lint.counts,
         strict: lint.strict,
     };
-    report_findings(alloc, &options, output, references, files)
+    report_findings(alloc, &options, output, references, files, stack)
 }

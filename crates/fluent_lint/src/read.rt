@@ -8,7 +8,7 @@ ghost use Rattle.fluent_lint.specs.Reading.{bare_tree, IsRead, errors_in, errors
 ghost use Rattle.fluent_parsed.specs.ErrorView.{error_view};
 
 use fluent_ast::{Entry, Resource};
-use fluent_parser::{Error, ParserError, parse};
+use fluent_parser::{Error, ParserError, StackBudget, parse_within};
 use lint_finding::File;
 use std::alloc::{AllocError, Global};
 
@@ -34,13 +34,13 @@ impl<'f, 's> ReadFiles<'f, 's> {
         }
     }
 
-    /// Reads one more source.
-    fn read(&mut self, alloc: Global, source: &'s str) -> Result<(), AllocError>
+    /// Reads one more source, within this budget of the machine's stack for each message and term.
+    fn read(&mut self, alloc: Global, source: &'s str, stack: StackBudget) -> Result<(), AllocError>
         ensures files { self.new.files.now ≡ self.old.files.now }
         ensures trees { OnOk result (trees_in self.new ≡ trees_in self.old ++ bare_tree source.now ∷ []) }
         ensures errors { OnOk result (errors_in self.new ≡ errors_in self.old ++ errors_told source.now ∷ []) }
     {
-        match parse(alloc, source) {
+        match parse_within(alloc, source, stack) {
             Ok(tree) => self.push(tree, Vec::new(alloc)),
             Err(Error::Broken(tree, errors)) => self.push(tree, errors),
             Err(Error::Memory) => Err(AllocError),
@@ -90,17 +90,18 @@ fn drop_comment(entry: &mut Entry<&str>)
 ///
 /// # Errors
 /// [`AllocError`] if memory runs out, or a file nests so deep that reading it would take more of the machine's stack
-/// than [`StackBudget::PROGRAM`](fluent_parser::StackBudget::PROGRAM); nothing is kept.
+/// than this budget; nothing is kept.
 pub fn read_files<'f, 's>(
     alloc: Global,
     files: &'f [File<'s>],
+    stack: StackBudget,
 ) -> Result<ReadFiles<'f, 's>, AllocError>
     ensures files { IfOk result (λ read. read.files.now ≡ files.now) }
     ensures read { IfOk result IsRead }
 {
     let mut read = ReadFiles::new(alloc, files);
     for file in files {
-        read.read(alloc, file.source)?;
+        read.read(alloc, file.source, stack)?;
     }
     Ok(read)
 }

@@ -15,6 +15,7 @@ use crate::known::Known;
 use crate::read::{ReadFiles, read_files};
 use crate::tiles::tiles_of_files;
 use crate::totals::push_totals;
+use fluent_parser::StackBudget;
 use fluent_plurals::LanguagePlurals;
 use lint_endless::EndlessPatterns;
 use lint_entries::Catalog;
@@ -59,18 +60,19 @@ pub struct Report {
 ///
 /// # Errors
 /// [`AllocError`] if memory runs out, or a file nests so deep that reading it would take more of the machine's stack
-/// than [`StackBudget::PROGRAM`](fluent_parser::StackBudget::PROGRAM); nothing is kept.
+/// than this budget; nothing is kept.
 pub fn report_findings<'s>(
     alloc: Global,
     options: &Options,
     output: Output<'_>,
     references: &[File<'s>],
     files: &[File<'s>],
+    stack: StackBudget,
 ) -> Result<Report, AllocError>
     ensures { IfOk result (IsReportOn options.now output.entry references.now files.now) }
 {
-    let references = read_files(alloc, references)?;
-    let files = read_files(alloc, files)?;
+    let references = read_files(alloc, references, stack)?;
+    let files = read_files(alloc, files, stack)?;
     let report = report_of_read(alloc, options, output, &references, &files)?;
     Ok(report)
 }

@@ -10,7 +10,7 @@ use Rattle.lint_findings.specs.Findings.{FileFinding}
 use Rattle.lint_findings.specs.Output as out
 use Rattle.lint_findings.specs.Report.{has_failed, shown}
 use Rattle.lint_report.specs.View.{shown_width}
-use Rattle.fluent_lint.proofs.linting.report_on.Goals as goal
+use Rattle.fluent_lint.proofs.linting.lint_files.Goals as goal
 
 pub returns : goal.returns
 returns c =

@@ -1,0 +1,73 @@
+//! What is wrong with files, and their tidy texts.
+
+use kozhvadi::{lint, tidy, FileCounts, LintError, LintOptions, Severity, TidyError};
+
+#[test]
+fn reports() {
+    let files = [("a.ftl", "é = x\na = é{ -b }\n"), ("b.ftl", "a = \u{7}\nd \u{202e}\n")];
+    let report = lint(&files, &[], &LintOptions::default()).expect("It is made.");
+    let shown: Vec<String> = report.findings.iter().map(ToString::to_string).collect();
+    assert_eq!(
+        shown,
+        [
+            "a.ftl:1:1: error: expected a message, a term or a comment, found `é` [syntax]",
+            "a.ftl:2:8: error: a: there is no term `-b` [unknown-term]",
+            "b.ftl:1:1: error: a: the entry at a.ftl:2:1 has the same id, so this one is never shown [duplicate-id]",
+            "b.ftl:2:3: error: d: expected `=` after `d`, found `\u{202e}` [syntax]",
+        ]
+    );
+    assert!(report.has_errors);
+    assert_eq!(report.findings[1].offset, 15);
+    assert_eq!(report.findings[1].severity, Severity::Error);
+    assert_eq!(report.findings[1].hint, None);
+    assert_eq!(
+        report.findings[3].hint.as_deref(),
+        Some("a line that continues the text above begins with at least one space")
+    );
+}
+
+#[test]
+fn reports_as_asked() {
+    let (files, reference) = ([("de.ftl", "a = b\nc = { F() }\n")], [("en.ftl", "a = b\nd = e\n")]);
+    let codes = |reference: &[(&str, &str)], options: LintOptions<'_>| {
+        let report = lint(&files, reference, &options).expect("It is made.");
+        let codes: Vec<String> = report.findings.into_iter().map(|finding| finding.code).collect();
+        (codes.join(" "), report.has_errors, report.counts)
+    };
+    let options = LintOptions::default();
+    assert_eq!(codes(&[], options), ("unknown-function".into(), false, vec![]));
+    assert_eq!(codes(&[], LintOptions { strict: true, ..options }).1, true);
+    assert_eq!(
+        codes(&[], LintOptions { strict: true, functions: &["G", "F"], ..options }),
+        (String::new(), false, vec![])
+    );
+    let (found, _, counts) = codes(&reference, LintOptions { notes: true, ..options });
+    assert_eq!(found, "untranslated unknown-function obsolete-message missing-message");
+    let file = String::from;
+    assert_eq!(
+        counts,
+        [
+            FileCounts { file: file("de.ftl"), messages: 2, missing: None, obsolete: Some(1), untranslated: Some(1) },
+            FileCounts { file: file("en.ftl"), messages: 2, missing: Some(1), obsolete: None, untranslated: None },
+        ]
+    );
+}
+
+#[test]
+fn no_report() {
+    let of = |text: &str, locale| lint(&[("a", text)], &[], &LintOptions { locale, ..LintOptions::default() });
+    assert_eq!(of("", Some("plx")), Err(LintError::UnknownLocale));
+    assert_eq!(of("", Some("C")).expect("It is made.").findings, []);
+    let deep = format!("a = {}1{}\n", "{".repeat(1430), "}".repeat(1430));
+    assert_eq!(of(&deep, None), Err(LintError::OutOfMemory));
+    assert_eq!(tidy(&deep), Err(TidyError::OutOfMemory));
+}
+
+#[test]
+fn tidies() {
+    assert_eq!(tidy(""), Ok(String::new()));
+    assert_eq!(tidy("\u{feff}a=b\r\n\r\n\r\nc  = d").as_deref(), Ok("a = b\n\nc = d\n"));
+    assert_eq!(tidy("a = \r b\n"), Err(TidyError::CarriageReturn));
+    assert_eq!(tidy("a = é }\nb\n"), Err(TidyError::Damaged { line: 1, column: 7 }));
+    assert_eq!(tidy("a b").unwrap_err().to_string(), "line 1, column 3: it can't be read there");
+}
