@@ -35,6 +35,7 @@ pub use cleaning::clean;
 pub use error::{CleanError, ImportError, NormalizeError};
 pub use joining::join;
 pub use normalizing::normalize;
+pub use plain::{with_line_feeds, without_mark};
 pub use tidy_error::TidyError;
 pub use tidying::tidy;
 pub use trees::{export, import};
