@@ -1,0 +1,29 @@
+-- A report on the findings of one file.
+use Rattle.std.proofs.Common.{◌≡◌, ◌∙◌, List, [], ◌∷◌, ◌++◌, true, map, filter, ap, refl, append-nil}
+use Rattle.lint_findings.specs.Findings.{FileFinding, findings_in}
+use Rattle.lint_findings.specs.Finding.{Severity, error, warning, note}
+use Rattle.lint_findings.specs.Report.{is_shown, report_text, shown}
+use Rattle.lint_finding.specs.View.{file_view, finding_view}
+use Rattle.std.specs.Global.{Vec}
+use Rattle.lint_finding.specs.declared.records.File.{File}
+use Rattle.lint_finding.specs.declared.records.Finding.{Finding}
+use Rattle.lint_report.specs.Formats.{report_output}
+use Rattle.lint_report.specs.View.{shown_width}
+use Rattle.lint_report.specs.declared.reports.Format.TheVariants as format
+
+all_shown : (s : Severity) → is_shown true s ≡ true
+all_shown error = refl
+all_shown warning = refl
+all_shown note = refl
+
+-- with notes every finding is shown
+shown_whole : (fs : List FileFinding) → shown true fs ≡ fs
+shown_whole [] = refl
+shown_whole (f ∷ fs) = rw (all_shown f.finding.severity) (ap (λ rest. f ∷ rest) (shown_whole fs))
+
+pub one_file : (file : File) (findings : Vec Finding) →
+    report_output format.Text true (record { file = file; findings = findings } ∷ []) [] ≡ report_text shown_width (findings_in (file_view file) (map finding_view findings.items))
+one_file file findings =
+    let all = findings_in (file_view file) (map finding_view findings.items) in
+    append-nil (report_text shown_width (shown true (all ++ [])))
+    ∙ (ap (λ fs. report_text shown_width (shown true fs)) (append-nil all) ∙ ap (report_text shown_width) (shown_whole all))

@@ -1,0 +1,30 @@
+use Rattle.std.proofs.Common.{refl, take, suc, map, string_bytes}
+use Rattle.ftl_files.specs.States.{state_of}
+use Rattle.ftl_files.specs.Tidying.{at_start}
+use Rattle.ftl_files.specs.TidyView.{end_view, said_view}
+use Rattle.ftl_files.proofs.TidyLemmas.{on_err, through_next}
+use Rattle.ftl_files.proofs.tidying.tidy_all.Goals as goal
+
+pub loop-name-init : goal.loop-name-init
+loop-name-init g c = rw c.new-tidied.ensures at_start
+
+pub loop-name-preserved : goal.loop-name-preserved
+loop-name-preserved g c =
+    through_next c.args.check (state_of g.F.Folder c.args.folder.now) (state_of g.F.Folder c.loop-name.folder) (state_of g.F.Folder c.tidy_file.new.folder) c.args.names.now
+    c.loop-name.name-index c.name-item.result (said_view c.loop-name.tidied) _ (end_view c.in_ok-end.end) c.loop-name-test.true c.name-item.is c.loop-name.invariant
+    (rw c.as_str-name.ensures.value at c.in_ok-end.ensures.ended) (rw c.as_str-name.ensures.value at c.in_ok-add.ensures)
+
+pub returns-in_err-add-clause-stopped : goal.returns-in_err-add-clause-stopped
+returns-in_err-add-clause-stopped g c =
+    on_err c.from_residual-in_err-add.result (record {
+      names = _;
+      said = _;
+      middle = state_of g.F.Folder c.args.folder.now;
+      there = state_of g.F.Folder c.tidy_file.new.folder;
+      listed = refl;
+      through =
+          through_next c.args.check (state_of g.F.Folder c.args.folder.now) (state_of g.F.Folder c.loop-name.folder) (state_of g.F.Folder c.tidy_file.new.folder) c.args.names.now
+          c.loop-name.name-index c.name-item.result (said_view c.loop-name.tidied) _ (end_view c.in_ok-end.end) c.loop-name-test.true c.name-item.is c.loop-name.invariant
+          (rw c.as_str-name.ensures.value at c.in_ok-end.ensures.ended) refl;
+      stopped = refl;
+    })

@@ -1,0 +1,5 @@
+pub mod Files
+pub mod States
+pub mod ErrorTexts
+pub mod Tidying
+pub mod TidyView

@@ -1,0 +1,73 @@
+-- What the code's values stand for.
+use Rattle.std.specs.Prelude.{◌≡◌, Bool, List, Option, map, IfSome, Result, Ok, Err, String, option_copied, string_bytes}
+use Rattle.std.specs.Global.{Global, Vec}
+use denote.Ref.{Bor}
+use Rattle.fluent_serve.specs.Text.{Text}
+use Rattle.fluent_serve.specs.Texts.{texts}
+use Rattle.ftl_files.specs.Files.{OnFile, State}
+use Rattle.ftl_files.specs.States.{state_of}
+use Rattle.ftl_files.specs.declared.folder.Folder.{Ghosts as FolderGhosts}
+use Rattle.ftl_files.specs.Tidying as tidying
+use Rattle.ftl_files.specs.declared.ends.Failure.{Failure}
+use Rattle.ftl_files.specs.declared.ends.Failure.TheVariants.{Unreadable, NotUtf8, Unwritable}
+use Rattle.ftl_files.specs.declared.ends.FileEnd.{FileEnd}
+use Rattle.ftl_files.specs.declared.ends.FileEnd.TheVariants.{Kept, Changed, Failed, Refused}
+use Rattle.ftl_files.specs.declared.tidied.TidiedFiles.{TidiedFiles}
+
+abbrev pub failure_view : Failure → tidying.Failure
+failure_view Unreadable = tidying.unreadable
+failure_view NotUtf8 = tidying.not_utf8
+failure_view Unwritable = tidying.unwritable
+
+abbrev pub end_view : FileEnd → tidying.FileEnd
+end_view Kept = tidying.kept
+end_view (Changed text) = tidying.changed (string_bytes text)
+end_view (Failed failure why) = tidying.failed (failure_view failure) (option_copied why)
+end_view (Refused report) = tidying.refused (string_bytes report)
+
+abbrev pub said_view : TidiedFiles → tidying.Said
+said_view t = record { names = string_bytes t.names; reports = string_bytes t.reports; has_failed = t.has_failed; has_found = t.has_found }
+
+-- the line of a failure is reported, too
+abbrev pub after_failure : tidying.Said → Text → Failure → Option (Bor Text) → tidying.Said
+after_failure said name failure why =
+    tidying.with_report said (tidying.failure_line name (tidying.failure_words (failure_view failure)) (option_copied why))
+
+-- ---- the same on a folder, by what is known of it before and after
+
+-- what was read of a file: a text, which is what it holds, if that is known, or why there is none
+abbrev IsRead : Text → State → State → Result (String Global) Failure → Type 0
+IsRead name before after (Ok text) = tidying.IsLeft before after × IfSome (before.contents name) (λ held. string_bytes text ≡ held)
+IsRead name before after (Err failure) = tidying.FailsSo name (failure_view failure) before after
+
+module _ {F : Type 0} (folders : FolderGhosts F) where
+  abbrev pub IsReadOn : Text → F → F → Result (String Global) Failure → Type 0
+  IsReadOn name before after read = IsRead name (state_of folders before) (state_of folders after) read
+
+  -- a file holds a source that has this tidy text, and another
+  abbrev pub HoldsUntidy : Text → F → String Global → Type 0
+  HoldsUntidy name folder text = OnFile (folders.contents folder) name (λ source. tidying.IsSourceEnd name source (tidying.changed (string_bytes text)))
+
+  -- what becomes of a file
+  abbrev pub EndsOnFolder : Bool → Text → F → F → FileEnd → Type 0
+  EndsOnFolder check name before after end = tidying.EndsSo check name (end_view end) (state_of folders before) (state_of folders after)
+
+  -- files are gone through
+  abbrev pub GoesThroughOn : Bool → List (String Global) → F → F → TidiedFiles → Type 0
+  GoesThroughOn check names before after tidied =
+      tidying.GoesThrough check (state_of folders before) (map string_bytes names) (said_view tidied) (state_of folders after)
+
+  -- a path is listed as these names, and several are
+  abbrev pub IsListedOn : Text → F → F → Vec (String Global) → Type 0
+  IsListedOn path before after names = tidying.IsListedAs path (map string_bytes names.items) (state_of folders before) (state_of folders after)
+
+  abbrev pub AreListedOn : List (Bor Text) → F → F → Vec (String Global) → Type 0
+  AreListedOn paths before after names = tidying.AreListed (state_of folders before) (texts paths) (map string_bytes names.items) (state_of folders after)
+
+  -- the files that paths stand for are tidied, or the first of them
+  abbrev pub AreTidiedOn : Bool → List (Bor Text) → F → F → TidiedFiles → Type 0
+  AreTidiedOn check paths before after tidied =
+      tidying.AreTidied check (texts paths) (state_of folders before) (state_of folders after) (said_view tidied)
+
+  abbrev pub AreTidiedFirstOn : Bool → F → F → Type 0
+  AreTidiedFirstOn check before after = tidying.AreTidiedFirst check (state_of folders before) (state_of folders after)

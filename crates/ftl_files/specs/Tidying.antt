@@ -1,0 +1,226 @@
+-- Tidying files, one after the other: what becomes of each, and what is reported.
+use Rattle.std.specs.Prelude.{◌≡◌, ◌≢◌, ◌⊎◌, ℕ, Bool, true, false, ◌||◌, List, [], ◌∷◌, ◌++◌, ⊤, Option, Some, None, IfSome, IsUtf8, IsTrue, take, length, unwrap_or, codes}
+use Rattle.memchr.specs.Find.{IsFirstByte, is_byte}
+use Rattle.fluent_serve.specs.Text.{Text}
+use Rattle.fluent_serve.specs.Frames.{ended}
+use Rattle.fluent_serve.specs.Devices.{HasFailed}
+use Rattle.fluent_grammar.specs.Words.{carriage_return}
+use Rattle.fluent_grammar.specs.Tiling.{errors}
+use Rattle.fluent_tidy.specs.Sources.{holds_return}
+use Rattle.fluent_tidy.specs.TidyText.{IsTidyText, HasNoTidyText, plain}
+use Rattle.fluent_tidy.specs.declared.tidy_error.TidyError.{TidyError}
+use Rattle.fluent_tidy.specs.declared.tidy_error.TidyError.TheVariants.{Memory, CarriageReturn, Damaged, NotTidy}
+use Rattle.lint_findings.specs.Finding.{Finding, error}
+use Rattle.lint_findings.specs.Findings.{findings_in}
+use Rattle.lint_findings.specs.Report.{report_text}
+use Rattle.lint_findings.specs.SyntaxFindings.{syntax_findings}
+use Rattle.lint_findings.specs.Tiles.{tiles}
+use Rattle.lint_report.specs.View.{shown_width}
+use Rattle.ftl_files.specs.Files.{IsReplaced, OnFile, State}
+
+-- ---- what becomes of a file
+
+-- why a file couldn't be tidied, whatever its source is
+pub data Failure : Type 0 where
+  unreadable : Failure
+  not_utf8 : Failure
+  unwritable : Failure
+
+pub data FileEnd : Type 0 where
+  -- it is tidy
+  kept : FileEnd
+  -- it isn't, and this is its tidy text
+  changed : Text → FileEnd
+  -- it could not be read or written, and maybe why
+  failed : Failure → Option Text → FileEnd
+  -- it has no tidy text, and this is reported
+  refused : Text → FileEnd
+
+-- ---- the report on a source without a tidy text, as it is read: without a mark, and with LF
+
+-- as `lint` writes findings of a file
+abbrev pub findings_report : Text → Text → List Finding → Text
+findings_report name source findings = report_text shown_width (findings_in (record { name = name; source = source }) findings)
+
+abbrev pub finding_report : Text → Text → Finding → Text
+finding_report name source finding = findings_report name source (finding ∷ [])
+
+-- the line of a failure, with its cause if that is known
+abbrev pub failure_line : Text → Text → Option Text → Text
+failure_line name words None = codes "ftl: " ++ (name ++ (codes ": " ++ ended words))
+failure_line name words (Some why) = codes "ftl: " ++ (name ++ (codes ": " ++ (words ++ (codes ": " ++ ended why))))
+
+-- the first finding of `lint` about junk
+abbrev pub damage_report : Text → Text → Text
+damage_report name source = findings_report name source (take 1 (syntax_findings (tiles source)))
+
+-- a carriage return that ends no line
+abbrev pub return_finding : ℕ → Finding
+return_finding offset = record {
+  offset = offset;
+  code = codes "carriage-return";
+  severity = error;
+  entry = None;
+  text = codes "a carriage return that ends no line";
+  hint = None;
+}
+
+-- the first one in a source
+pub record IsReturn (source : Text) (finding : Finding) : Type 0 where
+  pub place : Option ℕ
+  pub first : IsFirstByte (is_byte carriage_return) source place
+  pub is : finding ≡ return_finding (unwrap_or place (length source))
+
+-- an entry that would be read otherwise if it were written anew
+abbrev pub shape_finding : ℕ → Option Text → Finding
+shape_finding offset entry = record {
+  offset = offset;
+  code = codes "no-tidy-text";
+  severity = error;
+  entry = entry;
+  text = codes "written anew, this would be read otherwise";
+  hint = Some (codes "write `.`, `[`, `*` or `{` at the start of a line of text as `{\"[\"}`, give each variant a name, and each comment a text");
+}
+
+-- such an entry, wherever it is
+pub record IsShape (finding : Finding) : Type 0 where
+  pub offset : ℕ
+  pub entry : Option Text
+  pub is : finding ≡ shape_finding offset entry
+
+-- a report on a finding of this kind
+pub record IsReportOf (Kind : Finding → Type 0) (name source report : Text) : Type 0 where
+  pub finding : Finding
+  pub kind : Kind finding
+  pub is : report ≡ finding_report name source finding
+
+-- The report on a source that has no tidy text for this reason.
+abbrev pub IsReport : Text → Text → TidyError → Text → Type 0
+IsReport name source Memory report = report ≡ failure_line name (codes "nests too deep, or memory ran out") None
+IsReport name source CarriageReturn report = IsReportOf (IsReturn source) name source report
+IsReport name source Damaged report = report ≡ damage_report name source
+IsReport name source NotTidy report = IsReportOf IsShape name source report
+
+-- the reason is right; that memory ran out, or that it nests too deep, isn't seen
+abbrev pub IsReason : Text → TidyError → Type 0
+IsReason source Memory = ⊤
+IsReason source CarriageReturn = IsTrue (holds_return (plain source))
+IsReason source Damaged = errors (plain source) ≢ []
+IsReason source NotTidy = HasNoTidyText source
+
+-- a source is refused for a reason, which is right and is reported
+pub record IsRefused (name source report : Text) : Type 0 where
+  pub reason : TidyError
+  pub right : IsReason source reason
+  pub reported : IsReport name (plain source) reason report
+
+-- ---- one file
+
+-- what becomes of a source
+abbrev pub IsSourceEnd : Text → Text → FileEnd → Type 0
+IsSourceEnd name source kept = IsTidyText source source
+IsSourceEnd name source (changed text) = IsTidyText source text × (text ≢ source)
+IsSourceEnd name source (failed f why) = ⊥
+IsSourceEnd name source (refused report) = IsRefused name source report
+
+-- with `check` nothing is written, and otherwise the text of this file, and no other
+abbrev pub Writes : Bool → (Text → Option Text) → (Text → Option Text) → Text → Text → Type 0
+Writes true before after name text = after ≡ before
+Writes false before after name text = IsReplaced before after name text
+
+-- what the files hold stays, and no call failed
+pub record IsLeft (before after : State) : Type 0 where
+  pub kept : after.contents ≡ before.contents
+  pub works : after.failures ≡ before.failures
+
+-- what the files hold stays, and a call failed
+pub record HasFailedOn (before after : State) : Type 0 where
+  pub kept : after.contents ≡ before.contents
+  pub fails : HasFailed before.failures after.failures
+
+abbrev pub FailsSo : Text → Failure → State → State → Type 0
+FailsSo name unreadable before after = HasFailedOn before after
+FailsSo name not_utf8 before after = IsLeft before after × IfSome (before.contents name) (λ held. IsUtf8 held → ⊥)
+FailsSo name unwritable before after = HasFailedOn before after
+
+-- the text of a file is written, unless it is only checked
+pub record ChangesTo (check : Bool) (name text : Text) (before after : State) : Type 0 where
+  pub source : OnFile before.contents name (λ source. IsSourceEnd name source (changed text))
+  pub writes : Writes check before.contents after.contents name text
+  pub works : after.failures ≡ before.failures
+
+-- What becomes of a file, by what it holds, and of the folder.
+abbrev pub EndsSo : Bool → Text → FileEnd → State → State → Type 0
+EndsSo check name kept before after = IsLeft before after × OnFile before.contents name (λ source. IsSourceEnd name source kept)
+EndsSo check name (changed text) before after = ChangesTo check name text before after
+EndsSo check name (failed f why) before after = FailsSo name f before after
+EndsSo check name (refused report) before after = IsLeft before after × OnFile before.contents name (λ source. IsSourceEnd name source (refused report))
+
+-- ---- files one after the other
+
+-- what is said of files
+pub record Said : Type 0 where
+  -- the names of those that changed or that aren't tidy, a line each
+  pub names : Text
+  -- the reports on those that could not be tidied
+  pub reports : Text
+  -- a file could not be read or written
+  pub has_failed : Bool
+  -- a source was refused, or a file that was checked isn't tidy
+  pub has_found : Bool
+
+abbrev pub nothing_said : Said
+nothing_said = record { names = []; reports = []; has_failed = false; has_found = false }
+
+abbrev pub failure_words : Failure → Text
+failure_words unreadable = codes "cannot read"
+failure_words not_utf8 = codes "not UTF-8"
+failure_words unwritable = codes "cannot write"
+
+abbrev pub with_report : Said → Text → Said
+with_report s report = record s { reports = s.reports ++ report }
+
+-- and what is said after one more file
+abbrev pub said_after : Bool → Said → Text → FileEnd → Said
+said_after check s name kept = s
+said_after check s name (changed text) = record s { names = s.names ++ ended name; has_found = s.has_found || check }
+said_after check s name (failed f why) = record (with_report s (failure_line name (failure_words f) why)) { has_failed = true }
+said_after check s name (refused report) = record (with_report s report) { has_found = true }
+
+-- From a state of the folder files are gone through, one after the other, to another state, and this is said.
+pub data GoesThrough (check : Bool) (start : State) : List Text → Said → State → Type 0 where
+  at_start : GoesThrough check start [] nothing_said start
+  one_more : {names : List Text} {said : Said} {here : State} (name : Text) (end : FileEnd) (there : State) → GoesThrough check start names said here
+      → EndsSo check name end here there → GoesThrough check start (names ++ name ∷ []) (said_after check said name end) there
+
+-- ---- the files that paths stand for
+
+-- What a path stands for, if that is known. One that can't be listed stands for itself.
+abbrev pub IsListedAs : Text → List Text → State → State → Type 0
+IsListedAs path names before after =
+    IfSome (before.sources path) (λ known. names ≡ known) ⊎ ((names ≡ path ∷ []) × HasFailed before.failures after.failures)
+
+-- paths are listed, one after the other, and what the files hold stays
+pub data AreListed (start : State) : List Text → List Text → State → Type 0 where
+  no_path : AreListed start [] [] start
+  one_path : {paths names : List Text} {here : State} (path : Text) (below : List Text) (there : State) → AreListed start paths names here
+      → IsListedAs path below here there → there.contents ≡ here.contents → AreListed start (paths ++ path ∷ []) (names ++ below) there
+
+-- ---- all of it
+
+-- The files that the paths stand for are tidied, and this is said.
+pub record AreTidied (check : Bool) (paths : List Text) (before after : State) (said : Said) : Type 0 where
+  pub names : List Text
+  pub middle : State
+  pub listed : AreListed before paths names middle
+  pub through : GoesThrough check middle names said after
+
+-- The first of them are, if memory ran out: what the files hold is what they did after one of them.
+pub record AreTidiedFirst (check : Bool) (before after : State) : Type 0 where
+  pub names : List Text
+  pub said : Said
+  pub middle : State
+  pub there : State
+  pub listed : middle.contents ≡ before.contents
+  pub through : GoesThrough check middle names said there
+  pub stopped : after.contents ≡ there.contents

@@ -1,0 +1,42 @@
+//! What becomes of a file that is tidied.
+ghost use Rattle.std.specs.Prelude.{Some};
+ghost use Rattle.ftl_files.specs.TidyView.{failure_view};
+ghost use Rattle.ftl_files.specs.Tidying.{failure_words};
+
+use std::fmt;
+
+/// Why a file couldn't be tidied, whatever its source is.
+#[derive(Clone, Copy, Debug, PartialEq, Eq)]
+pub enum Failure {
+    /// The file could not be read.
+    Unreadable,
+    /// Its bytes aren't UTF-8.
+    NotUtf8,
+    /// It could not be written.
+    Unwritable,
+}
+
+impl fmt::Display for Failure {
+    ghost output = { λ failure. Some (failure_words (failure_view failure)) };
+
+    fn fmt<W: fmt::Write>(&self, f: &mut fmt::Formatter<W>) -> fmt::Result {
+        f.write_str(match self {
+            Failure::Unreadable => "cannot read",
+            Failure::NotUtf8 => "not UTF-8",
+            Failure::Unwritable => "cannot write",
+        })
+    }
+}
+
+/// What becomes of a file.
+#[derive(Debug, PartialEq, Eq, Drop)]
+pub enum FileEnd {
+    /// It is tidy.
+    Kept,
+    /// It isn't, and this is its tidy text.
+    Changed(String),
+    /// It could not be read or written, and maybe why.
+    Failed(Failure, Option<&'static str>),
+    /// It has no tidy text, and this is reported.
+    Refused(String),
+}

@@ -1,0 +1,96 @@
+//! Where the sources' files lie.
+//!
+//! Contracts see what the files of a `Folder` hold and which files lie below a name, if that is known, and how many of
+//! its calls have failed. `FromFiles` makes one of the system's files, of which nothing is known.
+ghost use Rattle.std.specs.Prelude.{◌≡◌, ℕ, List, Option, IfOk, IfSome, OnOk, OnErr, map, string_bytes};
+ghost use Rattle.ftl_files.specs.Files.{IsListed, IsReplaced, failures_after_file, failures_after_replace};
+
+use std::alloc::Global;
+
+/// Why a file was not read, or a folder not listed.
+///
+/// ```no_run
+/// match folder.read(alloc, "hello.ftl") {
+///     Ok(bytes) => print!(rt; "{} bytes", bytes.len())?,
+///     Err(error) => bail!("hello.ftl: {error}"), // hello.ftl: cannot read
+/// }
+/// ```
+#[derive(Clone, Copy, Debug, PartialEq, Eq)]
+pub enum FileError {
+    /// Memory ran out while the file was read.
+    Memory,
+    /// The file could not be opened, or a read of it failed.
+    Unreadable,
+}
+
+/// Why a file was not replaced.
+///
+/// ```no_run
+/// match folder.replace(alloc, "hello.ftl", text) {
+///     Ok(()) => println!(rt; "hello.ftl")?,
+///     Err(error) => bail!("hello.ftl: {error}"), // hello.ftl: cannot write
+/// }
+/// ```
+#[derive(Clone, Copy, Debug, PartialEq, Eq)]
+pub enum ReplaceError {
+    /// Memory ran out before anything was written.
+    Memory,
+    /// The file can't be written, or no new file could be made beside it.
+    Unwritable,
+}
+
+/// Files by their names.
+pub trait Folder {
+    /// The bytes that the file of a name holds, if they are known.
+    ghost contents: { Self → List ℕ → Option (List ℕ) };
+
+    /// The names of the sources below a folder of this name, and of anything else the name alone, if they are known.
+    ghost sources: { Self → List ℕ → Option (List (List ℕ)) };
+
+    /// How many reads, lists and replacements have failed, not counting those for which memory ran out. At the greatest
+    /// `u64` the count stays there.
+    ghost failures: { Self → ℕ };
+
+    /// Reads a file to its end. The files stay as they are.
+    ///
+    /// # Errors
+    /// [`FileError::Memory`] if memory runs out; nothing is kept. [`FileError::Unreadable`] if the file can't be opened, or
+    /// a read of it fails.
+    fn read(&mut self, alloc: Global, name: &str) -> Result<Vec<u8>, FileError>
+        ensures held { IfOk result (λ bytes.
+            IfSome (contents self.old name.now) (λ held. bytes.items ≡ held)) }
+        ensures kept { contents self.new ≡ contents self.old }
+        ensures same_sources { sources self.new ≡ sources self.old }
+        ensures failed { failures self.new ≡ failures_after_file (failures self.old) result };
+
+    /// Why a file of this name can't be read, in words, if that is known: `no such file`, `is a folder` or `no permission`.
+    fn why(&self, name: &str) -> Option<&'static str>;
+
+    /// Lists the files below a folder whose names end in `.ftl`, by the bytes of their paths, each beginning with the name
+    /// of the folder. A name that isn't a folder's is listed alone. Links to folders aren't followed. The files stay as they
+    /// are.
+    ///
+    /// # Errors
+    /// [`FileError::Memory`] if memory runs out; nothing is kept. [`FileError::Unreadable`] if the folder, or one below
+    /// it, can't be listed.
+    fn list(&mut self, alloc: Global, name: &str) -> Result<Vec<String>, FileError>
+        ensures listed { IfOk result (λ names.
+            IfSome (sources self.old name.now) (λ all. map string_bytes names.items ≡ all)) }
+        ensures shape { IfOk result (λ names. IsListed name.now names.items) }
+        ensures kept { contents self.new ≡ contents self.old }
+        ensures same_sources { sources self.new ≡ sources self.old }
+        ensures failed { failures self.new ≡ failures_after_file (failures self.old) result };
+
+    /// Replaces what a file holds by these bytes, at once: at any time the file holds what it did or the bytes, whole. No
+    /// other file changes.
+    ///
+    /// # Errors
+    /// [`ReplaceError::Memory`] if memory runs out, [`ReplaceError::Unwritable`] if the file can't be written. The file is
+    /// as it was.
+    fn replace(&mut self, alloc: Global, name: &str, bytes: &[u8]) -> Result<(), ReplaceError>
+        ensures replaced { OnOk result
+            (IsReplaced (contents self.old) (contents self.new) name.now bytes.now) }
+        ensures kept { OnErr result (contents self.new ≡ contents self.old) }
+        ensures same_sources { sources self.new ≡ sources self.old }
+        ensures failed { failures self.new ≡ failures_after_replace (failures self.old) result };
+}

@@ -1,0 +1,21 @@
+//! Files by their names: what the program reads, lists and replaces.
+//!
+//! [`Folder`] is what the commands ask. [`FromFiles`] makes one of the system's files. [`tidy_files`] tidies files in
+//! place, as `ftl tidy` does.
+#![tactic(auto)]
+
+mod ends;
+mod errors;
+mod folder;
+mod listing;
+mod refusals;
+mod replacing;
+mod system;
+mod tidied;
+mod tidying;
+
+pub use ends::{Failure, FileEnd};
+pub use folder::{FileError, Folder, ReplaceError};
+pub use system::FromFiles;
+pub use tidied::TidiedFiles;
+pub use tidying::{tidy_file, tidy_files, tidy_source};

@@ -1,0 +1,74 @@
+//! What is said of files that are tidied.
+ghost use Rattle.std.specs.Prelude.{◌≡◌, OnOk};
+ghost use Rattle.ftl_files.specs.TidyView.{after_failure, end_view, said_view};
+ghost use Rattle.ftl_files.specs.Tidying.{nothing_said, said_after};
+
+use crate::ends::{Failure, FileEnd};
+use std::alloc::{AllocError, Global};
+
+/// What is said of files that are tidied.
+#[derive(Debug, Drop)]
+pub struct TidiedFiles {
+    /// The names of those that changed or, if they are only checked, that aren't tidy, a line each.
+    pub names: String,
+    /// The reports on those that could not be tidied.
+    pub reports: String,
+    /// Whether a file could not be read or written.
+    pub has_failed: bool,
+    /// Whether a source was refused, or a file that was only checked isn't tidy.
+    pub has_found: bool,
+}
+
+impl TidiedFiles {
+    /// Nothing yet.
+    pub(crate) fn new(alloc: Global) -> TidiedFiles
+        ensures { said_view result ≡ nothing_said }
+    {
+        TidiedFiles {
+            names: String::new(alloc),
+            reports: String::new(alloc),
+            has_failed: false,
+            has_found: false,
+        }
+    }
+
+    /// Adds the line of a failure.
+    fn add_failure(
+        &mut self,
+        name: &str,
+        failure: Failure,
+        why: Option<&'static str>,
+    ) -> Result<(), AllocError>
+        ensures { OnOk result (said_view self.new
+            ≡ after_failure (said_view self.old) name.now failure why.entry) }
+    {
+        match why {
+            Some(why) => writeln!(self.reports, "ftl: {name}: {failure}: {why}"),
+            None => writeln!(self.reports, "ftl: {name}: {failure}"),
+        }
+    }
+
+    /// Adds what became of a file.
+    ///
+    /// # Errors
+    /// [`AllocError`] if memory runs out; a part may have been added.
+    pub fn add(&mut self, check: bool, name: &str, end: &FileEnd) -> Result<(), AllocError>
+        ensures { OnOk result (said_view self.new ≡ said_after check (said_view self.old) name.now (end_view end.now)) }
+    {
+        match end {
+            FileEnd::Kept => Ok(()),
+            FileEnd::Changed(_) => {
+                self.has_found = self.has_found || check;
+                writeln!(self.names, "{name}")
+            }
+            FileEnd::Failed(failure, why) => {
+                self.has_failed = true;
+                self.add_failure(name, *failure, *why)
+            }
+            FileEnd::Refused(report) => {
+                self.has_found = true;
+                self.reports.push_str(report)
+            }
+        }
+    }
+}

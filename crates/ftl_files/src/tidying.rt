@@ -1,0 +1,182 @@
+//! Tidying files in place.
+ghost use Rattle.std.specs.Prelude.{◌≡◌, false, IfOk, IfSome, OnErr};
+ghost use Rattle.ftl_files.specs.TidyView.{AreListedOn, AreTidiedFirstOn, AreTidiedOn, EndsOnFolder, GoesThroughOn, HoldsUntidy, IsListedOn, IsReadOn, end_view};
+ghost use Rattle.ftl_files.specs.Tidying.{IsSourceEnd};
+
+use crate::ends::{Failure, FileEnd};
+use crate::folder::{FileError, Folder, ReplaceError};
+use crate::refusals::refusal_report;
+use crate::tidied::TidiedFiles;
+use fluent_tidy::tidy;
+use std::alloc::{AllocError, Global};
+
+/// Tidies the files that paths stand for, one after the other, in place; with `check` it changes none. A file that can't
+/// be tidied is reported, and left as it is.
+///
+/// # Errors
+/// [`AllocError`] if memory runs out: the first files were tidied.
+pub fn tidy_files<F: Folder>(
+    folder: &mut F,
+    alloc: Global,
+    check: bool,
+    paths: &[&str],
+) -> Result<TidiedFiles, AllocError>
+    ensures tidied { IfOk result (AreTidiedOn F.Folder check paths.now folder.old folder.new) }
+    ensures stopped { OnErr result (AreTidiedFirstOn F.Folder check folder.old folder.new) }
+{
+    let names = list_paths(folder, alloc, paths)?;
+    tidy_all(folder, alloc, check, &names)
+}
+
+/// The names of the files that paths stand for, in their order.
+fn list_paths<F: Folder>(
+    folder: &mut F,
+    alloc: Global,
+    paths: &[&str],
+) -> Result<Vec<String>, AllocError>
+    ensures listed { IfOk result (AreListedOn F.Folder paths.now folder.old folder.new) }
+    ensures kept { F.contents folder.new ≡ F.contents folder.old }
+{
+    let mut names = Vec::new(alloc);
+    for path in paths {
+        let mut below = list_path(folder, alloc, path)?;
+        names.append(&mut below)?;
+    }
+    Ok(names)
+}
+
+/// The names of the files that a path stands for; if it can't be listed, the path itself, which can't be read either.
+fn list_path<F: Folder>(
+    folder: &mut F,
+    alloc: Global,
+    path: &str,
+) -> Result<Vec<String>, AllocError>
+    ensures listed { IfOk result (IsListedOn F.Folder path.now folder.old folder.new) }
+    ensures kept { F.contents folder.new ≡ F.contents folder.old }
+{
+    match folder.list(alloc, path) {
+        Ok(names) => Ok(names),
+        Err(FileError::Memory) => Err(AllocError),
+        Err(FileError::Unreadable) => {
+            let mut names = Vec::with_capacity(alloc, 1)?;
+            names.push(String::from_str(alloc, path)?)?;
+            Ok(names)
+        }
+    }
+}
+
+/// Tidies files, one after the other.
+fn tidy_all<F: Folder>(
+    folder: &mut F,
+    alloc: Global,
+    check: bool,
+    names: &[String],
+) -> Result<TidiedFiles, AllocError>
+    ensures tidied { IfOk result (GoesThroughOn F.Folder check names.now folder.old folder.new) }
+    ensures stopped { OnErr result (AreTidiedFirstOn F.Folder check folder.old folder.new) }
+{
+    let mut tidied = TidiedFiles::new(alloc);
+    for name in names {
+        let name = name.as_str();
+        let end = tidy_file(folder, alloc, check, name)?;
+        tidied.add(check, name, &end)?;
+    }
+    Ok(tidied)
+}
+
+/// Tidies a file.
+///
+/// # Errors
+/// [`AllocError`] if memory runs out; the file is as it was.
+pub fn tidy_file<F: Folder>(
+    folder: &mut F,
+    alloc: Global,
+    check: bool,
+    name: &str,
+) -> Result<FileEnd, AllocError>
+    ensures ended { IfOk result (EndsOnFolder F.Folder check name.now folder.old folder.new) }
+    ensures kept { OnErr result (F.contents folder.new ≡ F.contents folder.old) }
+{
+    match read_source(folder, alloc, name)? {
+        Ok(source) => tidy_read(folder, alloc, check, name, source.as_str()),
+        Err(failure) => Ok(FileEnd::Failed(failure, why_of(folder, name, failure))),
+    }
+}
+
+/// The same of a file that was read.
+fn tidy_read<F: Folder>(
+    folder: &mut F,
+    alloc: Global,
+    check: bool,
+    name: &str,
+    source: &str,
+) -> Result<FileEnd, AllocError>
+    requires read { IfSome (F.contents folder.old name.now) (λ held. source.now ≡ held) }
+    ensures ended { IfOk result (EndsOnFolder F.Folder check name.now folder.old folder.new) }
+    ensures kept { OnErr result (F.contents folder.new ≡ F.contents folder.old) }
+{
+    match tidy_source(alloc, name, source)? {
+        FileEnd::Changed(text) if !check => replace(folder, alloc, name, text),
+        end => Ok(end),
+    }
+}
+
+/// Reads a source; why it can't be read, if it can't.
+fn read_source<F: Folder>(
+    folder: &mut F,
+    alloc: Global,
+    name: &str,
+) -> Result<Result<String, Failure>, AllocError>
+    ensures read { IfOk result (IsReadOn F.Folder name.now folder.old folder.new) }
+    ensures kept { OnErr result (F.contents folder.new ≡ F.contents folder.old) }
+{
+    let bytes = match folder.read(alloc, name) {
+        Ok(bytes) => bytes,
+        Err(FileError::Memory) => return Err(AllocError),
+        Err(FileError::Unreadable) => return Ok(Err(Failure::Unreadable)),
+    };
+    match String::from_utf8(bytes) {
+        Ok(source) => Ok(Ok(source)),
+        Err(_) => Ok(Err(Failure::NotUtf8)),
+    }
+}
+
+/// Why a file could not be read, if that is known.
+fn why_of<F: Folder>(folder: &F, name: &str, failure: Failure) -> Option<&'static str> {
+    match failure {
+        Failure::Unreadable => folder.why(name),
+        _ => None,
+    }
+}
+
+/// What becomes of a source, whose file has this name.
+///
+/// # Errors
+/// [`AllocError`] if memory runs out; nothing is kept.
+pub fn tidy_source(alloc: Global, name: &str, source: &str) -> Result<FileEnd, AllocError>
+    ensures { IfOk result (λ end. IsSourceEnd name.now source.now (end_view end)) }
+{
+    match tidy(alloc, source) {
+        Ok(text) if text.as_str() == source => Ok(FileEnd::Kept),
+        Ok(text) => Ok(FileEnd::Changed(text)),
+        Err(reason) => Ok(FileEnd::Refused(refusal_report(alloc, name, source, reason)?)),
+    }
+}
+
+/// Replaces what a file holds by its tidy text.
+fn replace<F: Folder>(
+    folder: &mut F,
+    alloc: Global,
+    name: &str,
+    text: String,
+) -> Result<FileEnd, AllocError>
+    requires source { HoldsUntidy F.Folder name.now folder.old text }
+    ensures ended { IfOk result (EndsOnFolder F.Folder false name.now folder.old folder.new) }
+    ensures kept { OnErr result (F.contents folder.new ≡ F.contents folder.old) }
+{
+    match folder.replace(alloc, name, text.as_bytes()) {
+        Ok(()) => Ok(FileEnd::Changed(text)),
+        Err(ReplaceError::Memory) => Err(AllocError),
+        Err(ReplaceError::Unwritable) => Ok(FileEnd::Failed(Failure::Unwritable, None)),
+    }
+}
