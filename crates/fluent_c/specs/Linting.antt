@@ -49,8 +49,10 @@ abbrev pub lint_asked : FluentLintOptions → Lint
 lint_asked options = record {
   references = [];
   functions = texts_of options.functions.now;
+  ignored = [];
   locale = None;
   notes = options.notes;
+  counts = false;
   strict = options.strict;
   format = json;
   files = [];
