@@ -61,7 +61,8 @@ completes() {
     cd 'a stranger' && bash -c '
         . kozhvadi/share/bash-completion/completions/ftl
         COMP_WORDS=(ftl li) COMP_CWORD=1; _ftl; [ "${COMPREPLY[*]}" = lint ] || exit 1
-        COMP_WORDS=(ftl lint --format j) COMP_CWORD=3; _ftl; [ "${COMPREPLY[*]}" = json ]'
+        COMP_WORDS=(ftl lint --format j) COMP_CWORD=3; _ftl; [ "${COMPREPLY[*]}" = json ] || exit 1
+        COMP_WORDS=(ftl lint --ignore cyc) COMP_CWORD=3; _ftl; [ "${COMPREPLY[*]}" = cyclic-reference ]'
 }
 
 installs() {

@@ -9,9 +9,9 @@ programs use has a block. Each link leads to a file and a heading that are there
 page names; each page that a comment names is there; no line of prose in a page is wider than 120 columns; no page has words
 that docs/style.md leaves out, and no comment of the code has "behind" for "after"; each call in a shell block of a page prints
 what follows it there; each public call that can fail says how, under `# Errors`; no clause is longer than 200 characters, and
-at most 33 are longer than 120; each file that names the version names the same one; the counts of crates and functions in
-the pages on proofs are those of the sources; and each law, function and clause that a row of `proved.md` names is in the
-row's crates.
+at most 33 are longer than 120; each file that names the version names the same one, and each that lists the codes of
+findings lists the same ones; the counts of crates and functions in the pages on proofs are those of the sources; and each
+law, function and clause that a row of `proved.md` names is in the row's crates.
 
 Prints what isn't so, then how many of these checks passed and failed, and ends with 1 if one failed. The calls of shell
 blocks need the built program, `crates/ftl/out/ftl`: without it they are skipped. `--calls` runs them alone, and `--sources`
@@ -32,6 +32,13 @@ SOURCES = sorted(ROOT.glob('crates/*/src/**/*.rt'))
 # Crates of rows and examples: nobody calls them.
 PRIVATE = re.compile(r'^(example|rows_|all_rows)')
 LONGEST_CLAUSE, LONG_CLAUSE, LONG_CLAUSES = 200, 120, 33
+# Where all codes of findings are listed, and what of each match are codes.
+CODES = {
+    'docs/reference/lint.md': r'^\| (`[a-z`, -]+`) \| (?:error|warning|note) \|',
+    'crates/ftl_arguments/specs/Linting.antt': r'^finding_codes =(.*?)\[\]',
+    'crates/ftl_arguments/src/linting.rt': r'matches!\(\s*name,(.*?)\)',
+    'tools/release/help.py': r"^CODES = '''(.*?)'''",
+}
 WIDEST = 120
 PROGRAM = ROOT / 'crates/ftl/out/ftl'
 STYLE = ROOT / 'docs/style.md'
@@ -250,6 +257,24 @@ def other_versions():
             yield f'{name}: version {version}, but {first} has {versions[first]}'
 
 
+def codes_named():
+    """The codes of findings that each place lists, as (place, codes)."""
+    for name, pattern in CODES.items():
+        for stretch in re.findall(pattern, (ROOT / name).read_text(), re.S | re.M):
+            # A definition has the word `codes` before each text.
+            yield name, [word for word in re.findall(r'[a-z]+(?:-[a-z]+)*', stretch) if word != 'codes']
+
+
+def other_codes():
+    codes = {}
+    for name, named in codes_named():
+        codes.setdefault(name, set()).update(named)
+    first = next(iter(CODES))
+    for name in CODES:
+        for code in sorted(codes.get(name, set()) ^ codes[first]):
+            yield f'{name}: the code `{code}` is {"not " if code in codes[first] else ""}listed, unlike in {first}'
+
+
 def calls_of(block):
     """The calls of a shell block, as (call, what it prints)."""
     calls = []
@@ -439,7 +464,7 @@ def checks():
     """The checks that are asked for."""
     if '--calls' not in OPTIONS:
         yield from (wrong_quotes, types_without_examples, wrong_links, wide_prose, wrong_words, wrong_comments,
-                    silent_calls, long_clauses, other_versions, wrong_counts, wrong_rows)
+                    silent_calls, long_clauses, other_versions, other_codes, wrong_counts, wrong_rows)
     if '--sources' in OPTIONS:
         return
     if PROGRAM.exists():
