@@ -1,3 +1,4 @@
+pub mod FirstThere
 pub mod LentBundle
 pub mod Scopes
 pub mod Within

@@ -4,3 +4,4 @@ pub mod Adding
 pub mod ScopeView
 pub mod ScopeSteps
 pub mod Bounds
+pub mod Localization

@@ -21,12 +21,14 @@
 //! ```
 //!
 //! `crates/examples/src/hello.rt` is this program, whole, and `bundle.rt` next to it one with a function and a type of its own.
+//! A program with several languages has a bundle for each, and asks them in turn by [`localization`].
 //! Contracts speak of a bundle through what it holds, the record of `specs/Contents.antt`, and of patterns by the definitions
 //! of `fluent_meaning`. `docs/reference/bundles.md` has the rules in plain words.
 
 pub mod builtins;
 pub mod bundle;
 pub mod laws;
+pub mod localization;
 pub mod memoizer;
 pub mod resolver;
 pub mod types;
