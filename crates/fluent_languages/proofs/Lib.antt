@@ -1,3 +1,4 @@
+pub mod Ascii
 pub mod Chosen
 pub mod Negotiated
 pub mod Splitting

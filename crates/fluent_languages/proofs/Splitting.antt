@@ -5,7 +5,7 @@ use Rattle.fluent_languages.specs.Steps.{Place, maximized, modern, place_of_tag}
 use Rattle.std.proofs.lemmas.Bool.{ne_eqb}
 use Rattle.std.specs.Prelude.{if◌then◌else◌, ◌||◌}
 use Rattle.fluent_languages.specs.Posix.{base_of}
-use Rattle.fluent_languages.specs.Tags.{Text, first_part, is_empty, is_separator, more_parts, onto, parts, same_texts, small, Tag}
+use Rattle.fluent_languages.specs.Tags.{Text, first_part, follows_part, is_empty, is_separator, more_parts, onto, parts, same_texts, small, Tag}
 
 abbrev pub made : Tag → Tag → Tag → Place
 made written tag full = record { written = written; tag = tag; full = full }
@@ -22,6 +22,17 @@ one_split false byte text e = ap (onto byte) e
 pub parts_split : (text : Text) → parts text ≡ take (length (first_part text)) text ∷ more_parts (drop (length (first_part text)) text)
 parts_split [] = refl
 parts_split (byte ∷ text) = one_split (is_separator byte) byte text (parts_split text)
+
+one_follows : (is_end : Bool) (byte : ℕ) (text : Text) → is_separator byte ≡ is_end
+    → follows_part (drop (length (first_part text)) text) ≡ true
+    → follows_part (drop (length (if is_end then [] else byte ∷ first_part text)) (byte ∷ text)) ≡ true
+one_follows true byte text e h = e
+one_follows false byte text e h = h
+
+-- nothing follows the first part, or a separator
+follows_first : (text : Text) → follows_part (drop (length (first_part text)) text) ≡ true
+follows_first [] = refl
+follows_first (byte ∷ text) = one_follows (is_separator byte) byte text refl (follows_first text)
 
 suc_is_some : (n : ℕ) → (suc n == 0) ≡ false
 suc_is_some n = ne_eqb (suc n) 0 (λ e. absurd (omega (arith, e)))
@@ -49,6 +60,11 @@ parts_at text n e =
     let P : ℕ → Type 0 = λ m. parts text ≡ take m text ∷ more_parts (drop m text) in
     let whole : take (length text - n) (drop n text) ≡ drop n text = take_all (length text - n) (drop n text) (grind (arith, length-drop)) in
     subst P (sym e) (parts_split text) ∙ ap (λ rest. take n text ∷ more_parts rest) (sym whole)
+
+pub follows_at : (text : Text) (n : ℕ) → n ≡ length (first_part text) → follows_part (take (length text - n) (drop n text)) ≡ true
+follows_at text n e =
+    let whole : take (length text - n) (drop n text) ≡ drop n text = take_all (length text - n) (drop n text) (grind (arith, length-drop)) in
+    ap follows_part whole ∙ subst (λ m. follows_part (drop m text) ≡ true) (sym e) (follows_first text)
 
 -- no variants aren't some
 pub none_are_not_some : (a b : Text) → length a < 1 → 1 ≤ length b

@@ -3,6 +3,7 @@ pub mod Canonical
 pub mod Likely
 pub mod Tables
 pub mod Steps
+pub mod Locales
 pub mod Negotiation
 pub mod Posix
 pub mod Laws

@@ -1,8 +1,7 @@
 -- How a language of the program can suit a request, from the best way to the worst.
-use Rattle.std.specs.Prelude.{Bool, true, false, not, ◌&&◌, ◌||◌, List, [], ◌∷◌, Option, map, option_map}
-use Rattle.fluent_languages.specs.Tags.{Tag, Text, is_empty, same_tag, same_text, same_texts, or_else, tag_of}
+use Rattle.std.specs.Prelude.{Bool, true, false, not, ◌&&◌, ◌||◌, List, [], ◌∷◌}
+use Rattle.fluent_languages.specs.Tags.{Tag, Text, is_empty, same_tag, same_text, same_texts, or_else}
 use Rattle.fluent_languages.specs.Likely.{alias_of, has_groups, is_listed, region_at, region_in, renamed, script_at, script_in}
-use Rattle.fluent_languages.specs.declared.locale.Locale.{Locale}
 use Rattle.fluent_languages.specs.declared.steps.Step.{Step}
 use Rattle.fluent_languages.specs.declared.steps.Step.TheVariants.{Same, Covers, CoversLikely, OtherVariant, StandsFor, SameGroup, MainRegion, OtherRegion, OtherScript}
 use Rattle.fluent_languages.specs.Tables.{a_to_e, aliases, by_region, by_script, digraphic, f_to_k, groups, l_to_r, s_to_z, standing}
@@ -43,12 +42,6 @@ pub record Place : Type 0 where
 
 abbrev pub place_of_tag : Tag → Place
 place_of_tag tag = record { written = tag; tag = modern tag; full = maximized (modern tag) }
-
-abbrev pub place_of : Locale → Place
-place_of locale = record { written = tag_of locale.written; tag = tag_of locale.tag; full = tag_of locale.full }
-
-abbrev pub places_of : List (Option Locale) → List (Option Place)
-places_of = map (option_map place_of)
 
 -- A part fits another if it is left out or the same: of the first alone, and then of either.
 abbrev pub fits : Text → Text → Bool

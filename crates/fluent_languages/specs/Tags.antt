@@ -95,6 +95,11 @@ abbrev pub more_parts : Text → List Text
 more_parts [] = []
 more_parts (_ ∷ text) = parts text
 
+-- a text is what follows a part
+abbrev pub follows_part : Text → Bool
+follows_part [] = true
+follows_part (byte ∷ text) = is_separator byte
+
 -- what the code has of a tag
 abbrev pub tag_of : LanguageTag → Tag
 tag_of tag = record {
@@ -122,6 +127,11 @@ is_empty xs = length xs == 0
 
 abbrev pub same_tag : Tag → Tag → Bool
 same_tag a b = same_text a.language b.language && same_text a.script b.script && same_text a.region b.region && same_texts a.variants b.variants
+
+-- a part, unless it is left out
+abbrev pub named : Text → Option Text
+named [] = None
+named (byte ∷ part) = Some (byte ∷ part)
 
 -- the first of two that is there
 abbrev pub or_else : Text → Text → Text

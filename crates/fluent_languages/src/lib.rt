@@ -7,6 +7,7 @@ mod likely;
 mod locale;
 mod negotiation;
 mod parts;
+mod placing;
 mod posix;
 mod steps;
 mod table;

@@ -1,11 +1,12 @@
 //! Which of a program's languages are used for a user's.
 ghost use Rattle.std.specs.Prelude.{◌≡◌, ◌++◌, IfOk, OnOk, []};
-ghost use Rattle.std.specs.Option.{option_map, option_to_list};
-ghost use Rattle.fluent_languages.specs.Negotiation.{all_in, by_ways, are_one_tag, best, best_for, filtered, first_in, has, is_among, is_needed, is_new, looked_up, matched, negotiated, place_if_tag, places, positions, text_at, texts_at, used_of};
-ghost use Rattle.fluent_languages.specs.Steps.{place_of, places_of, steps};
+ghost use Rattle.std.specs.Option.{option_to_list};
+ghost use Rattle.fluent_languages.specs.Negotiation.{all_for, all_in, by_ways, are_one_tag, best, best_for, filtered, first_in, has, is_among, is_needed, is_new, looked_up, matched, negotiated, place_if_tag, places, positions, text_at, texts_at, used_of};
+ghost use Rattle.fluent_languages.specs.Locales.{place_in, places_of, wanted};
+ghost use Rattle.fluent_languages.specs.Steps.{steps};
 ghost use Rattle.fluent_languages.specs.Tags.{read_tag, texts};
 
-use crate::locale::Locale;
+use crate::locale::{Locale, Request};
 use crate::steps::{Step, fulfils};
 use crate::tag::LanguageTag;
 use std::alloc::{AllocError, Global};
@@ -180,11 +181,24 @@ fn filter(
 {
     let mut found = Vec::new(alloc);
     for request in requests {
-        if let Some(request) = request {
-            find_all(&mut found, request, offers, &STEPS)?;
-        }
+        find_for(&mut found, request, offers)?;
     }
     Ok(found)
+}
+
+/// Puts in the positions of all offers that suit a request, if it is a tag.
+fn find_for(
+    found: &mut Vec<usize>,
+    request: &Option<Locale<'_>>,
+    offers: &[Option<Locale<'_>>],
+) -> Result<(), AllocError>
+    ensures { OnOk result (found.new.items
+        ≡ all_for (place_in request.now) (places_of offers.now) found.old.items) }
+{
+    match request {
+        None => Ok(()),
+        Some(request) => find_all(found, &Request::of(*request), offers, &STEPS),
+    }
 }
 
 /// The position of the best offer for each request.
@@ -220,12 +234,12 @@ fn look_up(offers: &[Option<Locale<'_>>], requests: &[Option<Locale<'_>>]) -> Op
 /// Puts in the positions of all offers that suit a request in some way.
 fn find_all(
     found: &mut Vec<usize>,
-    asked: &Locale<'_>,
+    asked: &Request<'_>,
     offers: &[Option<Locale<'_>>],
     ways: &[Step],
 ) -> Result<(), AllocError>
     ensures { OnOk result (found.new.items
-        ≡ by_ways (place_of asked.now) (places_of offers.now) ways.now found.old.items) }
+        ≡ by_ways (wanted asked.now) (places_of offers.now) ways.now found.old.items) }
 {
     for way in ways {
         find_in(found, *way, asked, offers)?;
@@ -237,10 +251,10 @@ fn find_all(
 fn find_in(
     found: &mut Vec<usize>,
     step: Step,
-    request: &Locale<'_>,
+    request: &Request<'_>,
     offers: &[Option<Locale<'_>>],
 ) -> Result<(), AllocError>
-    ensures { OnOk result (found.new.items ≡ all_in step (place_of request.now)
+    ensures { OnOk result (found.new.items ≡ all_in step (wanted request.now)
         (places_of offers.now) 0 found.old.items) }
 {
     for (at, offer) in offers.iter().enumerate() {
@@ -257,21 +271,21 @@ fn best_of(
     offers: &[Option<Locale<'_>>],
     found: &[usize],
 ) -> Option<usize>
-    ensures { result ≡ best_for (option_map place_of request.now) (places_of offers.now) found.now }
+    ensures { result ≡ best_for (place_in request.now) (places_of offers.now) found.now }
 {
     match request {
         None => None,
-        Some(request) => best_in(request, offers, &STEPS, found),
+        Some(request) => best_in(&Request::of(*request), offers, &STEPS, found),
     }
 }
 
 fn best_in(
-    request: &Locale<'_>,
+    request: &Request<'_>,
     offers: &[Option<Locale<'_>>],
     steps: &[Step],
     found: &[usize],
 ) -> Option<usize>
-    ensures { result ≡ best (place_of request.now) (places_of offers.now) steps.now found.now }
+    ensures { result ≡ best (wanted request.now) (places_of offers.now) steps.now found.now }
 {
     for step in steps {
         if let Some(at) = find_first(*step, request, offers, found) {
@@ -284,11 +298,11 @@ fn best_in(
 /// The position of the first offer that suits a request in this way, of those that weren't found before.
 fn find_first(
     step: Step,
-    request: &Locale<'_>,
+    request: &Request<'_>,
     offers: &[Option<Locale<'_>>],
     found: &[usize],
 ) -> Option<usize>
-    ensures { result ≡ first_in step (place_of request.now) (places_of offers.now) 0 found.now }
+    ensures { result ≡ first_in step (wanted request.now) (places_of offers.now) 0 found.now }
 {
     for (at, offer) in offers.iter().enumerate() {
         if fits_anew(step, request, offer, at, found) {
@@ -301,12 +315,12 @@ fn find_first(
 /// Whether an offer suits a request in this way, and wasn't found before.
 fn fits_anew(
     step: Step,
-    request: &Locale<'_>,
+    request: &Request<'_>,
     offer: &Option<Locale<'_>>,
     at: usize,
     found: &[usize],
 ) -> bool
-    ensures { result ≡ is_new step (place_of request.now) (option_map place_of offer.now) at found.now }
+    ensures { result ≡ is_new step (wanted request.now) (place_in offer.now) at found.now }
 {
     match offer {
         None => false,

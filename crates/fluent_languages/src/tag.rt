@@ -1,12 +1,12 @@
 //! Language tags.
 ghost use Rattle.std.specs.Prelude.{◌≡◌, option_map};
-ghost use Rattle.fluent_languages.specs.Tags.{or_else, read_tag, same_tag, same_text, same_texts, small, more_parts, tag_of};
+ghost use Rattle.fluent_languages.specs.Tags.{named, or_else, read_tag, same_tag, same_text, same_texts, small, more_parts, tag_of};
 ghost use Rattle.fluent_languages.specs.Steps.{maximized, modern};
 ghost use Rattle.std.specs.Prelude.{map};
 ghost use Rattle.std.specs.Char.{to_ascii_lowercase};
 
 use crate::likely::{find_alias, find_subtags};
-use crate::parts::{are_variants, language_fits, split_part, split_region, split_script};
+use crate::parts::{are_variants, language_fits, split_part, split_region, split_script, text_of};
 
 /// A language tag, such as `de`, `zh-Hant-TW` or `ca-ES-valencia`: a language, and a script, a region and variants if they are named.
 /// Letters may be in either case, and `_` is the same as `-`.
@@ -14,10 +14,10 @@ use crate::parts::{are_variants, language_fits, split_part, split_region, split_
 /// It borrows the text that it is read from.
 #[derive(Clone, Copy, Debug)]
 pub struct LanguageTag<'t> {
-    pub(crate) language: &'t [u8],
-    pub(crate) script: &'t [u8],
-    pub(crate) region: &'t [u8],
-    pub(crate) variants: &'t [u8],
+    pub(crate) language: &'t str,
+    pub(crate) script: &'t str,
+    pub(crate) region: &'t str,
+    pub(crate) variants: &'t str,
 }
 
 impl<'t> LanguageTag<'t> {
@@ -41,14 +41,35 @@ impl<'t> LanguageTag<'t> {
         let region = split_region(script.rest);
         if language_fits(language.part) && are_variants(region.rest) {
             Some(LanguageTag {
-                language: language.part,
-                script: script.part,
-                region: region.part,
-                variants: region.rest,
+                language: text_of(language.part),
+                script: text_of(script.part),
+                region: text_of(region.part),
+                variants: text_of(region.rest),
             })
         } else {
             None
         }
+    }
+
+    /// The language, such as `zh`. Like the other parts it is as it was written, in either case.
+    pub fn language(&self) -> &'t str
+        ensures { small result.now ≡ (tag_of self.now).language }
+    {
+        self.language
+    }
+
+    /// The script, such as `Hant`, if one is named.
+    pub fn script(&self) -> Option<&'t str>
+        ensures { option_map (λ part. small part.now) result ≡ named (tag_of self.now).script }
+    {
+        named(self.script)
+    }
+
+    /// The region, such as `TW` or `419`, if one is named.
+    pub fn region(&self) -> Option<&'t str>
+        ensures { option_map (λ part. small part.now) result ≡ named (tag_of self.now).region }
+    {
+        named(self.region)
     }
 
     /// The tag with the script and the region that its language likely has, such as `zh-Hant-TW` for `zh-TW`.
@@ -72,8 +93,8 @@ impl<'t> LanguageTag<'t> {
             return *self;
         };
         LanguageTag {
-            language: part_or(&[], row.language.as_bytes()),
-            script: part_or(self.script, row.script.as_bytes()),
+            language: part_or("", row.language),
+            script: part_or(self.script, row.script),
             region: self.region,
             variants: self.variants,
         }
@@ -86,22 +107,32 @@ impl<'t> LanguageTag<'t> {
         is_same_part(self.language, other.language)
             && is_same_part(self.script, other.script)
             && is_same_part(self.region, other.region)
-            && are_same_variants(self.variants, other.variants)
+            && are_same_variants(self.variants.as_bytes(), other.variants.as_bytes())
     }
+}
+
+/// A part, unless it is left out.
+fn named(part: &str) -> Option<&str>
+    ensures { option_map (λ part. small part.now) result ≡ named (small part.now) }
+{
+    if part.is_empty() { None } else { Some(part) }
 }
 
 /// The first of two parts that is there.
-fn part_or<'t>(part: &'t [u8], other: &'static [u8]) -> &'t [u8]
+fn part_or<'t>(part: &'t str, other: &'static str) -> &'t str
     ensures { small result.now ≡ or_else (small part.now) (small other.now) }
 {
-    match part {
-        [] => other,
-        [_, ..] => part,
-    }
+    if part.is_empty() { other } else { part }
 }
 
 /// Whether two parts are the same but for case.
-pub(crate) fn is_same_part(a: &[u8], b: &[u8]) -> bool
+pub(crate) fn is_same_part(a: &str, b: &str) -> bool
+    ensures { result ≡ same_text (small a.now) (small b.now) }
+{
+    are_same_bytes(a.as_bytes(), b.as_bytes())
+}
+
+pub(crate) fn are_same_bytes(a: &[u8], b: &[u8]) -> bool
     ensures { result ≡ same_text (small a.now) (small b.now) }
 {
     match a {
@@ -112,7 +143,7 @@ pub(crate) fn is_same_part(a: &[u8], b: &[u8]) -> bool
         [x, a @ ..] => match b {
             [] => false,
             [y, b @ ..] => {
-                x.to_ascii_lowercase() == y.to_ascii_lowercase() && is_same_part(a, b)
+                x.to_ascii_lowercase() == y.to_ascii_lowercase() && are_same_bytes(a, b)
             }
         },
     }
@@ -132,7 +163,8 @@ pub(crate) fn are_same_variants(a: &[u8], b: &[u8]) -> bool
             [_, b @ ..] => {
                 let first = split_part(a);
                 let second = split_part(b);
-                is_same_part(first.part, second.part) && are_same_variants(first.rest, second.rest)
+                are_same_bytes(first.part, second.part)
+                    && are_same_variants(first.rest, second.rest)
             }
         },
     }

@@ -1,5 +1,5 @@
 use Rattle.std.proofs.Common.{◌≡◌, [], drop, map, option_map}
-use Rattle.fluent_languages.specs.Steps.{place_of}
+use Rattle.fluent_languages.specs.Locales.{place_of}
 use Rattle.fluent_languages.specs.Negotiation.{filtered}
 use Rattle.fluent_languages.proofs.negotiation.filter.Given as goal
 

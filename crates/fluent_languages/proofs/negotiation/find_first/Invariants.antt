@@ -1,7 +1,7 @@
 use Rattle.std.proofs.Common.{◌≡◌, drop, map, option_map}
-use Rattle.fluent_languages.specs.Steps.{place_of}
+use Rattle.fluent_languages.specs.Locales.{place_of}
 use Rattle.fluent_languages.specs.Negotiation.{first_in}
 use Rattle.fluent_languages.proofs.negotiation.find_first.Given as goal
 
 abbrev pub invariant-loop-at : goal.invariant-loop-at
-invariant-loop-at l = first_in l.step (place_of l.request) (map (option_map place_of) (drop l.at l.offers)) l.at l.found ≡ first_in l.step (place_of l.request) (map (option_map place_of) l.offers) 0 l.found
+invariant-loop-at l = first_in l.step (place_of l.request.locale) (map (option_map place_of) (drop l.at l.offers)) l.at l.found ≡ first_in l.step (place_of l.request.locale) (map (option_map place_of) l.offers) 0 l.found

@@ -1,6 +1,6 @@
 use Rattle.std.proofs.Common.{◌≡◌, take, map, option_map}
 use Rattle.fluent_languages.specs.Tags.{texts}
-use Rattle.fluent_languages.specs.Steps.{place_of}
+use Rattle.fluent_languages.specs.Locales.{place_of}
 use Rattle.fluent_languages.specs.Negotiation.{places}
 use Rattle.fluent_languages.proofs.negotiation.locales.Given as goal
 
