@@ -16,6 +16,7 @@ from ._errors import (
     UnknownLocaleError,
 )
 from ._languages import accepted_languages, negotiate_languages, system_languages
+from ._linting import FileCounts, Finding, Report, TidyError, lint, tidy
 from ._localization import Localization, LocalizedAnswer
 from ._values import Formatter, Number, Value
 
@@ -24,6 +25,8 @@ __version__ = "0.1.0"
 __all__ = [
     "Answer",
     "Bundle",
+    "FileCounts",
+    "Finding",
     "FluentError",
     "FluentWarning",
     "Formatter",
@@ -31,11 +34,15 @@ __all__ = [
     "LocalizedAnswer",
     "MissingMessageError",
     "Number",
+    "Report",
     "ResolverError",
     "SourceError",
+    "TidyError",
     "UnknownLocaleError",
     "Value",
     "accepted_languages",
+    "lint",
     "negotiate_languages",
     "system_languages",
+    "tidy",
 ]

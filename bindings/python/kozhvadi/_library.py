@@ -15,6 +15,10 @@ NO_MESSAGE = 4
 NO_PATTERN = 5
 BAD_ARGUMENT = 6
 NO_BUNDLE = 7
+HAS_ERRORS = 8
+DAMAGED = 9
+CARRIAGE_RETURN = 10
+NOT_TIDY = 11
 
 TEXT = 0
 DECIMAL = 1
@@ -27,6 +31,30 @@ THREAD_STACK = 1_572_864
 
 class FluentSource(ctypes.Structure):
     _fields_ = [("text", ctypes.c_char_p), ("len", ctypes.c_size_t)]
+
+
+class FluentFile(ctypes.Structure):
+    _fields_ = [
+        ("name", ctypes.c_char_p),
+        ("name_len", ctypes.c_size_t),
+        ("text", ctypes.c_char_p),
+        ("text_len", ctypes.c_size_t),
+    ]
+
+
+class FluentLintOptions(ctypes.Structure):
+    _fields_ = [
+        ("functions", ctypes.POINTER(FluentSource)),
+        ("function_count", ctypes.c_size_t),
+        ("locale", ctypes.c_char_p),
+        ("locale_len", ctypes.c_size_t),
+        ("notes", ctypes.c_bool),
+        ("strict", ctypes.c_bool),
+    ]
+
+
+class FluentPlace(ctypes.Structure):
+    _fields_ = [("line", ctypes.c_size_t), ("column", ctypes.c_size_t)]
 
 
 class FluentText(ctypes.Structure):
@@ -115,6 +143,10 @@ def _load() -> ctypes.CDLL:
             ctypes.POINTER(size), size, ctypes.POINTER(size),
         ],
         "fluent_write_json": [ctypes.c_char_p, size, text],
+        "fluent_lint": [
+            ctypes.POINTER(FluentFile), size, ctypes.POINTER(FluentFile), size, ctypes.POINTER(FluentLintOptions), text,
+        ],
+        "fluent_tidy": [ctypes.c_char_p, size, text, ctypes.POINTER(FluentPlace)],
     }
     for name, parameters in calls.items():
         call = getattr(library, name)
