@@ -1,0 +1,167 @@
+"""What messages look like: their texts for sample arguments, in each plural category of a language."""
+
+from __future__ import annotations
+
+from collections.abc import Iterable, Mapping
+from dataclasses import dataclass, field
+from decimal import Decimal
+from functools import lru_cache
+from typing import NamedTuple, Union
+
+from ._bundle import Bundle
+from ._errors import UnknownLocaleError
+from ._places import Entry, Part, Places
+
+Sample = Union[str, int, Decimal]
+
+CATEGORIES = ("zero", "one", "two", "few", "many", "other")
+
+# Whole numbers that are easy to read come first, and fractions last.
+_CANDIDATES: list[Sample] = [*range(1, 200), 0, 1_000_000, Decimal("1.5"), Decimal("0.1"), Decimal("0.5")]
+
+# What variables of these names mostly hold.
+_TEXTS = {
+    "name": "Jane", "user": "Jane", "username": "Jane", "file": "notes.txt", "filename": "notes.txt", "date": "2024-05-17",
+    "url": "example.org", "domain": "example.org", "host": "example.org", "email": "jane@example.org", "version": "2.0",
+}
+
+# More cases of a message aren't shown.
+_MOST = 24
+
+
+@lru_cache(maxsize=64)
+def categories(locale: str, is_ordinal: bool = False) -> Mapping[str, Sample]:
+    """The plural categories of a language, each with a number of it. Without plural rules all numbers are `other`.
+
+    >>> categories("pl")
+    {'one': 1, 'few': 2, 'many': 5, 'other': Decimal('1.5')}
+    """
+    kind = "ordinal" if is_ordinal else "cardinal"
+    keys = "".join(f"    [{name}] {name}\n" for name in CATEGORIES[:-1])
+    source = f'c = {{ NUMBER($n, type: "{kind}") ->\n{keys}   *[other] other\n}}\n'
+    found: dict[str, Sample] = {}
+    with Bundle(source, locale=known(locale), isolating=False) as bundle:
+        for number in _CANDIDATES:
+            found.setdefault(bundle.format("c", n=number).text, number)
+    return {name: found[name] for name in CATEGORIES if name in found}
+
+
+@lru_cache(maxsize=256)
+def known(locale: str) -> str:
+    """The locale, if it has plural rules, and else the one whose numbers are all `other`."""
+    return locale if has_rules(locale) else "und"
+
+
+@lru_cache(maxsize=1024)
+def has_rules(locale: str) -> bool:
+    """Whether a locale has plural rules."""
+    try:
+        Bundle("", locale=locale).close()
+    except (UnknownLocaleError, ValueError):
+        return False
+    return True
+
+
+@dataclass
+class Variable:
+    """A variable that a message is shown with, and what it chooses variants by."""
+
+    name: str
+    is_number: bool = False
+    is_ordinal: bool = False
+    keys: list[str] = field(default_factory=list)
+
+    @property
+    def is_plural(self) -> bool:
+        """Whether it chooses variants by plural categories."""
+        return any(key in CATEGORIES[:-1] for key in self.keys) or (self.is_number and "other" in self.keys)
+
+    @property
+    def is_numeric(self) -> bool:
+        return self.is_number or self.is_plural or any(_is_digits(key) for key in self.keys)
+
+    def cases(self, locale: str) -> list[tuple[str, Sample]]:
+        """A sample for each variant that it may choose, and what chooses it: a category or a key."""
+        exact = [(key, key) for key in self.keys if key not in CATEGORIES]
+        if not self.is_plural:
+            return [(key, _value(key)) for key in dict.fromkeys(self.keys)]
+        by_category = list(categories(locale, self.is_ordinal).items())
+        return [*[(key, _value(sample)) for key, sample in exact], *by_category]
+
+    def sample(self, locale: str) -> Sample:
+        """A value that it may have."""
+        if self.is_numeric:
+            number = categories(locale, self.is_ordinal)["other"]
+            return number if isinstance(number, int) else categories(locale, self.is_ordinal).get("many", 5)
+        if self.keys:
+            return self.keys[0]
+        plain = self.name.replace("-", "").replace("_", "").lower()
+        return _TEXTS.get(plain, self.name)
+
+
+def _is_digits(key: str) -> bool:
+    return key.lstrip("-").replace(".", "", 1).isdecimal()
+
+
+def _value(key: str) -> Sample:
+    """The number that a key is, or its text."""
+    return Decimal(key) if _is_digits(key) else key
+
+
+class Case(NamedTuple):
+    """Arguments of a message, of which `variable` is chosen so that it is in a category, or has a key: `label`."""
+
+    variable: str
+    label: str
+    arguments: dict[str, Sample]
+
+
+class Catalog:
+    """The entries of sources that are loaded together. The first of an id counts."""
+
+    def __init__(self, sources: Iterable[Places]) -> None:
+        self.entries: dict[str, Entry] = {}
+        for places in sources:
+            for entry in places.entries:
+                self.entries.setdefault(entry.key, entry)
+
+    def shown(self, key: str, attribute: str | None) -> list[Part]:
+        """The parts that a message is shown with: its own, and those of the messages that it refers to."""
+        seen: dict[tuple[str, str | None], Part | None] = {}
+        left = [(key, attribute)]
+        while left:
+            wanted = left.pop()
+            entry = self.entries.get(wanted[0])
+            if wanted in seen or entry is None:
+                continue
+            part = seen[wanted] = entry.part(wanted[1])
+            for reference in part.references if part else ():
+                if reference.symbol.kind == "message":
+                    left.append((reference.symbol.name, reference.attribute))
+        return [part for part in seen.values() if part]
+
+    def variables(self, key: str, attribute: str | None) -> list[Variable]:
+        """The variables that a message is shown with, directly or by a message that it refers to."""
+        found: dict[str, Variable] = {}
+        for part in self.shown(key, attribute):
+            for name in part.variables():
+                variable = found.setdefault(name, Variable(name))
+                variable.is_number = variable.is_number or name in part.numbers
+            for select in part.selects:
+                if select.variable in found:
+                    variable = found[select.variable]
+                    variable.keys += [each for each in select.keys if each not in variable.keys]
+                    variable.is_number = variable.is_number or select.is_number
+                    variable.is_ordinal = variable.is_ordinal or select.is_ordinal
+        return list(found.values())
+
+    def cases(self, key: str, attribute: str | None, locale: str) -> list[Case]:
+        """Arguments for each variant that a message has; one case without a label if it chooses none."""
+        variables = self.variables(key, attribute)
+        usual = {each.name: each.sample(locale) for each in variables}
+        found = [
+            Case(each.name, label, {**usual, each.name: value})
+            for each in variables
+            for label, value in each.cases(locale)
+        ]
+        return found[:_MOST] or [Case("", "", usual)]
