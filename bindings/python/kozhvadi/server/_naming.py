@@ -1,0 +1,197 @@
+"""Names: where they are defined and used, and what renames them."""
+
+from __future__ import annotations
+
+import re
+from collections.abc import Iterator
+
+from .._places import Entry, Occurrence, Symbol
+from ._checks import Json, position_of
+from ._session import INVALID_PARAMS, REQUEST_FAILED, Params, Refused
+from ._workspace import Document, Workspace
+
+_NAME = re.compile(r"[A-Za-z][A-Za-z0-9_-]*")
+
+# Kinds of symbols by the protocol: a text, a constant, a property.
+_MESSAGE, _TERM, _ATTRIBUTE = 15, 14, 7
+
+# At most this many symbols of the workspace are listed.
+_MOST = 500
+
+
+class Naming:
+    """Answers questions on names."""
+
+    def __init__(self, workspace: Workspace) -> None:
+        self._workspace = workspace
+        self.has_nested_symbols = self.has_versions = False
+
+    def _asked(self, params: Params) -> tuple[Document, Occurrence] | None:
+        """The document that is asked about, and the name at the position."""
+        document = self._document(params)
+        found = document.places.at(document.offset(position_of(params["position"]))) if document else None
+        return (document, found) if document and found else None
+
+    def _document(self, params: Params) -> Document | None:
+        return self._workspace.document(params["textDocument"]["uri"].text)
+
+    def definition(self, params: Params) -> list[Json]:
+        """Where a name is defined: in the documents that are loaded with this one, or else in the reference.
+
+        A variable is defined by the program. So the reference has it, in the message of the same id; or it is first used.
+        """
+        asked = self._asked(params)
+        if asked is None:
+            return []
+        document, found = asked
+        catalog, reference = self._workspace.catalog(document), self._workspace.reference(document)
+        if found.symbol.kind == "variable":
+            return self._uses(found.symbol, reference)[:1] or self._uses(found.symbol, [document])[:1]
+        return self._definitions(found.symbol, catalog) or self._definitions(found.symbol, reference)
+
+    def references(self, params: Params) -> list[Json]:
+        """Where a name is used in the workspace; and where it is defined, if that is asked for."""
+        asked = self._asked(params)
+        if asked is None:
+            return []
+        with_definitions = params.at("context", "includeDeclaration") is not False
+        return [
+            _location(document, found)
+            for document, found in self._everywhere(asked[1].symbol)
+            if with_definitions or not found.is_definition
+        ]
+
+    def highlights(self, params: Params) -> list[Json]:
+        """Where a name is in the document."""
+        asked = self._asked(params)
+        if asked is None:
+            return []
+        document, found = asked
+        return [
+            {"range": document.range(each.start, each.end), "kind": 3 if each.is_definition else 2}
+            for each in document.places.of(found.symbol)
+        ]
+
+    def _everywhere(self, symbol: Symbol) -> Iterator[tuple[Document, Occurrence]]:
+        for document in self._workspace.all():
+            for found in document.places.of(symbol):
+                yield document, found
+
+    def _definitions(self, symbol: Symbol, documents: list[Document]) -> list[Json]:
+        return [
+            _location(document, found)
+            for document in documents
+            for found in document.places.of(symbol)
+            if found.is_definition
+        ]
+
+    def _uses(self, symbol: Symbol, documents: list[Document]) -> list[Json]:
+        return [_location(document, found) for document in documents for found in document.places.of(symbol)]
+
+    def prepare(self, params: Params) -> Json | None:
+        """The name that would be renamed."""
+        asked = self._asked(params)
+        if asked is None or asked[1].symbol.kind == "function":
+            return None
+        document, found = asked
+        return {"range": document.range(found.start, found.end), "placeholder": found.symbol.name}
+
+    def rename(self, params: Params) -> Json | None:
+        """The edits that rename a message, a term, an attribute or a variable in each file of the workspace."""
+        asked = self._asked(params)
+        if asked is None:
+            raise Refused(REQUEST_FAILED, "there is no name here")
+        symbol = asked[1].symbol
+        if symbol.kind == "function":
+            raise Refused(REQUEST_FAILED, f"{symbol.name} is a function of the program")
+        name = params["newName"].text.strip().removeprefix({"term": "-", "variable": "$"}.get(symbol.kind, ""))
+        if not _NAME.fullmatch(name):
+            words = "a name begins with a letter from A to Z, and has letters, digits, `-` and `_`"
+            raise Refused(INVALID_PARAMS, f"{words}: {name!r}")
+        if name == symbol.name:
+            return {"changes": {}}
+        self._refuse_if_taken(symbol, name)
+        edits: dict[str, tuple[Document, list[Json]]] = {}
+        for document, found in self._everywhere(symbol):
+            _, listed = edits.setdefault(document.uri, (document, []))
+            listed.append({"range": document.range(found.start, found.end), "newText": name})
+        return self._workspace_edit(edits)
+
+    def _refuse_if_taken(self, symbol: Symbol, name: str) -> None:
+        """Two entries of one id would clash, and so would a message and a term."""
+        taken = [Symbol(symbol.kind, name, symbol.of)]
+        if symbol.kind in ("message", "term"):
+            taken = [Symbol("message", name), Symbol("term", name)]
+        holders = {document.uri for document, found in self._everywhere(symbol) if found.is_definition}
+        for document in self._workspace.all():
+            if document.uri not in holders and symbol.kind in ("message", "term"):
+                # Only what is loaded with a file that has the entry can clash with it.
+                near = self._workspace.catalog(document)
+                if not any(each.uri in holders for each in near):
+                    continue
+            for found in (each for other in taken for each in document.places.of(other)):
+                if found.is_definition or symbol.kind == "variable":
+                    raise Refused(REQUEST_FAILED, f"{document.name} has `{found.symbol}` already")
+
+    def _workspace_edit(self, edits: dict[str, tuple[Document, list[Json]]]) -> Json:
+        if not self.has_versions:
+            return {"changes": {uri: listed for uri, (_, listed) in edits.items()}}
+        return {
+            "documentChanges": [
+                {"textDocument": {"uri": uri, "version": document.version}, "edits": listed}
+                for uri, (document, listed) in edits.items()
+            ]
+        }
+
+    def symbols(self, params: Params) -> list[Json]:
+        """The messages and terms of a document, with their attributes."""
+        document = self._document(params)
+        if document is None:
+            return []
+        if self.has_nested_symbols:
+            return [_symbol(document, entry) for entry in document.places.entries]
+        return [_flat(document, entry) for entry in document.places.entries]
+
+    def workspace_symbols(self, params: Params) -> list[Json]:
+        """The messages and terms of the workspace whose ids have a text in them."""
+        query = params["query"].text.lower()
+        found: list[Json] = []
+        for document in self._workspace.all():
+            found += [_flat(document, entry) for entry in document.places.entries if query in entry.key.lower()]
+            if len(found) >= _MOST:
+                break
+        return found[:_MOST]
+
+
+def _location(document: Document, found: Occurrence) -> Json:
+    return {"uri": document.uri, "range": document.range(found.start, found.end)}
+
+
+def _symbol(document: Document, entry: Entry) -> Json:
+    value = entry.parts[0]
+    end = entry.name_start + len(entry.id)
+    text = document.source[value.name_end : value.end].decode(errors="replace").lstrip(" =")
+    return {
+        "name": entry.key,
+        "detail": text.partition("\n")[0].strip()[:80],
+        "kind": _TERM if entry.is_term else _MESSAGE,
+        "range": document.range(entry.start, max(entry.end, end)),
+        "selectionRange": document.range(entry.start, end),
+        "children": [
+            {
+                "name": f".{part.attribute}",
+                "kind": _ATTRIBUTE,
+                "range": document.range(part.start, max(part.end, part.name_end)),
+                "selectionRange": document.range(part.start, part.name_end),
+            }
+            for part in entry.parts[1:]
+        ],
+    }
+
+
+def _flat(document: Document, entry: Entry) -> Json:
+    return {
+        "name": entry.key,
+        "kind": _TERM if entry.is_term else _MESSAGE,
+        "location": {"uri": document.uri, "range": document.range(entry.start, entry.end)},
+    }

@@ -1,0 +1,309 @@
+"""The server: what it can do, and the loop that reads, answers and checks."""
+
+from __future__ import annotations
+
+import sys
+import threading
+import time
+from collections.abc import Callable
+from queue import Empty, Queue
+
+from .. import __version__
+from .._linting import TidyError, tidy
+from ._checks import Checks, Json
+from ._completion import Completion
+from ._hovering import Hovering
+from ._naming import Naming
+from ._session import PARSE_ERROR, REQUEST_FAILED, Params, Refused, Session
+from ._wire import Damaged, Input, Output, Reader, writer
+from ._workspace import Document, Settings, Workspace
+
+# This many messages are read ahead.
+_AHEAD = 1000
+
+# While messages keep coming, documents are checked this often, in seconds.
+_PATIENCE = 0.3
+
+_CAPABILITIES = {
+    "positionEncoding": "utf-16",
+    "textDocumentSync": {"openClose": True, "change": 1, "save": {"includeText": False}},
+    "definitionProvider": True,
+    "referencesProvider": True,
+    "documentHighlightProvider": True,
+    "hoverProvider": True,
+    "completionProvider": {"triggerCharacters": ["{", "$", "-", ".", "(", "["], "resolveProvider": False},
+    "documentSymbolProvider": True,
+    "workspaceSymbolProvider": True,
+    "documentFormattingProvider": True,
+    "renameProvider": {"prepareProvider": True},
+    "codeActionProvider": {"codeActionKinds": ["quickfix"]},
+}
+
+
+class Server:
+    """A language server that sends its messages by a function."""
+
+    def __init__(self, send: Callable[[object], None]) -> None:
+        self._send = send
+        self.workspace = Workspace()
+        self._checks = Checks(self.workspace)
+        self._naming, self._hovering = Naming(self.workspace), Hovering(self.workspace)
+        self._completion = Completion(self.workspace)
+        self._unchecked: dict[str, None] = {}
+        answers: dict[str, Callable[[Params], object]] = {
+            "initialize": self._initialize,
+            "shutdown": lambda _: None,
+            "textDocument/definition": self._naming.definition,
+            "textDocument/references": self._naming.references,
+            "textDocument/documentHighlight": self._naming.highlights,
+            "textDocument/documentSymbol": self._naming.symbols,
+            "workspace/symbol": self._naming.workspace_symbols,
+            "textDocument/prepareRename": self._naming.prepare,
+            "textDocument/rename": self._naming.rename,
+            "textDocument/hover": self._hovering.hover,
+            "textDocument/completion": self._completion.complete,
+            "textDocument/codeAction": self._checks_asked(self._checks.actions),
+            "textDocument/formatting": self._format,
+        }
+        notices: dict[str, Callable[[Params], object]] = {
+            "textDocument/didOpen": self._open,
+            "textDocument/didChange": self._change,
+            "textDocument/didClose": self._close,
+            "textDocument/didSave": lambda _: self._check_all(),
+            "workspace/didChangeConfiguration": self._configure,
+            "workspace/didChangeWatchedFiles": lambda _: self._check_all(),
+            "workspace/didChangeWorkspaceFolders": self._change_folders,
+        }
+        self.session = Session(send, _with_params(answers), _with_params(notices))
+
+    def check(self) -> None:
+        """Checks what has changed, and sends what is found."""
+        while self._unchecked:
+            uri = next(iter(self._unchecked))
+            document = self.workspace.open.get(uri)
+            published = self._checks.check(document) if document else []
+            self._unchecked.pop(uri, None)
+            for each in published:
+                self._unchecked.pop(each["uri"], None)
+                self._publish(each)
+
+    def give_up(self) -> None:
+        """Leaves what couldn't be checked, until it changes."""
+        self._unchecked.clear()
+
+    @property
+    def has_unchecked(self) -> bool:
+        return bool(self._unchecked)
+
+    def _publish(self, found: Json) -> None:
+        self._send({"jsonrpc": "2.0", "method": "textDocument/publishDiagnostics", "params": found})
+
+    def _checks_asked(self, answer: Callable[[Params], object]) -> Callable[[Params], object]:
+        """An answer that needs what is found in the documents as they are."""
+
+        def answered(params: Params) -> object:
+            self.check()
+            return answer(params)
+
+        return answered
+
+    def _initialize(self, params: Params) -> Json:
+        can = params["capabilities"].get("textDocument")
+        self._naming.has_nested_symbols = can.at("documentSymbol", "hierarchicalDocumentSymbolSupport") is True
+        self._naming.has_versions = params.at("capabilities", "workspace", "workspaceEdit", "documentChanges") is True
+        self._completion.has_snippets = can.at("completion", "completionItem", "snippetSupport") is True
+        formats = can.at("hover", "contentFormat")
+        self._hovering.has_markdown = not isinstance(formats, list) or "markdown" in formats
+        folders = params.at("workspaceFolders")
+        uris = [each["uri"].text for each in params["workspaceFolders"].items] if isinstance(folders, list) else []
+        root = params.at("rootUri")
+        self.workspace.set_roots(uris or ([root] if isinstance(root, str) else []))
+        self._set(params.at("initializationOptions"))
+        return {"capabilities": _CAPABILITIES, "serverInfo": {"name": "kozhvadi", "version": __version__}}
+
+    def _set(self, given: object) -> None:
+        self.workspace.settings, wrong = Settings.of(given)
+        for words in wrong:
+            shown = {"type": 2, "message": f"kozhvadi: {words}"}
+            self._send({"jsonrpc": "2.0", "method": "window/showMessage", "params": shown})
+
+    def _configure(self, params: Params) -> None:
+        given = params["settings"].value
+        # Some clients send null and wait to be asked; what they said at first stays.
+        if isinstance(given, dict) and given:
+            self._set(given)
+            self._check_all()
+
+    def _change_folders(self, params: Params) -> None:
+        event = params["event"]
+        gone = {each["uri"].text for each in event["removed"].items}
+        left = [root.as_uri() for root in self.workspace.roots if root.as_uri() not in gone]
+        self.workspace.set_roots([*left, *(each["uri"].text for each in event["added"].items)])
+        self._check_all()
+
+    def _open(self, params: Params) -> None:
+        document = params["textDocument"]
+        self._take(document["uri"].text, document["text"].text, document.get("version").value)
+
+    def _change(self, params: Params) -> None:
+        changes = params["contentChanges"].items
+        uri = params["textDocument"]["uri"].text
+        if uri not in self.workspace.open:
+            raise Refused(REQUEST_FAILED, f"{uri} isn't open")
+        if any(change.get("range").value is not None for change in changes):
+            raise Refused(REQUEST_FAILED, "the text of a change is the complete text")
+        if changes:
+            self._take(uri, changes[-1]["text"].text, params["textDocument"].get("version").value)
+
+    def _take(self, uri: str, text: str, version: object) -> None:
+        is_number = isinstance(version, int) and not isinstance(version, bool)
+        document = Document(uri, text, version if is_number and isinstance(version, int) else None)
+        self.workspace.open[uri] = document
+        self._unchecked[uri] = None
+        self._check_dependents(document)
+
+    def _check_dependents(self, changed: Document) -> None:
+        """The documents that are compared with one that changed are checked again, after it."""
+        for uri, document in self.workspace.open.items():
+            if uri not in self._unchecked and any(each is changed for each in self.workspace.reference(document)):
+                self._unchecked[uri] = None
+
+    def _close(self, params: Params) -> None:
+        uri = params["textDocument"]["uri"].text
+        if self.workspace.open.pop(uri, None):
+            self._unchecked.pop(uri, None)
+            self._publish(self._checks.forget(uri))
+            self._check_all()
+
+    def _check_all(self) -> None:
+        self._unchecked.update(dict.fromkeys(self.workspace.open))
+
+    def _format(self, params: Params) -> list[Json]:
+        """The edit that tidies a document, of the lines that change."""
+        document = self.workspace.document(params["textDocument"]["uri"].text)
+        if document is None:
+            raise Refused(REQUEST_FAILED, "the document isn't open")
+        try:
+            text = tidy(document.text)
+        except TidyError as error:
+            raise Refused(REQUEST_FAILED, f"{document.name} can't be tidied: {error}") from error
+        return _edits(document, text)
+
+
+def _edits(document: Document, text: str) -> list[Json]:
+    """One edit of the lines between those that stay."""
+    old, new = document.text.splitlines(keepends=True), text.splitlines(keepends=True)
+    first = 0
+    while first < min(len(old), len(new)) and old[first] == new[first]:
+        first += 1
+    last = 0
+    while last < min(len(old), len(new)) - first and old[-1 - last] == new[-1 - last]:
+        last += 1
+    if first == len(old) == len(new):
+        return []
+    start = len("".join(old[:first]).encode())
+    end = len("".join(old[: len(old) - last]).encode())
+    return [{"range": document.range(start, end), "newText": "".join(new[first : len(new) - last])}]
+
+
+def _with_params(handlers: dict[str, Callable[[Params], object]]) -> dict[str, Callable[[object], object]]:
+    def answering(handler: Callable[[Params], object]) -> Callable[[object], object]:
+        return lambda given: handler(Params(given))
+
+    return {name: answering(handler) for name, handler in handlers.items()}
+
+
+class _Inbox:
+    """Messages that are read ahead, so that a request can be cancelled while it waits."""
+
+    def __init__(self, stream: Input) -> None:
+        self._reader = Reader(stream)
+        # The end of the stream is `None`, since a message may be null.
+        self._messages: Queue[tuple[object] | None] = Queue(_AHEAD)
+        self._lock = threading.Lock()
+        self._waiting: set[object] = set()
+        self._cancelled: set[object] = set()
+        threading.Thread(target=self._read, name="reader", daemon=True).start()
+
+    def _read(self) -> None:
+        while True:
+            message: object
+            try:
+                message = self._reader.read()
+            except Damaged as damaged:
+                message = damaged
+            except (EOFError, OSError, ValueError):
+                self._messages.put(None)
+                return
+            self._note(message)
+            self._messages.put((message,))
+
+    def _note(self, message: object) -> None:
+        if not isinstance(message, dict):
+            return
+        with self._lock:
+            if message.get("method") == "$/cancelRequest":
+                id = _id(message.get("params"))
+                if id in self._waiting:
+                    self._cancelled.add(id)
+            elif "method" in message and _id(message) is not None:
+                self._waiting.add(_id(message))
+
+    def next(self, timeout: float | None) -> tuple[object, bool] | None:
+        """The next message, and whether it is cancelled; nothing at the end. Raises `Empty` after the timeout."""
+        got = self._messages.get_nowait() if timeout == 0 else self._messages.get(timeout=timeout)
+        if got is None:
+            return None
+        id = _id(got[0])
+        with self._lock:
+            self._waiting.discard(id)
+            is_cancelled = id is not None and id in self._cancelled
+            self._cancelled.discard(id)
+        return got[0], is_cancelled
+
+
+def _id(message: object) -> str | int | None:
+    """The id of a request."""
+    id = message.get("id") if isinstance(message, dict) else None
+    return id if isinstance(id, (str, int)) and not isinstance(id, bool) else None
+
+
+def serve(given: Input, output: Output) -> int:
+    """Answers the messages of a stream until `exit`, or its end. Returns 0 if it was shut down before that."""
+    server, inbox = Server(writer(output)), _Inbox(given)
+    since = time.monotonic()
+    try:
+        while not server.session.is_over:
+            try:
+                got = inbox.next(0 if server.has_unchecked else None)
+            except Empty:
+                _check(server)
+                since = time.monotonic()
+                continue
+            if got is None:
+                break
+            message, is_cancelled = got
+            if isinstance(message, Damaged):
+                server.session.refuse(None, PARSE_ERROR, str(message))
+            else:
+                server.session.receive(message, is_cancelled)
+            if not server.has_unchecked:
+                since = time.monotonic()
+            elif time.monotonic() - since > _PATIENCE:
+                _check(server)
+                since = time.monotonic()
+    except BrokenPipeError:
+        # The editor is gone.
+        return 1
+    return 0 if server.session.is_shut_down else 1
+
+
+def _check(server: Server) -> None:
+    """Checks what has changed. Whatever goes wrong, the server goes on."""
+    try:
+        server.check()
+    except BrokenPipeError:
+        raise
+    except Exception as error:  # noqa: BLE001
+        server.give_up()
+        print(f"kozhvadi.server: a check failed: {type(error).__name__}: {error}", file=sys.stderr)
