@@ -33,6 +33,8 @@ if ((passed == 1)); then
     run_with cc bindings/c/run.sh
     run_with 'cc cargo' bindings/rust/run.sh
     run_with 'cc python3' bindings/python/run.sh
+    run_with 'nvim python3' bindings/python/in_editor.sh
+    run_with 'chromium python3' bindings/python/in_browser.sh
     run_with cc examples/c/run.sh
     run_with 'cc rustc' examples/rust/run.sh
     run_with cc bench/bindings/refused.sh

@@ -99,6 +99,20 @@ bundle = Bundle([open("hello.ftl").read()], isolating=False)
 print(bundle.format("hello", name="Jane").text)')" = 'Hello, Jane!' ]
 }
 
+# The language server, and the page of the playground with its two files.
+python_tools() {
+    local message='{"id":1,"method":"initialize","params":{"capabilities":{}}}'
+    cd 'a stranger' && printf 'Content-Length: %d\r\n\r\n%s' ${#message} "$message" >message &&
+        { ../venv/bin/python -m kozhvadi.server <message >answer || [ $? = 1 ]; } && grep -q '"name":"kozhvadi"' answer &&
+        ../venv/bin/python -c '
+from kozhvadi.playground._pages import Playground
+import threading, urllib.request
+server = Playground(0, dict)
+threading.Thread(target=server.serve_forever, daemon=True).start()
+for name in ("", "page.css", "page.js", "start"):
+    assert urllib.request.urlopen(server.address + name).read()'
+}
+
 rust_program() {
     mkdir -p rust/src && cat >rust/Cargo.toml <<TOML && cat >rust/src/main.rs <<'RUST'
 [package]
@@ -137,6 +151,7 @@ step 'a damaged release is not installed' tar damage_is_noticed
 step 'a C program links it by pkg-config' 'cc pkg-config' c_program
 step 'the shared library gives out the header alone' nm exports_the_header_alone
 step 'pip installs the wheel, and a program uses it' 'python3' python_program
+step 'its language server and its playground begin' 'python3' python_tools
 step 'cargo builds a program over the package' cargo rust_program
 
 ((skipped > 0)) && echo "$skipped skipped"

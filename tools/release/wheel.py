@@ -46,7 +46,7 @@ def contents(bindings, library, extension, version):
     files = {
         f'kozhvadi/{path.relative_to(package)}': path.read_bytes()
         for path in package.rglob('*')
-        if path.suffix in ('.py', '.pyi', '.typed') or path.name == 'py.typed'
+        if path.suffix in ('.py', '.pyi', '.typed', '.html', '.css', '.js') or path.name == 'py.typed'
     }
     files['kozhvadi/libfluent_c.so'] = library.read_bytes()
     if extension.is_file():

@@ -1,0 +1,551 @@
+"use strict";
+
+// The page sends what is typed to its server, and shows what comes back. Texts reach the page as text and never as HTML.
+
+const SLOW = 90; // Milliseconds without a key, before the server is asked.
+const LONG = 200000; // A longer source isn't coloured.
+const LONGEST_LINK = 2000000; // Characters of the state of a link.
+const RIGHT_TO_LEFT = /^(ar|arc|ckb|dv|fa|he|iw|ji|ks|nqo|prs|ps|sd|syr|ug|ur|yi)\b/;
+const ISOLATES = { "\u2066": "LRI", "\u2067": "RLI", "\u2068": "FSI", "\u2069": "PDI" };
+
+const $ = (id) => document.getElementById(id);
+const before = { source: "", reference: "" };
+const state = { arguments: {}, findings: [], seen: null, asked: 0, shown: 0 };
+
+function element(name, properties = {}, ...children) {
+  const made = document.createElement(name);
+  for (const [key, value] of Object.entries(properties)) {
+    if (key === "class") made.className = value;
+    else if (key in made) made[key] = value;
+    else made.setAttribute(key, value);
+  }
+  made.append(...children);
+  return made;
+}
+
+// Colours of a source.
+
+const WORDS = new RegExp(
+  [
+    /(?<comment>^#.*$)/,
+    /(?<id>^-?[A-Za-z][\w-]*(?= *=)|^ *\.[A-Za-z][\w-]*(?= *=))/,
+    /(?<key>^ *\*?\[[^\]\n]*\])/,
+    /(?<brace>[{}])/,
+    /(?<string>"(?:[^"\\\n]|\\.)*"?)/,
+    /(?<variable>\$[A-Za-z][\w-]*|-[A-Za-z][\w-]*(?:\.[A-Za-z][\w-]*)?|[A-Z][A-Z0-9_-]*(?=\())/,
+  ].map((each) => each.source).join("|"),
+  "gm",
+);
+
+/** The stretches of a source that have a colour. Strings and variables have one within braces alone. */
+function coloured(text) {
+  const found = [];
+  if (text.length > LONG) return found;
+  let depth = 0;
+  for (const match of text.matchAll(WORDS)) {
+    const kind = Object.keys(match.groups).find((name) => match.groups[name] !== undefined);
+    if (match[0] === "{") depth += 1;
+    if (match[0] === "}") depth = Math.max(0, depth - 1);
+    if (kind === "id" || kind === "comment") depth = 0;
+    if ((kind === "string" || kind === "variable") && !depth) continue;
+    found.push({ start: match.index, end: match.index + match[0].length, name: `t-${kind}` });
+  }
+  return found;
+}
+
+/** Shows the text of a field below it, in colours, with its findings underlined. */
+function paint(field, findings) {
+  const box = field.closest(".editor");
+  const text = field.value;
+  const words = coloured(text);
+  const marks = findings.filter((each) => each.start < each.end && each.end <= text.length);
+  const cuts = new Set([0, text.length]);
+  for (const each of [...words, ...marks]) cuts.add(each.start).add(each.end);
+  const places = [...cuts].sort((one, other) => one - other);
+  const pieces = [];
+  let word = 0;
+  for (let index = 0; index + 1 < places.length; index += 1) {
+    const [start, end] = [places[index], places[index + 1]];
+    while (word < words.length && words[word].end <= start) word += 1;
+    const colour = word < words.length && words[word].start <= start ? words[word].name : "";
+    const under = marks.filter((each) => each.start <= start && end <= each.end);
+    const worst = ["error", "warning", "note"].find((name) => under.some((each) => each.severity === name));
+    const piece = text.slice(start, end);
+    if (worst) pieces.push(element("u", { class: `${worst} ${colour}` }, piece));
+    else if (colour) pieces.push(element("span", { class: colour }, piece));
+    else pieces.push(piece);
+  }
+  // An empty last line has a height, too.
+  box.querySelector("pre").replaceChildren(...pieces, "\n");
+  number(box, text, findings);
+}
+
+/** Numbers the lines. A line that is broken into several is as high as they are. */
+function number(box, text, findings) {
+  const lines = text.split("\n");
+  const worst = new Map();
+  for (const each of findings) {
+    const known = worst.get(each.line);
+    const order = ["error", "warning", "note"];
+    if (!known || order.indexOf(each.severity) < order.indexOf(known)) worst.set(each.line, each.severity);
+  }
+  const pre = box.querySelector("pre");
+  const high = parseFloat(getComputedStyle(pre).lineHeight);
+  const wide = Math.max(1, pre.clientWidth - 24);
+  const canvas = (number.canvas ??= document.createElement("canvas").getContext("2d"));
+  canvas.font = getComputedStyle(pre).font;
+  const letter = canvas.measureText("m").width;
+  const short = Math.floor(wide / letter) - 1;
+  const measured = lines.length > 3000 ? null : heights(pre, lines, short, high);
+  box.querySelector(".lines").replaceChildren(
+    ...lines.map((_, index) => {
+      const made = element("span", { class: worst.get(index + 1) ?? "" }, String(index + 1));
+      if (measured && measured[index] > high * 1.5) made.style.blockSize = `${measured[index]}px`;
+      return made;
+    }),
+  );
+}
+
+/** How high each line is. Only those that may be broken are measured. */
+function heights(pre, lines, short, high) {
+  const range = document.createRange();
+  const walker = document.createTreeWalker(pre, NodeFilter.SHOW_TEXT);
+  let node = walker.nextNode();
+  let before = 0;
+  const at = (offset) => {
+    while (node && before + node.length < offset) {
+      before += node.length;
+      node = walker.nextNode();
+    }
+    return node ? [node, offset - before] : [pre, pre.childNodes.length];
+  };
+  let offset = 0;
+  return lines.map((line) => {
+    const start = offset;
+    offset += line.length + 1;
+    // Wide characters take two columns at most.
+    if (line.length * (/^[\x20-\x7e]*$/.test(line) ? 1 : 2) <= short) return high;
+    range.setStart(...at(start));
+    range.setEnd(...at(start + line.length));
+    const boxes = range.getBoundingClientRect();
+    return Math.max(1, Math.round(boxes.height / high)) * high;
+  });
+}
+
+/** The findings of a text that has become another, until the server has looked at it. */
+function moved(findings, before, after) {
+  let start = 0;
+  while (start < Math.min(before.length, after.length) && before[start] === after[start]) start += 1;
+  const shift = after.length - before.length;
+  return findings
+    .filter((each) => each.end <= start || each.start >= start)
+    .map((each) => (each.start >= start && each.start + shift >= start
+      ? { ...each, start: each.start + shift, end: each.end + shift }
+      : each))
+    .filter((each) => each.start >= 0);
+}
+
+// Asking the server.
+
+async function ask(path, given) {
+  const answer = await fetch(path, {
+    method: "POST",
+    headers: { "Content-Type": "application/json" },
+    body: JSON.stringify(given),
+  });
+  if (!answer.ok) throw new Error(await answer.text());
+  return answer.json();
+}
+
+function say(words) {
+  $("problem").textContent = words ?? "";
+  $("problem").hidden = !words;
+}
+
+async function look() {
+  const asked = (state.asked += 1);
+  const sent = { source: $("source").value, reference: $("reference").value };
+  try {
+    const found = await ask("look", { ...sent, locale: $("locale").value, arguments: state.arguments });
+    if (asked < state.shown) return;
+    state.shown = asked;
+    say(found.problem);
+    show(found, sent);
+  } catch (error) {
+    if (asked === state.asked) say(`The server doesn't answer: ${error.message}`);
+  }
+  if (asked === state.asked) keep();
+}
+
+let waiting;
+function later() {
+  clearTimeout(waiting);
+  waiting = setTimeout(look, SLOW);
+}
+
+// Showing what the server found.
+
+function show(found, sent) {
+  for (const name of ["source", "reference"]) {
+    const own = found.findings.filter((each) => each.file === name);
+    const now = $(name).value;
+    state[name] = now === sent[name] ? own : moved(own, sent[name], now);
+    paint($(name), state[name]);
+    list($(name === "source" ? "findings" : "missing"), own, $(name));
+  }
+  state.seen = found;
+  $("summary").textContent = summary(found.findings);
+  const shown = Object.entries(found.categories).map(([name, sample]) => [element("b", {}, name), ` ${sample}`]);
+  $("categories").replaceChildren(
+    `Plural categories of ${named(found.locale)}: `,
+    ...shown.flatMap((each, index) => (index ? [", ", ...each] : each)),
+    found.rules ? "" : ", since it has no plural rules here",
+  );
+  const focus = document.activeElement?.dataset?.keep;
+  const place = document.activeElement?.selectionStart;
+  const cards = found.messages.map((message) => card(message, found.locale));
+  if (!cards.length) {
+    cards.push(element("p", { class: "nothing" }, "There is no message yet. Type ", element("code", {}, "hello = Hello, { $name }!"), " on the other side."));
+  }
+  if (found.more) cards.push(element("p", { class: "nothing" }, `${found.more} more messages aren't shown.`));
+  $("messages").replaceChildren(...cards);
+  if (focus) {
+    const again = [...document.querySelectorAll("[data-keep]")].find((each) => each.dataset.keep === focus);
+    again?.focus();
+    if (again?.setSelectionRange && place !== undefined && place !== null) again.setSelectionRange(place, place);
+  }
+  point();
+}
+
+/** The words of a finding, with the code that is in them. */
+function worded(text) {
+  return text.split(/(`[^`]+`)/).filter(Boolean).map((piece) => (/^`[^`]+`$/.test(piece) ? element("code", {}, piece.slice(1, -1)) : piece));
+}
+
+function summary(findings) {
+  const counts = ["error", "warning", "note"].map((name) => [findings.filter((each) => each.severity === name).length, name]);
+  const told = counts.filter(([count]) => count).map(([count, name]) => `${count} ${name}${count > 1 ? "s" : ""}`);
+  return told.length ? told.join(", ") : "No findings";
+}
+
+function list(place, findings, field) {
+  place.replaceChildren(
+    ...findings.map((each) => {
+      const go = element(
+        "button",
+        { type: "button", class: "go" },
+        element("span", { class: "place" }, `${each.line}:${each.column} `),
+        element("span", { class: `severity ${each.severity}` }, each.severity),
+        each.entry ? ` ${each.entry}: ` : " ",
+        ...worded(each.text),
+      );
+      if (each.hint) go.append(element("span", { class: "why" }, ...worded(each.hint)));
+      go.addEventListener("click", () => select(field, each.start, each.end));
+      const fixes = each.fixes.slice(0, 2).map((fix) => {
+        const button = element("button", { type: "button", class: "fix" }, fix.title.replaceAll("`", ""));
+        button.addEventListener("click", () => mend(field, fix));
+        return button;
+      });
+      return element("li", {}, go, ...fixes);
+    }),
+  );
+}
+
+function select(field, start, end) {
+  field.closest("details")?.setAttribute("open", "");
+  field.focus();
+  field.setSelectionRange(start, Math.max(start, end));
+  const lines = field.closest(".editor").querySelectorAll(".lines span");
+  lines[field.value.slice(0, start).split("\n").length - 1]?.scrollIntoView({ block: "nearest" });
+  point();
+}
+
+function mend(field, fix) {
+  field.focus();
+  field.setSelectionRange(fix.start, fix.end);
+  // It can be undone like what is typed.
+  if (!document.execCommand("insertText", false, fix.text)) {
+    field.setRangeText(fix.text, fix.start, fix.end, "end");
+    typed(field);
+  }
+}
+
+function named(locale) {
+  try {
+    return new Intl.DisplayNames(["en"], { type: "language" }).of(locale) ?? locale;
+  } catch {
+    return locale;
+  }
+}
+
+const direction = (locale) => (RIGHT_TO_LEFT.test(locale) ? "rtl" : "ltr");
+
+/** A text with its isolation marks, which are also shown if that is asked for. */
+function marked(text) {
+  if (!$("marks").checked) return [text];
+  return text.split(/([\u2066-\u2069])/).filter(Boolean).flatMap((piece) => {
+    const name = ISOLATES[piece];
+    if (!name) return [piece];
+    const mark = element("span", { class: "mark", title: name === "PDI" ? "U+2069, the end of what is isolated" : "U+2068, what follows is isolated" }, name);
+    // Both are inside of what they isolate.
+    return name === "PDI" ? [mark, piece] : [piece, mark];
+  });
+}
+
+function card(message, locale) {
+  const name = element("button", { type: "button", class: "name", title: `Line ${message.line}` }, message.id);
+  name.dataset.keep = `name ${message.id}`;
+  name.addEventListener("click", () => select($("source"), message.start, message.start + message.id.length));
+  const made = element("article", { class: "message", "aria-label": message.id }, element("div", { class: "head" }, element("h3", {}, name)));
+  made.dataset.start = message.start;
+  made.dataset.end = message.end;
+  if (message.comment) made.append(element("p", { class: "comment", dir: "auto" }, message.comment));
+  if (!message.read) {
+    made.classList.add("unread");
+    made.append(element("ul", { class: "errors" }, element("li", {}, "This message can't be read.")));
+  } else if (!message.parts.some((part) => part.attribute === null)) {
+    made.append(element("p", { class: "text empty" }, "It has attributes alone."));
+  }
+  for (const part of message.parts) made.append(shown(message, part, locale));
+  return made;
+}
+
+function shown(message, part, locale) {
+  const made = element("div", { class: "part" });
+  if (part.attribute) made.append(element("div", { class: "attribute" }, `.${part.attribute}`));
+  made.append(element("p", { class: part.text ? "text" : "text empty", lang: locale, dir: direction(locale) }, ...(part.text ? marked(part.text) : ["(empty)"])));
+  if (part.errors.length) made.append(element("ul", { class: "errors" }, ...part.errors.map((each) => element("li", {}, each))));
+  if (part.variables.length) {
+    const fields = part.variables.map((each) => field(message, part, each));
+    made.append(element("div", { class: "fields" }, ...fields));
+  }
+  if (part.cases.length > 1) {
+    const several = new Set(part.cases.map((each) => each.variable)).size > 1;
+    made.append(element("dl", { class: "cases" }, ...part.cases.map((each) => tile(part, each, locale, several))));
+  }
+  return made;
+}
+
+function field(message, part, variable) {
+  const input = element("input", { type: "text", value: variable.value, class: `is-${variable.kind}`, autocomplete: "off", spellcheck: false });
+  if (variable.kind === "number") input.inputMode = "decimal";
+  if (variable.kind === "choice") input.title = `One of ${variable.keys.join(", ")}`;
+  input.dataset.keep = `${message.id} ${part.attribute ?? ""} ${variable.name}`;
+  input.dataset.variable = variable.name;
+  input.addEventListener("input", () => {
+    state.arguments[variable.name] = input.value;
+    later();
+  });
+  return element("label", {}, `$${variable.name}`, input);
+}
+
+function tile(part, each, locale, several) {
+  const chosen = part.variables.some((variable) => variable.name === each.variable && variable.value === each.value);
+  const made = element(
+    "div",
+    { class: chosen ? "chosen" : "" },
+    element("dt", {}, element("b", {}, each.label), several ? `$${each.variable} = ${each.value}` : each.value),
+    element("dd", { lang: locale, dir: direction(locale) }, ...marked(each.text)),
+  );
+  if (each.errors.length) made.append(element("dd", { class: "errors" }, each.errors.join(", ")));
+  return made;
+}
+
+/** Marks the message that the caret is in, and scrolls the texts to it. */
+function point() {
+  const field = $("source");
+  const at = document.activeElement === field ? field.selectionStart : -1;
+  let current = null;
+  for (const each of document.querySelectorAll(".message")) {
+    const isCurrent = Number(each.dataset.start) <= at && at <= Number(each.dataset.end);
+    each.classList.toggle("current", isCurrent);
+    if (isCurrent) current = each;
+  }
+  const name = current?.getAttribute("aria-label") ?? null;
+  if (current && name !== state.pointed) reveal($("results"), current);
+  state.pointed = name;
+}
+
+/** Scrolls a box so far that it shows what is in it. */
+function reveal(box, inner) {
+  if (box.scrollHeight <= box.clientHeight) return;
+  const [outside, inside] = [box.getBoundingClientRect(), inner.getBoundingClientRect()];
+  if (inside.top < outside.top) box.scrollTop -= outside.top - inside.top + 8;
+  else if (inside.bottom > outside.bottom) box.scrollTop += Math.min(inside.bottom - outside.bottom, inside.top - outside.top) + 8;
+}
+
+// The state of the page is in the fragment of its address.
+
+async function packed(text) {
+  const stream = new Blob([text]).stream().pipeThrough(new CompressionStream("deflate-raw"));
+  const bytes = new Uint8Array(await new Response(stream).arrayBuffer());
+  let binary = "";
+  for (const byte of bytes) binary += String.fromCharCode(byte);
+  return btoa(binary).replaceAll("+", "-").replaceAll("/", "_").replaceAll("=", "");
+}
+
+async function unpacked(fragment) {
+  const binary = atob(fragment.replaceAll("-", "+").replaceAll("_", "/"));
+  const bytes = Uint8Array.from(binary, (letter) => letter.charCodeAt(0));
+  const reader = new Blob([bytes]).stream().pipeThrough(new DecompressionStream("deflate-raw")).getReader();
+  const decoder = new TextDecoder();
+  let text = "";
+  for (;;) {
+    const { done, value } = await reader.read();
+    if (done) return text + decoder.decode();
+    text += decoder.decode(value, { stream: true });
+    if (text.length > LONGEST_LINK) throw new Error("too long");
+  }
+}
+
+let kept = "";
+async function keep() {
+  const marks = $("marks").checked;
+  const now = JSON.stringify({ source: $("source").value, reference: $("reference").value, locale: $("locale").value, arguments: state.arguments, marks });
+  kept = `#${await packed(now)}`;
+  history.replaceState(null, "", kept);
+}
+
+async function restored() {
+  const fragment = location.hash.slice(1);
+  if (!fragment) return null;
+  try {
+    const found = JSON.parse(await unpacked(fragment));
+    const text = (value) => (typeof value === "string" ? value : "");
+    const given = found.arguments && typeof found.arguments === "object" ? found.arguments : {};
+    const names = Object.entries(given).filter(([, value]) => typeof value === "string");
+    return { source: text(found.source), reference: text(found.reference), locale: text(found.locale), arguments: Object.fromEntries(names), marks: found.marks === true };
+  } catch {
+    say("The link is damaged, so the page begins anew.");
+    return null;
+  }
+}
+
+function begin(start, languages) {
+  const tags = languages.includes(start.locale) || !start.locale ? languages : [start.locale, ...languages];
+  const options = tags.map((tag) => element("option", { value: tag }, `${named(tag)} (${tag})`));
+  options.sort((one, other) => one.textContent.localeCompare(other.textContent, "en"));
+  $("locale").replaceChildren(...options);
+  $("locale").value = start.locale || "en";
+  $("source").value = start.source;
+  $("reference").value = start.reference;
+  $("marks").checked = start.marks === true;
+  $("compare").open = Boolean(start.reference);
+  state.arguments = { ...start.arguments };
+  for (const name of ["source", "reference"]) {
+    state[name] = [];
+    before[name] = $(name).value;
+  }
+  paint($("source"), []);
+  paint($("reference"), []);
+  return look();
+}
+
+// Typing, choosing, sharing.
+
+function typed(field) {
+  const name = field.id;
+  state[name] = moved(state[name] ?? [], before[name], field.value);
+  before[name] = field.value;
+  paint(field, state[name]);
+  later();
+}
+
+function next(field, back) {
+  const found = [...(state[field.id] ?? [])].sort((one, other) => one.start - other.start);
+  if (!found.length) return;
+  const at = field.selectionStart;
+  const wanted = back
+    ? found.findLast((each) => each.start < at) ?? found[found.length - 1]
+    : found.find((each) => each.start > at) ?? found[0];
+  select(field, wanted.start, wanted.end);
+}
+
+function dress(theme) {
+  const dark = theme ? theme === "dark" : matchMedia("(prefers-color-scheme: dark)").matches;
+  document.documentElement.dataset.theme = dark ? "dark" : "light";
+}
+
+function remember(theme) {
+  try {
+    if (theme) localStorage.setItem("theme", theme);
+    else localStorage.removeItem("theme");
+  } catch {
+    // The browser keeps nothing.
+  }
+}
+
+function remembered() {
+  try {
+    const theme = localStorage.getItem("theme");
+    return theme === "light" || theme === "dark" ? theme : "";
+  } catch {
+    return "";
+  }
+}
+
+async function share() {
+  await keep();
+  try {
+    await navigator.clipboard.writeText(location.href);
+    $("share").textContent = "Copied";
+  } catch {
+    $("share").textContent = "The link is the address";
+  }
+  setTimeout(() => ($("share").textContent = "Copy link"), 2000);
+}
+
+async function tidy() {
+  try {
+    const found = await ask("tidy", { source: $("source").value });
+    if (found.problem) return say(found.problem);
+    say();
+    if (found.text !== $("source").value) mend($("source"), { start: 0, end: $("source").value.length, text: found.text });
+  } catch (error) {
+    say(`The server doesn't answer: ${error.message}`);
+  }
+}
+
+function listen() {
+  for (const name of ["source", "reference"]) {
+    const field = $(name);
+    field.addEventListener("input", () => typed(field));
+    field.addEventListener("keydown", (event) => {
+      if (event.key === "F8") {
+        event.preventDefault();
+        next(field, event.shiftKey);
+      }
+    });
+    new ResizeObserver(() => number(field.closest(".editor"), field.value, state[name] ?? [])).observe(field);
+  }
+  document.addEventListener("selectionchange", point);
+  $("locale").addEventListener("change", look);
+  $("marks").addEventListener("change", look);
+  $("share").addEventListener("click", share);
+  $("tidy").addEventListener("click", tidy);
+  $("theme").addEventListener("change", () => {
+    remember($("theme").value);
+    dress($("theme").value);
+  });
+  matchMedia("(prefers-color-scheme: dark)").addEventListener("change", () => dress($("theme").value));
+  addEventListener("hashchange", async () => {
+    if (location.hash === kept) return;
+    const found = await restored();
+    if (found) await begin(found, state.languages);
+  });
+}
+
+async function main() {
+  $("theme").value = remembered();
+  dress($("theme").value);
+  listen();
+  try {
+    const start = await (await fetch("start")).json();
+    state.languages = start.languages;
+    await begin((await restored()) ?? start, start.languages);
+  } catch (error) {
+    say(`The server doesn't answer: ${error.message}`);
+  }
+}
+
+main();

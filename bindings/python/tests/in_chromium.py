@@ -1,0 +1,272 @@
+"""The playground in a browser. `in_browser.sh` runs this, if there is one; PICTURES names a folder for screenshots."""
+
+import json
+import os
+import threading
+import unittest
+from pathlib import Path
+
+from kozhvadi.playground._pages import Playground
+
+from .chromium import Browser
+from .test_playground import contrast
+
+EXAMPLES = Path(__file__).resolve().parents[3] / "examples"
+
+POLISH = (EXAMPLES / "inbox.pl.ftl").read_text(encoding="utf-8") + """
+settings = Ustawienia
+    .tooltip = Zmień wygląd programu { -brnad }
+-brand = Kozhvadi
+"""
+ENGLISH = (EXAMPLES / "inbox.ftl").read_text(encoding="utf-8") + """settings = Settings
+    .tooltip = Change how { -brand } looks
+-brand = Kozhvadi
+"""
+ARABIC = """welcome = أهلًا بك، { $name }!
+unread = { $count ->
+    [zero] ليس لديك رسائل غير مقروءة.
+    [one] لديك رسالة واحدة غير مقروءة.
+    [two] لديك رسالتان غير مقروءتين.
+    [few] لديك { $count } رسائل غير مقروءة.
+    [many] لديك { $count } رسالة غير مقروءة.
+   *[other] لديك { $count } رسالة غير مقروءة.
+}
+"""
+
+# Each text of the page that is seen, with its colour and the one behind it.
+COLOURS = """(() => {
+    const seen = [];
+    const walker = document.createTreeWalker(document.body, NodeFilter.SHOW_TEXT);
+    for (let node = walker.nextNode(); node; node = walker.nextNode()) {
+        const parent = node.parentElement;
+        if (!node.data.trim() || !parent.checkVisibility() || parent.closest("textarea, noscript, .skip")) continue;
+        let ground = "rgba(0, 0, 0, 0)";
+        for (let each = parent; each && ground === "rgba(0, 0, 0, 0)"; each = each.parentElement) {
+            ground = getComputedStyle(each).backgroundColor;
+        }
+        seen.push([getComputedStyle(parent).color, ground, node.data.trim().slice(0, 40)]);
+    }
+    return seen;
+})()"""
+
+FOCUSED = """(() => {
+    const each = document.activeElement;
+    return each.id || each.dataset.variable || each.className || each.tagName;
+})()"""
+
+
+def hexed(colour):
+    """A colour of CSS in the form #rrggbb."""
+    numbers = [int(part) for part in colour[colour.index("(") + 1 : -1].split(",")[:3]]
+    return "#" + "".join(f"{number:02x}" for number in numbers)
+
+
+class PageTest(unittest.TestCase):
+    maxDiff = None
+
+    @classmethod
+    def setUpClass(cls):
+        cls.given = {"source": "", "reference": "", "locale": "en"}
+        cls.server = Playground(0, lambda: cls.given)
+        threading.Thread(target=cls.server.serve_forever, args=(0.01,), daemon=True).start()
+        cls.browser = Browser()
+
+    @classmethod
+    def tearDownClass(cls):
+        cls.browser.close()
+        cls.server.shutdown()
+        cls.server.server_close()
+
+    def setUp(self):
+        self.browser.problems.clear()
+        self.browser.size(1280, 900)
+        self.browser.theme("light")
+
+    def tearDown(self):
+        self.assertEqual(self.browser.problems, [])
+
+    def begin(self, source="", reference="", locale="en", fragment=""):
+        self.given.update(source=source, reference=reference, locale=locale)
+        self.browser.go("about:blank")
+        self.browser.go(self.server.address + fragment)
+        self.assertTrue(self.browser.until("state.seen !== null && location.hash.length > 1"))
+
+    def wait(self, script, words=None):
+        self.assertTrue(self.browser.until(script), words or script)
+
+    def texts(self, selector):
+        return self.browser.run(f"[...document.querySelectorAll({json.dumps(selector)})].map((each) => each.textContent)")
+
+    def picture(self, name):
+        folder = os.environ.get("PICTURES")
+        if folder:
+            self.browser.picture(Path(folder, name))
+
+    def test_typing(self):
+        self.begin()
+        self.wait("document.querySelector('.nothing')")
+        self.browser.run("document.getElementById('source').focus()")
+        self.browser.type("hello = Hello, { $name }!\n")
+        self.wait("document.querySelector('.message .text')?.textContent.includes('Hello, \\u2068Jane\\u2069!')")
+        self.browser.type("bad = { -brnad }\n-brand = B\n")
+        self.wait("document.querySelector('u.error')?.textContent === '-brnad'")
+        self.assertEqual(self.texts("#findings .severity"), ["error"])
+        self.assertEqual(self.texts(".errors li"), ["Unknown term: -brnad"])
+        self.browser.run("document.querySelector('#findings .fix').click()")
+        self.wait("document.querySelectorAll('u').length === 0 && document.getElementById('source').value.includes('{ -brand }')")
+        self.wait("document.getElementById('summary').textContent === 'No findings'")
+
+    def test_fields_of_variables(self):
+        self.begin("unread = { $n ->\n    [one] One\n   *[other] { $n } of { $whole }\n}\nmore = { unread }\n")
+        self.assertEqual(self.texts(".fields label"), ["$n", "$whole"] * 2)
+        self.browser.run("document.querySelector('[data-variable=n]').select(); document.querySelector('[data-variable=n]').focus()")
+        self.browser.type("1")
+        self.wait("document.querySelector('.text').textContent === 'One'")
+        # The field keeps the focus, and what is typed goes on.
+        self.browser.type("2")
+        self.wait("document.querySelector('.text').textContent.includes('\\u206812\\u2069 of')")
+        self.assertEqual(self.browser.run(FOCUSED), "n")
+
+    def test_each_category_side_by_side(self):
+        self.begin(POLISH, ENGLISH, "pl")
+        self.wait("document.querySelectorAll('.cases dt b').length === 4")
+        self.assertEqual(self.texts(".cases dt b"), ["one", "few", "many", "other"])
+        tops = self.browser.run("[...document.querySelectorAll('.cases > div')].map((each) => each.getBoundingClientRect().top)")
+        self.assertEqual(len(set(tops)), 1)
+        self.browser.run("document.getElementById('locale').value = 'ar'; document.getElementById('locale').dispatchEvent(new Event('change'))")
+        self.wait("document.querySelectorAll('.cases dt b').length === 6")
+
+    def test_a_reference(self):
+        self.begin(POLISH, ENGLISH, "pl")
+        self.assertEqual(self.texts("u.error"), ["$nmae", "-brnad"])
+        self.assertTrue(self.browser.run("document.getElementById('compare').open"))
+        self.browser.run("document.getElementById('reference').focus()")
+        self.browser.run("document.getElementById('reference').setSelectionRange(0, 0)")
+        self.browser.type("new = New\n")
+        self.wait("[...document.querySelectorAll('#missing .go')].some((each) => each.textContent.includes('new'))")
+
+    def test_marks_are_made_visible(self):
+        self.begin("a = b { $x }\n")
+        self.assertEqual(self.texts(".mark"), [])
+        self.browser.run("document.getElementById('marks').click()")
+        self.wait("document.querySelectorAll('.mark').length === 2")
+        self.assertEqual(self.texts(".mark"), ["FSI", "PDI"])
+
+    def test_texts_from_right_to_left(self):
+        self.begin(ARABIC, locale="ar")
+        self.assertEqual(self.browser.run("getComputedStyle(document.querySelector('.text')).direction"), "rtl")
+        self.assertEqual(self.browser.run("document.querySelector('.text').lang"), "ar")
+        inside = "const box = document.querySelector('.text').getBoundingClientRect(); const range = document.createRange();"
+        inside += "range.setStart(document.querySelector('.text').firstChild, 0); range.setEnd(document.querySelector('.text').firstChild, 1);"
+        first = self.browser.run(f"(() => {{ {inside} return box.right - range.getBoundingClientRect().right; }})()")
+        self.assertLess(first, 4)
+        self.browser.run("document.getElementById('marks').click()")
+        self.wait("document.querySelectorAll('.mark').length > 2")
+        self.picture("playground-right-to-left.png")
+
+    def test_a_link_holds_the_state(self):
+        self.begin("a = é { $x }\n")
+        self.browser.run("document.querySelector('[data-variable=x]').select(); document.querySelector('[data-variable=x]').focus()")
+        self.browser.type("\U0001f44d")
+        self.browser.run("document.getElementById('marks').click()")
+        self.browser.run("document.getElementById('locale').value = 'pl'; document.getElementById('locale').dispatchEvent(new Event('change'))")
+        self.wait("document.querySelector('.text').textContent.includes('\U0001f44d') && document.querySelector('.text').lang === 'pl'")
+        self.browser.run("keep()")
+        fragment = self.browser.run("location.hash")
+        self.begin("other = x\n", fragment=fragment)
+        self.assertEqual(self.browser.run("document.getElementById('source').value"), "a = é { $x }\n")
+        self.assertEqual(self.texts(".text"), ["é \u2068FSI\U0001f44dPDI\u2069"])
+        self.assertEqual(self.browser.run("document.getElementById('locale').value"), "pl")
+        self.begin("other = x\n", fragment="#damaged")
+        self.assertEqual(self.texts(".text"), ["x"])
+
+    def test_bad_input_never_breaks_the_page(self):
+        self.begin()
+        for source in (
+            "<img src=x onerror=alert(1)> = y\na = <b>bold</b> { \"<script>\" }\n", "a = {" * 50, "{" * 3000, "a = { $x ->\n", "\u202e\u2066 = \u0000\n",
+            "a = x\n" * 400, "a = " + "x" * 20_000 + "\n", "-t = x\n", "a =\n    .b = c\n", "",
+        ):
+            self.browser.run(f"document.getElementById('source').value = {json.dumps(source)}; typed(document.getElementById('source'))")
+            self.wait("state.shown === state.asked && document.getElementById('messages').children.length > 0")
+        self.assertEqual(self.browser.run("document.querySelectorAll('img, b b, script:not([src])').length"), 0)
+        self.browser.run("document.getElementById('source').value = 'a = <b>bold</b>'; typed(document.getElementById('source'))")
+        self.wait("document.querySelector('.text')?.textContent === '<b>bold</b>'")
+
+    def test_tidying(self):
+        self.begin("a   =   {$x}\n")
+        self.browser.run("document.getElementById('tidy').click()")
+        self.wait("document.getElementById('source').value === 'a = { $x }\\n'")
+        self.begin("a = {\n")
+        self.browser.run("document.getElementById('tidy').click()")
+        self.wait("!document.getElementById('problem').hidden")
+
+    def test_by_keyboard_alone(self):
+        self.begin("a = { $x } { -b }\n")
+        order = []
+        for _ in range(14):
+            self.browser.press("Tab")
+            order.append(self.browser.run(FOCUSED))
+        self.assertEqual(
+            order[:11], ["skip", "locale", "marks", "theme", "share", "tidy", "source", "go", "SUMMARY", "name", "x"], order
+        )
+        self.browser.run("document.getElementById('source').focus(); document.getElementById('source').setSelectionRange(0, 0)")
+        self.browser.press("F8")
+        self.assertEqual(self.browser.run("getSelection().toString() || document.getElementById('source').value.slice(document.getElementById('source').selectionStart, document.getElementById('source').selectionEnd)"), "-b")
+        # The focus is seen.
+        self.browser.run("document.getElementById('locale').focus()")
+        self.browser.press("Tab")
+        self.assertEqual(self.browser.run("getComputedStyle(document.activeElement).outlineStyle"), "solid")
+
+    def test_the_text_below_is_where_the_typed_one_is(self):
+        """Each letter that is coloured is below the one that is typed, in a wide window and a small one."""
+        self.begin(POLISH * 3 + ARABIC, ENGLISH, "pl")
+        for width in (1280, 700, 400):
+            self.browser.size(width, 900)
+            self.wait("Math.abs(document.querySelector('#source').scrollHeight - document.querySelector('.stack pre').offsetHeight) <= 1")
+            same = "['font', 'lineHeight', 'letterSpacing', 'padding', 'width', 'whiteSpace', 'overflowWrap', 'tabSize']"
+            differ = f"{same}.filter((name) => getComputedStyle($('source'))[name] !== getComputedStyle(document.querySelector('.stack pre'))[name])"
+            self.assertEqual(self.browser.run(differ), [])
+            lines = self.browser.run("document.querySelector('.lines').offsetHeight - document.querySelector('.stack pre').offsetHeight")
+            self.assertLess(abs(lines), 2, width)
+
+    def test_four_hundred_pixels(self):
+        self.begin(POLISH, ENGLISH, "pl")
+        for width in (400, 320):
+            self.browser.size(width, 800)
+            self.assertLessEqual(self.browser.run("document.documentElement.scrollWidth"), width)
+            wide = "[...document.querySelectorAll('body *')].filter((each) => each.checkVisibility() && !each.matches('.skip') && each.getBoundingClientRect().right > innerWidth + 1).length"
+            self.assertEqual(self.browser.run(wide), 0)
+        self.browser.size(400, 800)
+        self.browser.run("document.getElementById('results').scrollIntoView()")
+        self.picture("playground-small.png")
+
+    def test_contrast_in_both_themes(self):
+        for theme in ("light", "dark"):
+            self.browser.theme(theme)
+            self.begin(POLISH + "bad = {\n", ENGLISH, "pl")
+            self.browser.run("document.getElementById('marks').click()")
+            self.wait("document.querySelectorAll('.mark').length")
+            seen = self.browser.run(COLOURS)
+            self.assertGreater(len(seen), 60)
+            for colour, ground, text in seen:
+                self.assertGreaterEqual(contrast(hexed(colour), hexed(ground)), 4.5, (theme, text, colour, ground))
+
+    def test_pictures(self):
+        self.begin(POLISH, ENGLISH, "pl")
+        self.browser.run("document.getElementById('source').focus(); document.getElementById('source').setSelectionRange(40, 40)")
+        self.wait("document.querySelector('.message.current')")
+        self.browser.size(1280, 800)
+        self.picture("playground.png")
+        self.browser.theme("dark")
+        self.wait("document.documentElement.dataset.theme === 'dark'")
+        self.picture("playground-dark.png")
+
+    def test_without_its_server(self):
+        self.begin("a = b\n")
+        self.browser.run("fetch = () => Promise.reject(new Error('gone'))")
+        self.browser.run("typed(document.getElementById('source'))")
+        self.wait("document.getElementById('problem').textContent.includes('gone')")
+
+
+if __name__ == "__main__":
+    unittest.main()

@@ -1,0 +1,255 @@
+"""The playground over HTTP: what it answers, whom it refuses, and whether its page can be read and used by anyone."""
+
+import http.client
+import json
+import random
+import re
+import subprocess
+import sys
+import tempfile
+import threading
+import unittest
+from html.parser import HTMLParser
+from pathlib import Path
+
+from kozhvadi.playground._looking import languages, looked_at
+from kozhvadi.playground._pages import Playground
+
+FOLDER = Path(__file__).resolve().parents[1]
+PAGES = FOLDER / "kozhvadi" / "playground"
+
+
+class ServedTest(unittest.TestCase):
+    def setUp(self):
+        self.server = Playground(0, lambda: {"source": "a = b\n", "reference": "", "locale": "en"})
+        self.addCleanup(self.server.server_close)
+        self.addCleanup(self.server.shutdown)
+        threading.Thread(target=self.server.serve_forever, args=(0.01,), daemon=True).start()
+
+    def ask(self, method, path, body=None, **headers):
+        """The status of an answer, its headers and its body."""
+        connection = http.client.HTTPConnection("127.0.0.1", self.server.server_port, timeout=30)
+        host = headers.pop("Host", f"127.0.0.1:{self.server.server_port}")
+        connection.putrequest(method, path, skip_host=True)
+        if host is not None:
+            connection.putheader("Host", host)
+        named = {name.replace("_", "-"): value for name, value in headers.items()}
+        if body is not None:
+            named = {"Content-Type": "application/json", "Content-Length": str(len(body)), **named}
+        for name, value in named.items():
+            connection.putheader(name, value)
+        connection.endheaders(body)
+        answer = connection.getresponse()
+        told = answer.status, dict(answer.getheaders()), answer.read()
+        connection.close()
+        return told
+
+    def look(self, **given):
+        status, _, body = self.ask("POST", "/look", json.dumps(given).encode())
+        return status, json.loads(body) if status == 200 else body
+
+    def test_the_pages(self):
+        for path, kind in [("/", "text/html"), ("/page.css", "text/css"), ("/page.js", "text/javascript"), ("/start", "application/json")]:
+            status, headers, body = self.ask("GET", path)
+            self.assertEqual(status, 200)
+            self.assertTrue(headers["Content-Type"].startswith(kind))
+            self.assertIn("default-src 'none'", headers["Content-Security-Policy"])
+            self.assertEqual(headers["X-Content-Type-Options"], "nosniff")
+            self.assertTrue(body)
+        self.assertEqual(self.ask("HEAD", "/")[2], b"")
+        self.assertEqual(json.loads(self.ask("GET", "/start")[2])["source"], "a = b\n")
+
+    def test_it_serves_this_machine_alone(self):
+        self.assertEqual(self.server.server_address[0], "127.0.0.1")
+        port = self.server.server_port
+        for host in ("example.org", f"example.org:{port}", "127.0.0.1", f"127.0.0.1:{port + 1}", "", None, f"localhost:{port}.example.org"):
+            self.assertEqual(self.ask("GET", "/", Host=host)[0], 421, host)
+        self.assertEqual(self.ask("GET", "/", Host=f"localhost:{port}")[0], 200)
+
+    def test_other_sites_are_refused(self):
+        body = b'{"source": "a = b"}'
+        port = self.server.server_port
+        for headers, status in [
+            ({"Origin": "http://example.org"}, 403), ({"Origin": "null"}, 403), ({"Origin": f"https://127.0.0.1:{port}"}, 403),
+            ({"Sec_Fetch_Site": "cross-site"}, 403), ({"Sec_Fetch_Site": "same-site"}, 403), ({"Content_Type": "text/plain"}, 415),
+            ({"Content_Type": "application/x-www-form-urlencoded"}, 415), ({"Origin": f"http://127.0.0.1:{port}"}, 200),
+            ({"Sec_Fetch_Site": "same-origin"}, 200), ({}, 200),
+        ]:
+            self.assertEqual(self.ask("POST", "/look", body, **{k.replace("_", "-"): v for k, v in headers.items()})[0], status, headers)
+
+    def test_no_other_file_is_read(self):
+        for path in (
+            "/../../setup.py", "/%2e%2e/_looking.py", "/_looking.py", "/__main__.py", "/page.html", "//etc/passwd", "/page.css/..", "/look",
+            "/etc/passwd", "file:///etc/passwd",
+        ):
+            self.assertEqual(self.ask("GET", path)[0], 404, path)
+        for path in ("/", "/page.js", "/start", "/nothing"):
+            self.assertEqual(self.ask("POST", path, b"{}")[0], 404, path)
+        self.assertEqual(self.ask("PUT", "/look", b"{}")[0], 501)
+
+    def test_bad_requests(self):
+        for body, status in [
+            (b"", 400), (b"{", 400), (b"[]", 400), (b"\xff", 400), (b"[" * 100_000, 400), (b'{"source": 1}', 400),
+            (b'{"source": "a", "locale": {}}', 400), (b'{"arguments": 3}', 200), (b"{}", 200), (b'{"source": "\\ud800 = x"}', 200),
+        ]:
+            self.assertEqual(self.ask("POST", "/look", body)[0], status, body[:40])
+        self.assertEqual(self.ask("POST", "/look", b"", **{"Content-Length": "99999999999999"})[0], 413)
+        for length in ("", "-1", "x", "1e3", "\u0663"):
+            self.assertEqual(self.ask("POST", "/look", b"", **{"Content-Length": length.encode("latin-1", "replace").decode("latin-1")})[0], 411)
+
+    def test_tidying(self):
+        status, _, body = self.ask("POST", "/tidy", b'{"source": "a   =   {$x}"}')
+        self.assertEqual((status, json.loads(body)), (200, {"text": "a = { $x }\n"}))
+        status, _, body = self.ask("POST", "/tidy", b'{"source": "a = {"}')
+        self.assertIn("can't be tidied: line 1, column 6", json.loads(body)["problem"])
+
+    def test_whatever_is_typed_there_is_an_answer(self):
+        chance = random.Random(3)
+        pieces = ["a", " = ", "b { ", "}", "$x", "-t", "\n", "    .at = ", "[one]", "*[other]", " ->", '"', "\\", "é\U0001f44d", "\r\n", "{" * 2000, "\0", "\u202e"]
+        for number in range(150):
+            source = "".join(chance.choice(pieces) for _ in range(chance.randrange(40)))
+            reference = "".join(chance.choice(pieces) for _ in range(chance.randrange(9)))
+            locale = chance.choice(["en", "pl", "xx", "", "\ud800", "x" * 5000, "ar"])
+            status, told = self.look(source=source, reference=reference, locale=locale, arguments={"x": chance.choice(["", "1", "1e9", "-", "9" * 400])})
+            self.assertEqual(status, 200, told)
+            units = len(source.encode("utf-16-le")) // 2
+            for each in told["findings"]:
+                if each["file"] == "source":
+                    self.assertTrue(0 <= each["start"] <= each["end"] <= units)
+
+
+class LookedAtTest(unittest.TestCase):
+    def test_messages(self):
+        source = (
+            "# Hi.\nwelcome = { $name } in { -brand }\n    .title = T\n-brand = B\nunread = { $n ->\n    [one] one\n    [few] { $n } few\n"
+            "   *[other] { $n } other\n}\nbroken = { $\nwrong = { no }\n"
+        )
+        told = looked_at(source, "", "pl", {"name": "Zoë", "n": "2"})
+        self.assertEqual(told["categories"], {"one": "1", "few": "2", "many": "5", "other": "1.5"})
+        welcome, unread, broken, wrong = told["messages"]
+        self.assertEqual((welcome["comment"], welcome["line"]), ("Hi.", 2))
+        self.assertEqual([part["text"] for part in welcome["parts"]], ["\u2068Zoë\u2069 in B", "T"])
+        self.assertEqual(unread["parts"][0]["text"], "\u20682\u2069 few")
+        self.assertEqual(
+            [(case["label"], case["value"], case["text"]) for case in unread["parts"][0]["cases"]],
+            [("one", "1", "one"), ("few", "2", "\u20682\u2069 few"), ("many", "5", "\u20685\u2069 other"), ("other", "1.5", "\u20681.5\u2069 other")],
+        )
+        self.assertEqual((broken["read"], broken["parts"]), (False, []))
+        self.assertEqual(wrong["parts"][0]["errors"], ["Unknown message: no"])
+        found = {(each["code"], each["line"]) for each in told["findings"]}
+        self.assertEqual(found, {("syntax", 10), ("missing-category", 5), ("unknown-message", 11)})
+
+    def test_a_reference(self):
+        told = looked_at("\U0001f44d\na = { $nmae }\n", "a = { $name }\nb = B\n", "de", {})
+        found = [(each["file"], each["code"], each["start"], each["end"]) for each in told["findings"] if each["severity"] != "note"]
+        self.assertEqual(found, [("source", "syntax", 0, 2), ("source", "unknown-variable", 9, 14), ("reference", "missing-message", 14, 15)])
+        fixes = [fix for each in told["findings"] for fix in each["fixes"]]
+        self.assertEqual(fixes, [{"title": "Change to `$name`", "start": 9, "end": 14, "text": "$name"}])
+
+    def test_too_much(self):
+        told = looked_at("".join(f"m{number} = x\n" for number in range(300)), "", "en", {})
+        self.assertEqual((len(told["messages"]), told["more"]), (200, 100))
+        self.assertIn("nests too deep", looked_at("a = " + "{" * 5000, "", "en", {})["problem"])
+
+    def test_languages(self):
+        self.assertLess({"en", "pl", "ar", "zh", "pt-PT"}, set(languages()))
+
+    def test_the_command(self):
+        with tempfile.TemporaryDirectory() as made:
+            bad = Path(made, "bad.ftl")
+            bad.write_bytes(b"\xff")
+            for words, told in [([made + "/none.ftl"], "No such file"), ([str(bad)], "isn't UTF-8"), (["--port", "99999"], "port"), (["--locale", "xx"], "no plural rules")]:
+                ran = subprocess.run([sys.executable, "-m", "kozhvadi.playground", *words], cwd=FOLDER, capture_output=True, text=True, check=False)
+                self.assertNotEqual(ran.returncode, 0)
+                self.assertIn(told, ran.stderr)
+                self.assertNotIn("Traceback", ran.stderr)
+
+
+class Fields(HTMLParser):
+    """The fields of a page, and what labels them."""
+
+    def __init__(self):
+        super().__init__()
+        self.fields, self.labels, self.ids, self.open = [], set(), [], []
+        self.names = {}
+
+    def handle_starttag(self, tag, attrs):
+        given = dict(attrs)
+        self.ids += [given["id"]] if "id" in given else []
+        if tag == "label" and "for" in given:
+            self.labels.add(given["for"])
+        if tag in ("input", "select", "textarea", "button"):
+            self.fields.append((tag, given, "label" in self.open))
+        if tag not in ("input", "meta", "link", "br"):
+            self.open.append(tag)
+        if tag == "button":
+            self.names[given.get("id")] = ""
+
+    def handle_data(self, data):
+        if self.open and self.open[-1] == "button":
+            self.names[self.fields[-1][1].get("id")] += data.strip()
+
+    def handle_endtag(self, tag):
+        if tag in self.open:
+            while self.open.pop() != tag:
+                pass
+
+
+def themes():
+    """The colours of each theme, by their names."""
+    style = (PAGES / "page.css").read_text(encoding="utf-8")
+    light, dark = (re.search(pattern + r" \{(.*?)\}", style, re.DOTALL)[1] for pattern in (":root", r':root\[data-theme="dark"\]'))
+    return {name: dict(re.findall(r"--([\w-]+): (#[0-9a-f]{6});", text)) for name, text in (("light", light), ("dark", dark))}
+
+
+def luminance(colour):
+    def linear(part):
+        return part / 12.92 if part <= 0.03928 else ((part + 0.055) / 1.055) ** 2.4
+
+    red, green, blue = (linear(int(colour[at : at + 2], 16) / 255) for at in (1, 3, 5))
+    return 0.2126 * red + 0.7152 * green + 0.0722 * blue
+
+
+def contrast(one, other):
+    """The contrast of two colours, by WCAG 2."""
+    high, low = sorted((luminance(one), luminance(other)), reverse=True)
+    return (high + 0.05) / (low + 0.05)
+
+
+class AccessTest(unittest.TestCase):
+    def test_each_field_has_a_label(self):
+        page = Fields()
+        page.feed((PAGES / "page.html").read_text(encoding="utf-8"))
+        self.assertEqual(len(page.ids), len(set(page.ids)))
+        for tag, given, is_in_label in page.fields:
+            labelled = given.get("id") in page.labels or is_in_label or given.get("aria-label") or page.names.get(given.get("id"))
+            self.assertTrue(labelled, (tag, given))
+            self.assertNotIn("tabindex", given)
+
+    def test_contrast(self):
+        texts = [
+            ("ink", "page panel raised accent-wash"), ("quiet", "page panel raised accent-wash"), ("accent", "panel page"),
+            ("on-accent", "accent"), ("error", "panel raised error-wash accent-wash"), ("warning", "panel raised"), ("note", "panel raised note-wash"),
+            ("comment", "raised"), ("id", "panel raised error-wash warning-wash"), ("variable", "panel raised error-wash warning-wash"),
+            ("string", "raised error-wash warning-wash"), ("key", "panel raised accent-wash error-wash warning-wash"),
+            ("brace", "raised error-wash warning-wash"),
+        ]
+        for name, colours in themes().items():
+            self.assertGreater(len(colours), 20)
+            for text, grounds in texts:
+                for ground in grounds.split():
+                    self.assertGreaterEqual(contrast(colours[text], colours[ground]), 4.5, (name, text, ground))
+            # The edges of fields, and what shows the focus.
+            for line, ground in [("edge", "panel"), ("edge", "page"), ("accent", "panel"), ("accent", "page"), ("accent", "raised")]:
+                self.assertGreaterEqual(contrast(colours[line], colours[ground]), 3, (name, line, ground))
+
+    def test_the_script_writes_no_html(self):
+        script = (PAGES / "page.js").read_text(encoding="utf-8")
+        for word in ("innerHTML", "outerHTML", "insertAdjacentHTML", "document.write", "eval(", "new Function"):
+            self.assertNotIn(word, script)
+        for name in ("page.html", "page.css", "page.js"):
+            self.assertNotRegex((PAGES / name).read_text(encoding="utf-8"), r"https?://")
+
+
+if __name__ == "__main__":
+    unittest.main()
