@@ -85,7 +85,7 @@ def message(chance):
 def flooded(count, seed=0):
     """Sends this many random messages. Raises an exception if the server stops answering."""
     chance = random.Random(seed)
-    with Client() as client:
+    with Client(patience=60 + count) as client:
         client.start()
         for number in range(0, count, 500):
             data = b"".join(message(chance) for _ in range(min(500, count - number)))
@@ -117,7 +117,7 @@ def probe(number):
 def flat(count):
     """By how many KB the server's memory grows in this many edits, after the first tenth."""
     lines = "".join(f"message-{number} = Text {{ $x }} of {{ -term }}\n" for number in range(50))
-    with Client() as client:
+    with Client(patience=60 + count) as client:
         client.ask("initialize", capabilities=CAPABILITIES)
         uri = client.open("file:///tmp/none/en.ftl", lines)
         before = 0

@@ -1,5 +1,5 @@
 -- Drives the language server by Neovim's own client, and writes what happens as JSON, a line each.
--- FOLDER, PYTHON, MODULE and OUT are set by the test that calls it.
+-- FOLDER, GUIDE and OUT are set by the test that calls it. GUIDE is a file with the lines of the guide.
 local out = assert(io.open(OUT, "w"))
 local function tell(name, value)
     out:write(vim.fn.json_encode({ name, value }), "\n")
@@ -32,15 +32,14 @@ local function go(text)
     vim.fn.search("\\V" .. text, "cW")
 end
 
-vim.cmd("edit " .. FOLDER .. "/l10n/pl/main.ftl")
-local client = vim.lsp.start_client({
-    name = "kozhvadi",
-    cmd = { PYTHON, "-m", "kozhvadi.server" },
-    cmd_env = { PYTHONPATH = MODULE },
-    root_dir = FOLDER,
-    init_options = { reference = "l10n/en-US" },
-})
-vim.lsp.buf_attach_client(0, client)
+-- The lines of the guide, as a user has them in init.lua.
+vim.cmd("cd " .. vim.fn.fnameescape(FOLDER))
+vim.cmd("luafile " .. GUIDE)
+vim.cmd("edit l10n/pl/main.ftl")
+await(function()
+    return #vim.lsp.get_active_clients() > 0
+end)
+local client = vim.lsp.get_active_clients()[1].id
 await(function()
     return #vim.diagnostic.get(0) > 0
 end)

@@ -3,6 +3,7 @@
 import json
 import subprocess
 import sys
+import threading
 from pathlib import Path
 
 FOLDER = Path(__file__).resolve().parents[1]
@@ -23,18 +24,22 @@ def framed(message):
 
 
 class Client:
-    """A running server."""
+    """A running server, which is killed if it takes longer than its patience, in seconds."""
 
-    def __init__(self, log=subprocess.DEVNULL):
+    def __init__(self, log=subprocess.DEVNULL, patience=300):
         self.process = subprocess.Popen(
             [sys.executable, "-m", "kozhvadi.server"], stdin=subprocess.PIPE, stdout=subprocess.PIPE, stderr=log, cwd=FOLDER
         )
         self.told, self._number = [], 0
+        self._watch = threading.Timer(patience, self.process.kill)
+        self._watch.daemon = True
+        self._watch.start()
 
     def __enter__(self):
         return self
 
     def __exit__(self, *_):
+        self._watch.cancel()
         self.process.stdin.close()
         self.process.stdout.close()
         self.process.wait(30)

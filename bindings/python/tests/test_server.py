@@ -55,11 +55,15 @@ class LifeTest(unittest.TestCase):
                 (framed({"id": None, "method": "x"}), -32600), (framed({"id": {}, "method": "x"}), -32600),
                 (framed({"id": True, "method": "x"}), -32600), (framed(b""), -32700),
                 (b"garbage\r\n" + framed(b"1"), -32700), (b"Content-Length: 99999999999\r\n\r\n", -32700),
-                (b"Content-Length: 500\r\n\r\n{\"cut\": 1" + framed(b"2"), -32700),
+                (b"Content-Length: 500\r\n\r\n{\"cut\": 1" + framed(b"2"), -32700), (b"Content-Length: 8\r\n\r\n{}", -32700),
+                (b"Content-Length: 19\r\n\r\n{}", -32700), (b"Content-Length: 5\r\n", -32700), (b"Content-Length: 1", -32700),
+                (b"Content-Length: 7\r\n\r\n" + framed({}), -32700),
             ]:
-                client.send(data)
+                # The next request shows the server that the one before it is cut.
+                asked = {"jsonrpc": "2.0", "id": "next", "method": "a"}
+                client.send(data + framed(asked))
                 self.assertEqual(client.read()["error"]["code"], code, data[:40])
-                self.assertEqual(client.ask("a")["code"], -32002, data[:40])
+                self.assertEqual(client.reply("next")["error"]["code"], -32002, data[:40])
             client.told.clear()
             client.send(b"content-type: x\r\nCONTENT-LENGTH:  44 \r\nX-Other: y\r\n\r\n" + b'{"id":"seven","method":"initialize"}'.ljust(44))
             self.assertEqual(client.read()["id"], "seven")

@@ -15,6 +15,8 @@ _HEADERS = 4096
 
 # Raw line ends are in no string of JSON, so a message never has this inside.
 _LENGTH = re.compile(rb"Content-Length:[ \t]*([0-9]{1,12})[ \t]*\r?\n", re.IGNORECASE)
+_BEGUN = re.compile(rb"content-length:[ \t]*[0-9]{0,12}[ \t]*\r?")
+_LONGEST_HEADER = 60
 _OTHERS = re.compile(rb"(?:[A-Za-z-]+:[^\r\n]*\r?\n)*")
 _REST = re.compile(rb"(?:[A-Za-z-]+:[^\r\n]*\r?\n)*\r?\n")
 
@@ -63,7 +65,15 @@ class Reader:
             header = self._header(0)
         if not _OTHERS.fullmatch(self._held, 0, header.start):
             self._drop(header.start, "what is before a header isn't a message")
-        return self._decoded(self._body(header))
+        start, end = self._body(header)
+        body = bytes(self._held[start:end])
+        try:
+            message = json.loads(body)
+        except (ValueError, RecursionError) as error:
+            # If the length is too large, the next header may begin in this body.
+            self._drop(end - _header_begun(body), f"a message isn't JSON: {error}")
+        del self._held[:end]
+        return message
 
     def _header(self, start: int, end: int | None = None) -> _Header | None:
         # A match would keep the bytes from being dropped.
@@ -80,13 +90,19 @@ class Reader:
         """Where the body of a message begins."""
         while True:
             rest = _REST.match(self._held, start)
-            if rest:
-                return rest.end()
+            end = rest.end() if rest else 0
+            del rest
+            another = self._header(start, end)
+            if another:
+                self._drop(another.start, "the headers of a message don't end")
+            if end:
+                return end
             if len(self._held) - start > _HEADERS or self._header(start):
                 self._drop(start, "the headers of a message don't end")
             self._fill()
 
-    def _body(self, header: _Header) -> bytes:
+    def _body(self, header: _Header) -> tuple[int, int]:
+        """Where the body of a message begins and ends, once it is there."""
         start = self._after_headers(header.end)
         if header.size > _LONGEST:
             self._drop(start, f"a message of {header.size} bytes is too long")
@@ -99,20 +115,22 @@ class Reader:
                 break
             looked = max(start, len(self._held) - _HEADERS)
             self._fill()
-        body = bytes(self._held[start:end])
-        del self._held[:end]
-        return body
+        return start, end
 
     def _drop(self, count: int, why: str) -> NoReturn:
         del self._held[:count]
         raise Damaged(why)
 
-    @staticmethod
-    def _decoded(body: bytes) -> object:
-        try:
-            return json.loads(body)
-        except (ValueError, RecursionError) as error:
-            raise Damaged(f"a message isn't JSON: {error}") from error
+
+def _header_begun(body: bytes) -> int:
+    """How many bytes at the end of a body may begin the header of a length."""
+    end = body[-_LONGEST_HEADER:].lower()
+    name = b"content-length:"
+    for start in range(len(end)):
+        begun = end[start:]
+        if name.startswith(begun) or _BEGUN.fullmatch(begun):
+            return len(begun)
+    return 0
 
 
 def writer(stream: Output) -> Callable[[object], None]:

@@ -18,7 +18,7 @@ _MARK = "\ufeff"
 
 # More files of a workspace aren't looked into, and neither are folders of these names, or that begin with a dot.
 _MOST = 20_000
-_PASSED_OVER = {"node_modules", "__pycache__", "target", "dist", "obj-x86_64-pc-linux-gnu"}
+_PASSED_OVER = {"node_modules", "__pycache__", "target", "dist"}
 
 # A tag as names of files and folders have it. `in-app` and `to-do` begin with languages, too.
 _TAG = re.compile(
