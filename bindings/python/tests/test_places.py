@@ -1,5 +1,6 @@
 """Places of names in sources, compared with those that the linter reports; and positions as editors count them."""
 
+import os
 import random
 import unittest
 from pathlib import Path
@@ -14,8 +15,10 @@ ROOT = Path(__file__).resolve().parents[3]
 
 
 def sources_of_the_repository():
-    """Each source of the examples, rows and tests that is UTF-8."""
-    for path in sorted([*ROOT.glob("examples/**/*.ftl"), *ROOT.glob("crates/*/data/*.ftl"), *ROOT.glob("tests/rows/**/*.ftl")]):
+    """Each source of the examples, rows and tests that is UTF-8, and of the folder that CORPUS names."""
+    paths = [*ROOT.glob("examples/**/*.ftl"), *ROOT.glob("crates/*/data/*.ftl"), *ROOT.glob("tests/rows/**/*.ftl")]
+    paths += Path(os.environ["CORPUS"]).rglob("*.ftl") if os.environ.get("CORPUS") else []
+    for path in sorted(paths):
         try:
             yield path.read_bytes().decode()
         except UnicodeDecodeError:
@@ -148,8 +151,12 @@ class PlacesTest(unittest.TestCase):
         for offset, text in told:
             near = places.at(offset)
             self.assertIsNotNone(near, source)
-            self.assertIn(f"`{near.symbol}`", text)
-            self.assertEqual(near.start, offset + 1)
+            if near.symbol.kind == "variable":
+                self.assertIn(f"`{near.symbol}`", text)
+                self.assertEqual(near.start, offset + 1)
+            else:
+                # It is shown by way of another message.
+                self.assertEqual((near.symbol.kind, near.start), ("message", offset))
         own = {
             each.symbol.name
             for entry in places.entries if not entry.is_term

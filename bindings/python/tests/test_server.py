@@ -139,14 +139,49 @@ class WorkspaceTest(unittest.TestCase):
         self.client.change(english, ENGLISH.replace("$name", "$nmae"))
         self.assertEqual(self.found(self.client.diagnostics(polish))[0][0], "missing-category")
 
-    def test_files_of_one_folder_and_language_are_one_catalog(self):
-        self.file("l10n/pl/other.ftl", "-brand = B\n")
+    def codes(self, uri):
+        return [each["code"] for each in self.client.diagnostics(uri)]
+
+    def test_files_of_one_language_are_one_catalog(self):
+        self.file("l10n/pl/sub/terms.ftl", "-brand = B\n")
+        self.file("l10n/pl/near.ftl", "-near = N\n")
         self.file("l10n/pl/other.de.ftl", "welcome = x\n")
         self.client.start(self.root)
-        uri = self.client.open(self.root / "l10n/pl/new.ftl", "a = { -brand } { welcome }\nunread = x\n")
+        uri = self.client.open(self.root / "l10n/pl/new.ftl", "a = { -brand } { -near } { welcome }\nunread = x\n")
         self.assertEqual(self.found(self.client.diagnostics(uri)), [("duplicate-id", 1, 1, 0)])
-        self.client.tell("workspace/didChangeConfiguration", settings={"kozhvadi": {"together": False}})
-        self.assertEqual([each[0] for each in self.found(self.client.diagnostics(uri))], ["unknown-term", "unknown-message"])
+        for catalog, codes in [
+            ("folder", ["unknown-term", "duplicate-id"]), ("file", ["unknown-term", "unknown-term", "unknown-message"]),
+            ("language", ["duplicate-id"]),
+        ]:
+            self.client.tell("workspace/didChangeConfiguration", settings={"kozhvadi": {"catalog": catalog}})
+            self.assertEqual(sorted(self.codes(uri)), sorted(codes))
+
+    def test_the_reference_may_be_anywhere(self):
+        self.file("en/x/main.ftl", "one = 1\ntwo = 2\n")
+        self.file("en/main.ftl", "three = 3\n")
+        for name in ("translations/pl/x/main.ftl", "pl/x/main.ftl"):
+            self.file(name, "one = 1\n")
+        for catalog in ("language", "folder", "file"):
+            client = self.entered(Client())
+            client.start(self.root, reference="en", catalog=catalog)
+            for name in ("translations/pl/x/main.ftl", "pl/x/main.ftl"):
+                uri = client.open(self.root / name)
+                (found,) = client.diagnostics(uri)
+                self.assertIn("no translation: `two`", found["message"])
+            client.told.clear()
+            reference = client.open(self.root / "en/x/main.ftl")
+            self.assertEqual(client.diagnostics(reference), [])
+
+    def test_languages_of_files(self):
+        source = "a = { $n ->\n    [one] x\n   *[other] y\n}\n"
+        self.client.start(self.root)
+        # Polish lacks two categories, Czech one that whole numbers have, English none.
+        for name, count in [
+            ("l10n/pl/a.ftl", 2), ("l10n/cs/deep/er/a.ftl", 1), ("pl.ftl", 2), ("main.pl.ftl", 2), ("l10n/pl/cs.ftl", 1), ("pt-br/a.ftl", 0),
+            ("in-app/a.ftl", 0), ("pl_PL/a.ftl", 2), ("no-results.ftl", 0), ("src/a.ftl", 0),
+        ]:
+            uri = self.client.open(self.root / "languages" / name, source)
+            self.assertEqual(self.codes(uri), ["missing-category"] * count, name)
 
     def test_settings(self):
         self.client.start(self.root, functions=["DATE"], locale="pl", notes=1)

@@ -40,7 +40,7 @@ class Checks:
             return [self._published(document, [_too_deep(document)])]
         missing = [each for each in found if each.code == "missing-message"]
         opened = [each for each in catalog if each.uri in self._workspace.open]
-        return [self._told(each, found, missing, reference) for each in opened]
+        return [self._told(each, found, missing) for each in opened]
 
     def forget(self, uri: str) -> Json:
         """Drops what was found in a document that is closed."""
@@ -48,15 +48,11 @@ class Checks:
         self._missing.pop(uri, None)
         return {"uri": uri, "diagnostics": []}
 
-    def _told(
-        self, document: Document, found: list[Finding], missing: list[Finding], reference: list[Document]
-    ) -> Json:
+    def _told(self, document: Document, found: list[Finding], missing: list[Finding]) -> Json:
         own = [each for each in found if each.file == document.uri]
         self._found[document.uri] = own
         told = [_diagnostic(document, each) for each in own]
-        counterpart = next((each for each in reference if each.name == document.name), None)
-        if counterpart is None and len(reference) == 1:
-            counterpart = reference[0]
+        counterpart = self._workspace.counterpart(document)
         lacks = [each.entry for each in missing if counterpart and each.file == counterpart.uri and each.entry]
         self._missing[document.uri] = lacks
         if lacks:

@@ -131,14 +131,14 @@ class Completion:
         }
 
     def _untranslated(self, document: Document) -> list[Json]:
-        """The messages of the reference that the documents lack, with their texts."""
+        """The messages of the reference's file that the documents lack, with their texts."""
+        counterpart = self._workspace.counterpart(document)
         have = self._workspace.samples(self._workspace.catalog(document)).entries
         items: list[Json] = []
-        for each in self._workspace.reference(document):
-            for entry in each.places.entries:
-                if not entry.is_term and entry.id not in have:
-                    text = each.source[entry.start : entry.end].decode()
-                    items.append({"label": entry.id, "kind": _TEXT, "detail": "of the reference", "text": text})
+        for entry in counterpart.places.entries if counterpart else ():
+            if counterpart and not entry.is_term and entry.id not in have:
+                text = counterpart.source[entry.start : entry.end].decode()
+                items.append({"label": entry.id, "kind": _TEXT, "detail": "of the reference", "text": text})
         return items
 
 

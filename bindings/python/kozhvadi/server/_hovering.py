@@ -50,7 +50,8 @@ class Hovering:
         if reference:
             origin = self._workspace.locale(reference[0]) if not self._workspace.settings.locale else None
             original = self._of_entry(reference, key, attribute, origin or "en")
-            told += [f"The reference, {self._code(reference[0].name)}:", *original[1:]] if original else []
+            name = next((each.name for each in reference if each.places.entry(key)), "")
+            told += [f"The reference, {self._code(name)}:", *original[1:]] if original else []
         return told
 
     def _of_entry(self, documents: list[Document], key: str, attribute: str | None, locale: str | None) -> list[str]:

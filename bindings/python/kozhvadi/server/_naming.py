@@ -122,13 +122,13 @@ class Naming:
         taken = [Symbol(symbol.kind, name, symbol.of)]
         if symbol.kind in ("message", "term"):
             taken = [Symbol("message", name), Symbol("term", name)]
-        holders = {document.uri for document, found in self._everywhere(symbol) if found.is_definition}
-        for document in self._workspace.all():
-            if document.uri not in holders and symbol.kind in ("message", "term"):
-                # Only what is loaded with a file that has the entry can clash with it.
-                near = self._workspace.catalog(document)
-                if not any(each.uri in holders for each in near):
-                    continue
+        is_held = symbol.kind == "variable"
+        holders = [document for document, found in self._everywhere(symbol) if found.is_definition or is_held]
+        near = holders
+        if symbol.kind in ("message", "term"):
+            # Only what is loaded with a file that has the entry can clash with it.
+            near = [each for holder in holders for each in self._workspace.catalog(holder)]
+        for document in {each.uri: each for each in near}.values():
             for found in (each for other in taken for each in document.places.of(other)):
                 if found.is_definition or symbol.kind == "variable":
                     raise Refused(REQUEST_FAILED, f"{document.name} has `{found.symbol}` already")

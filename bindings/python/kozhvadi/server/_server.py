@@ -158,19 +158,15 @@ class Server:
     def _take(self, uri: str, text: str, version: object) -> None:
         is_number = isinstance(version, int) and not isinstance(version, bool)
         document = Document(uri, text, version if is_number and isinstance(version, int) else None)
-        self.workspace.open[uri] = document
+        self.workspace.put(document)
         self._unchecked[uri] = None
-        self._check_dependents(document)
-
-    def _check_dependents(self, changed: Document) -> None:
-        """The documents that are compared with one that changed are checked again, after it."""
-        for uri, document in self.workspace.open.items():
-            if uri not in self._unchecked and any(each is changed for each in self.workspace.reference(document)):
-                self._unchecked[uri] = None
+        if self.workspace.is_of_reference(document):
+            # The documents that are compared with it come after it.
+            self._check_all()
 
     def _close(self, params: Params) -> None:
         uri = params["textDocument"]["uri"].text
-        if self.workspace.open.pop(uri, None):
+        if self.workspace.drop(uri):
             self._unchecked.pop(uri, None)
             self._publish(self._checks.forget(uri))
             self._check_all()

@@ -7,6 +7,7 @@ import re
 from collections.abc import Iterator
 from dataclasses import dataclass, field
 from functools import cached_property
+from itertools import chain
 from pathlib import Path
 from urllib.parse import unquote, urlsplit
 
@@ -76,7 +77,7 @@ class Settings:
     locale: str | None = None
     functions: list[str] = field(default_factory=list)
     notes: bool = False
-    together: bool = True
+    catalog: str = "language"
 
     @classmethod
     def of(cls, given: object) -> tuple[Settings, list[str]]:
@@ -99,8 +100,10 @@ class Settings:
 
     @staticmethod
     def _is_fit(name: str, value: object) -> bool:
-        if name in ("notes", "together"):
+        if name == "notes":
             return isinstance(value, bool)
+        if name == "catalog":
+            return value in ("language", "folder", "file")
         if name == "functions":
             return isinstance(value, list) and all(isinstance(each, str) for each in value)
         if name == "locale" and isinstance(value, str):
@@ -115,11 +118,25 @@ class Workspace:
         self.settings = Settings()
         self.roots: list[Path] = []
         self.open: dict[str, Document] = {}
+        self._open_at: dict[Path, Document] = {}
         self._files: dict[Path, tuple[tuple[int, int], Document]] = {}
 
     def set_roots(self, uris: list[str]) -> None:
         """The folders of the workspace."""
         self.roots = [path for path in map(_path, uris) if path]
+
+    def put(self, document: Document) -> None:
+        """Takes a document that is opened, or its new text."""
+        self.open[document.uri] = document
+        if document.path:
+            self._open_at[document.path] = document
+
+    def drop(self, uri: str) -> bool:
+        """Forgets a document that is closed. Returns whether it was open."""
+        document = self.open.pop(uri, None)
+        if document and document.path:
+            self._open_at.pop(document.path, None)
+        return document is not None
 
     def document(self, uri: str) -> Document | None:
         """The open document of a URI, or its file."""
@@ -130,9 +147,8 @@ class Workspace:
 
     def _at(self, path: Path) -> Document | None:
         """What is at a path: the document that is open in the editor, or else the file."""
-        for document in self.open.values():
-            if document.path == path:
-                return document
+        if path in self._open_at:
+            return self._open_at[path]
         try:
             status = path.stat()
             stamp = (status.st_mtime_ns, status.st_size)
@@ -151,65 +167,85 @@ class Workspace:
         """Each open document, and each file of the workspace that isn't open."""
         yield from self.open.values()
         paths = {document.path for document in self.open.values()}
-        found = [path for path in self._walk() if path not in paths]
+        found = [path for path in dict.fromkeys(chain(*map(_below, self.roots))) if path not in paths]
         self._files = {path: kept for path, kept in self._files.items() if path in set(found)}
         for path in found:
             document = self._at(path)
             if document:
                 yield document
 
-    def _walk(self) -> list[Path]:
-        found: list[Path] = []
-        for root in self.roots:
-            for folder, folders, names in os.walk(root):
-                folders[:] = sorted(name for name in folders if name[0] != "." and name not in _PASSED_OVER)
-                found += [Path(folder, name) for name in sorted(names) if name.endswith(".ftl")]
-                if len(found) > _MOST:
-                    return found[:_MOST]
-        return list(dict.fromkeys(found))
-
     def locale(self, document: Document) -> str | None:
         """The language of a document: that of the settings, or else what its name or a folder's is a tag of."""
         return self.settings.locale or guessed_locale(document.path, self.roots)
 
     def catalog(self, document: Document) -> list[Document]:
-        """The documents that are loaded with one: those of its folder and language."""
-        if document.path is None or not self.settings.together:
+        """The documents that are loaded with one: those of its language, or of its folder and language."""
+        if document.path is None or self.settings.catalog == "file":
             return [document]
         guess = guessed_locale(document.path, self.roots)
-        near = [self._at(path) for path in _sources_in(document.path.parent) if path != document.path]
-        found = [each for each in near if each and guessed_locale(each.path, self.roots) == guess]
-        found += [
+        folder = self._folder(document.path)
+        near = [self._at(path) for path in self._sources(folder) if path != document.path]
+        near += [
             each
             for each in self.open.values()
-            if each.path and each.path.parent == document.path.parent and each not in found
-            and guessed_locale(each.path, self.roots) == guess and each is not document
+            if each is not document and each.path and each not in near and self._folder(each.path) == folder
         ]
+        found = [each for each in near if each and guessed_locale(each.path, self.roots) == guess]
         return sorted([document, *found], key=lambda each: each.uri)
+
+    def _folder(self, path: Path) -> Path:
+        """The folder whose files are loaded with that of a path."""
+        language = language_folder(path, self.roots) if self.settings.catalog == "language" else None
+        return language or path.parent
+
+    def _sources(self, folder: Path) -> list[Path]:
+        """The files of a folder that are loaded together: also those in its folders, if it is that of a language."""
+        if self.settings.catalog == "language" and language_folder(folder / "any", self.roots) == folder:
+            return _below(folder)
+        return _sources_in(folder)
+
+    def _references(self, path: Path) -> Iterator[tuple[Path, Path]]:
+        """Where the reference may be, and the path that this file has below it."""
+        for root in self.roots or [path.parent]:
+            reference = Path(os.path.normpath(root / (self.settings.reference or "")))
+            if reference != path and reference not in path.parents:
+                beside = next((above for above in path.parents if above.parent == reference.parent), path.parent)
+                folder = language_folder(path, self.roots) or beside
+                yield reference, path.relative_to(folder)
 
     def reference(self, document: Document) -> list[Document]:
         """The documents of the source language that a document is compared with."""
         if not self.settings.reference or document.path is None:
             return []
-        for root in self.roots or [document.path.parent]:
-            reference = Path(os.path.normpath(root / self.settings.reference))
-            found = self._compared(document.path, reference)
+        for reference, below in self._references(document.path):
+            if reference.suffix == ".ftl":
+                paths = [reference]
+            elif self.settings.catalog == "language":
+                paths = _below(reference)
+            else:
+                near = _sources_in((reference / below).parent)
+                paths = near if self.settings.catalog == "folder" else [reference / below]
+            found = [each for each in map(self._at, paths) if each]
             if found:
                 return found
         return []
 
-    def _compared(self, path: Path, reference: Path) -> list[Document]:
-        if reference == path or reference in path.parents:
-            return []
-        if reference.suffix == ".ftl":
-            found = self._at(reference)
-            return [found] if found else []
-        folder = reference
-        for above in path.parents:
-            if above.parent == reference.parent:
-                folder = reference / path.relative_to(above).parent
-        paths = _sources_in(folder) if self.settings.together else [folder / path.name]
-        return [each for each in map(self._at, paths) if each]
+    def is_of_reference(self, document: Document) -> bool:
+        """Whether a document is one of those that others are compared with."""
+        if not self.settings.reference or document.path is None:
+            return False
+        references = (Path(os.path.normpath(root / self.settings.reference)) for root in self.roots or [document.path.parent])
+        return any(each == document.path or each in document.path.parents for each in references)
+
+    def counterpart(self, document: Document) -> Document | None:
+        """The document of the reference that this one translates."""
+        if not self.settings.reference or document.path is None:
+            return None
+        for reference, below in self._references(document.path):
+            found = self._at(reference if reference.suffix == ".ftl" else reference / below)
+            if found:
+                return found
+        return None
 
     def samples(self, documents: list[Document]) -> Catalog:
         """The entries of documents that are loaded together."""
@@ -223,17 +259,39 @@ def _sources_in(folder: Path) -> list[Path]:
         return []
 
 
+def _below(root: Path) -> list[Path]:
+    """The files in a folder and in its folders."""
+    found: list[Path] = []
+    for folder, folders, names in os.walk(root):
+        folders[:] = sorted(name for name in folders if name[0] != "." and name not in _PASSED_OVER)
+        found += [Path(folder, name) for name in sorted(names) if name.endswith(".ftl")]
+        if len(found) > _MOST:
+            return found[:_MOST]
+    return found
+
+
+def language_folder(path: Path, roots: list[Path]) -> Path | None:
+    """The nearest folder above a file, in the workspace, whose name is the tag of a language."""
+    root = next((root for root in roots if root in path.parents), path.parent)
+    for folder in path.parents:
+        if _is_tag(folder.name, _TAG) or _is_tag(folder.name, _IN_SMALL_LETTERS):
+            return folder
+        if folder == root:
+            break
+    return None
+
+
 def guessed_locale(path: Path | None, roots: list[Path]) -> str | None:
     """The language that the name of a file is a tag of, as `de.ftl` or `main.de.ftl`, or else that of a folder."""
     if path is None:
         return None
-    root = next((root for root in roots if root in path.parents), None)
-    folders = path.relative_to(root).parts[:-1] if root else (path.parent.name,)
     stem = path.name.removesuffix(".ftl")
     for name in (stem, stem.rpartition(".")[2]):
-        if _TAG.fullmatch(name) and has_rules(name):
+        if _is_tag(name, _TAG):
             return name
-    for name in reversed(folders or (path.parent.name,)):
-        if (_TAG.fullmatch(name) or _IN_SMALL_LETTERS.fullmatch(name)) and has_rules(name):
-            return name
-    return None
+    folder = language_folder(path, roots)
+    return folder.name if folder else None
+
+
+def _is_tag(name: str, pattern: re.Pattern[str]) -> bool:
+    return bool(pattern.fullmatch(name)) and has_rules(name)
