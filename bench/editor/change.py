@@ -3,9 +3,9 @@
 
     bench/editor/change.py [LINES [TIMES]]
 
-Changes a document again and again, each time in another line, and takes the time until the findings of the new text have
-come. Prints the median and the worst, in ms; those of one call of `lint` with the same text; and the ratio of the medians.
-Ends with 1 if the median is above 50 ms. Take an idle core: `taskset -c 3 bench/editor/change.py`.
+Changes a document again and again, each time in another line, and takes the time until the findings of the new text
+have come. Prints the median and the worst, in ms; those of one call of `lint` with the same text; and the ratio of the
+medians. Ends with 1 if the median is above 50 ms. It needs an idle machine.
 
 It needs the module's library, which `bindings/python/run.sh` makes.
 """

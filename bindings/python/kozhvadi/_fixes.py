@@ -76,9 +76,7 @@ def fixes(
     return [Fix(f"Change to `{name}`", start, end, name) for name in names if name != written]
 
 
-def _known(
-    finding: Finding, written: str, catalog: Catalog, reference: Catalog, functions: Iterable[str]
-) -> list[str]:
+def _known(finding: Finding, written: str, catalog: Catalog, reference: Catalog, functions: Iterable[str]) -> list[str]:
     """The names that may have been meant."""
     if finding.code == "unknown-function":
         return ["NUMBER", *functions]

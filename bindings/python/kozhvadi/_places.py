@@ -1,8 +1,8 @@
 """Where the entries, attributes, references and variables of a source are.
 
-This is tested, and not proved: the library's trees come without offsets. It reads what a file that is being edited mostly
-is, a source that is broken somewhere, and so finds places in an entry that the library refuses, too. The tests compare
-it with the library's linter, in sources that both can read. Offsets are in bytes of UTF-8.
+This is tested, and not proved: the library's trees come without offsets. A file that is being edited is mostly broken
+somewhere, so it finds places in an entry that the library refuses, too. The tests compare it with the library's linter,
+in sources that both can read. Offsets are in bytes of UTF-8.
 """
 
 from __future__ import annotations

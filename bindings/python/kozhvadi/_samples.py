@@ -21,8 +21,17 @@ _CANDIDATES: list[Sample] = [*range(1, 200), 0, 1_000_000, Decimal("1.5"), Decim
 
 # What variables of these names mostly hold.
 _TEXTS = {
-    "name": "Jane", "user": "Jane", "username": "Jane", "file": "notes.txt", "filename": "notes.txt", "date": "2024-05-17",
-    "url": "example.org", "domain": "example.org", "host": "example.org", "email": "jane@example.org", "version": "2.0",
+    "name": "Jane",
+    "user": "Jane",
+    "username": "Jane",
+    "file": "notes.txt",
+    "filename": "notes.txt",
+    "date": "2024-05-17",
+    "url": "example.org",
+    "domain": "example.org",
+    "host": "example.org",
+    "email": "jane@example.org",
+    "version": "2.0",
 }
 
 # More cases of a message aren't shown.

@@ -29,17 +29,28 @@ class Browser:
         to_browser, self._out = os.pipe()
         self._in, from_browser = os.pipe()
         words = [
-            found(), "--headless=new", "--remote-debugging-pipe", f"--user-data-dir={self._folder.name}", "--no-first-run",
-            "--disable-gpu", "--disable-extensions", "--force-color-profile=srgb", "--font-render-hinting=none",
-            "--hide-scrollbars", "--disable-dev-shm-usage", "--lang=en",
+            found(),
+            "--headless=new",
+            "--remote-debugging-pipe",
+            f"--user-data-dir={self._folder.name}",
+            "--no-first-run",
+            "--disable-gpu",
+            "--disable-extensions",
+            "--force-color-profile=srgb",
+            "--font-render-hinting=none",
+            "--hide-scrollbars",
+            "--disable-dev-shm-usage",
+            "--lang=en",
         ]
         if os.geteuid() == 0:
             words.append("--no-sandbox")
         # The browser reads from 3 and writes to 4.
         shell = f'exec "$@" 3<&{to_browser} 4>&{from_browser}'
         self._process = subprocess.Popen(
-            ["bash", "-c", shell, "bash", *words, "about:blank"], pass_fds=[to_browser, from_browser],
-            stdout=subprocess.DEVNULL, stderr=subprocess.DEVNULL,
+            ["bash", "-c", shell, "bash", *words, "about:blank"],
+            pass_fds=[to_browser, from_browser],
+            stdout=subprocess.DEVNULL,
+            stderr=subprocess.DEVNULL,
         )
         os.close(to_browser)
         os.close(from_browser)
@@ -125,14 +136,20 @@ class Browser:
     def press(self, key, shift=False, control=False):
         """Presses a key."""
         codes = {"Tab": 9, "Enter": 13, "F8": 119, "Escape": 27, "End": 35, "Home": 36, " ": 32}
-        named = {"key": key, "code": "Space" if key == " " else key, "windowsVirtualKeyCode": codes.get(key, ord(key[0].upper()))}
+        named = {
+            "key": key,
+            "code": "Space" if key == " " else key,
+            "windowsVirtualKeyCode": codes.get(key, ord(key[0].upper())),
+        }
         modifiers = (8 if shift else 0) + (2 if control else 0)
         text = {"text": {"Enter": "\r", " ": " "}[key]} if key in ("Enter", " ") else {}
         self._call("Input.dispatchKeyEvent", type="keyDown", modifiers=modifiers, **named, **text)
         self._call("Input.dispatchKeyEvent", type="keyUp", modifiers=modifiers, **named)
 
     def size(self, width, height, scale=1):
-        self._call("Emulation.setDeviceMetricsOverride", width=width, height=height, deviceScaleFactor=scale, mobile=False)
+        self._call(
+            "Emulation.setDeviceMetricsOverride", width=width, height=height, deviceScaleFactor=scale, mobile=False
+        )
 
     def theme(self, name):
         self._call("Emulation.setEmulatedMedia", features=[{"name": "prefers-color-scheme", "value": name}])

@@ -2,9 +2,9 @@
 
     python3 -m tests.fuzz_server [MESSAGES [EDITS [SEED]]]
 
-Sends messages that are cut, have wrong lengths, unknown methods, parameters of any shape, or are no messages at all, and
-asks after each thousand whether the server still answers. Then changes a document many times, and prints by how many KB the
-memory of the server grew after the first tenth. Ends with 1 if it grew by more than 4 MB.
+Sends messages that are cut, have wrong lengths, unknown methods, parameters of any shape, or are no messages at all,
+and asks after each 500 whether the server still answers. Then changes a document many times, and prints by how many KB
+the memory of the server grew after the first tenth. Ends with 1 if it grew by more than 4 MB.
 """
 
 import json
@@ -15,21 +15,76 @@ import threading
 from .language_client import CAPABILITIES, Client, framed
 
 METHODS = [
-    "initialize", "initialized", "textDocument/didOpen", "textDocument/didChange", "textDocument/didClose",
-    "textDocument/didSave", "textDocument/definition", "textDocument/references", "textDocument/documentHighlight",
-    "textDocument/documentSymbol", "workspace/symbol", "textDocument/prepareRename", "textDocument/rename",
-    "textDocument/hover", "textDocument/completion", "textDocument/codeAction", "textDocument/formatting",
-    "workspace/didChangeConfiguration", "workspace/didChangeWatchedFiles", "workspace/didChangeWorkspaceFolders",
-    "$/cancelRequest", "$/setTrace", "no/such", "", "exit ", "\ud800",
+    "initialize",
+    "initialized",
+    "textDocument/didOpen",
+    "textDocument/didChange",
+    "textDocument/didClose",
+    "textDocument/didSave",
+    "textDocument/definition",
+    "textDocument/references",
+    "textDocument/documentHighlight",
+    "textDocument/documentSymbol",
+    "workspace/symbol",
+    "textDocument/prepareRename",
+    "textDocument/rename",
+    "textDocument/hover",
+    "textDocument/completion",
+    "textDocument/codeAction",
+    "textDocument/formatting",
+    "workspace/didChangeConfiguration",
+    "workspace/didChangeWatchedFiles",
+    "workspace/didChangeWorkspaceFolders",
+    "$/cancelRequest",
+    "$/setTrace",
+    "no/such",
+    "",
+    "exit ",
+    "\ud800",
 ]
 KEYS = [
-    "textDocument", "uri", "text", "version", "position", "line", "character", "contentChanges", "range", "start", "end",
-    "newName", "query", "context", "settings", "event", "added", "removed", "options", "id", "capabilities", "rootUri",
-    "initializationOptions", "workspaceFolders",
+    "textDocument",
+    "uri",
+    "text",
+    "version",
+    "position",
+    "line",
+    "character",
+    "contentChanges",
+    "range",
+    "start",
+    "end",
+    "newName",
+    "query",
+    "context",
+    "settings",
+    "event",
+    "added",
+    "removed",
+    "options",
+    "id",
+    "capabilities",
+    "rootUri",
+    "initializationOptions",
+    "workspaceFolders",
 ]
 TEXTS = [
-    "file:///tmp/none/a.ftl", "file:///tmp/none/b.ftl", "untitled:1", "file://[", "file:///%00", "a = b\n", "a = { $x }\n-t = T\n",
-    "a = { $n ->\n    [one] x\n   *[other] { -t }\n}\n", "\ud83d", "x", "", "\x00", "{" * 3000, "a = " + "{" * 2000, "\u202e", "\r",
+    "file:///tmp/none/a.ftl",
+    "file:///tmp/none/b.ftl",
+    "untitled:1",
+    "file://[",
+    "file:///%00",
+    "a = b\n",
+    "a = { $x }\n-t = T\n",
+    "a = { $n ->\n    [one] x\n   *[other] { -t }\n}\n",
+    "\ud83d",
+    "x",
+    "",
+    "\x00",
+    "{" * 3000,
+    "a = " + "{" * 2000,
+    "\u202e",
+    "\r",
 ]
 
 
@@ -52,9 +107,16 @@ def parameters(chance):
     uri, text = chance.choice(TEXTS[:4]), chance.choice(TEXTS[5:])
     place = {"line": chance.randrange(6), "character": chance.randrange(12)}
     given = {
-        "textDocument": {"uri": uri, "text": text, "version": chance.randrange(9)}, "position": place, "newName": text,
-        "range": {"start": place, "end": place}, "contentChanges": [{"text": text}], "context": {"diagnostics": []}, "query": text,
-        "settings": value(chance, 2), "capabilities": {}, "event": {"added": [], "removed": []},
+        "textDocument": {"uri": uri, "text": text, "version": chance.randrange(9)},
+        "position": place,
+        "newName": text,
+        "range": {"start": place, "end": place},
+        "contentChanges": [{"text": text}],
+        "context": {"diagnostics": []},
+        "query": text,
+        "settings": value(chance, 2),
+        "capabilities": {},
+        "event": {"added": [], "removed": []},
     }
     if chance.random() < 0.2:
         given[chance.choice(list(given))] = value(chance, 3)
@@ -79,7 +141,9 @@ def message(chance):
     if kind < 0.92:
         return framed(json.dumps(value(chance, 3)).encode())
     noise = bytes(chance.randrange(256) for _ in range(chance.randrange(60)))
-    return chance.choice([noise, framed(noise), b"Content-Length: x\r\n\r\n", b"\r\n\r\n", b"Content-Length: -5\r\n\r\n", data * 2])
+    return chance.choice(
+        [noise, framed(noise), b"Content-Length: x\r\n\r\n", b"\r\n\r\n", b"Content-Length: -5\r\n\r\n", data * 2]
+    )
 
 
 def flooded(count, seed=0):
@@ -111,7 +175,9 @@ def replies(client, id):
 
 def probe(number):
     """A request whose reply shows that the server goes on."""
-    return framed({"jsonrpc": "2.0", "id": f"probe {number}", "method": "workspace/symbol", "params": {"query": "probe"}})
+    return framed(
+        {"jsonrpc": "2.0", "id": f"probe {number}", "method": "workspace/symbol", "params": {"query": "probe"}}
+    )
 
 
 def flat(count):

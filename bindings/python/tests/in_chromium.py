@@ -13,15 +13,21 @@ from .test_playground import contrast
 
 EXAMPLES = Path(__file__).resolve().parents[3] / "examples"
 
-POLISH = (EXAMPLES / "inbox.pl.ftl").read_text(encoding="utf-8") + """
+POLISH = (
+    (EXAMPLES / "inbox.pl.ftl").read_text(encoding="utf-8")
+    + """
 settings = Ustawienia
     .tooltip = Zmień wygląd programu { -brnad }
 -brand = Kozhvadi
 """
-ENGLISH = (EXAMPLES / "inbox.ftl").read_text(encoding="utf-8") + """settings = Settings
+)
+ENGLISH = (
+    (EXAMPLES / "inbox.ftl").read_text(encoding="utf-8")
+    + """settings = Settings
     .tooltip = Change how { -brand } looks
 -brand = Kozhvadi
 """
+)
 ARABIC = """welcome = أهلًا بك، { $name }!
 unread = { $count ->
     [zero] ليس لديك رسائل غير مقروءة.
@@ -95,7 +101,9 @@ class PageTest(unittest.TestCase):
         self.assertTrue(self.browser.until(script), words or script)
 
     def texts(self, selector):
-        return self.browser.run(f"[...document.querySelectorAll({json.dumps(selector)})].map((each) => each.textContent)")
+        return self.browser.run(
+            f"[...document.querySelectorAll({json.dumps(selector)})].map((each) => each.textContent)"
+        )
 
     def picture(self, name):
         folder = os.environ.get("PICTURES")
@@ -113,13 +121,17 @@ class PageTest(unittest.TestCase):
         self.assertEqual(self.texts("#findings .severity"), ["error"])
         self.assertEqual(self.texts(".errors li"), ["Unknown term: -brnad"])
         self.browser.run("document.querySelector('#findings .fix').click()")
-        self.wait("document.querySelectorAll('u').length === 0 && document.getElementById('source').value.includes('{ -brand }')")
+        self.wait(
+            "document.querySelectorAll('u').length === 0 && document.getElementById('source').value.includes('{ -brand }')"
+        )
         self.wait("document.getElementById('summary').textContent === 'No findings'")
 
     def test_fields_of_variables(self):
         self.begin("unread = { $n ->\n    [one] One\n   *[other] { $n } of { $whole }\n}\nmore = { unread }\n")
         self.assertEqual(self.texts(".fields label"), ["$n", "$whole"] * 2)
-        self.browser.run("document.querySelector('[data-variable=n]').select(); document.querySelector('[data-variable=n]').focus()")
+        self.browser.run(
+            "document.querySelector('[data-variable=n]').select(); document.querySelector('[data-variable=n]').focus()"
+        )
         self.browser.type("1")
         self.wait("document.querySelector('.text').textContent === 'One'")
         # The field keeps the focus, and what is typed goes on.
@@ -131,9 +143,13 @@ class PageTest(unittest.TestCase):
         self.begin(POLISH, ENGLISH, "pl")
         self.wait("document.querySelectorAll('.cases dt b').length === 4")
         self.assertEqual(self.texts(".cases dt b"), ["one", "few", "many", "other"])
-        tops = self.browser.run("[...document.querySelectorAll('.cases > div')].map((each) => each.getBoundingClientRect().top)")
+        tops = self.browser.run(
+            "[...document.querySelectorAll('.cases > div')].map((each) => each.getBoundingClientRect().top)"
+        )
         self.assertEqual(len(set(tops)), 1)
-        self.browser.run("document.getElementById('locale').value = 'ar'; document.getElementById('locale').dispatchEvent(new Event('change'))")
+        self.browser.run(
+            "document.getElementById('locale').value = 'ar'; document.getElementById('locale').dispatchEvent(new Event('change'))"
+        )
         self.wait("document.querySelectorAll('.cases dt b').length === 6")
 
     def test_a_reference(self):
@@ -156,7 +172,9 @@ class PageTest(unittest.TestCase):
         self.begin(ARABIC, locale="ar")
         self.assertEqual(self.browser.run("getComputedStyle(document.querySelector('.text')).direction"), "rtl")
         self.assertEqual(self.browser.run("document.querySelector('.text').lang"), "ar")
-        inside = "const box = document.querySelector('.text').getBoundingClientRect(); const range = document.createRange();"
+        inside = (
+            "const box = document.querySelector('.text').getBoundingClientRect(); const range = document.createRange();"
+        )
         inside += "range.setStart(document.querySelector('.text').firstChild, 0); range.setEnd(document.querySelector('.text').firstChild, 1);"
         first = self.browser.run(f"(() => {{ {inside} return box.right - range.getBoundingClientRect().right; }})()")
         self.assertLess(first, 4)
@@ -166,11 +184,17 @@ class PageTest(unittest.TestCase):
 
     def test_a_link_holds_the_state(self):
         self.begin("a = é { $x }\n")
-        self.browser.run("document.querySelector('[data-variable=x]').select(); document.querySelector('[data-variable=x]').focus()")
+        self.browser.run(
+            "document.querySelector('[data-variable=x]').select(); document.querySelector('[data-variable=x]').focus()"
+        )
         self.browser.type("\U0001f44d")
         self.browser.run("document.getElementById('marks').click()")
-        self.browser.run("document.getElementById('locale').value = 'pl'; document.getElementById('locale').dispatchEvent(new Event('change'))")
-        self.wait("document.querySelector('.text').textContent.includes('\U0001f44d') && document.querySelector('.text').lang === 'pl'")
+        self.browser.run(
+            "document.getElementById('locale').value = 'pl'; document.getElementById('locale').dispatchEvent(new Event('change'))"
+        )
+        self.wait(
+            "document.querySelector('.text').textContent.includes('\U0001f44d') && document.querySelector('.text').lang === 'pl'"
+        )
         self.browser.run("keep()")
         fragment = self.browser.run("location.hash")
         self.begin("other = x\n", fragment=fragment)
@@ -183,13 +207,25 @@ class PageTest(unittest.TestCase):
     def test_bad_input_never_breaks_the_page(self):
         self.begin()
         for source in (
-            "<img src=x onerror=alert(1)> = y\na = <b>bold</b> { \"<script>\" }\n", "a = {" * 50, "{" * 3000, "a = { $x ->\n", "\u202e\u2066 = \u0000\n",
-            "a = x\n" * 400, "a = " + "x" * 20_000 + "\n", "-t = x\n", "a =\n    .b = c\n", "",
+            '<img src=x onerror=alert(1)> = y\na = <b>bold</b> { "<script>" }\n',
+            "a = {" * 50,
+            "{" * 3000,
+            "a = { $x ->\n",
+            "\u202e\u2066 = \u0000\n",
+            "a = x\n" * 400,
+            "a = " + "x" * 20_000 + "\n",
+            "-t = x\n",
+            "a =\n    .b = c\n",
+            "",
         ):
-            self.browser.run(f"document.getElementById('source').value = {json.dumps(source)}; typed(document.getElementById('source'))")
+            self.browser.run(
+                f"document.getElementById('source').value = {json.dumps(source)}; typed(document.getElementById('source'))"
+            )
             self.wait("state.shown === state.asked && document.getElementById('messages').children.length > 0")
         self.assertEqual(self.browser.run("document.querySelectorAll('img, b b, script:not([src])').length"), 0)
-        self.browser.run("document.getElementById('source').value = 'a = <b>bold</b>'; typed(document.getElementById('source'))")
+        self.browser.run(
+            "document.getElementById('source').value = 'a = <b>bold</b>'; typed(document.getElementById('source'))"
+        )
         self.wait("document.querySelector('.text')?.textContent === '<b>bold</b>'")
 
     def test_tidying(self):
@@ -207,11 +243,20 @@ class PageTest(unittest.TestCase):
             self.browser.press("Tab")
             order.append(self.browser.run(FOCUSED))
         self.assertEqual(
-            order[:11], ["skip", "locale", "marks", "theme", "share", "tidy", "source", "go", "SUMMARY", "name", "x"], order
+            order[:11],
+            ["skip", "locale", "marks", "theme", "share", "tidy", "source", "go", "SUMMARY", "name", "x"],
+            order,
         )
-        self.browser.run("document.getElementById('source').focus(); document.getElementById('source').setSelectionRange(0, 0)")
+        self.browser.run(
+            "document.getElementById('source').focus(); document.getElementById('source').setSelectionRange(0, 0)"
+        )
         self.browser.press("F8")
-        self.assertEqual(self.browser.run("getSelection().toString() || document.getElementById('source').value.slice(document.getElementById('source').selectionStart, document.getElementById('source').selectionEnd)"), "-b")
+        self.assertEqual(
+            self.browser.run(
+                "getSelection().toString() || document.getElementById('source').value.slice(document.getElementById('source').selectionStart, document.getElementById('source').selectionEnd)"
+            ),
+            "-b",
+        )
         # The focus is seen.
         self.browser.run("document.getElementById('locale').focus()")
         self.browser.press("Tab")
@@ -222,11 +267,17 @@ class PageTest(unittest.TestCase):
         self.begin(POLISH * 3 + ARABIC, ENGLISH, "pl")
         for width in (1280, 700, 400):
             self.browser.size(width, 900)
-            self.wait("Math.abs(document.querySelector('#source').scrollHeight - document.querySelector('.stack pre').offsetHeight) <= 1")
-            same = "['font', 'lineHeight', 'letterSpacing', 'padding', 'width', 'whiteSpace', 'overflowWrap', 'tabSize']"
+            self.wait(
+                "Math.abs(document.querySelector('#source').scrollHeight - document.querySelector('.stack pre').offsetHeight) <= 1"
+            )
+            same = (
+                "['font', 'lineHeight', 'letterSpacing', 'padding', 'width', 'whiteSpace', 'overflowWrap', 'tabSize']"
+            )
             differ = f"{same}.filter((name) => getComputedStyle($('source'))[name] !== getComputedStyle(document.querySelector('.stack pre'))[name])"
             self.assertEqual(self.browser.run(differ), [])
-            lines = self.browser.run("document.querySelector('.lines').offsetHeight - document.querySelector('.stack pre').offsetHeight")
+            lines = self.browser.run(
+                "document.querySelector('.lines').offsetHeight - document.querySelector('.stack pre').offsetHeight"
+            )
             self.assertLess(abs(lines), 2, width)
 
     def test_four_hundred_pixels(self):
@@ -253,7 +304,9 @@ class PageTest(unittest.TestCase):
 
     def test_pictures(self):
         self.begin(POLISH, ENGLISH, "pl")
-        self.browser.run("document.getElementById('source').focus(); document.getElementById('source').setSelectionRange(40, 40)")
+        self.browser.run(
+            "document.getElementById('source').focus(); document.getElementById('source').setSelectionRange(40, 40)"
+        )
         self.wait("document.querySelector('.message.current')")
         self.browser.size(1280, 800)
         self.picture("playground.png")

@@ -48,10 +48,33 @@ class NeovimTest(unittest.TestCase):
             guide.write_text(lines_of_the_guide(), encoding="utf-8")
             set_up = f"lua FOLDER, GUIDE, OUT = [[{folder}]], [[{guide}]], [[{out}]]"
             home = {"PYTHONPATH": str(HERE.parent), "PATH": f"{Path(sys.executable).parent}:{os.environ['PATH']}"}
-            home |= {"HOME": made, "XDG_CONFIG_HOME": made, "XDG_DATA_HOME": made, "XDG_STATE_HOME": made, "XDG_CACHE_HOME": made}
-            words = ["nvim", "--headless", "-u", "NONE", "-i", "NONE", "-n", "-c", set_up, "-c", f"luafile {HERE / 'in_neovim.lua'}"]
+            home |= {
+                "HOME": made,
+                "XDG_CONFIG_HOME": made,
+                "XDG_DATA_HOME": made,
+                "XDG_STATE_HOME": made,
+                "XDG_CACHE_HOME": made,
+            }
+            words = [
+                "nvim",
+                "--headless",
+                "-u",
+                "NONE",
+                "-i",
+                "NONE",
+                "-n",
+                "-c",
+                set_up,
+                "-c",
+                f"luafile {HERE / 'in_neovim.lua'}",
+            ]
             ran = subprocess.run(
-                [*words, "-c", "qa!"], env={**os.environ, **home}, capture_output=True, text=True, timeout=300, check=False
+                [*words, "-c", "qa!"],
+                env={**os.environ, **home},
+                capture_output=True,
+                text=True,
+                timeout=300,
+                check=False,
             )
             told = dict(map(json.loads, out.read_text(encoding="utf-8").splitlines())) if out.exists() else {}
             self.assertIn("stopped", told, ran.stderr)
@@ -70,8 +93,14 @@ class NeovimTest(unittest.TestCase):
         )
         self.assertEqual(told["action"], "Add the variant `[many]`")
         mended = [
-            "# Zażółć \U0001f44d", "greeting = \U0001f44d Witaj w { -brand }, { $name }.", "unread = { $count ->", "    [one] Jedna.",
-            "    [few] { $count } nie.", "    [many] { $count } inne.", "   *[other] { $count } inne.", "}",
+            "# Zażółć \U0001f44d",
+            "greeting = \U0001f44d Witaj w { -brand }, { $name }.",
+            "unread = { $count ->",
+            "    [one] Jedna.",
+            "    [few] { $count } nie.",
+            "    [many] { $count } inne.",
+            "   *[other] { $count } inne.",
+            "}",
         ]
         self.assertEqual(told["mended"], mended)
         self.assertEqual(told["formatted"][-1], "last = { $x }")

@@ -13,7 +13,7 @@ CAPABILITIES = {
         "documentSymbol": {"hierarchicalDocumentSymbolSupport": True},
         "completion": {"completionItem": {"snippetSupport": True}},
         "hover": {"contentFormat": ["markdown", "plaintext"]},
-    },
+    }
 }
 
 
@@ -28,7 +28,11 @@ class Client:
 
     def __init__(self, log=subprocess.DEVNULL, patience=300):
         self.process = subprocess.Popen(
-            [sys.executable, "-m", "kozhvadi.server"], stdin=subprocess.PIPE, stdout=subprocess.PIPE, stderr=log, cwd=FOLDER
+            [sys.executable, "-m", "kozhvadi.server"],
+            stdin=subprocess.PIPE,
+            stdout=subprocess.PIPE,
+            stderr=log,
+            cwd=FOLDER,
         )
         self.told, self._number = [], 0
         self._watch = threading.Timer(patience, self.process.kill)
@@ -84,7 +88,9 @@ class Client:
     def start(self, root=None, **settings):
         capabilities = settings.pop("capabilities", CAPABILITIES)
         uri = Path(root).as_uri() if root else None
-        result = self.ask("initialize", processId=None, capabilities=capabilities, rootUri=uri, initializationOptions=settings)
+        result = self.ask(
+            "initialize", processId=None, capabilities=capabilities, rootUri=uri, initializationOptions=settings
+        )
         self.tell("initialized")
         return result
 
@@ -96,7 +102,9 @@ class Client:
         return uri
 
     def change(self, uri, text, version=2):
-        self.tell("textDocument/didChange", textDocument={"uri": uri, "version": version}, contentChanges=[{"text": text}])
+        self.tell(
+            "textDocument/didChange", textDocument={"uri": uri, "version": version}, contentChanges=[{"text": text}]
+        )
 
     def diagnostics(self, uri, version=None):
         """What is found in a document, once the server has sent it."""

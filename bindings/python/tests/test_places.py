@@ -39,7 +39,9 @@ class Written:
         return self.chance.choice(["", " ", "  ", f" {self.end} ", f"{self.end}", f"{self.end}{self.end}   "])
 
     def text(self):
-        return self.chance.choice(["word", "é ü", "日本", "\U0001f44d", "a.b = c", "# no", "[x", "-t", "$v", "*", '"q', "->", "x, y"])
+        return self.chance.choice(
+            ["word", "é ü", "日本", "\U0001f44d", "a.b = c", "# no", "[x", "-t", "$v", "*", '"q', "->", "x, y"]
+        )
 
     def string(self):
         return self.chance.choice(['""', '"a { b } c"', '"\\" }"', '"\\\\"', '"\\u00e9"', '"# $x -t"'])
@@ -48,12 +50,16 @@ class Written:
         return self.chance.choice([self.string(), "1", "-2.50"])
 
     def arguments(self, depth):
-        named = [f"k{number}{self.chance.choice([':', ' : '])}{self.literal()}" for number in range(self.chance.randrange(3))]
+        named = [
+            f"k{number}{self.chance.choice([':', ' : '])}{self.literal()}" for number in range(self.chance.randrange(3))
+        ]
         plain = [self.inline(depth - 1) for _ in range(self.chance.randrange(3))]
         return self.blank() + "(" + self.blank() + f",{self.blank()} ".join([*plain, *named]) + self.blank() + ")"
 
     def inline(self, depth):
-        kinds = ["string", "number", "variable", "message", "attribute", "term"] + (["call", "called", "nested"] if depth > 0 else [])
+        kinds = ["string", "number", "variable", "message", "attribute", "term"] + (
+            ["call", "called", "nested"] if depth > 0 else []
+        )
         kind = self.chance.choice(kinds)
         return {
             "string": self.string,
@@ -68,10 +74,15 @@ class Written:
         }[kind]()
 
     def selector(self, depth):
-        return self.chance.choice([
-            lambda: f"${self.name()}", lambda: f"-{self.name()}.{self.name()}", lambda: f"{self.name()}.{self.name()}",
-            lambda: "F" + self.arguments(depth), self.string,
-        ])()
+        return self.chance.choice(
+            [
+                lambda: f"${self.name()}",
+                lambda: f"-{self.name()}.{self.name()}",
+                lambda: f"{self.name()}.{self.name()}",
+                lambda: "F" + self.arguments(depth),
+                self.string,
+            ]
+        )()
 
     def placeable(self, depth):
         if depth > 0 and self.chance.random() < 0.3:
@@ -79,13 +90,18 @@ class Written:
         return "{" + self.blank() + self.inline(depth) + self.blank() + "}"
 
     def select(self, depth):
-        variants = [f"[{self.chance.choice(['', ' '])}{key}{self.chance.choice(['', ' '])}]" for key in ("one", "2", "few")]
+        variants = [
+            f"[{self.chance.choice(['', ' '])}{key}{self.chance.choice(['', ' '])}]" for key in ("one", "2", "few")
+        ]
         keys = [*variants[: self.chance.randrange(3)], "*[other]"]
         body = "".join(f"{self.end}  {key} {self.pattern(depth - 1)}" for key in keys)
         return "{" + self.blank() + self.selector(depth) + f" ->{body}{self.end}  }}"
 
     def pattern(self, depth):
-        pieces = [self.placeable(depth) if self.chance.random() < 0.5 else self.text() for _ in range(self.chance.randrange(1, 4))]
+        pieces = [
+            self.placeable(depth) if self.chance.random() < 0.5 else self.text()
+            for _ in range(self.chance.randrange(1, 4))
+        ]
         if pieces[0][0] in "#[*.":
             pieces.insert(0, "x")
         lines = f"{self.end}    y " if self.chance.random() < 0.2 else " "
@@ -95,7 +111,8 @@ class Written:
         head = self.chance.choice(["", "-"]) + f"e{number}"
         lead = self.chance.choice(["", f"{self.end}    "])
         attributes = "".join(
-            f"{self.end}{' ' * self.chance.randrange(1, 5)}.at{index} = {self.pattern(2)}" for index in range(self.chance.randrange(3))
+            f"{self.end}{' ' * self.chance.randrange(1, 5)}.at{index} = {self.pattern(2)}"
+            for index in range(self.chance.randrange(3))
         )
         comment = self.chance.choice(["", f"# {self.text()} {{ $x }}{self.end}", f"## Group{self.end}{self.end}"])
         blanks = self.end * self.chance.randrange(1, 3)
@@ -130,7 +147,8 @@ class PlacesTest(unittest.TestCase):
             for entry in places.entries
             for part in entry.parts
             for each in part.references
-            if each.symbol.kind in ("message", "term") or (each.symbol.kind == "function" and each.symbol.name != "NUMBER")
+            if each.symbol.kind in ("message", "term")
+            or (each.symbol.kind == "function" and each.symbol.name != "NUMBER")
         }
         names = {each.symbol.name for entry in places.entries for part in entry.parts for each in part.references}
         if not any(set(name) == {"Z"} for name in names):
@@ -159,9 +177,11 @@ class PlacesTest(unittest.TestCase):
                 self.assertEqual((near.symbol.kind, near.start), ("message", offset))
         own = {
             each.symbol.name
-            for entry in places.entries if not entry.is_term
+            for entry in places.entries
+            if not entry.is_term
             for part in entry.parts
-            for each in part.references if each.symbol.kind == "variable"
+            for each in part.references
+            if each.symbol.kind == "variable"
         }
         told_names = {text.partition("`$")[2].partition("`")[0] for _, text in told}
         self.assertLessEqual(own, told_names, source)
@@ -193,7 +213,11 @@ class PlacesTest(unittest.TestCase):
             chance = random.Random(seed)
             source = Written(seed).source().encode()
             cut = chance.randrange(len(source) + 1)
-            damaged = source[:cut] + chance.choice([b"", b"{", b"}", b"\"", b"\n", b"[", b"\xff"]) + source[cut + chance.randrange(4) :]
+            damaged = (
+                source[:cut]
+                + chance.choice([b"", b"{", b"}", b'"', b"\n", b"[", b"\xff"])
+                + source[cut + chance.randrange(4) :]
+            )
             places = Places(damaged)
             ends = [entry.end for entry in places.entries]
             starts = [entry.start for entry in places.entries]
@@ -222,10 +246,21 @@ class PlacesTest(unittest.TestCase):
 
     def test_what_is_open(self):
         for source, kind in [
-            ("", ""), ("a", ""), ("a = ", "text"), ("a = x\n", ""), ("a = {", "placeable"), ("a = { ", "placeable"),
-            ("a = { $n ->\n", "select"), ("a = { $n ->\n  [one] ", "variant"), ("a = { NUMBER($n, ", "call"),
-            ("a = { $n ->\n  [one] x\n  }\n", ""), ("a = { b }", "text"), ("a = {\n", "placeable"), ('a = { "}', "placeable"),
-            ("a = { b }\n    .c = {", "placeable"), ("a = {\nb = {(", "placeable"),
+            ("", ""),
+            ("a", ""),
+            ("a = ", "text"),
+            ("a = x\n", ""),
+            ("a = {", "placeable"),
+            ("a = { ", "placeable"),
+            ("a = { $n ->\n", "select"),
+            ("a = { $n ->\n  [one] ", "variant"),
+            ("a = { NUMBER($n, ", "call"),
+            ("a = { $n ->\n  [one] x\n  }\n", ""),
+            ("a = { b }", "text"),
+            ("a = {\n", "placeable"),
+            ('a = { "}', "placeable"),
+            ("a = { b }\n    .c = {", "placeable"),
+            ("a = {\nb = {(", "placeable"),
         ]:
             self.assertEqual(inside(source.encode(), len(source)).kind, kind, source)
         self.assertEqual(inside(b"a = { -t(", 9).callee, Symbol("term", "t"))
@@ -237,8 +272,17 @@ class PositionsTest(unittest.TestCase):
         source = "a = é\U0001f44d{ x }\r\nb\rc\n\nd".encode()
         lines = Lines(source)
         for offset, position in [
-            (0, (0, 0)), (4, (0, 4)), (6, (0, 5)), (10, (0, 7)), (11, (0, 8)), (17, (1, 0)), (19, (2, 0)), (21, (3, 0)), (22, (4, 0)),
-            (23, (4, 1)), (99, (4, 1)),
+            (0, (0, 0)),
+            (4, (0, 4)),
+            (6, (0, 5)),
+            (10, (0, 7)),
+            (11, (0, 8)),
+            (17, (1, 0)),
+            (19, (2, 0)),
+            (21, (3, 0)),
+            (22, (4, 0)),
+            (23, (4, 1)),
+            (99, (4, 1)),
         ]:
             self.assertEqual(lines.position(offset), position, offset)
             if offset <= len(source):
@@ -254,7 +298,10 @@ class PositionsTest(unittest.TestCase):
             lines, units = Lines(text.encode()), 0
             for index in range(len(text)):
                 offset = len(text[:index].encode())
-                self.assertEqual(lines.offset(*lines.position(offset)), offset if text[index - 1 : index + 1] != "\r\n" else offset - 1)
+                self.assertEqual(
+                    lines.offset(*lines.position(offset)),
+                    offset if text[index - 1 : index + 1] != "\r\n" else offset - 1,
+                )
                 units += utf16_length(text[index])
             self.assertEqual(units, utf16_length(text))
 
@@ -266,7 +313,9 @@ class FixesTest(unittest.TestCase):
             places, compared = Places(source.encode()), Places(reference.encode())
             found = lint({"a": source}, reference={"b": reference} if reference else {}, locale=locale).findings
             mended = [
-                fix for each in found if each.file == "a"
+                fix
+                for each in found
+                if each.file == "a"
                 for fix in fixes(each, places, Catalog([places]), Catalog([compared]))[:1]
             ]
             if not mended:
@@ -279,7 +328,9 @@ class FixesTest(unittest.TestCase):
         self.assertEqual(self.fixed("-brand = B\na = é { -brnad }\n"), "-brand = B\na = é { -brand }\n")
         self.assertEqual(self.fixed("save = S\na = { svae } { NUMBR(1) }\n"), "save = S\na = { save } { NUMBER(1) }\n")
         self.assertEqual(self.fixed("a = { $nmae }\n", "a = { $name }\n"), "a = { $name }\n")
-        self.assertEqual(self.fixed("b = x\n    .title = y\na = { b.titel }\n"), "b = x\n    .title = y\na = { b.title }\n")
+        self.assertEqual(
+            self.fixed("b = x\n    .title = y\na = { b.titel }\n"), "b = x\n    .title = y\na = { b.title }\n"
+        )
         self.assertEqual(self.fixed("a = { -quite-another }\n"), "a = { -quite-another }\n")
 
     def test_missing_categories(self):
@@ -299,8 +350,14 @@ class SamplesTest(unittest.TestCase):
     def test_categories(self):
         # By the plural rules of Unicode CLDR 48.
         for locale, names in [
-            ("en", "one other"), ("ja", "other"), ("pl", "one few many other"), ("ar", "zero one two few many other"),
-            ("cs", "one few many other"), ("lv", "zero one other"), ("he", "one two other"), ("xx", "other"),
+            ("en", "one other"),
+            ("ja", "other"),
+            ("pl", "one few many other"),
+            ("ar", "zero one two few many other"),
+            ("cs", "one few many other"),
+            ("lv", "zero one other"),
+            ("he", "one two other"),
+            ("xx", "other"),
         ]:
             self.assertEqual(list(categories(locale)), names.split())
         self.assertEqual(list(categories("en", True)), ["one", "two", "few", "other"])
@@ -308,7 +365,10 @@ class SamplesTest(unittest.TestCase):
     def test_variables_of_messages_and_those_that_they_refer_to(self):
         source = b"a = { b } { -t } { $x }\nb = { NUMBER($n) } { c.d }\n-t = { $no }\nc = { $no }\n    .d = { $y ->\n   *[k] { a }\n }\n"
         found = Catalog([Places(source)]).variables("a", None)
-        self.assertEqual([(each.name, each.is_numeric, each.keys) for each in found], [("x", False, []), ("n", True, []), ("y", False, ["k"])])
+        self.assertEqual(
+            [(each.name, each.is_numeric, each.keys) for each in found],
+            [("x", False, []), ("n", True, []), ("y", False, ["k"])],
+        )
 
 
 if __name__ == "__main__":

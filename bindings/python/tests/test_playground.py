@@ -49,7 +49,12 @@ class ServedTest(unittest.TestCase):
         return status, json.loads(body) if status == 200 else body
 
     def test_the_pages(self):
-        for path, kind in [("/", "text/html"), ("/page.css", "text/css"), ("/page.js", "text/javascript"), ("/start", "application/json")]:
+        for path, kind in [
+            ("/", "text/html"),
+            ("/page.css", "text/css"),
+            ("/page.js", "text/javascript"),
+            ("/start", "application/json"),
+        ]:
             status, headers, body = self.ask("GET", path)
             self.assertEqual(status, 200)
             self.assertTrue(headers["Content-Type"].startswith(kind))
@@ -62,7 +67,15 @@ class ServedTest(unittest.TestCase):
     def test_it_serves_this_machine_alone(self):
         self.assertEqual(self.server.server_address[0], "127.0.0.1")
         port = self.server.server_port
-        for host in ("example.org", f"example.org:{port}", "127.0.0.1", f"127.0.0.1:{port + 1}", "", None, f"localhost:{port}.example.org"):
+        for host in (
+            "example.org",
+            f"example.org:{port}",
+            "127.0.0.1",
+            f"127.0.0.1:{port + 1}",
+            "",
+            None,
+            f"localhost:{port}.example.org",
+        ):
             self.assertEqual(self.ask("GET", "/", Host=host)[0], 421, host)
         self.assertEqual(self.ask("GET", "/", Host=f"localhost:{port}")[0], 200)
 
@@ -70,17 +83,35 @@ class ServedTest(unittest.TestCase):
         body = b'{"source": "a = b"}'
         port = self.server.server_port
         for headers, status in [
-            ({"Origin": "http://example.org"}, 403), ({"Origin": "null"}, 403), ({"Origin": f"https://127.0.0.1:{port}"}, 403),
-            ({"Sec_Fetch_Site": "cross-site"}, 403), ({"Sec_Fetch_Site": "same-site"}, 403), ({"Content_Type": "text/plain"}, 415),
-            ({"Content_Type": "application/x-www-form-urlencoded"}, 415), ({"Origin": f"http://127.0.0.1:{port}"}, 200),
-            ({"Sec_Fetch_Site": "same-origin"}, 200), ({}, 200),
+            ({"Origin": "http://example.org"}, 403),
+            ({"Origin": "null"}, 403),
+            ({"Origin": f"https://127.0.0.1:{port}"}, 403),
+            ({"Sec_Fetch_Site": "cross-site"}, 403),
+            ({"Sec_Fetch_Site": "same-site"}, 403),
+            ({"Content_Type": "text/plain"}, 415),
+            ({"Content_Type": "application/x-www-form-urlencoded"}, 415),
+            ({"Origin": f"http://127.0.0.1:{port}"}, 200),
+            ({"Sec_Fetch_Site": "same-origin"}, 200),
+            ({}, 200),
         ]:
-            self.assertEqual(self.ask("POST", "/look", body, **{k.replace("_", "-"): v for k, v in headers.items()})[0], status, headers)
+            self.assertEqual(
+                self.ask("POST", "/look", body, **{k.replace("_", "-"): v for k, v in headers.items()})[0],
+                status,
+                headers,
+            )
 
     def test_no_other_file_is_read(self):
         for path in (
-            "/../../setup.py", "/%2e%2e/_looking.py", "/_looking.py", "/__main__.py", "/page.html", "//etc/passwd", "/page.css/..", "/look",
-            "/etc/passwd", "file:///etc/passwd",
+            "/../../setup.py",
+            "/%2e%2e/_looking.py",
+            "/_looking.py",
+            "/__main__.py",
+            "/page.html",
+            "//etc/passwd",
+            "/page.css/..",
+            "/look",
+            "/etc/passwd",
+            "file:///etc/passwd",
         ):
             self.assertEqual(self.ask("GET", path)[0], 404, path)
         for path in ("/", "/page.js", "/start", "/nothing"):
@@ -89,13 +120,26 @@ class ServedTest(unittest.TestCase):
 
     def test_bad_requests(self):
         for body, status in [
-            (b"", 400), (b"{", 400), (b"[]", 400), (b"\xff", 400), (b"[" * 100_000, 400), (b'{"source": 1}', 400),
-            (b'{"source": "a", "locale": {}}', 400), (b'{"arguments": 3}', 200), (b"{}", 200), (b'{"source": "\\ud800 = x"}', 200),
+            (b"", 400),
+            (b"{", 400),
+            (b"[]", 400),
+            (b"\xff", 400),
+            (b"[" * 100_000, 400),
+            (b'{"source": 1}', 400),
+            (b'{"source": "a", "locale": {}}', 400),
+            (b'{"arguments": 3}', 200),
+            (b"{}", 200),
+            (b'{"source": "\\ud800 = x"}', 200),
         ]:
             self.assertEqual(self.ask("POST", "/look", body)[0], status, body[:40])
         self.assertEqual(self.ask("POST", "/look", b"", **{"Content-Length": "99999999999999"})[0], 413)
         for length in ("", "-1", "x", "1e3", "\u0663"):
-            self.assertEqual(self.ask("POST", "/look", b"", **{"Content-Length": length.encode("latin-1", "replace").decode("latin-1")})[0], 411)
+            self.assertEqual(
+                self.ask(
+                    "POST", "/look", b"", **{"Content-Length": length.encode("latin-1", "replace").decode("latin-1")}
+                )[0],
+                411,
+            )
 
     def test_tidying(self):
         status, _, body = self.ask("POST", "/tidy", b'{"source": "a   =   {$x}"}')
@@ -105,12 +149,36 @@ class ServedTest(unittest.TestCase):
 
     def test_whatever_is_typed_there_is_an_answer(self):
         chance = random.Random(3)
-        pieces = ["a", " = ", "b { ", "}", "$x", "-t", "\n", "    .at = ", "[one]", "*[other]", " ->", '"', "\\", "é\U0001f44d", "\r\n", "{" * 2000, "\0", "\u202e"]
+        pieces = [
+            "a",
+            " = ",
+            "b { ",
+            "}",
+            "$x",
+            "-t",
+            "\n",
+            "    .at = ",
+            "[one]",
+            "*[other]",
+            " ->",
+            '"',
+            "\\",
+            "é\U0001f44d",
+            "\r\n",
+            "{" * 2000,
+            "\0",
+            "\u202e",
+        ]
         for number in range(150):
             source = "".join(chance.choice(pieces) for _ in range(chance.randrange(40)))
             reference = "".join(chance.choice(pieces) for _ in range(chance.randrange(9)))
             locale = chance.choice(["en", "pl", "xx", "", "\ud800", "x" * 5000, "ar"])
-            status, told = self.look(source=source, reference=reference, locale=locale, arguments={"x": chance.choice(["", "1", "1e9", "-", "9" * 400])})
+            status, told = self.look(
+                source=source,
+                reference=reference,
+                locale=locale,
+                arguments={"x": chance.choice(["", "1", "1e9", "-", "9" * 400])},
+            )
             self.assertEqual(status, 200, told)
             units = len(source.encode("utf-16-le")) // 2
             for each in told["findings"]:
@@ -132,7 +200,12 @@ class LookedAtTest(unittest.TestCase):
         self.assertEqual(unread["parts"][0]["text"], "\u20682\u2069 few")
         self.assertEqual(
             [(case["label"], case["value"], case["text"]) for case in unread["parts"][0]["cases"]],
-            [("one", "1", "one"), ("few", "2", "\u20682\u2069 few"), ("many", "5", "\u20685\u2069 other"), ("other", "1.5", "\u20681.5\u2069 other")],
+            [
+                ("one", "1", "one"),
+                ("few", "2", "\u20682\u2069 few"),
+                ("many", "5", "\u20685\u2069 other"),
+                ("other", "1.5", "\u20681.5\u2069 other"),
+            ],
         )
         self.assertEqual((broken["read"], broken["parts"]), (False, []))
         self.assertEqual(wrong["parts"][0]["errors"], ["Unknown message: no"])
@@ -141,8 +214,19 @@ class LookedAtTest(unittest.TestCase):
 
     def test_a_reference(self):
         told = looked_at("\U0001f44d\na = { $nmae }\n", "a = { $name }\nb = B\n", "de", {})
-        found = [(each["file"], each["code"], each["start"], each["end"]) for each in told["findings"] if each["severity"] != "note"]
-        self.assertEqual(found, [("source", "syntax", 0, 2), ("source", "unknown-variable", 9, 14), ("reference", "missing-message", 14, 15)])
+        found = [
+            (each["file"], each["code"], each["start"], each["end"])
+            for each in told["findings"]
+            if each["severity"] != "note"
+        ]
+        self.assertEqual(
+            found,
+            [
+                ("source", "syntax", 0, 2),
+                ("source", "unknown-variable", 9, 14),
+                ("reference", "missing-message", 14, 15),
+            ],
+        )
         fixes = [fix for each in told["findings"] for fix in each["fixes"]]
         self.assertEqual(fixes, [{"title": "Change to `$name`", "start": 9, "end": 14, "text": "$name"}])
 
@@ -158,8 +242,19 @@ class LookedAtTest(unittest.TestCase):
         with tempfile.TemporaryDirectory() as made:
             bad = Path(made, "bad.ftl")
             bad.write_bytes(b"\xff")
-            for words, told in [([made + "/none.ftl"], "No such file"), ([str(bad)], "isn't UTF-8"), (["--port", "99999"], "port"), (["--locale", "xx"], "no plural rules")]:
-                ran = subprocess.run([sys.executable, "-m", "kozhvadi.playground", *words], cwd=FOLDER, capture_output=True, text=True, check=False)
+            for words, told in [
+                ([made + "/none.ftl"], "No such file"),
+                ([str(bad)], "isn't UTF-8"),
+                (["--port", "99999"], "port"),
+                (["--locale", "xx"], "no plural rules"),
+            ]:
+                ran = subprocess.run(
+                    [sys.executable, "-m", "kozhvadi.playground", *words],
+                    cwd=FOLDER,
+                    capture_output=True,
+                    text=True,
+                    check=False,
+                )
                 self.assertNotEqual(ran.returncode, 0)
                 self.assertIn(told, ran.stderr)
                 self.assertNotIn("Traceback", ran.stderr)
@@ -198,8 +293,13 @@ class Fields(HTMLParser):
 def themes():
     """The colours of each theme, by their names."""
     style = (PAGES / "page.css").read_text(encoding="utf-8")
-    light, dark = (re.search(pattern + r" \{(.*?)\}", style, re.DOTALL)[1] for pattern in (":root", r':root\[data-theme="dark"\]'))
-    return {name: dict(re.findall(r"--([\w-]+): (#[0-9a-f]{6});", text)) for name, text in (("light", light), ("dark", dark))}
+    light, dark = (
+        re.search(pattern + r" \{(.*?)\}", style, re.DOTALL)[1] for pattern in (":root", r':root\[data-theme="dark"\]')
+    )
+    return {
+        name: dict(re.findall(r"--([\w-]+): (#[0-9a-f]{6});", text))
+        for name, text in (("light", light), ("dark", dark))
+    }
 
 
 def luminance(colour):
@@ -222,16 +322,29 @@ class AccessTest(unittest.TestCase):
         page.feed((PAGES / "page.html").read_text(encoding="utf-8"))
         self.assertEqual(len(page.ids), len(set(page.ids)))
         for tag, given, is_in_label in page.fields:
-            labelled = given.get("id") in page.labels or is_in_label or given.get("aria-label") or page.names.get(given.get("id"))
+            labelled = (
+                given.get("id") in page.labels
+                or is_in_label
+                or given.get("aria-label")
+                or page.names.get(given.get("id"))
+            )
             self.assertTrue(labelled, (tag, given))
             self.assertNotIn("tabindex", given)
 
     def test_contrast(self):
         texts = [
-            ("ink", "page panel raised accent-wash"), ("quiet", "page panel raised accent-wash"), ("accent", "panel page"),
-            ("on-accent", "accent"), ("error", "panel raised error-wash accent-wash"), ("warning", "panel raised"), ("note", "panel raised note-wash"),
-            ("comment", "raised"), ("id", "panel raised error-wash warning-wash"), ("variable", "panel raised error-wash warning-wash"),
-            ("string", "raised error-wash warning-wash"), ("key", "panel raised accent-wash error-wash warning-wash"),
+            ("ink", "page panel raised accent-wash"),
+            ("quiet", "page panel raised accent-wash"),
+            ("accent", "panel page"),
+            ("on-accent", "accent"),
+            ("error", "panel raised error-wash accent-wash"),
+            ("warning", "panel raised"),
+            ("note", "panel raised note-wash"),
+            ("comment", "raised"),
+            ("id", "panel raised error-wash warning-wash"),
+            ("variable", "panel raised error-wash warning-wash"),
+            ("string", "raised error-wash warning-wash"),
+            ("key", "panel raised accent-wash error-wash warning-wash"),
             ("brace", "raised error-wash warning-wash"),
         ]
         for name, colours in themes().items():
@@ -240,7 +353,13 @@ class AccessTest(unittest.TestCase):
                 for ground in grounds.split():
                     self.assertGreaterEqual(contrast(colours[text], colours[ground]), 4.5, (name, text, ground))
             # The edges of fields, and what shows the focus.
-            for line, ground in [("edge", "panel"), ("edge", "page"), ("accent", "panel"), ("accent", "page"), ("accent", "raised")]:
+            for line, ground in [
+                ("edge", "panel"),
+                ("edge", "page"),
+                ("accent", "panel"),
+                ("accent", "page"),
+                ("accent", "raised"),
+            ]:
                 self.assertGreaterEqual(contrast(colours[line], colours[ground]), 3, (name, line, ground))
 
     def test_the_script_writes_no_html(self):

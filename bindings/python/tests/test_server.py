@@ -22,15 +22,32 @@ class LifeTest(unittest.TestCase):
             self.assertEqual(client.ask("initialize", capabilities={})["code"], -32600)
             self.assertEqual(client.ask("no/such")["code"], -32601)
             self.assertEqual(client.ask("$/no/such")["code"], -32601)
-            for wrong in ({}, {"textDocument": 1}, {"textDocument": {"uri": 2}}, {"textDocument": {"uri": "file:///a"}, "position": []}):
+            for wrong in (
+                {},
+                {"textDocument": 1},
+                {"textDocument": {"uri": 2}},
+                {"textDocument": {"uri": "file:///a"}, "position": []},
+            ):
                 reply = client.ask("textDocument/hover", **wrong)
                 self.assertTrue(reply is None or reply["code"] == -32602, wrong)
             uri = client.open("file:///a.ftl", "a = b\n")
-            for wrong in ({"line": -1, "character": 0}, {"line": 0.5, "character": 0}, {"line": True, "character": 0}, {"line": 0}, None):
-                self.assertEqual(client.ask("textDocument/hover", textDocument={"uri": uri}, position=wrong)["code"], -32602)
+            for wrong in (
+                {"line": -1, "character": 0},
+                {"line": 0.5, "character": 0},
+                {"line": True, "character": 0},
+                {"line": 0},
+                None,
+            ):
+                self.assertEqual(
+                    client.ask("textDocument/hover", textDocument={"uri": uri}, position=wrong)["code"], -32602
+                )
             client.tell("no/such")
-            client.tell("textDocument/didChange", textDocument={"uri": uri}, contentChanges=[{"range": {}, "text": "x"}])
-            client.tell("textDocument/didChange", textDocument={"uri": "file:///not-open.ftl"}, contentChanges=[{"text": "x"}])
+            client.tell(
+                "textDocument/didChange", textDocument={"uri": uri}, contentChanges=[{"range": {}, "text": "x"}]
+            )
+            client.tell(
+                "textDocument/didChange", textDocument={"uri": "file:///not-open.ftl"}, contentChanges=[{"text": "x"}]
+            )
             self.assertIsNone(client.ask("shutdown"))
             self.assertEqual(client.ask("textDocument/hover")["code"], -32600)
             self.assertEqual(client.ask("shutdown")["code"], -32600)
@@ -50,13 +67,25 @@ class LifeTest(unittest.TestCase):
     def test_what_is_no_message_gets_an_error(self):
         with Client() as client:
             for data, code in [
-                (framed(b"{"), -32700), (framed(b"\xff"), -32700), (framed(b"[" * 100_000), -32700), (framed([]), -32600),
-                (framed(None), -32600), (framed({}), -32600), (framed({"id": 1}), -32600), (framed({"id": 1, "method": 2}), -32600),
-                (framed({"id": None, "method": "x"}), -32600), (framed({"id": {}, "method": "x"}), -32600),
-                (framed({"id": True, "method": "x"}), -32600), (framed(b""), -32700),
-                (b"garbage\r\n" + framed(b"1"), -32700), (b"Content-Length: 99999999999\r\n\r\n", -32700),
-                (b"Content-Length: 500\r\n\r\n{\"cut\": 1" + framed(b"2"), -32700), (b"Content-Length: 8\r\n\r\n{}", -32700),
-                (b"Content-Length: 19\r\n\r\n{}", -32700), (b"Content-Length: 5\r\n", -32700), (b"Content-Length: 1", -32700),
+                (framed(b"{"), -32700),
+                (framed(b"\xff"), -32700),
+                (framed(b"[" * 100_000), -32700),
+                (framed([]), -32600),
+                (framed(None), -32600),
+                (framed({}), -32600),
+                (framed({"id": 1}), -32600),
+                (framed({"id": 1, "method": 2}), -32600),
+                (framed({"id": None, "method": "x"}), -32600),
+                (framed({"id": {}, "method": "x"}), -32600),
+                (framed({"id": True, "method": "x"}), -32600),
+                (framed(b""), -32700),
+                (b"garbage\r\n" + framed(b"1"), -32700),
+                (b"Content-Length: 99999999999\r\n\r\n", -32700),
+                (b'Content-Length: 500\r\n\r\n{"cut": 1' + framed(b"2"), -32700),
+                (b"Content-Length: 8\r\n\r\n{}", -32700),
+                (b"Content-Length: 19\r\n\r\n{}", -32700),
+                (b"Content-Length: 5\r\n", -32700),
+                (b"Content-Length: 1", -32700),
                 (b"Content-Length: 7\r\n\r\n" + framed({}), -32700),
             ]:
                 # The next request shows the server that the one before it is cut.
@@ -65,7 +94,10 @@ class LifeTest(unittest.TestCase):
                 self.assertEqual(client.read()["error"]["code"], code, data[:40])
                 self.assertEqual(client.reply("next")["error"]["code"], -32002, data[:40])
             client.told.clear()
-            client.send(b"content-type: x\r\nCONTENT-LENGTH:  44 \r\nX-Other: y\r\n\r\n" + b'{"id":"seven","method":"initialize"}'.ljust(44))
+            client.send(
+                b"content-type: x\r\nCONTENT-LENGTH:  44 \r\nX-Other: y\r\n\r\n"
+                + b'{"id":"seven","method":"initialize"}'.ljust(44)
+            )
             self.assertEqual(client.read()["id"], "seven")
 
     def test_a_request_that_is_cancelled(self):
@@ -74,7 +106,11 @@ class LifeTest(unittest.TestCase):
             uri = client.open("file:///a.ftl", "a = { -b }\n" * 20_000)
             slow = {"jsonrpc": "2.0", "id": "slow", "method": "textDocument/codeAction"}
             place = {"line": 0, "character": 0}
-            slow["params"] = {"textDocument": {"uri": uri}, "range": {"start": place, "end": place}, "context": {"diagnostics": []}}
+            slow["params"] = {
+                "textDocument": {"uri": uri},
+                "range": {"start": place, "end": place},
+                "context": {"diagnostics": []},
+            }
             quick = {"jsonrpc": "2.0", "id": "quick", "method": "shutdown"}
             cancel = {"jsonrpc": "2.0", "method": "$/cancelRequest", "params": {"id": "quick"}}
             unknown = {"jsonrpc": "2.0", "method": "$/cancelRequest", "params": {"id": 77}}
@@ -110,7 +146,10 @@ class WorkspaceTest(unittest.TestCase):
         return path
 
     def found(self, diagnostics):
-        return [(each["code"], each["severity"], each["range"]["start"]["line"], each["range"]["start"]["character"]) for each in diagnostics]
+        return [
+            (each["code"], each["severity"], each["range"]["start"]["line"], each["range"]["start"]["character"])
+            for each in diagnostics
+        ]
 
     def test_findings_while_typing(self):
         self.client.start(self.root, reference="l10n/en-US")
@@ -123,7 +162,9 @@ class WorkspaceTest(unittest.TestCase):
         )
         self.assertEqual(found[0]["range"]["end"], {"line": 1, "character": 27})
         self.client.change(uri, POLISH.replace("nmae", "name"), 2)
-        self.assertEqual(self.found(self.client.diagnostics(uri, 2)), [("missing-category", 2, 2, 11), ("missing-message", 2, 6, 0)])
+        self.assertEqual(
+            self.found(self.client.diagnostics(uri, 2)), [("missing-category", 2, 2, 11), ("missing-message", 2, 6, 0)]
+        )
         self.client.change(uri, "x = { $n ->\n", 3)
         self.assertEqual(self.found(self.client.diagnostics(uri, 3))[0][:2], ("syntax", 1))
         self.client.tell("textDocument/didClose", textDocument={"uri": uri})
@@ -150,7 +191,8 @@ class WorkspaceTest(unittest.TestCase):
         uri = self.client.open(self.root / "l10n/pl/new.ftl", "a = { -brand } { -near } { welcome }\nunread = x\n")
         self.assertEqual(self.found(self.client.diagnostics(uri)), [("duplicate-id", 1, 1, 0)])
         for catalog, codes in [
-            ("folder", ["unknown-term", "duplicate-id"]), ("file", ["unknown-term", "unknown-term", "unknown-message"]),
+            ("folder", ["unknown-term", "duplicate-id"]),
+            ("file", ["unknown-term", "unknown-term", "unknown-message"]),
             ("language", ["duplicate-id"]),
         ]:
             self.client.tell("workspace/didChangeConfiguration", settings={"kozhvadi": {"catalog": catalog}})
@@ -177,8 +219,16 @@ class WorkspaceTest(unittest.TestCase):
         self.client.start(self.root)
         # Polish lacks two categories, Czech one that whole numbers have, English none.
         for name, count in [
-            ("l10n/pl/a.ftl", 2), ("l10n/cs/deep/er/a.ftl", 1), ("pl.ftl", 2), ("main.pl.ftl", 2), ("l10n/pl/cs.ftl", 1), ("pt-br/a.ftl", 0),
-            ("in-app/a.ftl", 0), ("pl_PL/a.ftl", 2), ("no-results.ftl", 0), ("src/a.ftl", 0),
+            ("l10n/pl/a.ftl", 2),
+            ("l10n/cs/deep/er/a.ftl", 1),
+            ("pl.ftl", 2),
+            ("main.pl.ftl", 2),
+            ("l10n/pl/cs.ftl", 1),
+            ("pt-br/a.ftl", 0),
+            ("in-app/a.ftl", 0),
+            ("pl_PL/a.ftl", 2),
+            ("no-results.ftl", 0),
+            ("src/a.ftl", 0),
         ]:
             uri = self.client.open(self.root / "languages" / name, source)
             self.assertEqual(self.codes(uri), ["missing-category"] * count, name)
@@ -187,7 +237,10 @@ class WorkspaceTest(unittest.TestCase):
         self.client.start(self.root, functions=["DATE"], locale="pl", notes=1)
         self.assertIn("notes", self.client.told.pop(0)["params"]["message"])
         uri = self.client.open("untitled:1", "a = { DATE() } { F() }\nb = { $n ->\n    [one] x\n   *[other] y\n}\n")
-        self.assertEqual([each[0] for each in self.found(self.client.diagnostics(uri))], ["unknown-function"] + ["missing-category"] * 2)
+        self.assertEqual(
+            [each[0] for each in self.found(self.client.diagnostics(uri))],
+            ["unknown-function"] + ["missing-category"] * 2,
+        )
 
     def test_definitions_and_references(self):
         other = self.file("l10n/pl/other.ftl", "-brand = B\n    .kind = x\n")
@@ -195,17 +248,27 @@ class WorkspaceTest(unittest.TestCase):
         self.client.start(self.root, reference="l10n/en-US")
         uri = self.client.open(self.polish, source)
         place = lambda path, line, start, end: {
-            "uri": path.as_uri(), "range": {"start": {"line": line, "character": start}, "end": {"line": line, "character": end}}
+            "uri": path.as_uri(),
+            "range": {"start": {"line": line, "character": start}, "end": {"line": line, "character": end}},
         }
         for words, inside, expected in [
-            ("-brand }", 0, place(other, 0, 1, 6)), ("-brand }", 6, place(other, 0, 1, 6)), (".kind", 1, place(other, 1, 5, 9)),
-            ("welcome }", 3, place(self.polish, 1, 0, 7)), ("bye }", 0, place(self.english, 5, 0, 3)),
+            ("-brand }", 0, place(other, 0, 1, 6)),
+            ("-brand }", 6, place(other, 0, 1, 6)),
+            (".kind", 1, place(other, 1, 5, 9)),
+            ("welcome }", 3, place(self.polish, 1, 0, 7)),
+            ("bye }", 0, place(self.english, 5, 0, 3)),
             ("$count", 2, place(self.english, 1, 12, 17)),
         ]:
-            self.assertEqual(self.client.ask("textDocument/definition", **at(uri, source, words, inside)), [expected], words)
-        told = self.client.ask("textDocument/references", context={"includeDeclaration": False}, **at(uri, source, "welcome ="))
+            self.assertEqual(
+                self.client.ask("textDocument/definition", **at(uri, source, words, inside)), [expected], words
+            )
+        told = self.client.ask(
+            "textDocument/references", context={"includeDeclaration": False}, **at(uri, source, "welcome =")
+        )
         self.assertEqual([(each["uri"], each["range"]["start"]["line"]) for each in told], [(uri, 8)])
-        told = self.client.ask("textDocument/references", context={"includeDeclaration": True}, **at(uri, source, "welcome ="))
+        told = self.client.ask(
+            "textDocument/references", context={"includeDeclaration": True}, **at(uri, source, "welcome =")
+        )
         self.assertEqual(len(told), 3)
         marks = self.client.ask("textDocument/documentHighlight", **at(uri, source, "$count ->", 1))
         self.assertEqual(len(marks), 3)
@@ -215,7 +278,12 @@ class WorkspaceTest(unittest.TestCase):
         self.client.start(self.root, reference="l10n/en-US")
         uri = self.client.open(self.polish)
         told = self.client.ask("textDocument/hover", **at(uri, POLISH, "unread"))["contents"]["value"]
-        for line in ("$count = 1    one    Jedna.", "$count = 2    few    2 nie.", "$count = 5    many   5 inne.", "$count = 1.5  other  1.5 inne."):
+        for line in (
+            "$count = 1    one    Jedna.",
+            "$count = 2    few    2 nie.",
+            "$count = 5    many   5 inne.",
+            "$count = 1.5  other  1.5 inne.",
+        ):
             self.assertIn(line, told)
         self.assertIn("$count = 2  other  2 messages.", told)
         told = self.client.ask("textDocument/hover", **at(uri, POLISH, "$count"))["contents"]["value"]
@@ -255,9 +323,17 @@ class WorkspaceTest(unittest.TestCase):
             found = self.labels(uri, f"{source}\n{rest}")
             self.assertLessEqual(set(there), set(found), source)
             self.assertFalse(set(missing) & set(found), source)
-        for source in ("welcome = text|\n", "welcome = { $name |\n", 'welcome = { "|\n', "# |\n", "welcome = { $name }|\n"):
+        for source in (
+            "welcome = text|\n",
+            "welcome = { $name |\n",
+            'welcome = { "|\n',
+            "# |\n",
+            "welcome = { $name }|\n",
+        ):
             self.assertEqual(self.labels(uri, source), [], source)
-        items = self.client.ask("textDocument/completion", textDocument={"uri": uri}, position={"line": 1, "character": 0})
+        items = self.client.ask(
+            "textDocument/completion", textDocument={"uri": uri}, position={"line": 1, "character": 0}
+        )
         bye = next(each for each in items if each["label"] == "bye")
         self.assertEqual(bye["textEdit"]["newText"], "bye = Bye")
 
@@ -266,7 +342,10 @@ class WorkspaceTest(unittest.TestCase):
         source = "-t = T\n    .a = x\nm =\n    .b = y\n"
         uri = self.client.open(self.root / "new.ftl", source)
         told = self.client.ask("textDocument/documentSymbol", textDocument={"uri": uri})
-        self.assertEqual([(each["name"], [inner["name"] for inner in each["children"]]) for each in told], [("-t", [".a"]), ("m", [".b"])])
+        self.assertEqual(
+            [(each["name"], [inner["name"] for inner in each["children"]]) for each in told],
+            [("-t", [".a"]), ("m", [".b"])],
+        )
         self.assertEqual(told[1]["range"]["end"], {"line": 3, "character": 10})
         told = self.client.ask("workspace/symbol", query="UNR")
         self.assertEqual({each["name"] for each in told}, {"unread"})
@@ -282,9 +361,18 @@ class WorkspaceTest(unittest.TestCase):
         told = self.client.ask("textDocument/rename", newName="greeting", **place)["changes"]
         self.assertEqual(set(told), {uri, self.english.as_uri(), (self.root / "l10n/de/main.ftl").as_uri()})
         self.assertEqual(edited(source, told[uri]), source.replace("welcome", "greeting"))
-        for wrong, code in [("1x", -32602), ("", -32602), ("a b", -32602), ("é", -32602), ("unread", -32803), ("a", -32803)]:
+        for wrong, code in [
+            ("1x", -32602),
+            ("", -32602),
+            ("a b", -32602),
+            ("é", -32602),
+            ("unread", -32803),
+            ("a", -32803),
+        ]:
             self.assertEqual(self.client.ask("textDocument/rename", newName=wrong, **place)["code"], code, wrong)
-        self.assertEqual(self.client.ask("textDocument/rename", newName="x", **at(uri, source, "Jedna"))["code"], -32803)
+        self.assertEqual(
+            self.client.ask("textDocument/rename", newName="x", **at(uri, source, "Jedna"))["code"], -32803
+        )
         told = self.client.ask("textDocument/rename", newName="$number", **at(uri, source, "$count", 1))["changes"]
         self.assertEqual(edited(source, told[uri]), source.replace("$count", "$number"))
         self.assertEqual(edited(ENGLISH, told[self.english.as_uri()]), ENGLISH.replace("$count", "$number"))
@@ -321,7 +409,8 @@ class WorkspaceTest(unittest.TestCase):
         edits = [edit for each in fixes for edit in each["edit"]["changes"][uri]]
         self.assertEqual(
             edited(POLISH, edits),
-            POLISH.replace("nmae", "name").replace("   *[other]", "    [many] { $count } inne.\n   *[other]") + "bye = Bye\n",
+            POLISH.replace("nmae", "name").replace("   *[other]", "    [many] { $count } inne.\n   *[other]")
+            + "bye = Bye\n",
         )
         self.assertEqual(self.actions(uri, 0, 0), [])
 
@@ -332,7 +421,11 @@ class WorkspaceTest(unittest.TestCase):
         chance, text = random.Random(5), ""
         for version in range(2, 60):
             place = chance.randrange(len(text) + 1)
-            text = text[:place] + chance.choice(["a = b\n", "{ ", "}", "-t = { x }\n", "é\U0001f44d", "\r\n", "[one]", "$n ->", '"']) + text[place + chance.randrange(3) :]
+            text = (
+                text[:place]
+                + chance.choice(["a = b\n", "{ ", "}", "-t = { x }\n", "é\U0001f44d", "\r\n", "[one]", "$n ->", '"'])
+                + text[place + chance.randrange(3) :]
+            )
             self.client.change(uri, text, version)
             found = self.client.diagnostics(uri, version)
             lines = text.replace("\r\n", "\n").replace("\r", "\n").split("\n")

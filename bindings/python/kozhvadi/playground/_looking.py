@@ -24,9 +24,9 @@ _NUMBER = re.compile(r"-?[0-9]{1,19}(?:\.[0-9]{1,18})?")
 
 # The languages that the page offers, of which those without plural rules are left out.
 _LANGUAGES = """
-    af am ar as az be bg bn br bs ca cs cy da de el en en-GB eo es es-MX et eu fa fi fil fr fr-CA fy ga gd gl gu gv ha he hi
-    hr hsb hu hy ia id ig is it ja ka kk km kn ko kw ky lb lo lt lv mk ml mn mr ms mt my nb ne nl nn or pa pl ps pt pt-PT rm
-    ro ru sc sd si sk sl so sq sr sr-Latn sv sw ta te tg th tk tr tt ug uk ur uz vi wo xh yi yo zh zh-Hant zu
+    af am ar as az be bg bn br bs ca cs cy da de el en en-GB eo es es-MX et eu fa fi fil fr fr-CA fy ga gd gl gu gv ha he
+    hi hr hsb hu hy ia id ig is it ja ka kk km kn ko kw ky lb lo lt lv mk ml mn mr ms mt my nb ne nl nn or pa pl ps pt
+    pt-PT rm ro ru sc sd si sk sl so sq sr sr-Latn sv sw ta te tg th tk tr tt ug uk ur uz vi wo xh yi yo zh zh-Hant zu
 """.split()
 
 
@@ -81,10 +81,13 @@ def _findings(report: list[Finding], places: Places, compared: Places) -> list[J
         wanted += [offset for listed in mended for fix in listed for offset in (fix.start, fix.end)]
         units = _units(each.source, wanted)
         for finding, (start, end), listed in zip(own, extents, mended):
-            told = {name: getattr(finding, name) for name in ("line", "column", "severity", "code", "entry", "text", "hint")}
+            told = {
+                name: getattr(finding, name) for name in ("line", "column", "severity", "code", "entry", "text", "hint")
+            }
             told |= {"file": file.partition(".")[0], "start": units[start], "end": units[end]}
             told["fixes"] = [
-                {"title": fix.title, "start": units[fix.start], "end": units[fix.end], "text": fix.text} for fix in listed
+                {"title": fix.title, "start": units[fix.start], "end": units[fix.end], "text": fix.text}
+                for fix in listed
             ]
             told_of.append(told)
     return told_of
@@ -133,7 +136,8 @@ def _part(
     variables = entries.variables(entry.id, attribute)
     usual = {each.name: each.sample(locale) for each in variables}
     given = {
-        each.name: _value(arguments[each.name], each) if each.name in arguments else usual[each.name] for each in variables
+        each.name: _value(arguments[each.name], each) if each.name in arguments else usual[each.name]
+        for each in variables
     }
     text, errors = _answer(bundle, entry.id, attribute, given)
     cases = entries.cases(entry.id, attribute, locale)
@@ -142,7 +146,8 @@ def _part(
         "text": text,
         "errors": errors,
         "variables": [
-            {"name": each.name, "kind": _kind(each), "value": str(given[each.name]), "keys": each.keys} for each in variables
+            {"name": each.name, "kind": _kind(each), "value": str(given[each.name]), "keys": each.keys}
+            for each in variables
         ],
         "cases": [_case(bundle, entry.id, attribute, case, given) for case in cases if case.label],
     }

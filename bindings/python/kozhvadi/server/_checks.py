@@ -165,5 +165,3 @@ def _too_deep(document: Document) -> Json:
 def position_of(params: Params) -> tuple[int, int]:
     """A position that a client sent."""
     return params["line"].count, params["character"].count
-
-

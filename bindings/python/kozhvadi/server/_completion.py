@@ -164,5 +164,7 @@ def _arguments(catalog: Catalog, place: Inside) -> list[Json]:
     """The variables of a term that is called, which are named arguments of the call."""
     if not place.callee or place.callee.kind != "term":
         return []
-    names = [each.name for part in _parts(catalog, str(place.callee)) for each in catalog.variables(str(place.callee), part)]
+    names = [
+        each.name for part in _parts(catalog, str(place.callee)) for each in catalog.variables(str(place.callee), part)
+    ]
     return [{"label": name, "kind": _PROPERTY, "text": f"{name}: "} for name in dict.fromkeys(names)]

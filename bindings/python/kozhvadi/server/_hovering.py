@@ -115,7 +115,8 @@ def _rows(
 def _showing(entry: Entry, number: int, arguments: object) -> str:
     """A message that shows a term with these arguments."""
     named = [
-        f'{name}: "{value}"' for name, value in (arguments.items() if isinstance(arguments, dict) else ())
+        f'{name}: "{value}"'
+        for name, value in (arguments.items() if isinstance(arguments, dict) else ())
         if '"' not in str(value) and "\\" not in str(value)
     ]
     return f"{_SHOWN}{number} = {{ -{entry.id}({', '.join(named)}) }}\n"
@@ -126,8 +127,6 @@ def _table(rows: list[tuple[str, str, str]]) -> str:
     widths = [max(utf16_length(row[column]) for row in rows) for column in range(2)]
     lines = []
     for label, argument, text in rows:
-        lead = "".join(
-            f"{cell:<{width}}  " for cell, width in zip((argument, label), (widths[1], widths[0])) if width
-        )
+        lead = "".join(f"{cell:<{width}}  " for cell, width in zip((argument, label), (widths[1], widths[0])) if width)
         lines += [lead + line if not number else " " * len(lead) + line for number, line in enumerate(text.split("\n"))]
     return "\n".join(lines)

@@ -38,7 +38,8 @@ class Naming:
     def definition(self, params: Params) -> list[Json]:
         """Where a name is defined: in the documents that are loaded with this one, or else in the reference.
 
-        A variable is defined by the program. So the reference has it, in the message of the same id; or it is first used.
+        A variable is defined by the program. So it is found in the reference, in the message of the same id, or else
+        where it is first used.
         """
         asked = self._asked(params)
         if asked is None:

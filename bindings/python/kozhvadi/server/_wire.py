@@ -24,13 +24,16 @@ PARSE_ERROR = -32700
 
 
 class Input(Protocol):
-    def read1(self, size: int, /) -> bytes: ...
+    def read1(self, size: int, /) -> bytes:
+        ...
 
 
 class Output(Protocol):
-    def write(self, data: bytes, /) -> object: ...
+    def write(self, data: bytes, /) -> object:
+        ...
 
-    def flush(self) -> object: ...
+    def flush(self) -> object:
+        ...
 
 
 class _Header(NamedTuple):

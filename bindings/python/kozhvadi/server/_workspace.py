@@ -234,7 +234,9 @@ class Workspace:
         """Whether a document is one of those that others are compared with."""
         if not self.settings.reference or document.path is None:
             return False
-        references = (Path(os.path.normpath(root / self.settings.reference)) for root in self.roots or [document.path.parent])
+        references = (
+            Path(os.path.normpath(root / self.settings.reference)) for root in self.roots or [document.path.parent]
+        )
         return any(each == document.path or each in document.path.parents for each in references)
 
     def counterpart(self, document: Document) -> Document | None:
