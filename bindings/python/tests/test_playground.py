@@ -2,13 +2,16 @@
 
 import http.client
 import json
+import os
 import random
 import re
+import signal
 import subprocess
 import sys
 import tempfile
 import threading
 import unittest
+import urllib.request
 from html.parser import HTMLParser
 from pathlib import Path
 
@@ -16,6 +19,7 @@ from kozhvadi.playground._looking import languages, looked_at
 from kozhvadi.playground._pages import Playground
 
 FOLDER = Path(__file__).resolve().parents[1]
+ROOT = FOLDER.parents[1]
 PAGES = FOLDER / "kozhvadi" / "playground"
 
 
@@ -237,6 +241,22 @@ class LookedAtTest(unittest.TestCase):
 
     def test_languages(self):
         self.assertLess({"en", "pl", "ar", "zh", "pt-PT"}, set(languages()))
+
+    def test_the_command_of_the_guide(self):
+        guide = (ROOT / "docs/guide/12-playground.md").read_text(encoding="utf-8")
+        line = next(each for each in guide.split("\n") if each.startswith("    python3 -m kozhvadi.playground"))
+        words = [sys.executable, *line.split()[1:], "--port", "0"]
+        environment = {**os.environ, "PYTHONPATH": str(FOLDER)}
+        served = subprocess.Popen(words, cwd=ROOT, env=environment, stdout=subprocess.PIPE, stderr=subprocess.PIPE, text=True)
+        address = served.stdout.readline().split()[0]
+        with urllib.request.urlopen(f"{address}start", timeout=30) as answer:
+            start = json.loads(answer.read())
+        self.assertEqual(start["source"], (ROOT / "examples/inbox.pl.ftl").read_text(encoding="utf-8"))
+        self.assertEqual(start["reference"], (ROOT / "examples/inbox.ftl").read_text(encoding="utf-8"))
+        self.assertEqual(start["locale"], "pl")
+        served.send_signal(signal.SIGINT)
+        _, told = served.communicate(timeout=30)
+        self.assertEqual((served.returncode, told), (0, ""))
 
     def test_the_command(self):
         with tempfile.TemporaryDirectory() as made:
