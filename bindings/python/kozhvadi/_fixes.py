@@ -43,7 +43,12 @@ class Fix(NamedTuple):
 
 
 def extent(source: bytes, offset: int) -> tuple[int, int]:
-    """What a finding underlines: the name or number at its offset, or a character; the one before a line end."""
+    """What a finding underlines: the name or number at its offset, or a character; the one before a line end.
+
+    At the end of a source that is the last character that isn't blank.
+    """
+    if not source[offset:].strip():
+        offset = len(source[:offset].rstrip())
     token = _TOKEN.match(source, offset)
     if token:
         return token.span()

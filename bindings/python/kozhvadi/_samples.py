@@ -2,6 +2,7 @@
 
 from __future__ import annotations
 
+from collections import deque
 from collections.abc import Iterable, Mapping
 from dataclasses import dataclass, field
 from decimal import Decimal
@@ -137,9 +138,9 @@ class Catalog:
     def shown(self, key: str, attribute: str | None) -> list[Part]:
         """The parts that a message is shown with: its own, and those of the messages that it refers to."""
         seen: dict[tuple[str, str | None], Part | None] = {}
-        left = [(key, attribute)]
+        left = deque([(key, attribute)])
         while left:
-            wanted = left.pop()
+            wanted = left.popleft()
             entry = self.entries.get(wanted[0])
             if wanted in seen or entry is None:
                 continue

@@ -342,7 +342,7 @@ class FixesTest(unittest.TestCase):
 
     def test_what_is_underlined(self):
         source = "a = { -brand.x } é\n".encode()
-        for offset, span in [(6, (6, 14)), (0, (0, 1)), (17, (17, 19)), (19, (17, 19)), (4, (4, 5)), (20, (20, 20))]:
+        for offset, span in [(6, (6, 14)), (0, (0, 1)), (17, (17, 19)), (19, (17, 19)), (4, (4, 5)), (20, (17, 19))]:
             self.assertEqual(extent(source, offset), span)
 
 

@@ -295,7 +295,7 @@ class WorkspaceTest(unittest.TestCase):
         self.client.start()
         uri = self.client.open("file:///x/de.ftl", source)
         told = self.client.ask("textDocument/hover", **at(uri, source, "-t }"))["contents"]["value"]
-        self.assertIn("$case = gen  gen  Gen\n$case = nom  nom  Nom", told)
+        self.assertIn("$case = gen  Gen\n$case = nom  Nom", told)
 
     def labels(self, uri, source):
         """What may follow at the sign | of a source."""

@@ -302,7 +302,9 @@ function card(message, locale) {
   if (message.comment) made.append(element("p", { class: "comment", dir: "auto" }, message.comment));
   if (!message.read) {
     made.classList.add("unread");
-    made.append(element("ul", { class: "errors" }, element("li", {}, "This message can't be read.")));
+    const why = state.seen.findings.find((each) => each.code === "syntax" && each.entry === message.id);
+    const words = why ? ["This message can't be read: ", ...worded(why.text)] : ["This message can't be read."];
+    made.append(element("ul", { class: "errors" }, element("li", {}, ...words)));
   } else if (!message.parts.some((part) => part.attribute === null)) {
     made.append(element("p", { class: "text empty" }, "It has attributes alone."));
   }
@@ -319,9 +321,11 @@ function shown(message, part, locale) {
     const fields = part.variables.map((each) => field(message, part, each));
     made.append(element("div", { class: "fields" }, ...fields));
   }
-  if (part.cases.length > 1) {
-    const several = new Set(part.cases.map((each) => each.variable)).size > 1;
-    made.append(element("dl", { class: "cases" }, ...part.cases.map((each) => tile(part, each, locale, several))));
+  const choosing = [...new Set(part.cases.map((each) => each.variable))];
+  for (const variable of choosing) {
+    const cases = part.cases.filter((each) => each.variable === variable);
+    if (choosing.length > 1) made.append(element("div", { class: "by" }, "by ", element("b", {}, `$${variable}`)));
+    if (cases.length > 1) made.append(element("dl", { class: "cases" }, ...cases.map((each) => tile(part, each, locale))));
   }
   return made;
 }
@@ -339,12 +343,12 @@ function field(message, part, variable) {
   return element("label", {}, `$${variable.name}`, input);
 }
 
-function tile(part, each, locale, several) {
+function tile(part, each, locale) {
   const chosen = part.variables.some((variable) => variable.name === each.variable && variable.value === each.value);
   const made = element(
     "div",
     { class: chosen ? "chosen" : "" },
-    element("dt", {}, element("b", {}, each.label), several ? `$${each.variable} = ${each.value}` : each.value),
+    element("dt", {}, element("b", {}, each.label), each.label === each.value ? "" : each.value),
     element("dd", { lang: locale, dir: direction(locale) }, ...marked(each.text)),
   );
   if (each.errors.length) made.append(element("dd", { class: "errors" }, each.errors.join(", ")));

@@ -105,8 +105,9 @@ def _rows(
             for number, case in enumerate(cases):
                 id = f"{_SHOWN}{number}" if entry.is_term else entry.id
                 text = bundle.format(id, attribute, **case.arguments).text
-                argument = f"${case.variable} = {case.arguments[case.variable]}" if case.variable else ""
-                rows.append((case.label, argument, text))
+                value = str(case.arguments[case.variable]) if case.variable else ""
+                argument = f"${case.variable} = {value}" if case.variable else ""
+                rows.append(("" if case.label == value else case.label, argument, text))
     except (FluentError, MemoryError):
         return []
     return rows
