@@ -1,5 +1,6 @@
 """The language server, as a client sees it."""
 
+import os
 import random
 import tempfile
 import unittest
@@ -183,6 +184,17 @@ class WorkspaceTest(unittest.TestCase):
     def codes(self, uri):
         return [each["code"] for each in self.client.diagnostics(uri)]
 
+    def test_files_that_change_elsewhere(self):
+        watching = {"workspace": {"didChangeWatchedFiles": {"dynamicRegistration": True}}}
+        self.client.start(self.root, capabilities={"textDocument": {}, **watching})
+        self.assertEqual(self.client.read()["method"], "client/registerCapability")
+        self.client.send(framed({"jsonrpc": "2.0", "id": "watch", "result": None}))
+        uri = self.client.open(self.root / "l10n/pl/new.ftl", "a = { -brand }\n")
+        self.assertEqual(self.codes(uri), ["unknown-term"])
+        terms = self.file("l10n/pl/terms.ftl", "-brand = B\n")
+        self.client.tell("workspace/didChangeWatchedFiles", changes=[{"uri": terms.as_uri(), "type": 1}])
+        self.assertEqual(self.codes(uri), [])
+
     def test_files_of_one_language_are_one_catalog(self):
         self.file("l10n/pl/sub/terms.ftl", "-brand = B\n")
         self.file("l10n/pl/near.ftl", "-near = N\n")
@@ -232,6 +244,20 @@ class WorkspaceTest(unittest.TestCase):
         ]:
             uri = self.client.open(self.root / "languages" / name, source)
             self.assertEqual(self.codes(uri), ["missing-category"] * count, name)
+
+    def test_files_that_cant_be_read(self):
+        os.mkfifo(self.root / "l10n/pl/pipe.ftl")
+        (self.root / "l10n/pl/folder.ftl").mkdir()
+        (self.root / "l10n/pl/away.ftl").symlink_to("nowhere")
+        (self.root / "l10n/pl/loop").symlink_to(self.root)
+        (self.root / "l10n/pl/bytes.ftl").write_bytes(b"a = \xff\n")
+        deep = self.file("l10n/pl/deep.ftl", "deep = " + "{" * 3000 + "\n")
+        self.client.start(self.root)
+        uri = self.client.open(self.root / "l10n/pl/new.ftl", "a = { -b }\n")
+        self.assertEqual(self.codes(uri), ["unknown-term"])
+        self.assertEqual(len(self.client.ask("workspace/symbol", query="welcome")), 2)
+        uri = self.client.open(deep)
+        self.assertEqual(self.codes(uri), ["memory"])
 
     def test_settings(self):
         self.client.start(self.root, functions=["DATE"], locale="pl", notes=1)

@@ -27,20 +27,29 @@ class Checks:
     def check(self, document: Document) -> list[Json]:
         """Looks for mistakes in a document and those that are loaded with it: what is to be published, a list each."""
         catalog, reference = self._workspace.catalog(document), self._workspace.reference(document)
-        settings = self._workspace.settings
         try:
-            found = lint(
-                [(each.uri, each.text) for each in catalog],
-                reference=[(each.uri, each.text) for each in reference],
-                locale=self._workspace.locale(document),
-                functions=settings.functions,
-                notes=settings.notes,
-            ).findings
+            found = self._findings(document, catalog, reference)
         except MemoryError:
-            return [self._published(document, [_too_deep(document)])]
+            # Another source may be the one that nests too deep.
+            catalog, reference = [document], []
+            try:
+                found = self._findings(document, catalog, reference)
+            except MemoryError:
+                self._found[document.uri], self._missing[document.uri] = [], []
+                return [self._published(document, [_too_deep(document)])]
         missing = [each for each in found if each.code == "missing-message"]
         opened = [each for each in catalog if each.uri in self._workspace.open]
         return [self._told(each, found, missing) for each in opened]
+
+    def _findings(self, document: Document, catalog: list[Document], reference: list[Document]) -> list[Finding]:
+        settings = self._workspace.settings
+        return lint(
+            [(each.uri, each.text) for each in catalog],
+            reference=[(each.uri, each.text) for each in reference],
+            locale=self._workspace.locale(document),
+            functions=settings.functions,
+            notes=settings.notes,
+        ).findings
 
     def forget(self, uri: str) -> Json:
         """Drops what was found in a document that is closed."""

@@ -50,6 +50,7 @@ class Server:
         self._naming, self._hovering = Naming(self.workspace), Hovering(self.workspace)
         self._completion = Completion(self.workspace)
         self._unchecked: dict[str, None] = {}
+        self._can_watch = False
         answers: dict[str, Callable[[Params], object]] = {
             "initialize": self._initialize,
             "shutdown": lambda _: None,
@@ -66,6 +67,7 @@ class Server:
             "textDocument/formatting": self._format,
         }
         notices: dict[str, Callable[[Params], object]] = {
+            "initialized": self._watch,
             "textDocument/didOpen": self._open,
             "textDocument/didChange": self._change,
             "textDocument/didClose": self._close,
@@ -112,6 +114,8 @@ class Server:
         self._naming.has_nested_symbols = can.at("documentSymbol", "hierarchicalDocumentSymbolSupport") is True
         self._naming.has_versions = params.at("capabilities", "workspace", "workspaceEdit", "documentChanges") is True
         self._completion.has_snippets = can.at("completion", "completionItem", "snippetSupport") is True
+        watching = params.at("capabilities", "workspace", "didChangeWatchedFiles", "dynamicRegistration")
+        self._can_watch = watching is True
         formats = can.at("hover", "contentFormat")
         self._hovering.has_markdown = not isinstance(formats, list) or "markdown" in formats
         folders = params.at("workspaceFolders")
@@ -120,6 +124,14 @@ class Server:
         self.workspace.set_roots(uris or ([root] if isinstance(root, str) else []))
         self._set(params.at("initializationOptions"))
         return {"capabilities": _CAPABILITIES, "serverInfo": {"name": "kozhvadi", "version": __version__}}
+
+    def _watch(self, _: Params) -> None:
+        """Asks the client to report changes of files that aren't open."""
+        if self._can_watch:
+            watched = {"watchers": [{"globPattern": "**/*.ftl"}]}
+            asked = {"id": "watch", "method": "workspace/didChangeWatchedFiles", "registerOptions": watched}
+            params = {"registrations": [asked]}
+            self._send({"jsonrpc": "2.0", "id": "watch", "method": "client/registerCapability", "params": params})
 
     def _set(self, given: object) -> None:
         self.workspace.settings, wrong = Settings.of(given)
@@ -228,9 +240,11 @@ class _Inbox:
                 message = self._reader.read()
             except Damaged as damaged:
                 message = damaged
-            except (EOFError, OSError, ValueError):
+            except (EOFError, OSError):
                 self._messages.put(None)
                 return
+            except Exception as error:  # noqa: BLE001 such as want of memory for a long message
+                message = Damaged(f"{type(error).__name__}: {error}")
             self._note(message)
             self._messages.put((message,))
 

@@ -4,6 +4,7 @@ from __future__ import annotations
 
 import os
 import re
+import stat
 from collections.abc import Iterator
 from dataclasses import dataclass, field
 from functools import cached_property
@@ -17,8 +18,10 @@ from .._samples import Catalog, has_rules
 
 _MARK = "\ufeff"
 
-# More files of a workspace aren't looked into, and neither are folders of these names, or that begin with a dot.
+# More files or folders of a workspace aren't looked into, and neither is a file with more bytes, nor a folder of one of
+# these names, or whose name begins with a dot.
 _MOST = 20_000
+_LARGEST = 64 * 2**20
 _PASSED_OVER = {"node_modules", "__pycache__", "target", "dist"}
 
 # A tag as names of files and folders have it. `in-app` and `to-do` begin with languages, too.
@@ -151,6 +154,8 @@ class Workspace:
             return self._open_at[path]
         try:
             status = path.stat()
+            if not stat.S_ISREG(status.st_mode) or status.st_size > _LARGEST:
+                return None
             stamp = (status.st_mtime_ns, status.st_size)
             kept = self._files.get(path)
             if kept and kept[0] == stamp:
@@ -264,12 +269,12 @@ def _sources_in(folder: Path) -> list[Path]:
 def _below(root: Path) -> list[Path]:
     """The files in a folder and in its folders."""
     found: list[Path] = []
-    for folder, folders, names in os.walk(root):
+    for count, (folder, folders, names) in enumerate(os.walk(root)):
         folders[:] = sorted(name for name in folders if name[0] != "." and name not in _PASSED_OVER)
         found += [Path(folder, name) for name in sorted(names) if name.endswith(".ftl")]
-        if len(found) > _MOST:
-            return found[:_MOST]
-    return found
+        if max(count, len(found)) >= _MOST:
+            break
+    return found[:_MOST]
 
 
 def language_folder(path: Path, roots: list[Path]) -> Path | None:
