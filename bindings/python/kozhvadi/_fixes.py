@@ -18,6 +18,9 @@ _CATEGORY = re.compile(r"`(zero|one|two|few|many)`")
 
 _MISSING = ("unknown-message", "unknown-term", "unknown-attribute", "unknown-variable", "unknown-function")
 
+# How much of a name a near one has.
+_NEAR = 0.7
+
 # The options of NUMBER that choose variants or digits, and values that they take.
 NUMBER_OPTIONS = {
     "type": ['"ordinal"', '"cardinal"'],
@@ -77,7 +80,7 @@ def fixes(
     known = _known(finding, written, catalog, reference, functions)
     named = [name for name in _NAMED.findall(finding.hint or "") if name != written]
     sure = [name for name in named if name in known]
-    names = dict.fromkeys([*sure, *get_close_matches(written, known, 3), *named])
+    names = dict.fromkeys([*sure, *get_close_matches(written, known, 3, _NEAR), *named])
     return [Fix(f"Change to `{name}`", start, end, name) for name in names if name != written]
 
 

@@ -275,10 +275,33 @@ class PageTest(unittest.TestCase):
             )
             differ = f"{same}.filter((name) => getComputedStyle($('source'))[name] !== getComputedStyle(document.querySelector('.stack pre'))[name])"
             self.assertEqual(self.browser.run(differ), [])
-            lines = self.browser.run(
-                "document.querySelector('.lines').offsetHeight - document.querySelector('.stack pre').offsetHeight"
-            )
-            self.assertLess(abs(lines), 2, width)
+            count = "document.querySelector('.stack pre').children.length - $('source').value.split('\\n').length"
+            self.assertEqual(self.browser.run(count), 0)
+
+    def test_lines_that_stay_are_not_painted_anew(self):
+        """After whatever edits the text below is that of the typed one, as if all of it were painted."""
+        self.begin()
+        script = """(() => {
+            const field = $("source"), pre = document.querySelector(".stack pre"), wrong = [];
+            let chance = 7;
+            const random = (below) => (chance = (chance * 1103515245 + 12345) % 2147483648) % below;
+            const pieces = ["a = b\\n", "{ ", "}", "$x", "\\n", "# c\\n", "[one]", '"', "-t", "\u00e9"];
+            for (let number = 0; number < 300; number += 1) {
+                const place = random(field.value.length + 1);
+                const findings = random(2) ? [] : [{ start: random(field.value.length + 1), severity: "error" }];
+                for (const each of findings) each.end = each.start + random(5);
+                field.setRangeText(pieces[random(pieces.length)], place, Math.min(field.value.length, place + random(4)));
+                paint(field, findings);
+                const shown = pre.innerHTML;
+                if (pre.textContent !== `${field.value}\\n`) wrong.push(field.value);
+                paint.keys.delete(pre);
+                pre.replaceChildren();
+                paint(field, findings);
+                if (pre.innerHTML !== shown) wrong.push(shown);
+            }
+            return wrong.slice(0, 2);
+        })()"""
+        self.assertEqual(self.browser.run(script), [])
 
     def test_four_hundred_pixels(self):
         self.begin(POLISH, ENGLISH, "pl")

@@ -19,6 +19,9 @@ Json = dict[str, Any]
 # More messages and findings aren't shown.
 _MOST = 200
 
+# To look for near names takes longest, so only this many findings have fixes.
+_MENDED = 20
+
 _SOURCE, _REFERENCE = "source.ftl", "reference.ftl"
 _NUMBER = re.compile(r"-?[0-9]{1,19}(?:\.[0-9]{1,18})?")
 
@@ -76,7 +79,8 @@ def _findings(report: list[Finding], places: Places, compared: Places) -> list[J
     for file, each in ((_SOURCE, places), (_REFERENCE, compared)):
         own = sorted((found for found in report if found.file == file), key=lambda found: found.offset)[:_MOST]
         extents = [extent(each.source, finding.offset) for finding in own]
-        mended = [fixes(finding, each, entries, of_reference) if file == _SOURCE else [] for finding in own]
+        mended = [fixes(finding, each, entries, of_reference) if file == _SOURCE else [] for finding in own[:_MENDED]]
+        mended += [[] for _ in own[_MENDED:]]
         wanted = [offset for span in extents for offset in span]
         wanted += [offset for listed in mended for fix in listed for offset in (fix.start, fix.end)]
         units = _units(each.source, wanted)

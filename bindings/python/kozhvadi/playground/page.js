@@ -3,7 +3,7 @@
 // The page sends what is typed to its server, and shows what comes back. Texts reach the page as text and never as HTML.
 
 const SLOW = 90; // Milliseconds without a key, before the server is asked.
-const LONG = 200000; // A longer source isn't coloured.
+const LONG = 1000000; // A longer source isn't coloured.
 const LONGEST_LINK = 2000000; // Characters of the state of a link.
 const RIGHT_TO_LEFT = /^(ar|arc|ckb|dv|fa|he|iw|ji|ks|nqo|prs|ps|sd|syr|ug|ur|yi)\b/;
 const ISOLATES = { "\u2066": "LRI", "\u2067": "RLI", "\u2068": "FSI", "\u2069": "PDI" };
@@ -37,12 +37,11 @@ const WORDS = new RegExp(
   "gm",
 );
 
-/** The stretches of a source that have a colour. Strings and variables have one within braces alone. */
-function coloured(text) {
+/** The stretches of a line that have a colour, and how many braces are open after it. */
+function coloured(line, open) {
   const found = [];
-  if (text.length > LONG) return found;
-  let depth = 0;
-  for (const match of text.matchAll(WORDS)) {
+  let depth = open;
+  for (const match of line.matchAll(WORDS)) {
     const kind = Object.keys(match.groups).find((name) => match.groups[name] !== undefined);
     if (match[0] === "{") depth += 1;
     if (match[0] === "}") depth = Math.max(0, depth - 1);
@@ -50,87 +49,85 @@ function coloured(text) {
     if ((kind === "string" || kind === "variable") && !depth) continue;
     found.push({ start: match.index, end: match.index + match[0].length, name: `t-${kind}` });
   }
+  return [found, depth];
+}
+
+/** How many braces are open after a line. Lines mostly stay as they are, so that they are looked at once. */
+function openAfter(line, open) {
+  const known = (openAfter.known ??= new Map());
+  if (known.size > 50000) known.clear();
+  const key = `${open} ${line}`;
+  if (!known.has(key)) known.set(key, coloured(line, open)[1]);
+  return known.get(key);
+}
+
+/** The findings of each line, by its number, with their places in the line. */
+function byLine(lines, findings) {
+  const found = new Map();
+  const sorted = [...findings].sort((one, other) => one.start - other.start);
+  let [number, start] = [0, 0];
+  for (const each of sorted) {
+    while (number + 1 < lines.length && each.start > start + lines[number].length) {
+      start += lines[number].length + 1;
+      number += 1;
+    }
+    const end = Math.min(each.end - start, lines[number].length);
+    const marks = found.get(number) ?? found.set(number, []).get(number);
+    marks.push({ start: each.start - start, end, severity: each.severity });
+  }
   return found;
 }
 
-/** Shows the text of a field below it, in colours, with its findings underlined. */
+/** Shows the text of a field below it, in colours, with its findings underlined. Lines that stay as they are aren't touched. */
 function paint(field, findings) {
-  const box = field.closest(".editor");
-  const text = field.value;
-  const words = coloured(text);
-  const marks = findings.filter((each) => each.start < each.end && each.end <= text.length);
-  const cuts = new Set([0, text.length]);
+  const pre = field.closest(".editor").querySelector("pre");
+  const lines = field.value.split("\n");
+  const marks = byLine(lines, findings);
+  const isColoured = field.value.length <= LONG;
+  const wanted = [];
+  let depth = 0;
+  for (const [number, line] of lines.entries()) {
+    const own = marks.get(number) ?? [];
+    wanted.push({ line, depth, own, key: `${depth} ${JSON.stringify(own)} ${line}` });
+    if (isColoured) depth = openAfter(line, depth);
+  }
+  const before = (paint.keys ??= new Map()).get(pre) ?? [];
+  let [first, last] = [0, 0];
+  const least = Math.min(before.length, wanted.length);
+  while (first < least && before[first] === wanted[first].key) first += 1;
+  while (last < least - first && before[before.length - 1 - last] === wanted[wanted.length - 1 - last].key) last += 1;
+  const gone = [...pre.children].slice(first, before.length - last);
+  const next = pre.children[before.length - last] ?? null;
+  for (const each of gone) each.remove();
+  const made = document.createDocumentFragment();
+  for (const each of wanted.slice(first, wanted.length - last)) made.append(painted(each, isColoured));
+  pre.insertBefore(made, next);
+  paint.keys.set(pre, wanted.map((each) => each.key));
+}
+
+/** A line in colours. */
+function painted({ line, depth, own }, isColoured) {
+  const words = isColoured ? coloured(line, depth)[0] : [];
+  const marks = own.filter((each) => each.start < each.end);
+  const cuts = new Set([0, line.length]);
   for (const each of [...words, ...marks]) cuts.add(each.start).add(each.end);
   const places = [...cuts].sort((one, other) => one - other);
-  const pieces = [];
-  let word = 0;
+  const made = element("div", { class: worst(own) });
   for (let index = 0; index + 1 < places.length; index += 1) {
     const [start, end] = [places[index], places[index + 1]];
-    while (word < words.length && words[word].end <= start) word += 1;
-    const colour = word < words.length && words[word].start <= start ? words[word].name : "";
-    const under = marks.filter((each) => each.start <= start && end <= each.end);
-    const worst = ["error", "warning", "note"].find((name) => under.some((each) => each.severity === name));
-    const piece = text.slice(start, end);
-    if (worst) pieces.push(element("u", { class: `${worst} ${colour}` }, piece));
-    else if (colour) pieces.push(element("span", { class: colour }, piece));
-    else pieces.push(piece);
+    const holds = (each) => each.start <= start && end <= each.end;
+    const colour = words.find(holds)?.name ?? "";
+    const under = worst(marks.filter(holds));
+    const piece = line.slice(start, end);
+    if (under) made.append(element("u", { class: `${under} ${colour}` }, piece));
+    else made.append(colour ? element("span", { class: colour }, piece) : piece);
   }
-  // An empty last line has a height, too.
-  box.querySelector("pre").replaceChildren(...pieces, "\n");
-  number(box, text, findings);
+  // An empty line has a height, too.
+  made.append("\n");
+  return made;
 }
 
-/** Numbers the lines. A line that is broken into several is as high as they are. */
-function number(box, text, findings) {
-  const lines = text.split("\n");
-  const worst = new Map();
-  for (const each of findings) {
-    const known = worst.get(each.line);
-    const order = ["error", "warning", "note"];
-    if (!known || order.indexOf(each.severity) < order.indexOf(known)) worst.set(each.line, each.severity);
-  }
-  const pre = box.querySelector("pre");
-  const high = parseFloat(getComputedStyle(pre).lineHeight);
-  const wide = Math.max(1, pre.clientWidth - 24);
-  const canvas = (number.canvas ??= document.createElement("canvas").getContext("2d"));
-  canvas.font = getComputedStyle(pre).font;
-  const letter = canvas.measureText("m").width;
-  const short = Math.floor(wide / letter) - 1;
-  const measured = lines.length > 3000 ? null : heights(pre, lines, short, high);
-  box.querySelector(".lines").replaceChildren(
-    ...lines.map((_, index) => {
-      const made = element("span", { class: worst.get(index + 1) ?? "" }, String(index + 1));
-      if (measured && measured[index] > high * 1.5) made.style.blockSize = `${measured[index]}px`;
-      return made;
-    }),
-  );
-}
-
-/** How high each line is. Only those that may be broken are measured. */
-function heights(pre, lines, short, high) {
-  const range = document.createRange();
-  const walker = document.createTreeWalker(pre, NodeFilter.SHOW_TEXT);
-  let node = walker.nextNode();
-  let before = 0;
-  const at = (offset) => {
-    while (node && before + node.length < offset) {
-      before += node.length;
-      node = walker.nextNode();
-    }
-    return node ? [node, offset - before] : [pre, pre.childNodes.length];
-  };
-  let offset = 0;
-  return lines.map((line) => {
-    const start = offset;
-    offset += line.length + 1;
-    // Wide characters take two columns at most.
-    if (line.length * (/^[\x20-\x7e]*$/.test(line) ? 1 : 2) <= short) return high;
-    range.setStart(...at(start));
-    range.setEnd(...at(start + line.length));
-    const boxes = range.getBoundingClientRect();
-    return Math.max(1, Math.round(boxes.height / high)) * high;
-  });
-}
+const worst = (findings) => ["error", "warning", "note"].find((name) => findings.some((each) => each.severity === name)) ?? "";
 
 /** The findings of a text that has become another, until the server has looked at it. */
 function moved(findings, before, after) {
@@ -255,8 +252,8 @@ function select(field, start, end) {
   field.closest("details")?.setAttribute("open", "");
   field.focus();
   field.setSelectionRange(start, Math.max(start, end));
-  const lines = field.closest(".editor").querySelectorAll(".lines span");
-  lines[field.value.slice(0, start).split("\n").length - 1]?.scrollIntoView({ block: "nearest" });
+  const number = field.value.slice(0, start).split("\n").length - 1;
+  field.closest(".editor").querySelector("pre").children[number]?.scrollIntoView({ block: "nearest" });
   point();
 }
 
@@ -520,7 +517,6 @@ function listen() {
         next(field, event.shiftKey);
       }
     });
-    new ResizeObserver(() => number(field.closest(".editor"), field.value, state[name] ?? [])).observe(field);
   }
   document.addEventListener("selectionchange", point);
   $("locale").addEventListener("change", look);
