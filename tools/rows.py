@@ -4,8 +4,9 @@
     tools/rows.py [PROGRAM [FILE..]]
 
 PROGRAM is crates/ftl/out/ftl, and FILE is each .jsonl of tests/rows, unless they are given. A line of a file is a row: an
-object that tests/rows/README.md describes. Each row runs in a new folder with its files, which must be left as they were. The
-last line is 'N passed, M failed', and the status is 1 if anything failed.
+object that tests/rows/README.md describes. Each row runs in a new folder with its files, which must be left as they were, but
+for those that it says hold something else afterwards. The last line is 'N passed, M failed', and the status is 1 if anything
+failed.
 """
 import json
 import os
@@ -33,6 +34,8 @@ WANTED = {
 FREE = {
     "what": lambda it: type(it) is str,
     "files": lambda it: type(it) is dict and all(is_name(key) and type(it[key]) in (str, type(None)) for key in it),
+    "after": lambda it: type(it) is dict and all(is_name(key) and type(it[key]) is str for key in it),
+    "links": lambda it: type(it) is dict and all(is_name(key) and type(it[key]) is str for key in it),
     "stdin": lambda it: type(it) in (str, type(None)),
     "full": lambda it: type(it) is bool,
 }
@@ -58,8 +61,13 @@ def bytes_of(row):
     return {name: (shared / name).read_bytes() if text is None else text.encode() for name, text in files}
 
 
+def bytes_after(row, files):
+    """The bytes that the files must have after the run."""
+    return {**files, **{name: text.encode() for name, text in row.get("after", {}).items()}}
+
+
 def bytes_in(folder):
-    return {str(it.relative_to(folder)): it.read_bytes() for it in folder.rglob("*") if it.is_file()}
+    return {str(it.relative_to(folder)): it.read_bytes() for it in folder.rglob("*") if it.is_file() and not it.is_symlink()}
 
 
 def ended(program, row, folder):
@@ -90,9 +98,11 @@ def differences(program, line):
         for file, text in files.items():
             (folder / file).parent.mkdir(parents=True, exist_ok=True)
             (folder / file).write_bytes(text)
+        for link, target in row.get("links", {}).items():
+            (folder / link).symlink_to(target)
         came = ended(program, row, folder)
         found = [f"{key}: wanted {wanted[key]!r}, came {came[key]!r}" for key in wanted if wanted[key] != came[key]]
-        return found + ["its files are others"] * (bytes_in(folder) != files)
+        return found + ["its files are others"] * (bytes_in(folder) != bytes_after(row, files))
 
 
 def main(program=TOP / "crates" / "ftl" / "out" / "ftl", *files):

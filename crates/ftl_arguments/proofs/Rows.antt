@@ -3,7 +3,7 @@ use Rattle.std.proofs.Common.{◌≡◌, [], ◌∷◌, true, false, Some, None,
 use Rattle.clap.specs.declared.error.kind.ErrorKind.TheVariants.{ArgumentConflict, DisplayHelp, InvalidValue, MissingRequiredArgument, MissingSubcommand, UnknownArgument}
 use Rattle.clap.proofs.OnLiterals.{clap_on_literals}
 use Rattle.lint_findings.specs.Output.{github, json, text}
-use Rattle.ftl_arguments.specs.Meaning.{AskForHelpAlone, AskForVersionAlone, check, clean, command_of, faults_of, format, join, lint, run, tidy}
+use Rattle.ftl_arguments.specs.Meaning.{AskForHelpAlone, AskForVersionAlone, check, clean, command_of, faults_of, format, join, lint, run, tidy, tidy_files}
 
 no_words : faults_of [] ≡ MissingSubcommand ∷ []
 unfolding clap_on_literals
@@ -201,3 +201,16 @@ notes_of_check = refl
 help_of_lint : AskForHelpAlone (codes "lint" ∷ codes "--help" ∷ [])
 unfolding clap_on_literals
 help_of_lint = refl
+
+files_in_place : command_of (codes "tidy" ∷ codes "a.ftl" ∷ codes "locales" ∷ [])
+    ≡ Some (tidy_files (record { check = false; paths = codes "a.ftl" ∷ codes "locales" ∷ [] }))
+unfolding clap_on_literals
+files_in_place = refl
+
+files_to_check : command_of (codes "tidy" ∷ codes "--check" ∷ codes "." ∷ []) ≡ Some (tidy_files (record { check = true; paths = codes "." ∷ [] }))
+unfolding clap_on_literals
+files_to_check = refl
+
+no_path : faults_of (codes "tidy" ∷ codes "--check" ∷ []) ≡ MissingRequiredArgument ∷ []
+unfolding clap_on_literals
+no_path = refl

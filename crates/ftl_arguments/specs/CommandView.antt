@@ -8,6 +8,7 @@ use Rattle.clap.specs.declared.error.kind.ErrorKind.TheVariants.{DisplayHelp, Di
 use Rattle.clap.specs.declared.parser.matches.ArgMatches.{ArgMatches}
 use Rattle.fluent_serve.specs.RequestView.{arguments_view}
 use Rattle.ftl_arguments.specs.Linting.{Lint}
+use Rattle.ftl_arguments.specs.TidyFiles.{TidyFiles}
 use Rattle.ftl_arguments.specs.Meaning as asked
 use Rattle.ftl_arguments.specs.Meaning.{AskForHelp, AskForVersion, Asked, Format, asked_by, command_of, texts, tidying_by}
 use Rattle.ftl_arguments.specs.Version.{version_line}
@@ -17,6 +18,7 @@ use Rattle.ftl_arguments.specs.declared.commands.Format as code
 use Rattle.ftl_arguments.specs.declared.commands.Invocation.{Invocation}
 use Rattle.ftl_arguments.specs.declared.commands.Invocation.TheVariants as invocation
 use Rattle.ftl_arguments.specs.declared.commands.Lint as linted
+use Rattle.ftl_arguments.specs.declared.commands.TidyFiles as files
 use Rattle.ftl_arguments.specs.declared.commands.Tidy.{Tidy}
 use Rattle.ftl_arguments.specs.declared.commands.Tidy.TheVariants as of
 use Rattle.ftl_arguments.specs.declared.reading.WordsError.{WordsError}
@@ -61,12 +63,16 @@ lint_view l = record {
   files = texts l.files.items;
 }
 
+abbrev pub tidy_files_view : files.TidyFiles → TidyFiles
+tidy_files_view t = record { check = t.check; paths = texts t.paths.items }
+
 abbrev pub command_view : Command → Asked
 command_view (command.Run isolating overriding locale plain_numbers files) =
     asked.run (record { isolating = isolating; overriding = overriding; locale = option_map (λ l. l.now) locale; plain_numbers = plain_numbers; files = texts files.items })
 command_view (command.Format f) = asked.format (format_view f)
 command_view (command.Check files) = asked.check (texts files.items)
 command_view (command.Lint l) = asked.lint (lint_view l)
+command_view (command.TidyFiles t) = asked.tidy_files (tidy_files_view t)
 command_view (command.Tidy t) = asked.tidy (tidy_view t)
 
 -- The words ask for this: for a command, or for a text if they are none.

@@ -72,6 +72,13 @@ linting_rules = reported_rules ++ flag_rule (codes "strict") ∷ default_rule (c
 abbrev pub lint_shape : Shape
 lint_shape = shaped (codes "lint") (linting_rules ++ files_rule ∷ [])
 
+-- files and folders, one or more
+abbrev pub paths_rule : Rule
+paths_rule = record (new_rule (codes "PATH")) { required = true; range = Some (record { start_inclusive = 1; end_inclusive = usize_max }) }
+
+abbrev pub tidy_shape : Shape
+tidy_shape = shaped (codes "tidy") (flag_rule (codes "check") ∷ paths_rule ∷ [])
+
 -- the program, which has a version, of which a command has to be named, and whose first word is no name of its own
 abbrev pub bare_program : App
 bare_program =
@@ -84,6 +91,7 @@ program_app = record {
       ∷ format_shape
       ∷ shaped (codes "check") (files_rule ∷ [])
       ∷ lint_shape
+      ∷ tidy_shape
       ∷ shaped (codes "clean") (file_rule ∷ [])
       ∷ shaped (codes "normalize") (file_rule ∷ [])
       ∷ shaped (codes "join") (files_rule ∷ [])

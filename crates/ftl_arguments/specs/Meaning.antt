@@ -8,6 +8,7 @@ use Rattle.fluent_serve.specs.Requests.{Request, request_of_parts}
 use Rattle.ftl_arguments.specs.Commands.{program_app}
 use Rattle.ftl_arguments.specs.Found.{is_given, values_in, locale_in, file_in, files_in}
 use Rattle.ftl_arguments.specs.Linting.{Lint, lint_in}
+use Rattle.ftl_arguments.specs.TidyFiles.{TidyFiles, tidy_files_in}
 
 -- answer the request lines of standard input, from the sources in these files
 pub record Run : Type 0 where
@@ -42,6 +43,7 @@ pub data Asked : Type 0 where
   format : Format → Asked
   check : List Text → Asked
   lint : Lint → Asked
+  tidy_files : TidyFiles → Asked
   tidy : Tidy → Asked
 
 -- ---- what was found for a command
@@ -102,6 +104,7 @@ asked_by found =
     else if bytes_eq found.0 (codes "format") then option_map format (format_in found.1)
     else if bytes_eq found.0 (codes "check") then Some (check (files_in found.1))
     else if bytes_eq found.0 (codes "lint") then option_map lint (lint_in found.1)
+    else if bytes_eq found.0 (codes "tidy") then Some (tidy_files (tidy_files_in found.1))
     else tidying_by found
 
 abbrev pub asked_of : Option (Text × List Row) → Option Asked

@@ -38,6 +38,8 @@ pub enum Command<'words> {
     },
     /// Report what is found in a catalog.
     Lint(Lint<'words>),
+    /// Tidy files in place.
+    TidyFiles(TidyFiles<'words>),
     /// Write what sources are tidied into.
     Tidy(Tidy<'words>),
 }
@@ -84,6 +86,15 @@ pub struct Lint<'words> {
     pub format: ReportFormat,
     /// The names of the sources' files.
     pub files: Vec<&'words str>,
+}
+
+/// Which files are tidied in place.
+#[derive(Debug, PartialEq, Eq, Drop)]
+pub struct TidyFiles<'words> {
+    /// Whether they are only checked.
+    pub check: bool,
+    /// The names of files, and of folders whose sources are tidied.
+    pub paths: Vec<&'words str>,
 }
 
 /// How sources are tidied, and the names of their files.

@@ -3,15 +3,18 @@
 //! [`command`] returns what the arguments ask for, an [`Invocation`]: a [`Command`], help or the version.
 #![tactic(auto)]
 
+mod advising;
 mod commands;
 mod errors;
 mod formatting;
 mod linting;
 mod program;
 mod reading;
+mod tidying;
 mod version;
 
-pub use commands::{Command, Format, Invocation, Lint, Tidy};
+pub use advising::advice;
+pub use commands::{Command, Format, Invocation, Lint, Tidy, TidyFiles};
 pub use lint_report::Format as ReportFormat;
 pub use reading::{WordsError, command};
 pub use version::VERSION;

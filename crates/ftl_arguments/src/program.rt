@@ -7,6 +7,7 @@ ghost use Rattle.ftl_arguments.specs.Commands.{id_rule, file_rule, files_rule};
 ghost use Rattle.ftl_arguments.specs.Commands.{bare_program, program_app, asking_rules, flagged_rules, format_shape, run_shape};
 ghost use Rattle.ftl_arguments.specs.Commands.{known_rules, lint_shape, linting_rules, reported_rules, with_reports, with_tidying};
 
+use crate::tidying::with_tidy;
 use crate::version::VERSION;
 use clap::{Arg, ArgAction, Command};
 use std::alloc::{AllocError, Global};
@@ -26,6 +27,7 @@ pub(crate) fn program<'a>(alloc: Global) -> Result<Command<'a>, AllocError>
     let program = bare_program(alloc)?.subcommand(run)?;
     let program = with_format(alloc, program)?;
     let program = with_reports(alloc, program)?;
+    let program = with_tidy(alloc, program)?;
     with_tidying(alloc, program)
 }
 
@@ -232,7 +234,7 @@ fn flagged<'a>(alloc: Global, name: &'a str, about: &'a str) -> Result<Command<'
 }
 
 /// A flag of this name.
-fn flag<'a>(alloc: Global, name: &'a str) -> Arg<'a>
+pub(crate) fn flag<'a>(alloc: Global, name: &'a str) -> Arg<'a>
     ensures { IsLocal (flag_rule name.entry.now) result }
 {
     Arg::new(alloc, name).long(name).action(ArgAction::SetTrue)

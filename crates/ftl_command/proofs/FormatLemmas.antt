@@ -13,7 +13,7 @@ use Rattle.ftl_command.specs.Program.{EndsWith, IsFound, OnFound, errors_in, rep
 use Rattle.ftl_command.specs.Refusals.{IsEarlyFault}
 use Rattle.ftl_command.specs.declared.ended.Ended.{Ended}
 use Rattle.ftl_command.specs.declared.fault.Fault.TheVariants.{NoMessage}
-use Rattle.ftl_command.specs.declared.folder.Folder.{Ghosts as FolderGhosts}
+use Rattle.ftl_files.specs.declared.folder.Folder.{Ghosts as FolderGhosts}
 use Rattle.ftl_command.proofs.Refusals.{of_refusal}
 
 pub if_some : {X : Type 0} {P Q : X → Type 0} (o : Option X) → ((x : X) → P x → Q x) → IsSomeAnd o P → IsSomeAnd o Q

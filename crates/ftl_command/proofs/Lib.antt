@@ -1,6 +1,7 @@
 pub mod EndLemmas
 pub mod FaultLemmas
 pub mod FormatLemmas
+pub mod InPlaceLemmas
 pub mod LintLemmas
 pub mod Refusals
 pub mod RunLemmas

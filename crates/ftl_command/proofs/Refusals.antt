@@ -1,12 +1,13 @@
 -- What is so of a fault, by how it came.
-use Rattle.std.proofs.Common.{◌≡◌, ◌≢◌, Option, None, Some, Result, Ok, Err, IfErr, OnErr, OnOk, refl}
+use Rattle.std.proofs.Common.{◌≡◌, ◌≢◌, ◌⊎◌, Option, None, Some, Result, Ok, Err, IfErr, OnErr, OnOk, inl, inr, refl}
 use Rattle.std.proofs.lemmas.Result.{IfErr-weaker, on_ok_weaker}
 use Rattle.fluent_serve.proofs.Outcomes.{on_ok_always}
 use Rattle.fluent_serve.specs.Text.{Text}
 use Rattle.fluent_serve.specs.Devices.{HasFailed}
 use Rattle.fluent_serve.specs.declared.stream.Sink.{Ghosts as SinkGhosts}
 use Rattle.fluent_serve.specs.declared.stream.Source.{Ghosts as SourceGhosts}
-use Rattle.ftl_arguments.specs.Meaning.{Asked, Format, Tidy, run, format, check, lint, tidy}
+use Rattle.ftl_arguments.specs.Meaning.{Asked, Format, Tidy, run, format, check, lint, tidy_files, tidy}
+use Rattle.ftl_arguments.specs.TidyFiles.{TidyFiles}
 use Rattle.fluent_serve.specs.Exchange.{GivesUp}
 use Rattle.fluent_serve.specs.declared.serve.RunError.{RunError}
 use Rattle.fluent_serve.specs.declared.serve.RunError.TheVariants.{Memory as RunMemory, Read as RunRead, Write as RunWrite}
@@ -17,12 +18,13 @@ use Rattle.fluent_tidy.specs.declared.error.NormalizeError.TheVariants as normal
 use Rattle.fluent_tidy.specs.declared.error.ImportError.{ImportError}
 use Rattle.fluent_tidy.specs.declared.error.ImportError.TheVariants as import
 use Rattle.ftl_command.specs.Faults.{IsBeforeInput, IsFaultOfFiles, IsOfLocale, SaysOfFiles, SaysUnknown, clean_fault, import_fault, normalize_fault, run_fault}
-use Rattle.ftl_command.specs.Program.{files_named, locale_named}
+use Rattle.ftl_command.specs.Program.{UnlessInPlace, files_named, locale_named}
 use Rattle.ftl_command.specs.Refusals.{DevicesEnd, HaveNoNormalText, HoldNoTree, HoldReturn, IsDeviceFault, IsEarlyFault, IsFaultOf, IsRight, IsRightOf, IsTextFault, RefusesNothing, SaysNoMessage, TextWorks}
 use Rattle.ftl_command.specs.declared.fault.Fault.{Fault}
 use Rattle.ftl_command.specs.declared.fault.Fault.TheVariants.{CarriageReturn, NotNormal, NotTree, NotJson, NoMessage, CommandLine, UnknownLocale, FileUnreadable, FileNotUtf8, Input, Output, Memory}
 use Rattle.ftl_command.specs.declared.ended.Ended.{Ended}
-use Rattle.ftl_command.specs.declared.folder.Folder.{Ghosts as FolderGhosts}
+use Rattle.ftl_files.specs.States.{state_of}
+use Rattle.ftl_files.specs.declared.folder.Folder.{Ghosts as FolderGhosts}
 
 module _ (contents : Text → Option Text) where
   nothing_of_message : (f : Format) (fault : Fault) → RefusesNothing fault → SaysNoMessage contents f fault
@@ -43,7 +45,18 @@ module _ (contents : Text → Option Text) where
   right_by (Some (format f)) fault nothing = nothing_of_message f fault nothing
   right_by (Some (check files)) fault nothing = nothing
   right_by (Some (lint l)) fault nothing = nothing
+  right_by (Some (tidy_files t)) fault nothing = nothing
   right_by (Some (tidy t)) fault nothing = nothing_of_tidying t fault nothing
+
+-- what is so of any command is so of those that don't tidy files in place
+pub of_any : {P : Type 0} (asked : Option Asked) → P → UnlessInPlace asked P
+of_any None p = p
+of_any (Some (run r)) p = p
+of_any (Some (format f)) p = p
+of_any (Some (check files)) p = p
+of_any (Some (lint l)) p = p
+of_any (Some (tidy_files t)) p = tt
+of_any (Some (tidy t)) p = p
 
 -- a fault of memory or a device
 abbrev IsOfDevice : Fault → Type 0
@@ -55,20 +68,20 @@ IsOfDevice fault = ⊥
 of_device : {F : Type 0} (folders : FolderGhosts F) (before after : F) (asked : Option Asked) (fault : Fault) → IsOfDevice fault →
     folders.failures after ≡ folders.failures before → IsFaultOf folders before after asked fault
 of_device folders before after asked Input of same =
-    record { refused = λ is. absurd cc; unknown = tt; unopened = λ of. absurd of; files = record { reached = tt; not_utf8 = tt; unreadable = same }; right = right_by (folders.contents before) asked Input tt }
+    record { refused = λ is. absurd cc; unknown = tt; unopened = λ of. absurd of; files = of_any asked (record { reached = tt; not_utf8 = tt; unreadable = same }); right = right_by (folders.contents before) asked Input tt }
 of_device folders before after asked Output of same =
-    record { refused = λ is. absurd cc; unknown = tt; unopened = λ of. absurd of; files = record { reached = tt; not_utf8 = tt; unreadable = same }; right = right_by (folders.contents before) asked Output tt }
+    record { refused = λ is. absurd cc; unknown = tt; unopened = λ of. absurd of; files = of_any asked (record { reached = tt; not_utf8 = tt; unreadable = same }); right = right_by (folders.contents before) asked Output tt }
 of_device folders before after asked Memory of same =
-    record { refused = λ is. absurd cc; unknown = tt; unopened = λ of. absurd of; files = record { reached = tt; not_utf8 = tt; unreadable = same }; right = right_by (folders.contents before) asked Memory tt }
+    record { refused = λ is. absurd cc; unknown = tt; unopened = λ of. absurd of; files = of_any asked (record { reached = tt; not_utf8 = tt; unreadable = same }); right = right_by (folders.contents before) asked Memory tt }
 of_device folders before after asked fault of same = absurd of
 
 module _ {F : Type 0} (folders : FolderGhosts F) (before after : F) (asked : Asked) where
   -- a fault that names neither a locale nor a file
   pub nameless : (fault : Fault) → fault ≢ CommandLine → fault ≢ Input → fault ≢ Output → SaysUnknown (locale_named (Some asked)) fault →
-      (IsOfLocale fault → ⊥) → SaysOfFiles folders before after (files_named (Some asked)) fault → IsRight (folders.contents before) (Some asked) fault →
+      (IsOfLocale fault → ⊥) → SaysOfFiles (state_of folders before) (state_of folders after) (files_named (Some asked)) fault → IsRight (folders.contents before) (Some asked) fault →
       IsEarlyFault folders before after asked fault
   nameless fault not_words not_input not_output unknown not_locale files right = record {
-    says = record { refused = λ is. absurd (not_words is); unknown = unknown; unopened = λ of. absurd (not_locale of); files = files; right = right };
+    says = record { refused = λ is. absurd (not_words is); unknown = unknown; unopened = λ of. absurd (not_locale of); files = of_any (Some asked) files; right = right };
     not_input = not_input;
     not_output = not_output;
   }
@@ -93,7 +106,7 @@ of_locale folders folder asked (UnknownLocale tag) of unknown = record {
     refused = λ is. absurd cc;
     unknown = unknown;
     unopened = λ of. refl;
-    files = record { reached = tt; not_utf8 = tt; unreadable = refl };
+    files = of_any (Some asked) (record { reached = tt; not_utf8 = tt; unreadable = refl });
     right = right_by (folders.contents folder) (Some asked) (UnknownLocale tag) tt;
   };
   not_input = λ is. absurd cc;
@@ -221,7 +234,7 @@ of_bad_words folders folder asked nothing = record {
   refused = λ is. nothing;
   unknown = tt;
   unopened = λ of. absurd of;
-  files = record { reached = tt; not_utf8 = tt; unreadable = refl };
+  files = of_any asked (record { reached = tt; not_utf8 = tt; unreadable = refl });
   right = right_by (folders.contents folder) asked CommandLine tt;
 }
 
@@ -233,7 +246,7 @@ module _ {F R W : Type 0} (folders : FolderGhosts F) (source : SourceGhosts R) (
       IfErr result (IsFaultOf folders before after asked) → IfErr result (IsTextFault sink writer writer') →
       DevicesEnd folders before after source reader reader sink writer writer' asked result
   text_devices before after writer' result works fault stops = record {
-    opens = on_ok_weaker result (λ w. w.opens) works;
+    opens = on_ok_weaker result (λ w. of_any asked w.opens) works;
     reads = on_ok_always result refl;
     writes = on_ok_weaker result (λ w. w.writes) works;
     fault = fault;
@@ -245,7 +258,7 @@ module _ {F R W : Type 0} (folders : FolderGhosts F) (source : SourceGhosts R) (
       IfErr result (λ fault. fault ≡ Output) → OnErr result (HasFailed (sink.failures writer) (sink.failures writer')) →
       DevicesEnd folders folder folder source reader reader sink writer writer' asked result
   asked_devices folder writer' result writes fault failed = record {
-    opens = on_ok_always result refl;
+    opens = on_ok_always result (of_any asked refl);
     reads = on_ok_always result refl;
     writes = writes;
     fault = of_asked folders folder asked result fault;
@@ -261,4 +274,24 @@ module _ {F R W : Type 0} (folders : FolderGhosts F) (source : SourceGhosts R) (
     writes = tt;
     fault = says;
     stops = untouched_devices source sink reader writer fault not_input not_output;
+  }
+
+-- ---- files that are tidied in place
+
+module _ {F : Type 0} (folders : FolderGhosts F) (before after : F) (t : TidyFiles) where
+  -- memory ran out, or the output failed
+  in_place_fault : (fault : Fault) → (fault ≡ Memory) ⊎ (fault ≡ Output) → IsFaultOf folders before after (Some (tidy_files t)) fault
+  in_place_fault fault (inl is) = rw is (record { refused = λ bad. absurd cc; unknown = tt; unopened = λ of. absurd of; files = tt; right = tt })
+  in_place_fault fault (inr is) = rw is (record { refused = λ bad. absurd cc; unknown = tt; unopened = λ of. absurd of; files = tt; right = tt })
+
+  -- their names were written
+  pub in_place_devices : {R W : Type 0} (source : SourceGhosts R) (sink : SinkGhosts W) (reader : R) (writer writer' : W) (result : Result Ended Fault) →
+      OnOk result (sink.failures writer' ≡ sink.failures writer) → IfErr result (λ fault. (fault ≡ Memory) ⊎ (fault ≡ Output)) →
+      IfErr result (IsTextFault sink writer writer') → DevicesEnd folders before after source reader reader sink writer writer' (Some (tidy_files t)) result
+  in_place_devices source sink reader writer writer' result writes fault stops = record {
+    opens = on_ok_always result tt;
+    reads = on_ok_always result refl;
+    writes = writes;
+    fault = IfErr-weaker result _ _ in_place_fault fault;
+    stops = IfErr-weaker result _ _ (unread_device source sink reader writer writer') stops;
   }

@@ -2,12 +2,12 @@
 use Rattle.std.proofs.Common.{ℕ, ◌+◌, ◌<◌, List, [], ◌∷◌, ◌++◌, length, take, map, get_or, ◌≡◌, Option, Some, None, IsSomeAnd, Result, Ok, Err, IfErr, IfOk, OnErr, OnOk, refl}
 use Rattle.std.proofs.lemmas.List.{take_more, map-append}
 use denote.Ref.{Bor}
-use Rattle.std.specs.Prelude.{◌≢◌, IfSome, IsErrOf}
+use Rattle.std.specs.Prelude.{◌≢◌, ⊤, IfSome, IsErrOf}
 use Rattle.std.specs.Io.KnownBytes.{Appends}
 use Rattle.fluent_serve.specs.Text.{Text}
 use Rattle.fluent_serve.specs.Exchange.{Devices, devices_of, AnswersFirst}
 use Rattle.fluent_serve.specs.Texts.{texts}
-use Rattle.ftl_arguments.specs.Meaning.{Asked, Run, run, format, check, lint, tidy}
+use Rattle.ftl_arguments.specs.Meaning.{Asked, Run, run, format, check, lint, tidy_files, tidy}
 use Rattle.ftl_command.specs.declared.ended.Ended.{Ended}
 use Rattle.ftl_command.specs.declared.ended.Ended.TheVariants.{Done}
 use Rattle.ftl_command.specs.declared.fault.Fault.{Fault}
@@ -88,6 +88,7 @@ nothing_done contents left held (Some (run r)) = first_none (rules_asked r.plain
 nothing_done contents left held (Some (format f)) = refl
 nothing_done contents left held (Some (check files)) = refl
 nothing_done contents left held (Some (lint l)) = refl
+nothing_done contents left held (Some (tidy_files t)) = refl
 nothing_done contents left held (Some (tidy t)) = refl
 
 pub kept_input : {R : Type 0} (asked : Option Asked) (reader : R) → WithoutInput asked (reader ≡ reader)
@@ -96,7 +97,13 @@ kept_input (Some (run r)) reader = tt
 kept_input (Some (format f)) reader = refl
 kept_input (Some (check files)) reader = refl
 kept_input (Some (lint l)) reader = refl
+kept_input (Some (tidy_files t)) reader = refl
 kept_input (Some (tidy t)) reader = refl
+
+-- nothing is said of an end
+pub if_ok_any : (r : Result Ended Fault) → IfOk r (λ end. ⊤)
+if_ok_any (Ok end) = tt
+if_ok_any (Err fault) = tt
 
 -- a run that is answered is done
 pub done_by : (r : Result Ended Fault) (P : Type 0) → IfOk r (λ end. end ≡ Done) → OnOk r P → IfOk r (λ end. (end ≡ Done) × P)

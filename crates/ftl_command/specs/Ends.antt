@@ -8,12 +8,15 @@ use Rattle.fluent_serve.specs.declared.stream.Sink.{Ghosts as SinkGhosts}
 use Rattle.fluent_serve.specs.declared.stream.Source.{Ghosts as SourceGhosts}
 use Rattle.ftl_arguments.specs.Meaning.{AskForText, AskForHelpAlone, AskForVersionAlone, command_of}
 use Rattle.ftl_command.specs.declared.ended.Ended.{Ended}
-use Rattle.ftl_command.specs.declared.ended.Ended.TheVariants.{Done, Found, Incomplete}
+use Rattle.ftl_command.specs.declared.ended.Ended.TheVariants.{Done, Found, Incomplete, Partial}
 use Rattle.ftl_command.specs.declared.fault.Fault.{Fault}
 use Rattle.ftl_command.specs.declared.fault.Fault.TheVariants.{CommandLine, Input, Output, Memory}
-use Rattle.ftl_command.specs.declared.folder.Folder.{Ghosts as FolderGhosts}
-use Rattle.ftl_command.specs.Faults.{outcome_status, fault_line, ReachesFile, SaysNoUtf8, SaysUnknown, FailsAsTold, IsBeforeInput}
-use Rattle.ftl_command.specs.Program.{IsDone, AfterMemory, AfterInput, AfterOutput, WithoutInput, ShowsVersion, WritesFront, files_named, locale_named}
+use Rattle.ftl_files.specs.Files.{State}
+use Rattle.ftl_files.specs.States.{state_of}
+use Rattle.ftl_files.specs.declared.folder.Folder.{Ghosts as FolderGhosts}
+use Rattle.ftl_command.specs.InPlace.{FilesEnd}
+use Rattle.ftl_command.specs.Faults.{outcome_status, fault_line, SaysOfFiles, SaysUnknown, IsBeforeInput}
+use Rattle.ftl_command.specs.Program.{IsDone, AfterMemory, AfterInput, AfterOutput, WithoutInput, UnlessInPlace, ShowsVersion, WritesFront, files_named, locale_named}
 use Rattle.ftl_command.specs.Refusals.{IsRight}
 
 -- A device before and after: its bytes, if they are known, and how many of its calls have failed.
@@ -50,63 +53,68 @@ abbrev pub ReportsErrors : Seen → Ended → Type 0
 ReportsErrors s Done = IsUntouched s
 ReportsErrors s Found = IsUntouched s
 ReportsErrors s (Incomplete errors) = WritesOrFails s (string_bytes errors)
+ReportsErrors s (Partial errors) = WritesOrFails s (string_bytes errors)
 
 -- a fault is reported on one line, and nothing else is
 abbrev pub Reports : Seen → Result Ended Fault → Type 0
 Reports s (Ok end) = ReportsErrors s end
 Reports s (Err fault) = WritesOrFails s (fault_line fault)
 
--- The status, and the line of a fault, are those that the command results in; and these are right. The counts are those of
--- the files that could not be read, before and after.
-pub record Ends (contents : Text → Option Text) (unread_before unread_after : ℕ) (input output faults : Seen) (words : List Text) (status : ℕ) : Type 0 where
+-- The status, and the line of a fault, are those that the command results in; and these are right, by what is known of
+-- the files before and after.
+pub record Ends (before after : State) (input output faults : Seen) (words : List Text) (status : ℕ) : Type 0 where
   pub outcome : Result Ended Fault
   pub exact : status ≡ outcome_status outcome
   pub reports : Reports faults outcome
   -- without a fault all is done
-  pub done : IfOk outcome (IsDone contents (exchanged input output) (command_of words))
+  pub done : IfOk outcome (IsDone before.contents (exchanged input output) (command_of words))
   pub text : OnOk outcome (command_of words ≡ None → AskForText words)
   pub version : AskForVersionAlone words → ShowsVersion output.before output.after outcome
-  pub opens : OnOk outcome (unread_after ≡ unread_before)
+  pub opens : OnOk outcome (UnlessInPlace (command_of words) (after.failures ≡ before.failures))
   pub reads : OnOk outcome (Works input)
   pub writes : OnOk outcome (Works output)
+  -- files that are tidied in place hold their tidy texts, and no other changes
+  pub in_place : FilesEnd (command_of words) before after output.before output.after outcome
   pub no_input : WithoutInput (command_of words) (IsUntouched input)
   -- what a fault says is so, and before the words and all files are read nothing else is read or written
   pub refused : IsErrOf outcome CommandLine → command_of words ≡ None
   pub not_help : IsErrOf outcome CommandLine → AskForHelpAlone words → ⊥
   pub not_version : IsErrOf outcome CommandLine → AskForVersionAlone words → ⊥
   pub unknown : IfErr outcome (SaysUnknown (locale_named (command_of words)))
-  pub reached : IfErr outcome (ReachesFile contents (files_named (command_of words)))
-  pub unreadable : IfErr outcome (FailsAsTold unread_before unread_after)
-  pub not_utf8 : IfErr outcome (SaysNoUtf8 contents)
-  pub right : IfErr outcome (IsRight contents (command_of words))
+  pub files : IfErr outcome (λ fault. UnlessInPlace (command_of words) (SaysOfFiles before after (files_named (command_of words)) fault))
+  pub right : IfErr outcome (IsRight before.contents (command_of words))
   pub unread : IfErr outcome (λ fault. IsBeforeInput fault → IsUntouched input)
   pub unwritten : IfErr outcome (λ fault. IsBeforeInput fault → IsUntouched output)
   -- what was written before another fault stays written
-  pub memory_out : IsErrOf outcome Memory → AfterMemory contents (exchanged input output) (command_of words)
-  pub input_failed : IsErrOf outcome Input → AfterInput contents (exchanged input output) (HasFailed input.failures_before input.failures_after) (command_of words)
-  pub output_cut : IsErrOf outcome Output → AfterOutput contents (exchanged input output) (command_of words)
+  pub memory_out : IsErrOf outcome Memory → AfterMemory before.contents (exchanged input output) (command_of words)
+  pub input_failed : IsErrOf outcome Input → AfterInput before.contents (exchanged input output) (HasFailed input.failures_before input.failures_after) (command_of words)
+  pub output_cut : IsErrOf outcome Output → AfterOutput before.contents (exchanged input output) (command_of words)
   pub output_failed : IsErrOf outcome Output → HasFailed output.failures_before output.failures_after
 
 -- so it is on a folder, a reader and two writers, by what is known of them
 abbrev pub EndsOn : {F R W V : Type 0} → FolderGhosts F → F → F → SourceGhosts R → R → R → SinkGhosts W → W → W → SinkGhosts V → V → V → List Text → ℕ → Type 0
 EndsOn folders folder folder' source reader reader' sink writer writer' told faults faults' words status =
-    Ends (folders.contents folder) (folders.failures folder) (folders.failures folder') (seen source.remaining source.failures reader reader')
+    Ends (state_of folders folder) (state_of folders folder') (seen source.remaining source.failures reader reader')
     (seen sink.contents sink.failures writer writer') (seen told.contents told.failures faults faults') words status
 
 -- the device begins with these bytes, and no call has failed yet
 abbrev pub Begins : Seen → Option Text → Type 0
 Begins s bytes = (s.before ≡ bytes) × (s.failures_before ≡ 0)
 
+-- nothing is known of files, and no call has failed yet
+abbrev pub nothing_known : State
+nothing_known = record { contents = λ _. None; sources = λ _. None; failures = 0 }
+
 -- The same over files of which nothing is known, and devices that are passed with these bytes.
 pub record EndsOver (left held reported : Option Text) (words : List Text) (status : ℕ) : Type 0 where
-  pub unread : ℕ
+  pub files : State
   pub input : Seen
   pub output : Seen
   pub faults : Seen
   pub input_new : Begins input left
   pub output_new : Begins output held
   pub faults_new : Begins faults reported
-  pub ends : Ends (λ _. None) 0 unread input output faults words status
+  pub ends : Ends nothing_known files input output faults words status
 
 -- the line of a fault is reported on a device that is passed with these bytes
 pub record ReportsOver (reported : Option Text) (fault : Fault) : Type 0 where

@@ -5,7 +5,9 @@ use Rattle.fluent_serve.specs.Frames.{ended}
 use Rattle.fluent_serve.specs.Devices.{HasFailed}
 use Rattle.fluent_plurals.specs.Plurals.{plurals_for}
 use Rattle.ftl_command.specs.Files.{Reaches}
-use Rattle.ftl_command.specs.declared.folder.Folder.{Ghosts as FolderGhosts}
+use Rattle.ftl_files.specs.Files.{State}
+use Rattle.ftl_files.specs.States.{state_of}
+use Rattle.ftl_files.specs.declared.folder.Folder.{Ghosts as FolderGhosts}
 use Rattle.ftl_command.specs.declared.fault.Fault.{Fault}
 use Rattle.ftl_command.specs.declared.fault.Fault.TheVariants.{CarriageReturn, NotNormal, NotTree, NotJson, NoMessage, CommandLine, UnknownLocale, FileUnreadable, FileNotUtf8, Input, Output, Memory}
 use Rattle.fluent_tidy.specs.declared.error.CleanError.{CleanError}
@@ -17,13 +19,15 @@ use Rattle.fluent_tidy.specs.declared.error.ImportError.TheVariants as import
 use Rattle.fluent_serve.specs.declared.serve.RunError.{RunError}
 use Rattle.fluent_serve.specs.declared.serve.RunError.TheVariants.{Memory as RunMemory, Read as RunRead, Write as RunWrite}
 use Rattle.ftl_command.specs.declared.ended.Ended.{Ended}
-use Rattle.ftl_command.specs.declared.ended.Ended.TheVariants.{Done, Found, Incomplete}
+use Rattle.ftl_command.specs.declared.ended.Ended.TheVariants.{Done, Found, Incomplete, Partial}
 
--- without a fault the status is 0, or 1 if something was found in the sources or went wrong in a text
+-- Without a fault the status is 0, or 1 if something was found in the sources or went wrong in a text. It is 3 if one of the files to be
+-- tidied in place could not be read or written.
 abbrev pub end_status : Ended → ℕ
 end_status Done = 0
 end_status Found = 1
 end_status (Incomplete errors) = 1
+end_status (Partial errors) = 3
 
 -- what can't be tidied is 1, bad words and an unknown locale are 2, what cannot be read or written is 3, and where memory runs out it is 4
 abbrev pub status_of : Fault → ℕ
@@ -170,17 +174,17 @@ IsBeforeInput Output = ⊥
 IsBeforeInput Memory = ⊥
 
 -- What a fault says of the files that were to be read is so, by what is known of their folder before and after.
-pub record SaysOfFiles {F : Type 0} (folders : FolderGhosts F) (before after : F) (files : List Text) (fault : Fault) : Type 0 where
+pub record SaysOfFiles (before after : State) (files : List Text) (fault : Fault) : Type 0 where
   -- the file that it names is one of these, and those before it are held, as texts
-  pub reached : ReachesFile (folders.contents before) files fault
-  pub not_utf8 : SaysNoUtf8 (folders.contents before) fault
+  pub reached : ReachesFile before.contents files fault
+  pub not_utf8 : SaysNoUtf8 before.contents fault
   -- a read has failed exactly if it says so
-  pub unreadable : FailsAsTold (folders.failures before) (folders.failures after) fault
+  pub unreadable : FailsAsTold before.failures after.failures fault
 
 -- a fault that came while these files were read
 pub record IsFaultOfFiles {F : Type 0} (folders : FolderGhosts F) (before after : F) (files : List Text) (fault : Fault) : Type 0 where
   pub of_files : IsOfFiles fault
-  pub says : SaysOfFiles folders before after files fault
+  pub says : SaysOfFiles (state_of folders before) (state_of folders after) files fault
 
 -- what a run's end is reported as: its reader is standard input, and its writer standard output
 abbrev pub run_fault : RunError → Fault

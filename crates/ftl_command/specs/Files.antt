@@ -1,13 +1,11 @@
 -- What files hold. `contents` is what a file of a name holds, if that is known.
-use Rattle.std.specs.Prelude.{◌≡◌, ℕ, List, [], ◌∷◌, ◌++◌, ⊤, Option, IfSome, Result, Ok, Err, String, map, string_bytes}
+use Rattle.std.specs.Prelude.{◌≡◌, List, [], ◌∷◌, ◌++◌, ⊤, Option, IfSome, String, map, string_bytes}
 use Rattle.std.specs.Global.{Global}
 use denote.Ref.{Bor}
 use Rattle.fluent_serve.specs.Text.{Text}
 use Rattle.fluent_tidy_laws.specs.Joined.{AreUtf8}
-use Rattle.fluent_serve.specs.Devices.{one_more}
 use Rattle.fluent_serve.specs.Texts.{texts}
-use Rattle.ftl_command.specs.declared.folder.FileError.{FileError}
-use Rattle.ftl_command.specs.declared.folder.FileError.TheVariants.{Memory, Unreadable}
+pub use Rattle.ftl_files.specs.Files.{OnFile}
 
 -- a text for each file: what the file holds, if that is known
 abbrev pub AreHeld : (Text → Option Text) → List Text → List Text → Type 0
@@ -20,13 +18,7 @@ AreHeld contents (f ∷ fs) (s ∷ ss) = IfSome (contents f) (λ held. s ≡ hel
 abbrev pub AreRead : (Text → Option Text) → List (Bor Text) → List (String Global) → Type 0
 AreRead contents files strings = AreHeld contents (texts files) (map string_bytes strings)
 
--- the outcome holds of a file's text
-pub record OnFile (contents : Text → Option Text) (file : Text) (Outcome : Text → Type 0) : Type 0 where
-  pub source : Text
-  pub held : IfSome (contents file) (λ held. source ≡ held)
-  pub outcome : Outcome source
-
--- and of the texts of several
+-- the outcome holds of the texts of several files
 pub record OnTexts (contents : Text → Option Text) (files : List Text) (Outcome : List Text → Type 0) : Type 0 where
   pub sources : List Text
   pub held : AreHeld contents files sources
@@ -40,9 +32,3 @@ pub record Reaches (contents : Text → Option Text) (files : List Text) (file :
   pub sources : List Text
   pub held : AreHeld contents front sources
   pub utf8 : AreUtf8 sources
-
--- the count of failures after a read: want of memory is none
-abbrev pub failures_after_file : {A : Type 0} → ℕ → Result A FileError → ℕ
-failures_after_file old (Ok bytes) = old
-failures_after_file old (Err Memory) = old
-failures_after_file old (Err Unreadable) = one_more old

@@ -1,9 +1,9 @@
 pub mod Ends
 pub mod Faults
 pub mod Files
+pub mod InPlace
 pub mod Plurals
 pub mod Program
 pub mod Refusals
-pub mod ErrorTexts
 pub mod Shown
 pub mod FormatView

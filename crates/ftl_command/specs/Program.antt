@@ -31,16 +31,16 @@ use Rattle.fluent_lint.specs.LintReport.{LintReport, lint_report_from}
 use Rattle.fluent_check.specs.Report.{report_text}
 use Rattle.ftl_arguments.specs.Version.{version_line}
 use Rattle.ftl_arguments.specs.Linting.{Lint}
-use Rattle.ftl_arguments.specs.Meaning.{Asked, Run, Format, Tidy, run, format, check, lint, tidy, clean, normalize, join, export, import}
+use Rattle.ftl_arguments.specs.Meaning.{Asked, Run, Format, Tidy, run, format, check, lint, tidy_files, tidy, clean, normalize, join, export, import}
 use Rattle.ftl_command.specs.Files.{OnFile, OnTexts}
 use Rattle.ftl_command.specs.Faults.{end_status}
 use Rattle.ftl_command.specs.Plurals.{Rules, category_in, language_asked, plurals_asked, rules_asked}
 use Rattle.ftl_command.specs.declared.ended.Ended.{Ended}
 use Rattle.ftl_command.specs.declared.running.RunOptions.{RunOptions}
-use Rattle.ftl_command.specs.declared.ended.Ended.TheVariants.{Done, Found, Incomplete}
+use Rattle.ftl_command.specs.declared.ended.Ended.TheVariants.{Done, Found, Incomplete, Partial}
 use Rattle.ftl_command.specs.declared.fault.Fault.{Fault}
 use Rattle.ftl_command.specs.declared.fault.Fault.TheVariants.{Input, Output, Memory}
-use Rattle.ftl_command.specs.declared.folder.Folder.{Ghosts as FolderGhosts}
+use Rattle.ftl_files.specs.declared.folder.Folder.{Ghosts as FolderGhosts}
 
 -- ---- a run
 
@@ -183,6 +183,7 @@ abbrev pub errors_in : Ended → Text
 errors_in Done = []
 errors_in Found = []
 errors_in (Incomplete errors) = string_bytes errors
+errors_in (Partial errors) = string_bytes errors
 
 -- the status of a text with these errors, or with these lines of them: 0 if there are none
 abbrev pub status_by : {X : Type 0} → List X → ℕ
@@ -256,6 +257,8 @@ IsDone contents d (Some (run r)) end = (end ≡ Done) × OnRun contents r (Answe
 IsDone contents d (Some (format f)) end = OnReply contents f (λ reply. Writes d (ended reply.text) × EndsWith reply.errors end)
 IsDone contents d (Some (check files)) end = OnReport contents files (λ text. Writes d text × (end ≡ end_by text))
 IsDone contents d (Some (lint l)) end = OnLintReport contents l (λ report. Writes d report.text × (end ≡ lint_end report.has_failed))
+-- of these `InPlace.FilesEnd` says what became
+IsDone contents d (Some (tidy_files t)) end = ⊤
 IsDone contents d (Some (tidy t)) end = (end ≡ Done) × Tidied contents t (Writes d)
 
 -- a run is answered alike from tidied sources
@@ -265,6 +268,7 @@ IsDoneAlike contents d (Some (run r)) = OnRunAlike contents d r
 IsDoneAlike contents d (Some (format f)) = ⊤
 IsDoneAlike contents d (Some (check files)) = ⊤
 IsDoneAlike contents d (Some (lint l)) = ⊤
+IsDoneAlike contents d (Some (tidy_files t)) = ⊤
 IsDoneAlike contents d (Some (tidy t)) = ⊤
 
 -- the first lines of a run are answered by these rules; if the locale has none, nothing is written
@@ -279,6 +283,7 @@ AfterMemory contents d (Some (run r)) = AnswersFirstBy (rules_asked r.plain_numb
 AfterMemory contents d (Some (format f)) = d.held_after ≡ d.held_before
 AfterMemory contents d (Some (check files)) = d.held_after ≡ d.held_before
 AfterMemory contents d (Some (lint l)) = d.held_after ≡ d.held_before
+AfterMemory contents d (Some (tidy_files t)) = d.held_after ≡ d.held_before
 AfterMemory contents d (Some (tidy t)) = d.held_after ≡ d.held_before
 
 -- the input failed, or came to no end: all whole lines of a run are answered; another command reads no input
@@ -288,6 +293,7 @@ AfterInput contents d Failed (Some (run r)) = OnRun contents r (λ line. Answers
 AfterInput contents d Failed (Some (format f)) = ⊥
 AfterInput contents d Failed (Some (check files)) = ⊥
 AfterInput contents d Failed (Some (lint l)) = ⊥
+AfterInput contents d Failed (Some (tidy_files t)) = ⊥
 AfterInput contents d Failed (Some (tidy t)) = ⊥
 
 -- the output failed: a front of what was to be written is
@@ -297,6 +303,7 @@ AfterOutput contents d (Some (run r)) = OnRun contents r (AnswersFront d)
 AfterOutput contents d (Some (format f)) = OnReply contents f (λ reply. WritesFront d.held_before d.held_after (ended reply.text))
 AfterOutput contents d (Some (check files)) = OnReport contents files (WritesFront d.held_before d.held_after)
 AfterOutput contents d (Some (lint l)) = OnLintReport contents l (λ report. WritesFront d.held_before d.held_after report.text)
+AfterOutput contents d (Some (tidy_files t)) = ⊤
 AfterOutput contents d (Some (tidy t)) = Tidied contents t (WritesFront d.held_before d.held_after)
 
 -- What became of a command, by how it ended. `failed` says that the input failed.
@@ -320,7 +327,18 @@ WithoutInput (Some (run r)) Fact = ⊤
 WithoutInput (Some (format f)) Fact = Fact
 WithoutInput (Some (check files)) Fact = Fact
 WithoutInput (Some (lint l)) Fact = Fact
+WithoutInput (Some (tidy_files t)) Fact = Fact
 WithoutInput (Some (tidy t)) Fact = Fact
+
+-- a fact about commands that don't tidy files in place: they stop at the first file that can't be read
+abbrev pub UnlessInPlace : Option Asked → Type 0 → Type 0
+UnlessInPlace None Fact = Fact
+UnlessInPlace (Some (run r)) Fact = Fact
+UnlessInPlace (Some (format f)) Fact = Fact
+UnlessInPlace (Some (check files)) Fact = Fact
+UnlessInPlace (Some (lint l)) Fact = Fact
+UnlessInPlace (Some (tidy_files t)) Fact = ⊤
+UnlessInPlace (Some (tidy t)) Fact = Fact
 
 -- ---- the files that the words name
 
@@ -337,6 +355,7 @@ files_named (Some (run r)) = r.files
 files_named (Some (format f)) = f.files
 files_named (Some (check files)) = files
 files_named (Some (lint l)) = l.references ++ l.files
+files_named (Some (tidy_files t)) = []
 files_named (Some (tidy t)) = files_of t
 
 -- ---- the locale that they name
@@ -347,6 +366,7 @@ locale_named (Some (run r)) = r.locale
 locale_named (Some (format f)) = f.locale
 locale_named (Some (check files)) = None
 locale_named (Some (lint l)) = l.locale
+locale_named (Some (tidy_files t)) = None
 locale_named (Some (tidy t)) = None
 
 -- nothing is asked for, or a run, a message or a catalog by a locale without plural rules
@@ -356,4 +376,5 @@ IsRefused (Some (run r)) = plurals_asked r.locale ≡ None
 IsRefused (Some (format f)) = plurals_asked f.locale ≡ None
 IsRefused (Some (check files)) = ⊥
 IsRefused (Some (lint l)) = language_asked l.locale ≡ None
+IsRefused (Some (tidy_files t)) = ⊥
 IsRefused (Some (tidy t)) = ⊥

@@ -11,12 +11,13 @@ use Rattle.fluent_tidy_laws.specs.Normal.{HasNoNormalText}
 use Rattle.fluent_json.specs.Json.{HasNoTree}
 use Rattle.fluent_tidy.specs.Sources.{holds_return}
 use Rattle.fluent_tidy.specs.Trees.{IsNotImported}
-use Rattle.ftl_arguments.specs.Meaning.{AskForHelpAlone, AskForText, AskForVersionAlone, Asked, Format, Tidy, command_of, run, format, check, lint, tidy, clean, normalize, join, export, import}
+use Rattle.ftl_arguments.specs.Meaning.{AskForHelpAlone, AskForText, AskForVersionAlone, Asked, Format, Tidy, command_of, run, format, check, lint, tidy_files, tidy, clean, normalize, join, export, import}
 use Rattle.ftl_command.specs.Files.{OnFile, OnTexts}
 use Rattle.ftl_command.specs.Faults.{IsBeforeInput, IsOfLocale, SaysOfFiles, SaysUnknown}
-use Rattle.ftl_command.specs.Program.{OnFound, OnValue, ShowsVersionOn, files_named, locale_named}
+use Rattle.ftl_command.specs.Program.{OnFound, OnValue, ShowsVersionOn, UnlessInPlace, files_named, locale_named}
 use Rattle.ftl_command.specs.declared.ended.Ended.{Ended}
-use Rattle.ftl_command.specs.declared.folder.Folder.{Ghosts as FolderGhosts}
+use Rattle.ftl_files.specs.States.{state_of}
+use Rattle.ftl_files.specs.declared.folder.Folder.{Ghosts as FolderGhosts}
 use Rattle.ftl_command.specs.declared.fault.Fault.{Fault}
 use Rattle.ftl_command.specs.declared.fault.Fault.TheVariants.{CarriageReturn, NotNormal, NotTree, NotJson, NoMessage, CommandLine, UnknownLocale, FileUnreadable, FileNotUtf8, Input, Output, Memory}
 
@@ -104,6 +105,7 @@ IsRight contents (Some (run r)) fault = RefusesNothing fault
 IsRight contents (Some (format f)) fault = SaysNoMessage contents f fault
 IsRight contents (Some (check files)) fault = RefusesNothing fault
 IsRight contents (Some (lint l)) fault = RefusesNothing fault
+IsRight contents (Some (tidy_files t)) fault = RefusesNothing fault
 IsRight contents (Some (tidy t)) fault = IsRightOf contents t fault
 
 -- ---- a fault, by what the words ask for, and by what is known of the devices before and after
@@ -114,7 +116,7 @@ pub record IsFaultOf {F : Type 0} (folders : FolderGhosts F) (before after : F) 
   pub unknown : SaysUnknown (locale_named asked) fault
   -- before the locale is found no file is read
   pub unopened : IsOfLocale fault → after ≡ before
-  pub files : SaysOfFiles folders before after (files_named asked) fault
+  pub files : UnlessInPlace asked (SaysOfFiles (state_of folders before) (state_of folders after) (files_named asked) fault)
   pub right : IsRight (folders.contents before) asked fault
 
 -- so it is of a fault that came before anything but files was read, and before anything was written
@@ -146,7 +148,7 @@ pub record TextWorks {F W : Type 0} (folders : FolderGhosts F) (before after : F
 -- What became of the devices of any command: without a fault no call of them failed, and what a fault says of them is so.
 pub record DevicesEnd {F R W : Type 0} (folders : FolderGhosts F) (before after : F) (source : SourceGhosts R) (reader reader' : R) (sink : SinkGhosts W) (writer writer' : W)
     (asked : Option Asked) (result : Result Ended Fault) : Type 0 where
-  pub opens : OnOk result (folders.failures after ≡ folders.failures before)
+  pub opens : OnOk result (UnlessInPlace asked (folders.failures after ≡ folders.failures before))
   pub reads : OnOk result (source.failures reader' ≡ source.failures reader)
   pub writes : OnOk result (sink.failures writer' ≡ sink.failures writer)
   pub fault : IfErr result (IsFaultOf folders before after asked)

@@ -9,11 +9,11 @@ use crate::borrowed::borrow_texts;
 use crate::ended::Ended;
 use crate::fault::Fault;
 use crate::files::read_text_files;
-use crate::folder::Folder;
 use crate::output::write_to_stream;
 use fluent_check::check_text;
 use fluent_run::StackBudget;
 use fluent_serve::stream::Sink;
+use ftl_files::Folder;
 use std::alloc::Global;
 
 /// Writes a line for each error of the sources in `files`, and then one for each entry whose id was there.

@@ -3,14 +3,15 @@ ghost use Rattle.std.specs.Prelude.{◌≡◌, ◌∷◌, [], None, Some, Contai
 ghost use Rattle.ftl_arguments.specs.CommandView.{command_view};
 ghost use Rattle.ftl_arguments.specs.Meaning.{AskForText, AskForHelpAlone, AskForVersionAlone, command_of, texts};
 ghost use Rattle.ftl_command.specs.Ends.{EndsOn, EndsOver};
+ghost use Rattle.ftl_command.specs.InPlace.{FilesEndBy, FilesEndFor};
 ghost use Rattle.ftl_command.specs.Program.{CommandEndsOn, IsRefused, WithoutInput};
 ghost use Rattle.ftl_command.specs.Refusals.{AnswersHelp, DevicesEnd};
 
 use crate::checking::check_files;
 use crate::ended::Ended;
 use crate::fault::Fault;
-use crate::folder::{Folder, FromFiles};
 use crate::formatting::write_formatted;
+use crate::in_place::tidy_in_place;
 use crate::linting::lint_files;
 use crate::output::write_asked;
 use crate::running::{RunOptions, run_files};
@@ -18,6 +19,7 @@ use crate::telling::{tell_errors_on, tell_on};
 use crate::tidying::write_tidied;
 use fluent_serve::stream::{FromRead, FromWrite, Sink, Source};
 use ftl_arguments::{Command, Invocation, WordsError, command};
+use ftl_files::{Folder, FromFiles};
 use std::alloc::Global;
 use std::io;
 use std::rt::Files;
@@ -100,6 +102,9 @@ pub fn run_command<'words, F: Folder, I: Source, O: Sink>(
     ensures help { AnswersHelp O.Sink writer.old writer.new (texts words.now) result }
     ensures devices { DevicesEnd F.Folder folder.old folder.new I.Source reader.old reader.new
         O.Sink writer.old writer.new (command_of (texts words.now)) result }
+    // Files that are tidied in place hold their tidy texts, and no other file changes.
+    ensures files { FilesEndFor F.Folder folder.old folder.new
+        O.Sink writer.old writer.new words.now result }
     ensures no_input { WithoutInput (command_of (texts words.now)) (reader.new ≡ reader.old) }
 {
     match command(alloc, words) {
@@ -126,6 +131,8 @@ fn do_command<'words, F: Folder, I: Source, O: Sink>(
         O.Sink writer.old writer.new (Some (command_view command.now)) result }
     ensures devices { DevicesEnd F.Folder folder.old folder.new I.Source reader.old reader.new
         O.Sink writer.old writer.new (Some (command_view command.now)) result }
+    ensures files { FilesEndBy F.Folder folder.old folder.new
+        O.Sink writer.old writer.new command.now result }
     ensures no_input { WithoutInput (Some (command_view command.now)) (reader.new ≡ reader.old) }
 {
     match command {
@@ -147,6 +154,7 @@ fn do_command<'words, F: Folder, I: Source, O: Sink>(
         Command::Format(format) => write_formatted(folder, alloc, format, writer),
         Command::Check { files } => check_files(folder, alloc, files, writer),
         Command::Lint(lint) => lint_files(folder, alloc, lint, writer),
+        Command::TidyFiles(tidy) => tidy_in_place(folder, alloc, tidy, writer),
         Command::Tidy(tidy) => write_tidied(folder, alloc, tidy, writer),
     }
 }

@@ -11,6 +11,8 @@ pub enum Ended {
     Found,
     /// The text of a message is written, and these are the lines of what went wrong in it.
     Incomplete { errors: String },
+    /// Files could not be read or written, and these are the lines of that and of what was found.
+    Partial { errors: String },
 }
 
 impl Ended {
@@ -21,6 +23,7 @@ impl Ended {
         match self {
             Ended::Done => 0,
             Ended::Found | Ended::Incomplete { .. } => 1,
+            Ended::Partial { .. } => 3,
         }
     }
 }

@@ -6,7 +6,7 @@ ghost use Rattle.ftl_command.specs.Faults.{IsFaultOfFiles};
 ghost use Rattle.ftl_command.specs.Files.{AreRead};
 
 use crate::fault::Fault;
-use crate::folder::{FileError, Folder};
+use ftl_files::{FileError, Folder};
 use simdutf8::basic::from_utf8;
 use std::alloc::Global;
 

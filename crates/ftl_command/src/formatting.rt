@@ -13,13 +13,13 @@ use crate::borrowed::borrow_texts;
 use crate::ended::Ended;
 use crate::fault::Fault;
 use crate::files::read_text_files;
-use crate::folder::Folder;
 use crate::output::write_to_stream;
 use crate::plurals::RunRules;
 use crate::{Formatted, format_message};
 use fluent_run::Settings;
 use fluent_serve::stream::Sink;
 use ftl_arguments::Format;
+use ftl_files::Folder;
 use std::alloc::{AllocError, Global};
 
 /// Writes the text of the message that is asked for, and a line feed. What went wrong in the text is in the end.

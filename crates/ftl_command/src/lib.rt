@@ -12,11 +12,10 @@ pub mod borrowed;
 pub mod checking;
 pub mod commands;
 pub mod ended;
-mod errors;
 pub mod fault;
 pub mod files;
-pub mod folder;
 pub mod formatting;
+pub mod in_place;
 pub mod linting;
 mod message;
 mod message_errors;
@@ -28,6 +27,7 @@ pub mod tidying;
 
 pub use commands::program;
 pub use ftl_arguments::{
-    Command, Format, Invocation, Lint, ReportFormat, Tidy, VERSION, WordsError, command,
+    Command, Format, Invocation, Lint, ReportFormat, Tidy, TidyFiles, VERSION, WordsError, advice,
+    command,
 };
 pub use message::{Formatted, format_message};

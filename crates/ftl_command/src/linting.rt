@@ -12,12 +12,12 @@ ghost use Rattle.ftl_command.specs.Refusals.{IsEarlyFault, IsFaultOf, IsTextFaul
 use crate::ended::Ended;
 use crate::fault::Fault;
 use crate::files::read_text_files;
-use crate::folder::Folder;
 use crate::output::write_to_stream;
 use crate::plurals::language_plurals;
 use fluent_lint::{Report, lint_sources};
 use fluent_serve::stream::Sink;
 use ftl_arguments::Lint;
+use ftl_files::Folder;
 use std::alloc::Global;
 
 /// Writes what is found in the catalog in files.

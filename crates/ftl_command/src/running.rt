@@ -7,9 +7,9 @@ use crate::borrowed::borrow_texts;
 use crate::ended::Ended;
 use crate::fault::Fault;
 use crate::files::read_text_files;
-use crate::folder::Folder;
 use crate::plurals::RunRules;
 use fluent_run::{Settings, Sink, Source, run_before_exit};
+use ftl_files::Folder;
 use std::alloc::Global;
 
 /// How the lines of a run are answered.

@@ -13,11 +13,11 @@ use crate::borrowed::borrow_texts;
 use crate::ended::Ended;
 use crate::fault::Fault;
 use crate::files::{read_text_file, read_text_files};
-use crate::folder::Folder;
 use crate::output::write_to_stream;
 use fluent_serve::stream::Sink;
 use fluent_tidy::{clean, export, import, join, normalize};
 use ftl_arguments::Tidy;
+use ftl_files::Folder;
 use serde_json::Value;
 use std::alloc::{AllocError, Global};
 

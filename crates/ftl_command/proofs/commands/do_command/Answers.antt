@@ -2,8 +2,8 @@ use Rattle.std.proofs.lemmas.Result.{IfErr-weaker}
 use Rattle.std.proofs.Common.{ap}
 use Rattle.fluent_serve.proofs.Outcomes.{on_ok_always}
 use Rattle.ftl_arguments.specs.CommandView.{command_view}
-use Rattle.ftl_command.proofs.Refusals.{text_devices}
-use Rattle.ftl_command.proofs.RunLemmas.{done_by, first_by, kept_by, never_by}
+use Rattle.ftl_command.proofs.Refusals.{in_place_devices, text_devices}
+use Rattle.ftl_command.proofs.RunLemmas.{done_by, if_ok_any, first_by, kept_by, never_by}
 use Rattle.ftl_command.specs.declared.fault.Fault.TheVariants.{Input, Memory}
 use Rattle.std.specs.Prelude.{Some}
 use Rattle.ftl_command.proofs.commands.do_command.Goals as goal
@@ -89,3 +89,21 @@ pub returns-in-Tidy-clause-devices : goal.returns-in-Tidy-clause-devices
 returns-in-Tidy-clause-devices g c =
     rw c.in-Tidy.is (text_devices g.F.Folder g.I.Source g.O.Sink c.args.reader.now c.args.writer.now _ c.args.folder.now c.write_tidied.new.folder c.write_tidied.new.writer
     c.write_tidied.result c.write_tidied.ensures.works c.write_tidied.ensures.fault c.write_tidied.ensures.stops)
+
+pub returns-in-TidyFiles-clause-ended : goal.returns-in-TidyFiles-clause-ended
+returns-in-TidyFiles-clause-ended g c =
+    rw c.in-TidyFiles.is (record {
+      done = if_ok_any c.tidy_in_place.result;
+      tidied = on_ok_always c.tidy_in_place.result tt;
+      memory = λ memory. ap g.O.Sink.contents (kept_by c.tidy_in_place.result Memory memory (λ same. absurd cc) (IfErr-weaker c.tidy_in_place.result _ _ (λ fault f. f.unwritten) c.tidy_in_place.ensures.stops));
+      input = λ input. never_by c.tidy_in_place.result Input input (IfErr-weaker c.tidy_in_place.result _ _ (λ fault f. f.not_input) c.tidy_in_place.ensures.stops);
+      output = λ output. tt;
+    })
+
+pub returns-in-TidyFiles-clause-devices : goal.returns-in-TidyFiles-clause-devices
+returns-in-TidyFiles-clause-devices g c =
+    rw c.in-TidyFiles.is (in_place_devices g.F.Folder c.args.folder.now c.tidy_in_place.new.folder _ g.I.Source g.O.Sink c.args.reader.now c.args.writer.now c.tidy_in_place.new.writer
+    c.tidy_in_place.result c.tidy_in_place.ensures.writes c.tidy_in_place.ensures.fault c.tidy_in_place.ensures.stops)
+
+pub returns-in-TidyFiles-clause-files : goal.returns-in-TidyFiles-clause-files
+returns-in-TidyFiles-clause-files g c = rw c.in-TidyFiles.is c.tidy_in_place.ensures.ended

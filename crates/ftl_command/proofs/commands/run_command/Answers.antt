@@ -2,6 +2,7 @@ use Rattle.std.proofs.Common.{ap, inl, inr, ◌∙◌, rules}
 use Rattle.ftl_arguments.specs.Meaning.{command_of, texts}
 use Rattle.fluent_serve.proofs.Outcomes.{on_ok_always}
 use Rattle.ftl_command.proofs.EndLemmas.{asked_command, asked_help, asked_version, command_helps, no_help_asked, text_helps}
+use Rattle.ftl_command.proofs.InPlaceLemmas.{none_tidied}
 use Rattle.ftl_command.proofs.Refusals.{asked_devices, early_devices, of_bad_words, of_words}
 use Rattle.ftl_command.proofs.RunLemmas.{kept_input, nothing_done, other_by, shows_line}
 use Rattle.ftl_command.specs.declared.fault.Fault.TheVariants.{CommandLine, Input, Memory}
@@ -123,3 +124,23 @@ returns-in-Err-Memory-clause-devices g c =
 
 pub returns-in-Err-Memory-clause-no_input : goal.returns-in-Err-Memory-clause-no_input
 returns-in-Err-Memory-clause-no_input g c = kept_input (command_of (texts c.args.words.now)) _
+
+pub returns-in-Ok-Command-clause-files : goal.returns-in-Ok-Command-clause-files
+returns-in-Ok-Command-clause-files g c =
+    rw (asked_command (texts c.args.words.now) c.in-Ok-Command.field-0-is c.in-Ok-Command.ensures.asked) c.do_command.ensures.files
+
+pub returns-in-Ok-Help-clause-files : goal.returns-in-Ok-Help-clause-files
+returns-in-Ok-Help-clause-files g c =
+    let asked = asked_help (texts c.args.words.now) c.in-Ok-Help.field-0-is c.in-Ok-Help.ensures.asked in
+    rw asked.0 tt
+
+pub returns-in-Ok-Version-clause-files : goal.returns-in-Ok-Version-clause-files
+returns-in-Ok-Version-clause-files g c =
+    let asked = asked_version (texts c.args.words.now) c.in-Ok-Version.field-0-is c.in-Ok-Version.ensures.asked in
+    rw asked.0 tt
+
+pub returns-in-Err-Bad-clause-files : goal.returns-in-Err-Bad-clause-files
+returns-in-Err-Bad-clause-files g c = rw (c.in-Err-Bad.ensures.nothing (λ memory. absurd cc)) tt
+
+pub returns-in-Err-Memory-clause-files : goal.returns-in-Err-Memory-clause-files
+returns-in-Err-Memory-clause-files g c = none_tidied (command_of (texts c.args.words.now)) _ _ _

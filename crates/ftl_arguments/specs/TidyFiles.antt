@@ -1,0 +1,13 @@
+-- What `tidy` is asked for.
+use Rattle.std.specs.Prelude.{Bool, List, codes}
+use Rattle.clap.specs.Words.{Row, Text}
+use Rattle.ftl_arguments.specs.Found.{is_given, values_in}
+
+-- tidy the files of these names in place, and the sources below the folders of these names
+pub record TidyFiles : Type 0 where
+  -- they are only checked
+  pub check : Bool
+  pub paths : List Text
+
+abbrev pub tidy_files_in : List Row → TidyFiles
+tidy_files_in rows = record { check = is_given (codes "check") rows; paths = values_in (codes "PATH") rows }

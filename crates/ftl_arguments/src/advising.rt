@@ -1,0 +1,114 @@
+//! What is wrong with command-line arguments, in words.
+
+use crate::program::program;
+use crate::reading::{WordsError, command};
+use clap::Error;
+use clap::error::ErrorKind;
+use std::alloc::{AllocError, Global};
+
+/// A line that says what is wrong with command-line arguments, and where help is. `None` if nothing is.
+///
+/// ```no_run
+/// if let Some(line) = advice(alloc, &["lnit", "a.ftl"])? {
+///     eprint!(rt; "{line}")?; // ftl: no command 'lnit'; did you mean 'lint'? see ftl --help
+/// }
+/// ```
+///
+/// # Errors
+/// [`AllocError`] if memory runs out; nothing is kept.
+pub fn advice<'words>(
+    alloc: Global,
+    words: &'words [&'words str],
+) -> Result<Option<String>, AllocError> {
+    if !are_bad(alloc, words) {
+        return Ok(None);
+    }
+    let reason = reason(alloc, words)?;
+    let command = command_name(words);
+    let line = format!(in alloc; "ftl: {reason} see ftl{command} --help\n")?;
+    Ok(Some(line))
+}
+
+/// Whether the arguments are no command, and no request for help or for the version.
+fn are_bad<'words>(alloc: Global, words: &'words [&'words str]) -> bool {
+    matches!(command(alloc, words), Err(WordsError::Bad))
+}
+
+/// Why they aren't.
+fn reason<'words>(alloc: Global, words: &'words [&'words str]) -> Result<String, AllocError> {
+    match program(alloc)?.try_get_matches_from(words) {
+        Ok(_matches) => String::from_str(alloc, refused_value(words)),
+        Err(error) => reason_of(alloc, &error),
+    }
+}
+
+/// The reason that an error of `clap` gives.
+fn reason_of(alloc: Global, error: &Error) -> Result<String, AllocError> {
+    match error.kind() {
+        ErrorKind::MissingSubcommand => String::from_str(alloc, "no command is named;"),
+        _ => reason_in(alloc, error.to_string(alloc)?.as_str()),
+    }
+}
+
+/// What `clap` lets pass, and the program doesn't.
+fn refused_value(words: &[&str]) -> &'static str {
+    match words.first() {
+        Some(&"lint") => "--format takes text, line, json or github;",
+        Some(&"format") => "--argument takes NAME=VALUE;",
+        _ => "that isn't understood;",
+    }
+}
+
+/// The reason in the text of an error of `clap`: its first paragraph, and what is near.
+fn reason_in(alloc: Global, text: &str) -> Result<String, AllocError> {
+    let text = text.strip_prefix("error: ").unwrap_or(text);
+    let (first, rest) = text.split_once("\n\n").unwrap_or((text, ""));
+    let mut reason = String::new(alloc);
+    push_words(&mut reason, first)?;
+    match near(rest) {
+        Some(names) => write!(reason, "; did you mean {names}?")?,
+        None => reason.push(';')?,
+    }
+    Ok(reason)
+}
+
+/// Appends a paragraph as one line, in the words of the pages.
+fn push_words(reason: &mut String, paragraph: &str) -> Result<(), AllocError> {
+    let mut left = paragraph;
+    if let Some(name) = paragraph.strip_prefix("unrecognized subcommand ") {
+        reason.push_str("no command ")?;
+        left = name;
+    }
+    for (number, line) in left.lines().enumerate() {
+        if number > 0 {
+            reason.push(' ')?;
+        }
+        reason.push_str(line.trim())?;
+    }
+    Ok(())
+}
+
+/// The names of what is near, in quotes, in the tip of an error.
+fn near(tip: &str) -> Option<&str> {
+    let (_, names) = tip
+        .split_once("exists: ")
+        .or_else(|| tip.split_once("exist: "))?;
+    names.lines().next()
+}
+
+/// The command that the first argument names, after a space, if it names one.
+fn command_name(words: &[&str]) -> &'static str {
+    match words.first() {
+        Some(&"run") => " run",
+        Some(&"format") => " format",
+        Some(&"check") => " check",
+        Some(&"lint") => " lint",
+        Some(&"tidy") => " tidy",
+        Some(&"clean") => " clean",
+        Some(&"normalize") => " normalize",
+        Some(&"join") => " join",
+        Some(&"export") => " export",
+        Some(&"import") => " import",
+        _ => "",
+    }
+}

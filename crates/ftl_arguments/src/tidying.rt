@@ -1,0 +1,59 @@
+//! What `tidy` is asked for.
+ghost use Rattle.std.specs.Prelude.{◌≡◌, IfOk, codes};
+ghost use Rattle.clap.specs.Words.{app_of, with_subcommand};
+ghost use Rattle.ftl_arguments.specs.CommandView.{found_rows, tidy_files_view};
+ghost use Rattle.ftl_arguments.specs.Commands.{IsLocal, IsShaped, paths_rule, tidy_shape};
+ghost use Rattle.ftl_arguments.specs.TidyFiles.{tidy_files_in};
+
+use crate::commands::TidyFiles;
+use crate::program::flag;
+use crate::reading::{is_given, values_in};
+use clap::{Arg, ArgMatches, Command};
+use std::alloc::{AllocError, Global};
+
+/// The program with the command `tidy`, too.
+pub(crate) fn with_tidy<'a>(alloc: Global, program: Command<'a>) -> Result<Command<'a>, AllocError>
+    ensures { IfOk result (λ more. app_of more ≡ with_subcommand (app_of program.entry) tidy_shape) }
+{
+    program.subcommand(tidy(alloc)?)
+}
+
+/// The command `tidy`.
+fn tidy<'a>(alloc: Global) -> Result<Command<'a>, AllocError>
+    ensures { IfOk result (IsShaped tidy_shape) }
+{
+    let check = flag(alloc, "check").help(
+        "Change no file; name those that aren't tidy, and end with 1 if there is one",
+    );
+    Command::new(alloc, "tidy")
+        .about("Tidy files in place, and those below folders")
+        .arg(check)?
+        .after_help("Example: ftl tidy --check locales")
+        .arg(paths(alloc))
+}
+
+/// The files and folders that are tidied.
+fn paths<'a>(alloc: Global) -> Arg<'a>
+    ensures { IsLocal paths_rule result }
+{
+    Arg::new(alloc, "PATH")
+        .required(true)
+        .num_args(1..)
+        .help("Files, and folders with each `.ftl` file below them")
+}
+
+/// What was found for `tidy`.
+///
+/// # Errors
+/// [`AllocError`] if memory runs out; nothing is kept.
+pub(crate) fn tidy_files_in<'words>(
+    alloc: Global,
+    found: &ArgMatches<'words>,
+) -> Result<TidyFiles<'words>, AllocError>
+    ensures { IfOk result (λ tidy. tidy_files_in (found_rows found.now) ≡ tidy_files_view tidy) }
+{
+    Ok(TidyFiles {
+        check: is_given(found, "check"),
+        paths: values_in(alloc, found, "PATH")?,
+    })
+}

@@ -1,0 +1,69 @@
+-- What becomes of files that are tidied in place.
+use Rattle.std.specs.Prelude.{◌≡◌, ℕ, ◌||◌, if◌then◌else◌, ⊤, true, List, Option, None, Some, Result, IfOk, IsErrOf}
+use Rattle.std.specs.Io.KnownBytes.{Appends}
+use Rattle.fluent_serve.specs.Text.{Text}
+use denote.Ref.{Bor}
+use Rattle.ftl_arguments.specs.CommandView.{command_view, tidy_files_view}
+use Rattle.ftl_arguments.specs.Meaning.{Asked, command_of, run, format, check, lint, texts, tidy_files, tidy}
+use Rattle.ftl_arguments.specs.declared.commands.Command.{Command}
+use Rattle.ftl_arguments.specs.declared.commands.TidyFiles as code
+use Rattle.ftl_arguments.specs.TidyFiles.{TidyFiles}
+use Rattle.fluent_serve.specs.declared.stream.Sink.{Ghosts as SinkGhosts}
+use Rattle.ftl_files.specs.Files.{State}
+use Rattle.ftl_files.specs.States.{state_of}
+use Rattle.ftl_files.specs.declared.folder.Folder.{Ghosts as FolderGhosts}
+use Rattle.ftl_files.specs.Tidying.{AreTidied, AreTidiedFirst, Said}
+use Rattle.ftl_command.specs.Faults.{end_status}
+use Rattle.ftl_command.specs.Program.{WritesFront, errors_in}
+use Rattle.ftl_command.specs.declared.ended.Ended.{Ended}
+use Rattle.ftl_command.specs.declared.fault.Fault.{Fault}
+use Rattle.ftl_command.specs.declared.fault.Fault.TheVariants.{Output, Memory}
+
+-- 3 if a file could not be read or written, or else 1 if one was refused, or was checked and isn't tidy
+abbrev pub tidy_status : Said → ℕ
+tidy_status said = if said.has_failed then 3 else if said.has_found then 1 else 0
+
+-- an end has that status, and reports what is said of files
+pub record EndsBy (said : Said) (end : Ended) : Type 0 where
+  pub status : end_status end ≡ tidy_status said
+  pub reports : said.has_failed || said.has_found ≡ true → errors_in end ≡ said.reports
+
+-- the files are tidied, and the outcome holds of what is said of them
+pub record TidiesInPlace (t : TidyFiles) (before after : State) (Outcome : Said → Type 0) : Type 0 where
+  pub said : Said
+  pub tidied : AreTidied t.check t.paths before after said
+  pub outcome : Outcome said
+
+-- What became of files that are tidied in place, by how it ended.
+pub record InPlaceEnds (t : TidyFiles) (before after : State) (held held_after : Option Text) (result : Result Ended Fault) : Type 0 where
+  pub done : IfOk result (λ end. TidiesInPlace t before after (λ said. Appends held held_after said.names × EndsBy said end))
+  -- memory ran out: the first files are tidied
+  pub memory : IsErrOf result Memory → AreTidiedFirst t.check before after
+  -- all are, and a front of their names is written
+  pub output : IsErrOf result Output → TidiesInPlace t before after (λ said. WritesFront held held_after said.names)
+
+-- So it is of whatever the words ask for. Of the files that other commands read, it says nothing.
+abbrev pub FilesEnd : Option Asked → State → State → Option Text → Option Text → Result Ended Fault → Type 0
+FilesEnd None before after held held_after result = ⊤
+FilesEnd (Some (run r)) before after held held_after result = ⊤
+FilesEnd (Some (format f)) before after held held_after result = ⊤
+FilesEnd (Some (check files)) before after held held_after result = ⊤
+FilesEnd (Some (lint l)) before after held held_after result = ⊤
+FilesEnd (Some (tidy_files t)) before after held held_after result = InPlaceEnds t before after held held_after result
+FilesEnd (Some (tidy t)) before after held held_after result = ⊤
+
+-- the same on a folder and a writer, by what is known of them
+module _ {F W : Type 0} (folders : FolderGhosts F) (before after : F) (sink : SinkGhosts W) (writer writer' : W) where
+  -- of files that are tidied
+  abbrev pub InPlaceEndsOn : code.TidyFiles → Result Ended Fault → Type 0
+  InPlaceEndsOn t result =
+      InPlaceEnds (tidy_files_view t) (state_of folders before) (state_of folders after) (sink.contents writer) (sink.contents writer') result
+
+  -- of what a command asks for, or of what words do
+  abbrev pub FilesEndBy : Command → Result Ended Fault → Type 0
+  FilesEndBy command result =
+      FilesEnd (Some (command_view command)) (state_of folders before) (state_of folders after) (sink.contents writer) (sink.contents writer') result
+
+  abbrev pub FilesEndFor : List (Bor Text) → Result Ended Fault → Type 0
+  FilesEndFor words result =
+      FilesEnd (command_of (texts words)) (state_of folders before) (state_of folders after) (sink.contents writer) (sink.contents writer') result
