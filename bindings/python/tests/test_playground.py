@@ -208,7 +208,7 @@ class LookedAtTest(unittest.TestCase):
                 ("one", "1", "one"),
                 ("few", "2", "\u20682\u2069 few"),
                 ("many", "5", "\u20685\u2069 other"),
-                ("other", "1.5", "\u20681.5\u2069 other"),
+                ("other", "1.5", "\u20681,5\u2069 other"),
             ],
         )
         self.assertEqual((broken["read"], broken["parts"]), (False, []))

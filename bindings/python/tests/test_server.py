@@ -308,7 +308,7 @@ class WorkspaceTest(unittest.TestCase):
             "$count = 1    one    Jedna.",
             "$count = 2    few    2 nie.",
             "$count = 5    many   5 inne.",
-            "$count = 1.5  other  1.5 inne.",
+            "$count = 1.5  other  1,5 inne.",
         ):
             self.assertIn(line, told)
         self.assertIn("$count = 2  other  2 messages.", told)
