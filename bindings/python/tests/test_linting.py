@@ -98,7 +98,7 @@ class LintTest(unittest.TestCase):
         self.assertEqual(lint(files, strict=True).status, 1)
         self.assertEqual(lint(files, functions=iter(["F"]), strict=True).findings, [])
         report = lint(files, reference=reference, notes=True)
-        self.assertEqual([finding.code for finding in report.findings], ["untranslated", "unknown-function", "obsolete-message"])
+        self.assertEqual([finding.code for finding in report.findings], ["untranslated", "obsolete-message", "unknown-function"])
         self.assertEqual(report.counts, [FileCounts("de.ftl", 2, None, 1, 1), FileCounts("en.ftl", 1, 0, None, None)])
         plural = {"a": "a = { $n ->\n   *[one] x\n }\n"}
         self.assertEqual(lint(plural, locale="en").findings, [])

@@ -42,7 +42,7 @@ fn reports_as_asked() {
         (String::new(), false, vec![])
     );
     let (found, _, counts) = codes(&reference, LintOptions { notes: true, ..options });
-    assert_eq!(found, "untranslated unknown-function obsolete-message missing-message");
+    assert_eq!(found, "untranslated obsolete-message unknown-function missing-message");
     let file = String::from;
     assert_eq!(
         counts,
