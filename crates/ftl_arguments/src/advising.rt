@@ -53,7 +53,9 @@ fn reason_of(alloc: Global, error: &Error) -> Result<String, AllocError> {
 /// What `clap` lets pass, and the program doesn't.
 fn refused_value(words: &[&str]) -> &'static str {
     match words.first() {
-        Some(&"lint") => "--format takes text, line, json or github;",
+        Some(&"lint") => {
+            "--format takes text, line, json or github, and --ignore the code of a finding;"
+        }
         Some(&"format") => "--argument takes NAME=VALUE;",
         _ => "that isn't understood;",
     }
