@@ -24,6 +24,7 @@ done
 cp "$top/HANDLES" "$work"
 { cat "$top/crates.txt" && echo "more_rows: $(<"$top/tests/more_rows/uses")"; } >"$work/crates.txt"
 cp "$top/crates/all_rows/data/syntax/rows.jsonl" "$work/crates/more_rows/data/syntax.jsonl"
+python3 -B "$top/tools/numbers/written.py" >>"$work/crates/more_rows/data/numerals.txt"
 
 cd "$work/crates/more_rows"
 data=()

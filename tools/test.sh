@@ -66,11 +66,12 @@ count rt ci
 if ((failed == before)); then
     count_with python3 tools/house/check.py --calls
     count_with python3 tools/rows.py
-    count tools/more_rows.sh
+    count_with python3 tools/numbers/program.py
+    count_with python3 tools/more_rows.sh
     count tools/bindings.sh
     count tools/stranger.sh
 else
-    for stage in 'the calls of pages' tools/rows.py tools/more_rows.sh tools/bindings.sh tools/stranger.sh; do
+    for stage in 'the calls of pages' tools/rows.py tools/numbers/program.py tools/more_rows.sh tools/bindings.sh tools/stranger.sh; do
         skip "$stage"
     done
 fi

@@ -1,6 +1,6 @@
 #!/bin/sh
 # Builds the C programs of this folder over the static library, runs them, and compares what they print: that of README.md with
-# what the page says, messages.c with `expected`, and the tests of `tests` with theirs. That of README.md and named.c are built as
+# what the page says, messages.c with `expected`, and the tests of `tests` with theirs; numerals.c compares what it formats itself. That of README.md and named.c are built as
 # C++ too, if there is a compiler for it, and no warning is let through. The tests count the blocks of memory that are
 # left; they are built with the sanitizers if the compiler has them, and else run under valgrind if it is there.
 set -eu
@@ -33,11 +33,13 @@ fi
 grep -qF "\`$(cat "$built/first.printed")\`" "$here/README.md"
 diff "$here/expected" "$built/messages.printed"
 
-# Builds the tests and languages.c with these flags.
+# Builds the tests, languages.c and numerals.c with these flags.
 build_tests() {
     cc -std=c11 -O1 -g -Wall -Wextra "$@" -I "$header" -Wl,--wrap=malloc -Wl,--wrap=realloc -Wl,--wrap=free \
         -o "$built/tests" "$here"/tests/*.c -L "$library" -lfluent_c -L "$kit" -llibc_c
-    cc -O1 -g -Wall -Wextra "$@" -I "$header" -o "$built/languages" "$here/languages.c" -L "$library" -lfluent_c -L "$kit" -llibc_c
+    for program in languages numerals; do
+        cc -O1 -g -Wall -Wextra "$@" -I "$header" -o "$built/$program" "$here/$program.c" -L "$library" -lfluent_c -L "$kit" -llibc_c
+    done
 }
 
 checker=
@@ -50,6 +52,7 @@ else
 fi
 $checker "$built/languages" "$root/examples/l10n" | tee "$built/languages.printed"
 diff "$root/examples/l10n/expected" "$built/languages.printed"
+"$built/numerals" "$root/tests/numerals/rows.txt"
 $checker "$built/tests" >"$built/tests.printed" || { cat "$built/tests.printed"; exit 1; }
 cat "$built/tests.printed"
 diff "$here/tests/expected" "$built/tests.printed"

@@ -6,8 +6,9 @@ An argument of a run that was written with digits after the point asks for as ma
 """
 
 import json
-import subprocess
-from pathlib import Path
+
+from rows import by_intl
+from written import placeable, told_of
 
 LOCALES = """en de fr es it pt ru ja zh ar-EG hi bn pl nl sv tr uk cs el he fa id ko th vi ro hu fi da nb bg hr sr sk sl lt lv et ca
 en-IN en-ZA de-AT de-CH fr-CH es-MX pt-PT sw mr ne my ur am ka""".split()
@@ -27,29 +28,12 @@ MESSAGES = [
 
 
 def source() -> str:
-    lines = []
-    for name, options, _ in MESSAGES:
-        words = ["$n"]
-        for option in filter(None, options.split(";")):
-            key, kind, value = option.partition("#") if "#" in option else option.partition("=")
-            words.append(f"{key}: {value}" if kind == "#" else f'{key}: "{value}"')
-        lines.append(f"{name} = {{ NUMBER({', '.join(words)}) }}\n")
-    return "".join(lines)
-
-
-def told_of(options: str, number: str) -> str:
-    """The options with the count of digits that the number was written with, if there is no other."""
-    digits = len(number.partition(".")[2])
-    if digits and "FractionDigits" not in options and "style" not in options:
-        options += f";minimumFractionDigits#{digits}"
-    return options
+    return "".join(f"{name} = {placeable(options)}\n" for name, options, _ in MESSAGES)
 
 
 def main() -> None:
-    asked = [f"{number}|{tag} {told_of(options, number)}" for tag in LOCALES for _, options, number in MESSAGES]
-    script = Path(__file__).with_name("intl.js")
-    told = subprocess.run(["node", script], input="\n".join(asked) + "\n", capture_output=True, text=True, check=True).stdout
-    texts = iter(told.split("\n"))
+    asked = [f"{number}|{tag} {told_of(number, options)}" for tag in LOCALES for _, options, number in MESSAGES]
+    texts = iter(by_intl(asked))
     for tag in LOCALES:
         answers = [next(texts) for _ in MESSAGES]
         assert not any(answer.startswith("!") for answer in answers), (tag, answers)

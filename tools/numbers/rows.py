@@ -68,10 +68,15 @@ def options(pick: random.Random, codes: list[str]) -> str:
     return ";".join(words + digits(pick))
 
 
+def codes_of(data: dict) -> list[str]:
+    """The codes of currencies to choose from: all that have a row, and some that are common."""
+    return [*data["currencies"], *["USD", "EUR", "JPY", "GBP", "CHF"] * 12]
+
+
 def requests(path: str, count: int) -> list[str]:
     data = json.loads(Path(path).read_text(encoding="utf-8"))
     pick = random.Random(48)
-    codes = [*data["currencies"], *["USD", "EUR", "JPY", "GBP", "CHF"] * 12]
+    codes = codes_of(data)
     asked = []
     # `root` is the name of `und` here alone, and Intl has no locale for either
     for tag in data["locales"]:
@@ -81,13 +86,19 @@ def requests(path: str, count: int) -> list[str]:
     return asked
 
 
-def main(path: str, count: str) -> None:
-    asked = requests(path, int(count))
+def by_intl(asked: list[str]) -> list[str]:
+    """What Intl answers to requests as `intl.js` takes them."""
     script = Path(__file__).with_name("intl.js")
     told = subprocess.run(["node", script], input="\n".join(asked) + "\n", capture_output=True, text=True, check=True).stdout
-    for request, answer in zip(asked, told.split("\n")):
+    return told.split("\n")[: len(asked)]
+
+
+def main(path: str, count: str) -> None:
+    asked = requests(path, int(count))
+    for request, answer in zip(asked, by_intl(asked)):
         if not answer.startswith("!"):
             print(f"{request}|{answer}")
 
 
-main(*sys.argv[1:])
+if __name__ == "__main__":
+    main(*sys.argv[1:])
