@@ -1,5 +1,5 @@
 -- The parts of a tag are ASCII, and so are its variants with the separators before them.
-use Rattle.std.proofs.Common.{◌≡◌, ℕ, zero, suc, Bool, true, false, ◌<◌, ◌&&◌, ◌||◌, [], ◌∷◌, List, refl, sym, subst, arith, length}
+use Rattle.std.proofs.Common.{◌≡◌, ℕ, zero, suc, Bool, true, false, ◌<◌, ◌&&◌, ◌||◌, ◌++◌, [], ◌∷◌, List, refl, sym, subst, arith, length, take, drop}
 use Rattle.std.proofs.lemmas.Bool.{and_from, and_parts, eqb-true, leb-true}
 use Rattle.std.proofs.lemmas.List.{get_or_past}
 use Rattle.std.specs.Prelude.{if◌then◌else◌, ◌==◌}
@@ -97,3 +97,21 @@ plain_parts (byte ∷ text) e = with_end (is_separator byte) byte text refl (pla
 pub variants_are_ascii : (rest : Text) → follows_part rest ≡ true → all_of is_variant (more_parts rest) ≡ true → IsAscii rest
 variants_are_ascii [] f e = none
 variants_are_ascii (byte ∷ text) f e = one_more byte text (separator byte f) (plain_parts text (variants_plain (parts text) e))
+
+pub rest_is_ascii : (n : ℕ) (text : Text) → IsAscii text → IsAscii (drop n text)
+rest_is_ascii zero text h = h
+rest_is_ascii (suc n) [] h = none
+rest_is_ascii (suc n) (byte ∷ text) h = rest_is_ascii n text (λ i. h (suc i))
+
+pub front_is_ascii : (n : ℕ) (text : Text) → IsAscii text → IsAscii (take n text)
+front_is_ascii zero text h = none
+front_is_ascii (suc n) [] h = none
+front_is_ascii (suc n) (byte ∷ text) h = one_more byte (take n text) (h zero) (front_is_ascii n text (λ i. h (suc i)))
+
+-- both halves of a text
+pub halves_are_ascii : (one other text : Text) → one ++ other ≡ text → IsAscii text → IsAscii one × IsAscii other
+halves_are_ascii [] other text e h = (none, subst IsAscii (sym e) h)
+halves_are_ascii (byte ∷ one) other text e h =
+    let all : IsAscii (byte ∷ one ++ other) = subst IsAscii (sym e) h in
+    let more = halves_are_ascii one other (one ++ other) refl (λ i. all (suc i)) in
+    (one_more byte one (all zero) more.0, more.1)

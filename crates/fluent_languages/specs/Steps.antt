@@ -1,4 +1,5 @@
--- How a language of the program can suit a request, from the best way to the worst.
+-- How a language of the program can suit a request, from the best way to the worst. What goes through a table isn't unfolded where
+-- nobody asks for it: its rows would stand in each goal.
 use Rattle.std.specs.Prelude.{Bool, true, false, not, ◌&&◌, ◌||◌, List, [], ◌∷◌}
 use Rattle.fluent_languages.specs.Tags.{Tag, Text, is_empty, same_tag, same_text, same_texts, or_else}
 use Rattle.fluent_languages.specs.Likely.{alias_of, has_groups, is_listed, region_at, region_in, renamed, script_at, script_in}
@@ -7,22 +8,22 @@ use Rattle.fluent_languages.specs.declared.steps.Step.TheVariants.{Same, Covers,
 use Rattle.fluent_languages.specs.Tables.{a_to_e, aliases, by_region, by_script, digraphic, f_to_k, groups, l_to_r, s_to_z, standing}
 
 -- the script of a language, and its region
-abbrev pub script_of : Text → Text
+unfoldable pub script_of : Text → Text
 script_of language = or_else (script_in a_to_e language) (or_else (script_in f_to_k language) (or_else (script_in l_to_r language) (script_in s_to_z language)))
 
-abbrev pub region_of : Text → Text
+unfoldable pub region_of : Text → Text
 region_of language = or_else (region_in a_to_e language) (or_else (region_in f_to_k language) (or_else (region_in l_to_r language) (region_in s_to_z language)))
 
 -- The script that a tag likely has, if it names none: that of the language in its region, or else of the language.
-abbrev pub likely_script : Tag → Text
+unfoldable pub likely_script : Tag → Text
 likely_script tag = or_else (script_at by_region tag.language tag.region) (script_of tag.language)
 
 -- the region: that of the language in its script, or else of the language
-abbrev pub likely_region : Tag → Text
+unfoldable pub likely_region : Tag → Text
 likely_region tag = or_else (region_at by_script tag.language tag.script) (region_of tag.language)
 
 -- the tag with the script and the region that it likely has
-abbrev pub maximized : Tag → Tag
+unfoldable pub maximized : Tag → Tag
 maximized tag = record {
   language = tag.language;
   script = or_else tag.script (likely_script tag);
@@ -31,7 +32,7 @@ maximized tag = record {
 }
 
 -- the tag by the newer code of its language
-abbrev pub modern : Tag → Tag
+unfoldable pub modern : Tag → Tag
 modern tag = renamed (alias_of aliases tag.language) tag
 
 -- A locale as it is written, by the newer code of its language, and with the script and the region that it likely has.
@@ -56,8 +57,16 @@ covers range tag = same_text range.language tag.language && fits range.script ta
     && (is_empty range.variants || same_texts range.variants tag.variants)
 
 -- the regions of the language fall into two groups, of which this is in the one that is listed
-abbrev pub is_apart : Tag → Bool
+unfoldable pub is_apart : Tag → Bool
 is_apart tag = is_listed groups tag.language tag.region
+
+-- the regions of a language fall into two groups
+unfoldable pub is_grouped : Text → Bool
+is_grouped language = has_groups groups language
+
+-- a region stands for the group of its language that isn't listed
+unfoldable pub stands : Text → Text → Bool
+stands language region = is_listed standing language region
 
 abbrev pub same : Bool → Bool → Bool
 same true b = b
@@ -72,7 +81,7 @@ abbrev pub is_near : Place → Place → Bool
 is_near request offer = one_script request offer && same (is_apart request.full) (is_apart offer.full)
 
 -- the request with the main region of its language and script
-abbrev pub main_of : Tag → Tag
+unfoldable pub main_of : Tag → Tag
 main_of tag = maximized (record { language = tag.language; script = tag.script; region = []; variants = [] })
 
 -- whether an offer suits a request in a way
@@ -88,10 +97,10 @@ suits OtherVariant request offer = same_text offer.tag.language request.full.lan
     && either_fits offer.tag.script request.full.script && either_fits offer.tag.region request.full.region && is_near request offer
 -- `es-419` for `es-MX`, `en-GB` for `en-AU`: the region stands for the group of the request's region
 suits StandsFor request offer = same_text offer.tag.language request.full.language
-    && is_listed standing offer.tag.language offer.tag.region && is_near request offer
+    && stands offer.tag.language offer.tag.region && is_near request offer
 -- `es-AR` for `es-MX`: the regions are in one group
 suits SameGroup request offer = same_text offer.tag.language request.full.language
-    && has_groups groups offer.tag.language && is_near request offer
+    && is_grouped offer.tag.language && is_near request offer
 -- `fr-FR` for `fr-CA`: the main region
 suits MainRegion request offer = covers offer.tag (main_of request.full) && one_script request offer
 -- `fr-BE` for `fr-CA`

@@ -4,6 +4,7 @@ use Rattle.std.specs.Prelude.{ℕ, Bool, true, false, ◌&&◌, ◌||◌, ◌==�
 use Rattle.std.specs.Char.{to_ascii_lowercase, is_ascii_alphabetic, is_ascii_digit, is_ascii_alphanumeric}
 use denote.Ref.{Bor}
 use Rattle.fluent_languages.specs.declared.tag.LanguageTag.{LanguageTag}
+use Rattle.fluent_languages.specs.declared.variants.Variants.{Variants}
 
 -- a text by its bytes
 abbrev pub Text : Type 0
@@ -12,6 +13,10 @@ Text = List ℕ
 -- `-` (45) and `_` (95)
 abbrev pub is_separator : ℕ → Bool
 is_separator byte = byte == 45 || byte == 95
+
+-- a byte as it is compared, if separators are the same and case is, too
+abbrev pub folded : ℕ → ℕ
+folded byte = if is_separator byte then 45 else to_ascii_lowercase byte
 
 -- the parts of a text, between its separators
 abbrev pub onto : ℕ → List Text → List Text
@@ -100,13 +105,17 @@ abbrev pub follows_part : Text → Bool
 follows_part [] = true
 follows_part (byte ∷ text) = is_separator byte
 
+-- the variants that are left to go through
+abbrev pub variants_left : Variants → List Text
+variants_left it = more_parts it.rest.now
+
 -- what the code has of a tag
 abbrev pub tag_of : LanguageTag → Tag
 tag_of tag = record {
   language = small tag.language.now;
   script = small tag.script.now;
   region = small tag.region.now;
-  variants = map small (more_parts tag.variants.now);
+  variants = map small (variants_left tag.variants);
 }
 
 -- whether two texts are the same, byte by byte

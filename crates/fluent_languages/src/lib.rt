@@ -12,7 +12,10 @@ mod posix;
 mod steps;
 mod table;
 mod tag;
+mod variants;
+mod walking;
 
 pub use negotiation::{NegotiationStrategy, negotiate, negotiate_bytes, negotiate_languages};
 pub use posix::tag_of_posix;
 pub use tag::LanguageTag;
+pub use variants::Variants;

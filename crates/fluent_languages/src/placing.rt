@@ -2,12 +2,13 @@
 ghost use Rattle.std.specs.Prelude.{◌≡◌, option_map};
 ghost use Rattle.fluent_languages.specs.Locales.{place_of};
 ghost use Rattle.fluent_languages.specs.Tags.{read_tag, tag_of};
-ghost use Rattle.fluent_languages.specs.Steps.{place_of_tag};
+ghost use Rattle.fluent_languages.specs.Steps.{is_apart, main_of, place_of_tag};
 
 use crate::likely::lists;
 use crate::locale::{Locale, Request};
 use crate::table::GROUPS;
 use crate::tag::LanguageTag;
+use crate::variants::Variants;
 
 impl<'t> Locale<'t> {
     pub(crate) fn of(written: LanguageTag<'t>) -> Self
@@ -19,7 +20,7 @@ impl<'t> Locale<'t> {
             written,
             tag,
             full,
-            apart: lists(&GROUPS, full.language, full.region),
+            apart: is_apart(&full),
         }
     }
 
@@ -34,7 +35,16 @@ impl<'t> Locale<'t> {
     }
 }
 
+/// Whether a region is in the group that is listed for its language.
+#[tactic(auto, unfolding(crate::specs::Steps::is_apart))]
+fn is_apart(tag: &LanguageTag<'_>) -> bool
+    ensures { result ≡ is_apart (tag_of tag.now) }
+{
+    lists(&GROUPS, tag.language, tag.region)
+}
+
 impl<'t> Request<'t> {
+    #[tactic(auto, unfolding(crate::specs::Steps::main_of))]
     pub(crate) fn of(locale: Locale<'t>) -> Self
         ensures { result.locale ≡ locale.entry }
     {
@@ -42,7 +52,7 @@ impl<'t> Request<'t> {
             language: locale.full.language,
             script: locale.full.script,
             region: "",
-            variants: "",
+            variants: Variants { rest: "" },
         };
         Request {
             locale,

@@ -1,12 +1,15 @@
 //! Language tags.
 ghost use Rattle.std.specs.Prelude.{◌≡◌, option_map};
-ghost use Rattle.fluent_languages.specs.Tags.{named, or_else, read_tag, same_tag, same_text, same_texts, small, more_parts, tag_of};
+ghost use Rattle.fluent_languages.specs.Tags.{folded, named, or_else, read_tag, same_tag, same_text, same_texts, small, more_parts, tag_of, variants_left};
 ghost use Rattle.fluent_languages.specs.Steps.{maximized, modern};
 ghost use Rattle.std.specs.Prelude.{map};
 ghost use Rattle.std.specs.Char.{to_ascii_lowercase};
 
 use crate::likely::{find_alias, find_subtags};
-use crate::parts::{are_variants, language_fits, split_part, split_region, split_script, text_of};
+use crate::parts::{
+    are_variants, fold, language_fits, split_part, split_region, split_script, text_of,
+};
+use crate::variants::Variants;
 
 /// A language tag, such as `de`, `zh-Hant-TW` or `ca-ES-valencia`: a language, and a script, a region and variants if they are named.
 /// Letters may be in either case, and `_` is the same as `-`.
@@ -17,7 +20,7 @@ pub struct LanguageTag<'t> {
     pub(crate) language: &'t str,
     pub(crate) script: &'t str,
     pub(crate) region: &'t str,
-    pub(crate) variants: &'t str,
+    pub(crate) variants: Variants<'t>,
 }
 
 impl<'t> LanguageTag<'t> {
@@ -44,7 +47,9 @@ impl<'t> LanguageTag<'t> {
                 language: text_of(language.part),
                 script: text_of(script.part),
                 region: text_of(region.part),
-                variants: text_of(region.rest),
+                variants: Variants {
+                    rest: text_of(region.rest),
+                },
             })
         } else {
             None
@@ -72,7 +77,15 @@ impl<'t> LanguageTag<'t> {
         named(self.region)
     }
 
+    /// The variants, such as `valencia`.
+    pub fn variants(&self) -> Variants<'t>
+        ensures { map small (variants_left result) ≡ (tag_of self.now).variants }
+    {
+        self.variants
+    }
+
     /// The tag with the script and the region that its language likely has, such as `zh-Hant-TW` for `zh-TW`.
+    #[tactic(auto, unfolding(crate::specs::Steps::maximized))]
     pub fn maximize(&self) -> Self
         ensures { tag_of result ≡ maximized (tag_of self.now) }
     {
@@ -86,6 +99,7 @@ impl<'t> LanguageTag<'t> {
     }
 
     /// The tag by the newer code of its language, such as `he` for `iw` and `no` for `nb`.
+    #[tactic(auto, unfolding(crate::specs::Steps::modern))]
     pub(crate) fn modernize(&self) -> Self
         ensures { tag_of result ≡ modern (tag_of self.now) }
     {
@@ -107,7 +121,10 @@ impl<'t> LanguageTag<'t> {
         is_same_part(self.language, other.language)
             && is_same_part(self.script, other.script)
             && is_same_part(self.region, other.region)
-            && are_same_variants(self.variants.as_bytes(), other.variants.as_bytes())
+            && are_same_variants(
+                self.variants.rest.as_bytes(),
+                other.variants.rest.as_bytes(),
+            )
     }
 }
 
@@ -160,12 +177,23 @@ pub(crate) fn are_same_variants(a: &[u8], b: &[u8]) -> bool
         },
         [_, a @ ..] => match b {
             [] => false,
-            [_, b @ ..] => {
-                let first = split_part(a);
-                let second = split_part(b);
-                are_same_bytes(first.part, second.part)
-                    && are_same_variants(first.rest, second.rest)
-            }
+            [_, b @ ..] => are_same_folded(a, b),
+        },
+    }
+}
+
+/// Whether two texts are the same but for case and separators.
+fn are_same_folded(a: &[u8], b: &[u8]) -> bool
+    ensures { result ≡ same_text (map folded a.now) (map folded b.now) }
+{
+    match a {
+        [] => match b {
+            [] => true,
+            [_, ..] => false,
+        },
+        [x, a @ ..] => match b {
+            [] => false,
+            [y, b @ ..] => fold(*x) == fold(*y) && are_same_folded(a, b),
         },
     }
 }

@@ -15,3 +15,9 @@ text_of-requires-then-are_variants-2 c =
 pub text_of-requires-then-are_variants-3 : goal.text_of-requires-then-are_variants-3
 text_of-requires-then-are_variants-3 c =
     variants_are_ascii c.split_region-region.result.rest.now c.split_region-region.ensures.follows (sym c.are_variants.ensures ∙ c.if-are_variants.true)
+
+pub invariant_of-result : goal.invariant_of-result
+invariant_of-result c = record {
+  is_ascii = subst IsAscii (sym c.text_of-then-are_variants-3.ensures)
+      (variants_are_ascii c.split_region-region.result.rest.now c.split_region-region.ensures.follows (sym c.are_variants.ensures ∙ c.if-are_variants.true));
+}
