@@ -51,22 +51,25 @@ static const struct Row ROWS[] = {
     {"a text that isn't", BYTES("n"), NONE, {{NAMED("n"), TEXT("\xff"), .kind = FLUENT_TEXT}}, 1, FLUENT_NOT_UTF8, {0}, {0}},
 };
 
-static uint32_t format(struct FluentBundle *bundle, const struct Row *row, struct FluentText *text, struct FluentText *errors) {
+static uint32_t format(
+    struct FluentBundle *bundle, const struct Row *row, const struct FluentArgument *arguments, size_t count, struct FluentText *text,
+    struct FluentText *errors) {
     return fluent_bundle_format(
-        bundle, row->id.at, row->id.len, row->attribute.at, row->attribute.len, row->arguments, row->count, text, errors);
+        bundle, row->id.at, row->id.len, row->attribute.at, row->attribute.len, arguments, count, text, errors);
 }
 
 static const struct Row BEFORE = {
     "before", BYTES("before"), NONE, {{0}}, 0, FLUENT_READ, BYTES("before {$x}"), BYTES("Unknown variable: $x\n")};
 
 /* Formats in the place of no texts or of two. If it is refused, those are as they were. */
-static bool is_right(struct FluentBundle *bundle, const struct Row *row, bool is_held) {
+static bool is_right(
+    struct FluentBundle *bundle, const struct Row *row, const struct FluentArgument *arguments, size_t count, bool is_held) {
     struct FluentText text = {0}, errors = {0};
     long blocks = blocks_in_use();
-    if (is_held && format(bundle, &BEFORE, &text, &errors) != FLUENT_READ)
+    if (is_held && format(bundle, &BEFORE, BEFORE.arguments, 0, &text, &errors) != FLUENT_READ)
         return false;
     const struct FluentText text_before = text, errors_before = errors;
-    bool is_status = format(bundle, row, &text, &errors) == row->status;
+    bool is_status = format(bundle, row, arguments, count, &text, &errors) == row->status;
     bool are_texts = row->status == FLUENT_READ
         ? holds(&text, row->text) && (row->errors.len ? holds(&errors, row->errors) : !errors.held)
         : is_same(&text, &text_before, BEFORE.text) && is_same(&errors, &errors_before, BEFORE.errors);
@@ -75,11 +78,17 @@ static bool is_right(struct FluentBundle *bundle, const struct Row *row, bool is
     return is_status && are_texts && blocks_in_use() == blocks;
 }
 
-static void try_row(struct Tally *tally, struct FluentBundle *bundle, const struct Row *row) {
-    count_try(tally, row->name, is_right(bundle, row, false));
+/* Tries a row with other arguments than its own. */
+static void try_all(
+    struct Tally *tally, struct FluentBundle *bundle, const struct Row *row, const struct FluentArgument *arguments, size_t count) {
+    count_try(tally, row->name, is_right(bundle, row, arguments, count, false));
     /* There are no texts before if there is no bundle that gives them. */
     if (bundle->held)
-        count_try(tally, row->name, is_right(bundle, row, true));
+        count_try(tally, row->name, is_right(bundle, row, arguments, count, true));
+}
+
+static void try_row(struct Tally *tally, struct FluentBundle *bundle, const struct Row *row) {
+    try_all(tally, bundle, row, row->arguments, row->count);
 }
 
 /* Messages each of which refers to the next in a call, so that an answer nests deeper than any of them. */
@@ -98,6 +107,29 @@ static void try_chain(struct Tally *tally, size_t stack, uint32_t status) {
     fluent_bundle_free(&bundle);
 }
 
+/* More arguments than are set as they come. */
+#define MANY 99
+
+/* Many arguments whose names come from the last to the first, and `name` among them twice. Of that the last counts. */
+static void try_many(struct Tally *tally, struct FluentBundle *bundle) {
+    static char names[MANY][8];
+    static struct FluentArgument arguments[MANY];
+    struct Row row = {"many arguments", BYTES("welcome"), NONE, {{0}}, 0, FLUENT_READ, BYTES("Welcome, Jim."), {0}};
+    for (int i = 0; i < MANY; i++) {
+        sprintf(names[i], "n%03d", MANY - i);
+        arguments[i] = (struct FluentArgument){.name = (const uint8_t *)names[i], .name_len = 4, TEXT("no"), .kind = FLUENT_TEXT};
+    }
+    arguments[3] = (struct FluentArgument){NAMED("name"), TEXT("Jane"), .kind = FLUENT_TEXT};
+    arguments[80] = (struct FluentArgument){NAMED("name"), TEXT("Jim"), .kind = FLUENT_TEXT};
+    try_all(tally, bundle, &row, arguments, MANY);
+    arguments[50].kind = 4;
+    row = (struct Row){"an unknown kind among many", BYTES("welcome"), NONE, {{0}}, 0, FLUENT_BAD_ARGUMENT, {0}, {0}};
+    try_all(tally, bundle, &row, arguments, MANY);
+    arguments[50] = (struct FluentArgument){NAMED("\xff"), TEXT(""), .kind = FLUENT_TEXT};
+    row.name = "a name that isn't UTF-8 among many", row.status = FLUENT_NOT_UTF8;
+    try_all(tally, bundle, &row, arguments, MANY);
+}
+
 bool try_formats(void) {
     struct Tally tally = {"fluent_bundle_format", 0, 0};
     struct FluentBundle bundle = {0};
@@ -108,6 +140,7 @@ bool try_formats(void) {
         return false;
     for (size_t i = 0; i < sizeof ROWS / sizeof *ROWS; i++)
         try_row(&tally, &bundle, &ROWS[i]);
+    try_many(&tally, &bundle);
     fluent_bundle_free(&bundle);
     try_row(&tally, &bundle, &none);
     try_chain(&tally, 20000, FLUENT_NO_MEMORY);

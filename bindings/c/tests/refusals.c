@@ -39,6 +39,13 @@ static uint32_t format(struct Kept *kept) {
     static const struct FluentArgument name = {.name = AT("name"), .name_len = 4, .text = AT("Jane"), .text_len = 4, .kind = FLUENT_TEXT};
     return fluent_bundle_format(&kept->bundle, TEXT("broken"), TEXT(""), &name, 1, &kept->text, &kept->errors);
 }
+static uint32_t format_many(struct Kept *kept) {
+    static const struct FluentArgument name = {.name = AT("name"), .name_len = 4, .text = AT("Jane"), .text_len = 4, .kind = FLUENT_TEXT};
+    struct FluentArgument many[40];
+    for (size_t i = 0; i < 40; i++)
+        many[i] = name, many[i].name_len = 1 + i % 4;
+    return fluent_bundle_format(&kept->bundle, TEXT("broken"), TEXT(""), many, 40, &kept->text, &kept->errors);
+}
 static uint32_t report(struct Kept *kept) { return fluent_bundle_errors(&kept->bundle, &kept->text); }
 static uint32_t negotiate(struct Kept *kept) {
     static const struct FluentSource tags[] = {BYTES("de"), BYTES("de-AT")};
@@ -75,6 +82,7 @@ static const struct {
     {"fluent_bundle_new_within", make_within},
     {"fluent_bundle_new_plain", make_plain},
     {"fluent_bundle_format", format},
+    {"fluent_bundle_format of many arguments", format_many},
     {"fluent_bundle_errors", report},
     {"fluent_bundle_has", has},
     {"fluent_negotiate", negotiate},

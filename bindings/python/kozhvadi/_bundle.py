@@ -20,7 +20,7 @@ from ._errors import FluentError, FluentWarning, MissingMessageError, SourceErro
 from ._errors import source_error
 from ._extension import calls_type
 from ._locks import new_lock
-from ._values import Formatter, arguments_of, encoded, in_order
+from ._values import Formatter, arguments_of, encoded
 
 Paths = Union[str, "os.PathLike[str]", Iterable[Union[str, "os.PathLike[str]"]]]
 
@@ -156,7 +156,7 @@ class Bundle:
         if self._sources is not None:
             self._warn()
         ask = self._calls.format if self._calls else self._format
-        answered = ask(id, attribute, in_order(arguments), self._formatter)
+        answered = ask(id, attribute, arguments, self._formatter)
         if isinstance(answered, Answer):
             return answered
         if answered in (c.NO_MESSAGE, c.NO_PATTERN):

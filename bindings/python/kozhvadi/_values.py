@@ -23,9 +23,6 @@ _DIGITS = Decimal(1).scaleb(-18)
 # It rounds a half away from zero, and is exact for what has at most 20 digits before the point and 18 after it.
 _ROUNDING = decimal.Context(prec=60, rounding=decimal.ROUND_HALF_UP)
 
-# Of more arguments than these the library wants the names in order: else the time is quadratic.
-_FEW = 16
-
 _NUMBER = re.compile(r"[-+]?(?:[0-9]+(?:\.[0-9]{0,18})?|\.[0-9]{1,18})")
 
 
@@ -123,11 +120,6 @@ def _argument(name: str, value: object, formatter: Formatter) -> c.FluentArgumen
     kind, text = (c.TEXT, value) if type(value) is str else kind_and_text(name, value, formatter)
     data = encoded(text, "the argument", name)
     return c.FluentArgument(key, len(key), data, len(data), 0, 0, kind)
-
-
-def in_order(arguments: dict[str, object]) -> dict[str, object]:
-    """The same arguments, in the order of their names if they are many."""
-    return arguments if len(arguments) <= _FEW else {name: arguments[name] for name in sorted(arguments)}
 
 
 _NONE = c.arguments([])

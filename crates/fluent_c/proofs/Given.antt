@@ -1,13 +1,16 @@
 -- Arguments that are set one after the other, and why one isn't.
-use Rattle.std.proofs.Common.{◌≡◌, ◌∙◌, ℕ, ◌+◌, ◌<◌, List, [], length, get_or, take, map, Result, Ok, Err, IfErr, ap, sym, subst}
+use Rattle.std.proofs.Common.{◌≡◌, ◌∙◌, ℕ, ◌+◌, ◌<◌, List, [], ◌∷◌, length, get_or, take, map, Result, Ok, Err, IfErr, ap, refl, sym, subst, arith}
+use Rattle.std.specs.List.Sorted.{IsPermutation}
 use Rattle.std.proofs.lemmas.List.{take_more}
+use Rattle.std.proofs.lemmas.List.Sorted.{Contains-permutation, IsPermutation-sym}
 use Rattle.core.specs.Result.{IsErrAnd}
 use Rattle.fluent_grammar.specs.Words.{Text}
 use Rattle.fluent_value.proofs.Map.{set_last}
 use Rattle.fluent_value.specs.Args.{all_set, with_argument}
 use Rattle.fluent_value.specs.Value.{Value}
-use Rattle.fluent_c.specs.Arguments.{pair_of}
+use Rattle.fluent_c.specs.Arguments.{AreRefusedFor, pair_of}
 use Rattle.fluent_c.specs.declared.arguments.ArgumentRefusal.{ArgumentRefusal}
+use Rattle.fluent_c.specs.declared.arguments.ArgumentRefusal.TheVariants.{Memory}
 use Rattle.fluent_c.specs.declared.arguments.FluentArgument.{FluentArgument}
 
 -- one argument more
@@ -22,3 +25,13 @@ set-next args given k d inside below =
 pub refused_on : {T : Type 0} (P : ArgumentRefusal → Type 0) {e : ArgumentRefusal} (r : Result T ArgumentRefusal) → IsErrAnd r (λ y. y ≡ e) → P e → IfErr r P
 refused_on P (Ok x) is p = tt
 refused_on P (Err y) is p = subst P (sym is) p
+
+-- memory may run out before any is set, if there are any
+pub before_the_first : (given : List FluentArgument) → 0 < length given → AreRefusedFor given Memory
+before_the_first [] some = absurd (omega arith)
+before_the_first (argument ∷ others) some = record { argument = argument; stands = (0, omega arith, refl); refused = tt }
+
+-- why one of the same arguments in another order isn't taken is why one of these isn't
+pub same_refused : (given sorted : List FluentArgument) (refusal : ArgumentRefusal) → IsPermutation given sorted → AreRefusedFor sorted refusal → AreRefusedFor given refusal
+same_refused given sorted refusal same of =
+    record { argument = of.argument; stands = Contains-permutation sorted given of.argument (IsPermutation-sym given sorted same) of.stands; refused = of.refused }

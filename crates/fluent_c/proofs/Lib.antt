@@ -3,3 +3,4 @@ mod Texts
 mod Sources
 mod Given
 mod Reports
+mod InOrder

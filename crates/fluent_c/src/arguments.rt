@@ -1,8 +1,9 @@
 //! The arguments of a message, as a caller that isn't Rattle hands them over.
 
 ghost use Rattle.std.specs.Prelude.{◌≡◌, [], IfErr, IfOk, OnOk, map};
+ghost use Rattle.std.specs.List.Sorted.{IsPermutation, IsSortedByKey, IsStableByKey};
 ghost use Rattle.fluent_run.specs.DeskView.{arguments_view};
-ghost use Rattle.fluent_value.specs.Args.{all_set};
+ghost use Rattle.fluent_value.specs.Args.{all_set, order};
 ghost use Rattle.fluent_c.specs.Arguments.{AreRefusedFor, AreTaken, IsRefusedFor, IsTaken, number_given, pair_of, value_given, value_seen, with_given};
 ghost use Rattle.fluent_c.specs.declared.arguments.ArgumentRefusal.TheVariants.{Memory};
 
@@ -109,11 +110,11 @@ fn set<'a>(
     }
 }
 
-/// The arguments by their names. Of arguments with one name the last counts.
+/// Sets arguments, one after the other.
 ///
 /// # Errors
 /// Those of [`set`], for the first argument that isn't taken.
-pub(crate) fn arguments_of<'a>(
+fn set_all<'a>(
     alloc: Global,
     given: &[FluentArgument<'a>],
 ) -> Result<FluentArgs<'a, NoCustom>, ArgumentRefusal>
@@ -127,4 +128,46 @@ pub(crate) fn arguments_of<'a>(
         set(&mut arguments, argument)?;
     }
     Ok(arguments)
+}
+
+/// Copies of arguments in the order of their names. Those of one name stay in their order.
+///
+/// # Errors
+/// [`AllocError`] if memory runs out; nothing is kept.
+fn in_order<'a>(
+    alloc: Global,
+    given: &[FluentArgument<'a>],
+) -> Result<Vec<FluentArgument<'a>>, AllocError>
+    ensures same { IfOk result (λ sorted. IsPermutation given.now sorted.items) }
+    ensures in_order { IfOk result (λ sorted. IsSortedByKey (λ a. a.name.now) order sorted.items) }
+    ensures stable { IfOk result
+        (λ sorted. IsStableByKey (λ a. a.name.now) order given.now sorted.items) }
+{
+    let mut sorted = Vec::with_capacity(alloc, given.len())?;
+    sorted.extend_from_slice(given)?;
+    sorted.sort_by_key(|argument| argument.name)?;
+    Ok(sorted)
+}
+
+/// More arguments than these are set in the order of their names: then none has to make room for another.
+const FEW: usize = 16;
+
+/// The arguments by their names. Of arguments with one name the last counts.
+///
+/// # Errors
+/// Those of [`set`], for an argument that isn't taken.
+pub(crate) fn arguments_of<'a>(
+    alloc: Global,
+    given: &[FluentArgument<'a>],
+) -> Result<FluentArgs<'a, NoCustom>, ArgumentRefusal>
+    ensures set { IfOk result (λ arguments. arguments_view arguments
+        ≡ all_set [] (map pair_of given.now)) }
+    ensures taken { OnOk result (AreTaken given.now) }
+    ensures refused { IfErr result (AreRefusedFor given.now) }
+{
+    if given.len() <= FEW {
+        return set_all(alloc, given);
+    }
+    let sorted = in_order(alloc, given)?;
+    set_all(alloc, &sorted)
 }

@@ -3,7 +3,7 @@ use Rattle.std.proofs.Common.{◌≡◌, [], map, take}
 use Rattle.fluent_run.specs.DeskView.{arguments_view}
 use Rattle.fluent_value.specs.Args.{all_set}
 use Rattle.fluent_c.specs.Arguments.{AreTaken, pair_of}
-use Rattle.fluent_c.proofs.arguments.arguments_of.Given as goal
+use Rattle.fluent_c.proofs.arguments.set_all.Given as goal
 
 abbrev pub invariant-loop-argument : goal.invariant-loop-argument
 invariant-loop-argument l = record {
