@@ -75,18 +75,29 @@ class Model:
             has_language and modern[0] == 'sr',
         ][way]
 
+    def read(self, text):
+        return parse(text)
+
+    def last_of(self, default):
+        """The last resort, if it counts."""
+        return default
+
+    def is_done(self, found, more):
+        """Whether `lookup` ends, by what was found and what was found for this request."""
+        return found
+
     def negotiate(self, requested, available, default, strategy):
-        offers = [(at, self.place(tag)) for at, tag in enumerate(map(parse, available)) if tag]
-        found = []
-        for request in [self.place(tag) for tag in map(parse, requested) if tag]:
+        offers = [(at, self.place(tag)) for at, tag in enumerate(map(self.read, available)) if tag]
+        found, default = [], self.last_of(default)
+        for request in [self.place(tag) for tag in map(self.read, requested) if tag]:
             more = []
             for way in range(9):
                 more += [at for at, offer in offers
                          if at not in found and at not in more and self.suits(way, request, offer)]
             found += more if strategy == 'filtering' else more[:1]
-            if strategy == 'lookup' and found:
+            if strategy == 'lookup' and self.is_done(found, more):
                 break
         texts = [available[at] for at in found]
-        if default and (not texts if strategy == 'lookup' else parse(default) not in map(parse, texts)):
+        if default and (not texts if strategy == 'lookup' else self.read(default) not in map(self.read, texts)):
             texts.append(default)
         return texts
