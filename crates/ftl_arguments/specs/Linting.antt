@@ -31,9 +31,9 @@ abbrev pub finding_codes : List Text
 finding_codes =
     codes "syntax" ∷ codes "duplicate-id" ∷ codes "unknown-message" ∷ codes "unknown-term" ∷ codes "unknown-attribute"
     ∷ codes "no-value" ∷ codes "no-default" ∷ codes "cyclic-reference" ∷ codes "unknown-function" ∷ codes "duplicate-attribute"
-    ∷ codes "duplicate-variant" ∷ codes "invalid-escape" ∷ codes "missing-category" ∷ codes "missing-message"
-    ∷ codes "missing-value" ∷ codes "missing-attribute" ∷ codes "obsolete-value" ∷ codes "obsolete-attribute"
-    ∷ codes "unknown-variable" ∷ codes "unused-variable" ∷ codes "obsolete-message" ∷ codes "untranslated" ∷ []
+    ∷ codes "duplicate-variant" ∷ codes "invalid-escape" ∷ codes "unknown-option" ∷ codes "missing-category"
+    ∷ codes "missing-message" ∷ codes "missing-value" ∷ codes "missing-attribute" ∷ codes "obsolete-value"
+    ∷ codes "obsolete-attribute" ∷ codes "unknown-variable" ∷ codes "unused-variable" ∷ codes "obsolete-message" ∷ codes "untranslated" ∷ []
 
 abbrev pub is_code : Text → Bool
 is_code name = list_any (λ code. bytes_eq name code) finding_codes

@@ -82,6 +82,7 @@ fn is_code(name: &str) -> bool
             | "duplicate-attribute"
             | "duplicate-variant"
             | "invalid-escape"
+            | "unknown-option"
             | "missing-category"
             | "missing-message"
             | "missing-value"
