@@ -1,2 +1,4 @@
 pub mod Entered
+pub mod Frames
+mod NestingRows
 pub mod Telling

@@ -4,6 +4,7 @@
 
 pub mod asking;
 pub mod bundle;
+mod depth;
 pub mod json;
 mod made;
 pub mod own;
@@ -30,6 +31,7 @@ pub fn try_all(rt: &HostRuntime) -> Result<()> {
         tell(rt, file, "rows", tally)?;
     }
     tell(rt, "made", "patterns", made::try_made(rt.alloc()))?;
+    tell(rt, "depth", "patterns", depth::try_depth(rt.alloc()))?;
     tell(rt, "scopes", "calls", scopes::try_scopes(rt.alloc()))?;
     Ok(())
 }

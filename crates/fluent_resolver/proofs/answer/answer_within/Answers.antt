@@ -6,7 +6,7 @@ use Rattle.fluent_progress.specs.Views.{resolved_in, start_of}
 use Rattle.fluent_resolver.specs.Steps.{answer}
 use Rattle.fluent_resolver.specs.Asked.{told}
 use Rattle.fluent_resolver.proofs.Asking.{if-ok-same, lone-errors, lone-value, tells-none}
-use Rattle.fluent_resolver.proofs.answer.answer.Goals as goal
+use Rattle.fluent_resolver.proofs.answer.answer_within.Goals as goal
 
 pub returns-in-Some-clause-text : goal.returns-in-Some-clause-text
 returns-in-Some-clause-text g c =
