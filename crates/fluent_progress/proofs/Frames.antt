@@ -1,5 +1,5 @@
 -- What is open of the machine's stack, by its parts.
-use Rattle.std.proofs.Common.{◌≡◌, ℕ, ◌+◌, ◌-◌, ◌<◌, Bool, ap}
+use Rattle.std.proofs.Common.{◌≡◌, ℕ, ◌+◌, ◌-◌, ◌<◌, Bool, refl}
 use Rattle.fluent_progress.specs.Depth.{Open, open_in, with_closed, with_opened}
 use Rattle.fluent_progress.specs.declared.frames.Frames.{Frames}
 
@@ -22,3 +22,7 @@ module _ {f g : Frames} (bytes : ℕ) (budget : g.counted.budget ≡ f.counted.b
 pub open-past : (f : Frames) (bytes : ℕ) → f.counted.budget.bytes < f.counted.taken + bytes → (open_in f).budget < (open_in f).taken + bytes
 unfolding open_in
 open-past f bytes h = h
+
+pub open-is-past : (f : Frames) → (open_in f).is_past ≡ f.is_past
+unfolding open_in
+open-is-past f = refl

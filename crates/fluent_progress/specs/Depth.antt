@@ -18,16 +18,16 @@ open_in frames = record { taken = frames.counted.taken; budget = frames.counted.
 
 -- with so many bytes more open, and with so many closed
 abbrev pub with_opened : ℕ → Open → Open
-with_opened bytes open = record { taken = open.taken + bytes; budget = open.budget; is_past = open.is_past }
+with_opened bytes o = record { taken = o.taken + bytes; budget = o.budget; is_past = o.is_past }
 
 abbrev pub with_closed : ℕ → Open → Open
-with_closed bytes open = record { taken = open.taken - bytes; budget = open.budget; is_past = open.is_past }
+with_closed bytes o = record { taken = o.taken - bytes; budget = o.budget; is_past = o.is_past }
 
 -- one of so many bytes is more than is left
-pub record Past (takes : ℕ → Type 0) (open : Open) : Type 0 where
+pub record Past (takes : ℕ → Type 0) (o : Open) : Type 0 where
   pub bytes : ℕ
   pub takes_them : takes bytes
-  pub past : open.budget < open.taken + bytes
+  pub past : o.budget < o.taken + bytes
 
 -- if more was asked for than may be open, and not before, then one of so many bytes is more than was left
 abbrev pub IfPast : Open → Open → (ℕ → Type 0) → Type 0

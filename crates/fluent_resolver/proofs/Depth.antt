@@ -8,7 +8,7 @@ use Rattle.fluent_grammar.specs.Words.{Text}
 use Rattle.fluent_meaning.specs.Choice.{chosen, first_default, first_match, is_choice, key_value, or_else}
 use Rattle.fluent_meaning.specs.Ids.{Meaning}
 use Rattle.fluent_progress.specs.Braces.{innermost, unbraced}
-use Rattle.fluent_progress.specs.Depth.{IfPast, Open, Past, with_closed, with_opened}
+use Rattle.fluent_progress.specs.Depth.{IfPast, NestsPast, Open, Past, with_closed, with_opened}
 use Rattle.fluent_progress.specs.Nesting.{TakesElements, TakesExpression, TakesInline, TakesInlines, TakesNameds, TakesPattern, TakesValue, TakesVariants, after_placeable, after_text, in_braces, in_inline, later_named, later_positional, later_variant, this_named, this_placeable, this_positional, this_variant}
 use Rattle.fluent_value.specs.Matching.{Plurals, matches}
 use Rattle.fluent_value.specs.Value.{Value}
@@ -46,11 +46,21 @@ taken_again : (n bytes : ℕ) → (n + bytes) - bytes ≡ n
 taken_again n bytes = omega arith
 
 closed_again : (bytes : ℕ) (o : Open) → with_closed bytes (with_opened bytes o) ≡ o
-closed_again bytes o = ap (λ (n : ℕ). let open : Open = record { taken = n; budget = o.budget; is_past = o.is_past } in open) (taken_again o.taken bytes)
+closed_again bytes o = ap (λ (n : ℕ). let held : Open = record { taken = n; budget = o.budget; is_past = o.is_past } in held) (taken_again o.taken bytes)
 
 -- what was opened is closed
 pub opened-closed : {o r u w : Open} (bytes : ℕ) → r ≡ with_opened bytes o → u ≡ r → w ≡ with_closed bytes u → w ≡ o
 opened-closed {o = o} bytes opened same closed = closed ∙ ap (with_closed bytes) (same ∙ opened) ∙ closed_again bytes o
+
+-- where nothing is open, and no pattern is being written, the budget is what counts
+pub nests : {F : Type 0} {find : Text → Option (Meaning F)} {o u : Open} {path : List Elements} {es : Elements} (budget : ℕ) → o ≡ record { taken = 0; budget = budget; is_past = false } → path ≡ [] →
+    u.is_past ≡ true → IfPast o u (TakesPattern find path es) → NestsPast budget find es
+nests {find = find} {o = o} {es = es} budget start outside later h =
+    let it = h later (ap (λ (x : Open). x.is_past) start) in
+    let past = it.past in
+    let taken : o.taken ≡ 0 = ap (λ (x : Open). x.taken) start in
+    let whole : o.budget ≡ budget = ap (λ (x : Open). x.budget) start in
+    record { bytes = it.bytes; takes_them = subst (λ x. TakesPattern find x es it.bytes) outside it.takes_them; past = omega (arith, past, taken, whole) }
 
 -- ---- what takes it
 
