@@ -30,8 +30,8 @@ pub record Past (takes : ℕ → Type 0) (o : Open) : Type 0 where
   pub past : o.budget < o.taken + bytes
 
 -- if more was asked for than may be open, and not before, then one of so many bytes is more than was left
-abbrev pub IfPast : Open → Open → (ℕ → Type 0) → Type 0
-IfPast old new takes = new.is_past ≡ true → old.is_past ≡ false → Past takes old
+pub record IfPast (old new : Open) (takes : ℕ → Type 0) : Type 0 where
+  pub if_past : new.is_past ≡ true → old.is_past ≡ false → Past takes old
 
 -- on Err that is so
 abbrev pub PastOnErr : {T E : Type 0} → Result T E → Progress → Progress → (Progress → ℕ → Type 0) → Type 0

@@ -75,7 +75,7 @@ mutual
 
   -- the arguments of a call, if there are any
   pub data TakesMaybe {F : Type 0} (find : Text → Option (Meaning F)) : List Elements → MaybeArguments → ℕ → Type 0 where
-    given : {path : List Elements} {a : Arguments} {n : ℕ} → TakesArguments find path a n → TakesMaybe find path (t.with_arguments a) n
+    in_given : {path : List Elements} {a : Arguments} {n : ℕ} → TakesArguments find path a n → TakesMaybe find path (t.with_arguments a) n
 
   pub data TakesArguments {F : Type 0} (find : Text → Option (Meaning F)) : List Elements → Arguments → ℕ → Type 0 where
     in_positional : {path : List Elements} {ps : Inlines} {ns : Nameds} {n : ℕ} → TakesInlines find path ps n → TakesArguments find path (t.arguments ps ns) n

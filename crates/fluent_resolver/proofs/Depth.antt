@@ -8,8 +8,8 @@ use Rattle.fluent_grammar.specs.Words.{Text}
 use Rattle.fluent_meaning.specs.Choice.{chosen, first_default, first_match, is_choice, key_value, or_else}
 use Rattle.fluent_meaning.specs.Ids.{Meaning}
 use Rattle.fluent_progress.specs.Braces.{innermost, unbraced}
-use Rattle.fluent_progress.specs.Depth.{IfPast, NestsPast, Open, Past, with_closed, with_opened}
-use Rattle.fluent_progress.specs.Nesting.{TakesElements, TakesExpression, TakesInline, TakesInlines, TakesNameds, TakesPattern, TakesValue, TakesVariants, after_placeable, after_text, in_braces, in_inline, later_named, later_positional, later_variant, this_named, this_placeable, this_positional, this_variant}
+use Rattle.fluent_progress.specs.Depth.{IfPast, NestsPast, Open, with_closed, with_opened}
+use Rattle.fluent_progress.specs.Nesting.{TakesElements, TakesExpression, TakesInlines, TakesNameds, TakesPattern, TakesValue, TakesVariants, after_placeable, after_text, in_braces, in_inline, later_named, later_positional, later_variant, this_named, this_placeable, this_positional, this_variant}
 use Rattle.fluent_value.specs.Matching.{Plurals, matches}
 use Rattle.fluent_value.specs.Value.{Value}
 use Rattle.fluent_resolver.proofs.Asking.{none-some, some-same}
@@ -19,15 +19,15 @@ use Rattle.fluent_resolver.proofs.Asking.{none-some, some-same}
 module _ {o u : Open} where
   -- nothing more was asked for
   pub never-past : {takes : ℕ → Type 0} → u ≡ o → IfPast o u takes
-  never-past e later before = absurd (false≢true (sym before ∙ ap (λ (x : Open). x.is_past) (sym e) ∙ later))
+  never-past e = record { if_past = λ later before. absurd (false≢true (sym before ∙ ap (λ (x : Open). x.is_past) (sym e) ∙ later)) }
 
   -- what is inside takes it, so what is around it does
   pub past-in : {inner outer : ℕ → Type 0} → ((n : ℕ) → inner n → outer n) → IfPast o u inner → IfPast o u outer
-  past-in f h later before = let it = h later before in record { bytes = it.bytes; takes_them = f it.bytes it.takes_them; past = it.past }
+  past-in f h = record { if_past = λ later before. let it = h.if_past later before in record { bytes = it.bytes; takes_them = f it.bytes it.takes_them; past = it.past } }
 
   -- it is what couldn't be opened
   pub past-refused : {takes : ℕ → Type 0} (bytes : ℕ) → takes bytes → o.budget < o.taken + bytes → IfPast o u takes
-  past-refused bytes takes_them past later before = record { bytes = bytes; takes_them = takes_them; past = past }
+  past-refused bytes takes_them past = record { if_past = λ later before. record { bytes = bytes; takes_them = takes_them; past = past } }
 
   -- the same is open, and the same patterns are being written
   pub past-at : {A : Type 0} {r : Open} {p q : A} (takes : A → ℕ → Type 0) → r ≡ o → p ≡ q → IfPast r u (takes p) → IfPast o u (takes q)
@@ -35,12 +35,14 @@ module _ {o u : Open} where
 
   -- so many bytes more are open
   pub past-opened : {r : Open} {inner outer : ℕ → Type 0} (bytes : ℕ) → r ≡ with_opened bytes o → ((n : ℕ) → inner n → outer (bytes + n)) → IfPast r u inner → IfPast o u outer
-  past-opened bytes opened f h later before =
-      let it = h later (ap (λ (x : Open). x.is_past) opened ∙ before) in
-      let past = it.past in
-      let taken = ap (λ (x : Open). x.taken) opened in
-      let budget = ap (λ (x : Open). x.budget) opened in
-      record { bytes = bytes + it.bytes; takes_them = f it.bytes it.takes_them; past = omega (arith, past, taken, budget) }
+  past-opened bytes opened f h = record {
+    if_past = λ later before.
+        let it = h.if_past later (ap (λ (x : Open). x.is_past) opened ∙ before) in
+        let past = it.past in
+        let taken = ap (λ (x : Open). x.taken) opened in
+        let budget = ap (λ (x : Open). x.budget) opened in
+        record { bytes = bytes + it.bytes; takes_them = f it.bytes it.takes_them; past = omega (arith, past, taken, budget) };
+  }
 
 taken_again : (n bytes : ℕ) → (n + bytes) - bytes ≡ n
 taken_again n bytes = omega arith
@@ -56,7 +58,7 @@ opened-closed {o = o} bytes opened same closed = closed ∙ ap (with_closed byte
 pub nests : {F : Type 0} {find : Text → Option (Meaning F)} {o u : Open} {path : List Elements} {es : Elements} (budget : ℕ) → o ≡ record { taken = 0; budget = budget; is_past = false } → path ≡ [] →
     u.is_past ≡ true → IfPast o u (TakesPattern find path es) → NestsPast budget find es
 nests {find = find} {o = o} {es = es} budget start outside later h =
-    let it = h later (ap (λ (x : Open). x.is_past) start) in
+    let it = h.if_past later (ap (λ (x : Open). x.is_past) start) in
     let past = it.past in
     let taken : o.taken ≡ 0 = ap (λ (x : Open). x.taken) start in
     let whole : o.budget ≡ budget = ap (λ (x : Open). x.budget) start in

@@ -33,7 +33,7 @@ use Rattle.fluent_meaning.specs.Weight.{arguments_weight, elements_weight, expre
 use Rattle.fluent_progress.proofs.Telling.{on-err, tells-same, within}
 use Rattle.fluent_progress.specs.Results.{function_result}
 use Rattle.fluent_progress.specs.Depth.{open_in}
-use Rattle.fluent_progress.specs.Nesting.{TakesArguments, TakesElements, TakesExpression, TakesInline, TakesInlines, TakesMaybe, TakesNameds, TakesPattern, TakesTarget, TakesValue, as_call, as_text, enters, given, gives_text, in_braces, in_call, in_elements, in_inline, in_message, in_named, in_own, in_positional, in_selector, in_term, in_variants, call_opens, inside_call, inside_text, text_opens}
+use Rattle.fluent_progress.specs.Nesting.{TakesArguments, TakesElements, TakesExpression, TakesInline, TakesInlines, TakesMaybe, TakesNameds, TakesPattern, TakesTarget, TakesValue, as_call, as_text, enters, gives_text, in_braces, in_call, in_elements, in_given, in_inline, in_message, in_named, in_own, in_positional, in_selector, in_term, in_variants, call_opens, inside_call, inside_text, text_opens}
 use Rattle.fluent_progress.specs.Views.{entered_in, path_of, patterns_on, place_view, resolved_in, state, target_view}
 use Rattle.fluent_progress.specs.declared.path.Path.{Path}
 use Rattle.fluent_progress.specs.declared.progress.Progress.{Progress}
@@ -1285,7 +1285,7 @@ arguments::own_arguments-returns-in_err-positional_values-in-Some-clause-deep g 
     let path = path_of c.args.progress.now in
     let a = c.in-Some.arguments in
     let is = ap maybe_arguments_of c.in-Some.is in
-    on-err _ (past-in (λ m h. subst (λ x. TakesMaybe find path x m) (sym is) (given (subst (λ x. TakesArguments find path x m) (sym (arguments-in a)) (in_positional h)))) c.in_err-positional_values-in-Some.ensures.deep)
+    on-err _ (past-in (λ m h. subst (λ x. TakesMaybe find path x m) (sym is) (in_given (subst (λ x. TakesArguments find path x m) (sym (arguments-in a)) (in_positional h)))) c.in_err-positional_values-in-Some.ensures.deep)
 
 pub arguments::own_arguments-returns-in_ok-positional_values-in-Some-clause-deep : goal.arguments::own_arguments-returns-in_ok-positional_values-in-Some-clause-deep
 arguments::own_arguments-returns-in_ok-positional_values-in-Some-clause-deep g n c =
@@ -1295,7 +1295,7 @@ arguments::own_arguments-returns-in_ok-positional_values-in-Some-clause-deep g n
     let a = c.in-Some.arguments in
     let is = ap maybe_arguments_of c.in-Some.is in
     let at : path_of c.positional_values.new.progress ≡ path = ap (map of_path) c.in_ok-positional_values-in-Some.ensures.path in
-    on_err_weaker c.named_values.result (λ k. past-in (λ m h. subst (λ x. TakesMaybe find path x m) (sym is) (given (subst (λ x. TakesArguments find path x m) (sym (arguments-in a)) (in_named h)))) (past-at (λ p m. TakesNameds find p (nameds_in a) m) c.in_ok-positional_values-in-Some.ensures.stack at k)) c.named_values.ensures.deep
+    on_err_weaker c.named_values.result (λ k. past-in (λ m h. subst (λ x. TakesMaybe find path x m) (sym is) (in_given (subst (λ x. TakesArguments find path x m) (sym (arguments-in a)) (in_named h)))) (past-at (λ p m. TakesNameds find p (nameds_in a) m) c.in_ok-positional_values-in-Some.ensures.stack at k)) c.named_values.ensures.deep
 
 pub arguments::positional_values-returns-in_err-values-clause-deep : goal.arguments::positional_values-returns-in_err-values-clause-deep
 arguments::positional_values-returns-in_err-values-clause-deep g n c =
