@@ -1,4 +1,4 @@
 pub mod Entered
-pub mod Frames
+pub mod Counting
 mod NestingRows
 pub mod Telling

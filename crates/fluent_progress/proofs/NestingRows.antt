@@ -26,10 +26,11 @@ all_are es id = Some (message (record { id = id; value = Some es; attributes = [
 
 -- the argument of a call takes what a call does
 call_in_call : (find : Text → Option (Meaning (Unit {0}))) (path : List Elements) → TakesPattern find path twice CALL
+unfolding twice placeable_of call_of
 call_in_call find path = in_elements (this_placeable (in_inline (in_call (in_positional (this_positional (as_call call_opens))))))
 
 -- and a message there a text, and what its value takes
 message_in_call : TakesPattern (all_are twice) [] (placeable_of (call_of (t.message_reference [] None))) (TEXT + CALL)
-unfolding same_elements
+unfolding twice placeable_of call_of same_elements
 message_in_call =
     in_elements (this_placeable (in_inline (in_call (in_positional (this_positional (as_text refl (inside_text (in_message (enters refl (call_in_call (all_are twice) _))))))))))
