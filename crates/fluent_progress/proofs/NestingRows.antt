@@ -31,6 +31,6 @@ call_in_call find path = in_elements (this_placeable (in_inline (in_call (in_pos
 
 -- and a message there a text, and what its value takes
 message_in_call : TakesPattern (all_are twice) [] (placeable_of (call_of (t.message_reference [] None))) (TEXT + CALL)
-unfolding twice placeable_of call_of same_elements
+unfolding twice placeable_of call_of same_elements all_are
 message_in_call =
     in_elements (this_placeable (in_inline (in_call (in_positional (this_positional (as_text refl (inside_text (in_message (enters refl (call_in_call (all_are twice) _))))))))))
