@@ -31,7 +31,7 @@ module _ {o u : Open} where
 
   -- the same is open, and the same patterns are being written
   pub past-at : {A : Type 0} {r : Open} {p q : A} (takes : A → ℕ → Type 0) → r ≡ o → p ≡ q → IfPast r u (takes p) → IfPast o u (takes q)
-  past-at takes same at h = subst (λ x. IfPast x u (takes _)) same (subst (λ x. IfPast _ u (takes x)) at h)
+  past-at {r = r} {q = q} takes same at h = subst (λ x. IfPast x u (takes q)) same (subst (λ x. IfPast r u (takes x)) at h)
 
   -- so many bytes more are open
   pub past-opened : {r : Open} {inner outer : ℕ → Type 0} (bytes : ℕ) → r ≡ with_opened bytes o → ((n : ℕ) → inner n → outer (bytes + n)) → IfPast r u inner → IfPast o u outer
