@@ -1,11 +1,10 @@
 -- What a few patterns take, by computing.
-use Rattle.std.proofs.Common.{◌≡◌, ◌+◌, ◌∷◌, [], List, Option, None, Some, false, refl}
+use Rattle.std.proofs.Common.{◌+◌, [], List, Option, None, Some, refl}
 use Rattle.fluent_grammar.specs.Tree as t
 use Rattle.fluent_grammar.specs.Tree.{Elements, Inline}
 use Rattle.fluent_grammar.specs.Words.{Text}
 use Rattle.fluent_meaning.specs.Ids.{Meaning, message}
 use Rattle.fluent_meaning.specs.Same.{same_elements}
-use Rattle.fluent_meaning.specs.Substitution.{is_on_path}
 use Rattle.fluent_progress.specs.Nesting.{TakesPattern, as_call, as_text, call_opens, enters, in_call, in_elements, in_inline, in_message, in_positional, inside_text, this_placeable, this_positional}
 use Rattle.fluent_text.specs.declared.stack.resolving.TheConstants.{CALL, TEXT}
 

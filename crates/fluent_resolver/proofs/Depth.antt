@@ -1,5 +1,5 @@
 -- How it is handed on that what is resolved nests too deep.
-use Rattle.std.proofs.Common.{◌≡◌, ◌∙◌, ℕ, ◌+◌, ◌-◌, ◌<◌, Bool, true, false, cond, List, [], ◌∷◌, ◌++◌, Option, None, Some, ap, arith, refl, subst, sym}
+use Rattle.std.proofs.Common.{◌≡◌, ◌∙◌, ℕ, ◌+◌, ◌-◌, ◌<◌, Bool, true, false, cond, List, [], ◌∷◌, ◌++◌, Option, None, Some, ap, arith, subst, sym}
 use Rattle.std.proofs.lemmas.Bool.{false≢true}
 use Rattle.fluent_ast.specs.View.{Element, Named, elements_of, inlines_of, nameds_of, placeable, text}
 use Rattle.fluent_grammar.specs.Tree as t
