@@ -4,8 +4,8 @@ use Rattle.fluent_progress.proofs.Telling.{on-err}
 use Rattle.fluent_bundle.proofs.LentBundle.{all-told, handed-is}
 use Rattle.fluent_bundle.proofs.bundle.FluentBundle.format_pattern_within.Goals as goal
 
-pub returns-in_ok-hand_out-clause-text : goal.returns-in_ok-hand_out-clause-text
-returns-in_ok-hand_out-clause-text g c =
+pub returns-clause-text : goal.returns-clause-text
+returns-clause-text g c =
     c.in_ok-hand_out.ensures.text
     ∙ sym (handed-is g.T.TextTransform.transformed c.args.self.now c.lent-lent.result c.lent-lent.ensures c.args.args c.args.pattern.now (cow_str_bytes c.in_ok-text.text) c.in_ok-text.ensures.text)
 
