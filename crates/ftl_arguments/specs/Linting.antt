@@ -36,7 +36,7 @@ finding_codes =
     ∷ codes "unknown-variable" ∷ codes "unused-variable" ∷ codes "obsolete-message" ∷ codes "untranslated" ∷ []
 
 abbrev pub is_code : Text → Bool
-is_code name = list_any (λ code. bytes_eq name code) finding_codes
+is_code name = list_any (λ code. bytes_eq code name) finding_codes
 
 -- the values of `--ignore`
 abbrev pub ignored_in : List Row → List Text

@@ -12,6 +12,32 @@ use clap::ArgMatches;
 use lint_report::Format as ReportFormat;
 use std::alloc::Global;
 
+/// The codes that findings have.
+const CODES: [&str; 22] = [
+    "syntax",
+    "duplicate-id",
+    "unknown-message",
+    "unknown-term",
+    "unknown-attribute",
+    "no-value",
+    "no-default",
+    "cyclic-reference",
+    "unknown-function",
+    "duplicate-attribute",
+    "duplicate-variant",
+    "invalid-escape",
+    "missing-category",
+    "missing-message",
+    "missing-value",
+    "missing-attribute",
+    "obsolete-value",
+    "obsolete-attribute",
+    "unknown-variable",
+    "unused-variable",
+    "obsolete-message",
+    "untranslated",
+];
+
 /// What was found for `lint`.
 ///
 /// # Errors
@@ -68,31 +94,7 @@ fn are_codes(names: &[&str]) -> bool
 fn is_code(name: &str) -> bool
     ensures { result ≡ is_code name.now }
 {
-    matches!(
-        name,
-        "syntax"
-            | "duplicate-id"
-            | "unknown-message"
-            | "unknown-term"
-            | "unknown-attribute"
-            | "no-value"
-            | "no-default"
-            | "cyclic-reference"
-            | "unknown-function"
-            | "duplicate-attribute"
-            | "duplicate-variant"
-            | "invalid-escape"
-            | "missing-category"
-            | "missing-message"
-            | "missing-value"
-            | "missing-attribute"
-            | "obsolete-value"
-            | "obsolete-attribute"
-            | "unknown-variable"
-            | "unused-variable"
-            | "obsolete-message"
-            | "untranslated"
-    )
+    CODES.contains(&name)
 }
 
 /// How findings are to be written, if there is such a format.
