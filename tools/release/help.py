@@ -12,7 +12,7 @@ from pathlib import Path
 from typing import NamedTuple
 
 # What a value of an option or an argument may be completed to, by its name in the help.
-FILES = {'FILE'}
+FILES = {'FILE', 'PATH'}
 CODES = '''
     syntax duplicate-id unknown-message unknown-term unknown-attribute no-value no-default cyclic-reference
     unknown-function duplicate-attribute duplicate-variant invalid-escape missing-category missing-message missing-value

@@ -3,12 +3,12 @@ use Rattle.std.specs.Prelude.{Bool, if◌then◌else◌, List, [], ◌∷◌, Op
 use Rattle.std.specs.List.{list_all, list_any}
 use Rattle.std.specs.Str.{bytes_eq}
 use Rattle.clap.specs.Words.{Row, Text, first_of}
-use Rattle.ftl_arguments.specs.Found.{is_given, values_in, locale_in, files_in}
+use Rattle.ftl_arguments.specs.Found.{is_given, values_in, locale_in}
 use Rattle.lint_findings.specs.Output.{Format, text, lines, json, github}
 
--- report what is found in the catalog that the sources in these files are
+-- report what is found in the catalog that the sources in these files, and below these folders, are
 pub record Lint : Type 0 where
-  -- the files of the catalog that is translated from
+  -- the files of the catalog that is translated from, and folders with such files
   pub references : List Text
   -- the names of functions that the program adds
   pub functions : List Text
@@ -24,6 +24,7 @@ pub record Lint : Type 0 where
   pub strict : Bool
   -- how findings are written
   pub format : Format
+  -- the files of the catalog, and folders with such files
   pub files : List Text
 
 -- the codes that findings have
@@ -65,7 +66,7 @@ lint_with rows report_format = record {
   counts = is_given (codes "counts") rows;
   strict = is_given (codes "strict") rows;
   format = report_format;
-  files = files_in rows;
+  files = values_in (codes "PATH") rows;
 }
 
 -- With another format nothing is asked for, nor with a code to ignore that no finding has.

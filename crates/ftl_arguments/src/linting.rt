@@ -7,7 +7,7 @@ ghost use Rattle.ftl_arguments.specs.CommandView.{found_rows, lint_view, IfRefus
 ghost use Rattle.lint_report.specs.Formats.{format_view};
 
 use crate::commands::Lint;
-use crate::reading::{WordsError, files_in, is_given, locale_in, values_in};
+use crate::reading::{WordsError, is_given, locale_in, values_in};
 use clap::ArgMatches;
 use lint_report::Format as ReportFormat;
 use std::alloc::Global;
@@ -62,7 +62,7 @@ pub(crate) fn lint_in<'words>(
         counts: is_given(found, "counts"),
         strict: is_given(found, "strict"),
         format,
-        files: files_in(alloc, found)?,
+        files: values_in(alloc, found, "PATH")?,
     })
 }
 
