@@ -11,9 +11,11 @@ failed.
 import json
 import os
 import pathlib
+import pty
 import subprocess
 import sys
 import tempfile
+import tty
 
 TOP = pathlib.Path(__file__).resolve().parent.parent
 ROWS = TOP / "tests" / "rows"
@@ -38,6 +40,8 @@ FREE = {
     "links": lambda it: type(it) is dict and all(is_name(key) and type(it[key]) is str for key in it),
     "stdin": lambda it: type(it) in (str, type(None)),
     "full": lambda it: type(it) is bool,
+    "gone": lambda it: type(it) is bool,
+    "terminal": lambda it: type(it) is bool,
 }
 
 
@@ -70,21 +74,51 @@ def bytes_in(folder):
     return {str(it.relative_to(folder)): it.read_bytes() for it in folder.rglob("*") if it.is_file() and not it.is_symlink()}
 
 
+def unread():
+    """The end for writing of a pipe that nobody reads."""
+    reader, writer = os.pipe()
+    os.close(reader)
+    return writer
+
+
+def terminal():
+    """Both ends of a terminal that shows bytes as they come."""
+    screen, device = pty.openpty()
+    tty.setraw(device)
+    return screen, device
+
+
+def shown(screen):
+    """What a terminal shows whose other end is closed."""
+    shown = b""
+    while True:
+        try:
+            block = os.read(screen, 65536)
+        except OSError:
+            block = b""
+        if not block:
+            os.close(screen)
+            return shown
+        shown += block
+
+
 def ended(program, row, folder):
     """How the program ends that runs on the row in this folder: its status, its output and its errors."""
     given = row.get("stdin", "")
     # A folder can be opened, and not read.
     source = os.open(folder, os.O_RDONLY) if given is None else subprocess.PIPE
-    target = os.open("/dev/full", os.O_WRONLY) if row.get("full") else subprocess.PIPE
-    devices = {"stdin": source, "stdout": target, "stderr": subprocess.PIPE}
+    target = os.open("/dev/full", os.O_WRONLY) if row.get("full") else unread() if row.get("gone") else subprocess.PIPE
+    screen, faults = terminal() if row.get("terminal") else (None, subprocess.PIPE)
+    devices = {"stdin": source, "stdout": target, "stderr": faults}
     with subprocess.Popen([program, *row["words"]], cwd=folder, env={}, **devices) as run:
         try:
             output, errors = run.communicate(given and given.encode(), timeout=SECONDS)
         except subprocess.TimeoutExpired:
             run.kill()
             output, errors = run.communicate()
-    for it in {source, target} - {subprocess.PIPE}:
+    for it in {source, target, faults} - {subprocess.PIPE}:
         os.close(it)
+    errors = errors if screen is None else shown(screen)
     return {"status": run.returncode, "stdout": output or b"", "stderr": errors}
 
 

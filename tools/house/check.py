@@ -36,7 +36,7 @@ LONGEST_CLAUSE, LONG_CLAUSE, LONG_CLAUSES = 200, 120, 33
 CODES = {
     'docs/reference/lint.md': r'^\| (`[a-z`, -]+`) \| (?:error|warning|note) \|',
     'crates/ftl_arguments/specs/Linting.antt': r'^finding_codes =(.*?)\[\]',
-    'crates/ftl_arguments/src/linting.rt': r'matches!\(\s*name,(.*?)\)',
+    'crates/ftl_arguments/src/linting.rt': r'^const CODES: \[&str; \d+\] = \[(.*?)\]',
     'tools/release/help.py': r"^CODES = '''(.*?)'''",
 }
 WIDEST = 120

@@ -12,11 +12,12 @@ from pathlib import Path
 from typing import NamedTuple
 
 # What a value of an option or an argument may be completed to, by its name in the help.
-FILES = {'FILE'}
+FILES = {'FILE', 'PATH'}
 CODES = '''
     syntax duplicate-id unknown-message unknown-term unknown-attribute no-value no-default cyclic-reference
-    unknown-function duplicate-attribute duplicate-variant invalid-escape missing-category missing-message missing-value
-    missing-attribute obsolete-value obsolete-attribute unknown-variable unused-variable obsolete-message untranslated
+    unknown-function duplicate-attribute duplicate-variant invalid-escape unknown-option missing-category missing-message
+    missing-value missing-attribute obsolete-value obsolete-attribute unknown-variable unused-variable obsolete-message
+    untranslated
 '''
 CHOICES = {'FORMAT': ['text', 'line', 'json', 'github'], 'CODE': CODES.split()}
 

@@ -47,13 +47,19 @@ def asked(words):
     return options
 
 
+def are_texts(options, texts):
+    """Whether all that is asked about are files with texts, and none is a folder."""
+    named = options["files"] + options["reference"]
+    return all(name in texts for name in named) and all(isinstance(text, str) for text in texts.values())
+
+
 def rows():
     """The rows of the command that reports on texts, each with what it asks for."""
     for line in ROWS.read_text(encoding="utf-8").splitlines():
         row = json.loads(line)
         options = asked(row["words"]) if row["words"][:1] == ["lint"] and row["status"] in (0, 1) else None
         texts = row.get("files", {})
-        if options and options["files"] and all(isinstance(text, str) for text in texts.values()):
+        if options and options["files"] and are_texts(options, texts):
             yield row, options, texts
 
 

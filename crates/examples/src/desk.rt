@@ -3,6 +3,7 @@
 use anyhow::Result;
 use fluent_desk::{Settings, StackBudget, answers, check, clean, export, import, normalize};
 use fluent_plurals::LanguagePlurals;
+use std::alloc::Global;
 
 const SOURCE: &str = "\
 key1 = Value 1
@@ -13,25 +14,40 @@ key2={ $x }
 ";
 
 pub fn main(rt: HostRuntime) -> Result<()> {
-    let alloc = rt.alloc();
+    show_errors(&rt)?;
+    let normal = tidied(rt.alloc())?;
+    print!(rt; "{normal}")?;
+    println!(rt; "{}", is_imported(rt.alloc(), &normal)?)?;
+    println!(rt; "{}", is_answered_alike(rt.alloc(), &normal)?)?;
+    Ok(())
+}
 
-    // What is wrong with it.
+/// Shows what is wrong with the source.
+fn show_errors(rt: &HostRuntime) -> Result<()> {
+    let alloc = rt.alloc();
     let report = check(alloc, &[SOURCE])?;
     for error in report.errors.iter().flatten() {
         println!(rt; "{error}")?;
     }
+    Ok(())
+}
 
-    // Without the damage, and then in the form that the serializer writes.
+/// The source without the damage, and then in the form that the serializer writes.
+fn tidied(alloc: Global) -> Result<String> {
     let cleaned = clean(alloc, SOURCE)?; // key1 = Value 1, an empty line, key2={ $x }
     let normal = normalize(alloc, &cleaned)?; // key1 = Value 1, key2 = { $x }
-    print!(rt; "{normal}")?;
+    Ok(normal)
+}
 
-    // Its tree as JSON gives the same text.
+/// Whether the tree of the source as JSON gives the same text.
+fn is_imported(alloc: Global, normal: &str) -> Result<bool> {
     let tree = export(alloc, SOURCE)?;
     let imported = import(alloc, &tree)?;
-    println!(rt; "{}", imported == normal)?;
+    Ok(imported.as_str() == normal)
+}
 
-    // A request line of an id and an argument, answered from both.
+/// Whether a request line of an id and an argument gets the same answer from both.
+fn is_answered_alike(alloc: Global, normal: &str) -> Result<bool> {
     let settings = Settings {
         isolating: false,
         overriding: false,
@@ -41,7 +57,6 @@ pub fn main(rt: HostRuntime) -> Result<()> {
     let requests = "key2\tx=3\n".as_bytes();
     let stack = StackBudget::PROGRAM;
     let before = answers(alloc, &[SOURCE], settings, &plurals, requests, stack)?;
-    let after = answers(alloc, &[&normal], settings, &plurals, requests, stack)?;
-    println!(rt; "{}", before == after)?;
-    Ok(())
+    let after = answers(alloc, &[normal], settings, &plurals, requests, stack)?;
+    Ok(before == after)
 }

@@ -1,9 +1,8 @@
-//! The code that the README and the guide quote, run once.
+//! The code that the guide quotes, run once.
 
 mod damaged;
 mod missing;
 mod porting;
-mod readme;
 mod values;
 
 use anyhow::Result;
@@ -23,7 +22,6 @@ checkout = Check out
 ";
 
 pub fn main(rt: HostRuntime) -> Result<()> {
-    readme::show(&rt)?;
     porting::show(&rt)?;
 
     let resource = FluentResource::try_new(rt.alloc(), SOURCE)?;

@@ -7,6 +7,7 @@ mod desk;
 mod edit;
 mod guide;
 mod hello;
+mod localization;
 
 use anyhow::Result;
 
@@ -20,5 +21,7 @@ fn main(rt: HostRuntime) -> Result<()> {
     println!(rt; "== edit")?;
     edit::main(rt)?;
     println!(rt; "== desk")?;
-    desk::main(rt)
+    desk::main(rt)?;
+    println!(rt; "== localization")?;
+    localization::main(rt)
 }

@@ -41,6 +41,7 @@ pub use fluent_ids::{
 };
 pub use fluent_numerals::LocaleNumerals;
 pub use fluent_plurals::LanguagePlurals;
+pub use fluent_resolver::Fault;
 pub use fluent_resource::{Entries, FluentResource, ResourceError};
 pub use fluent_text::{TextWrite, WriteError};
 pub use fluent_value::{

@@ -7,5 +7,4 @@ pub mod FilesFound
 pub mod Counted
 pub mod SameFindings
 pub mod Found
-mod NamedFiles
 pub mod Replies

@@ -1,5 +1,5 @@
 -- What `lint` writes, by what it is asked for and what the files hold.
-use Rattle.std.specs.Prelude.{ℕ, Bool, true, false, not, ◌&&◌, if◌then◌else◌, List, [], ◌∷◌, ◌++◌, length, filter, map, zip, Option}
+use Rattle.std.specs.Prelude.{ℕ, Bool, true, false, not, ◌&&◌, if◌then◌else◌, List, [], ◌∷◌, ◌++◌, length, filter, Option}
 use Rattle.fluent_grammar.specs.Words.{Text}
 use Rattle.fluent_plurals.specs.declared.plurals.LanguagePlurals.{LanguagePlurals}
 use Rattle.lint_findings.specs.Files.{File}
@@ -13,10 +13,6 @@ use Rattle.fluent_lint.specs.Totals.{totals_line}
 use Rattle.lint_report.specs.View.{shown_width}
 use Rattle.ftl_arguments.specs.Linting.{Lint}
 use Rattle.fluent_lint.specs.Reported.{reported}
-
--- files by their names, each with its text
-abbrev pub named_files : List Text → List Text → List File
-named_files names sources = map (λ p. record { name = p.0; source = p.1 }) (zip names sources)
 
 -- What is found, before anything is left out. A catalog without a reference is looked at by itself,
 abbrev pub all_findings : Options → List File → List File → List FileFinding
@@ -58,7 +54,3 @@ lint_report l plurals references files =
       text = out.output l.format shown_width (report.shown l.notes found) counts ++ totals l.format l.notes (length files) found;
       has_failed = report.has_failed l.strict found;
     }
-
--- from the texts of the files that are named
-abbrev pub lint_report_from : Lint → Option LanguagePlurals → List Text → List Text → LintReport
-lint_report_from l plurals references sources = lint_report l plurals (named_files l.references references) (named_files l.files sources)

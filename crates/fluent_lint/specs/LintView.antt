@@ -1,21 +1,16 @@
 -- What the code's reports stand for.
-use Rattle.std.specs.Prelude.{List, Option, String, map, string_bytes}
-use Rattle.std.specs.Global.{Global}
+use Rattle.std.specs.Prelude.{List, Option, string_bytes}
 use Rattle.fluent_plurals.specs.declared.plurals.LanguagePlurals.{LanguagePlurals}
 use Rattle.lint_finding.specs.declared.records.File.{File}
 use Rattle.fluent_lint.specs.FileTiles.{files_view}
 use Rattle.fluent_lint.specs.declared.reports.Report.{Report}
 use Rattle.ftl_arguments.specs.CommandView.{lint_view}
 use Rattle.ftl_arguments.specs.declared.commands.Lint.{Lint}
-use Rattle.fluent_lint.specs.LintReport.{LintReport, lint_report, lint_report_from}
+use Rattle.fluent_lint.specs.LintReport.{LintReport, lint_report}
 
 abbrev pub report_view : Report → LintReport
 report_view r = record { text = string_bytes r.text; has_failed = r.has_failed }
 
--- the report that is asked for, on files with these texts
-abbrev pub report_asked : Lint → Option LanguagePlurals → List (String Global) → List (String Global) → LintReport
-report_asked l plurals references sources = lint_report_from (lint_view l) plurals (map string_bytes references) (map string_bytes sources)
-
--- and on these files
+-- the report that is asked for, on these files
 abbrev pub report_on_files : Lint → Option LanguagePlurals → List File → List File → LintReport
 report_on_files l plurals references files = lint_report (lint_view l) plurals (files_view references) (files_view files)

@@ -2,8 +2,8 @@
 //!
 //! [`report_findings`] is what `ftl lint` calls: it reads every file once, and takes time that is linear in the sources. But
 //! with a reference, a chain of n messages of which each refers to the next takes n² steps, as the definition lists for
-//! each message all that it leads to. [`lint_sources`] makes the report of the files' texts, as a command line asks for it,
-//! and [`lint_files`] that of files in memory.
+//! each message all that it leads to. [`lint_sources`] makes the report that a command line asks for, and [`lint_files`]
+//! the same within a budget of the machine's stack.
 //!
 //! `Findings.antt` of `lint_findings` says which findings there are, `specs/LintReport.antt` which report; and
 //! `docs/reference/lint.md` has the rules in plain words.

@@ -21,6 +21,7 @@ use lint_endless::EndlessPatterns;
 use lint_entries::Catalog;
 use lint_files::Rules;
 use lint_finding::{File, FileFindings};
+use lint_flaws::CommonCategories;
 use lint_report::{Format, Summary, has_failed, report};
 use std::alloc::{AllocError, Global};
 
@@ -91,12 +92,15 @@ fn report_of_read<'r, 's: 'r>(
 {
     let known = Known::of(alloc, options, references, files)?;
     let endless = EndlessPatterns::new(alloc, &known.ids, &files.trees)?;
+    let common = CommonCategories::of(options.plurals);
+    let catalog = Catalog {
+        endless: &endless,
+        plurals: options.plurals,
+        common,
+    };
     let rules = Rules {
         functions: &known.functions,
-        catalog: Catalog {
-            endless: &endless,
-            plurals: options.plurals,
-        },
+        catalog,
         reference: known.comparison(references),
     };
     report_by_rules(alloc, output, &rules, references, files)

@@ -1,2 +1,4 @@
 pub mod Entered
+pub mod Counting
+mod NestingRows
 pub mod Telling

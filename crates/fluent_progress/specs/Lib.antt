@@ -6,3 +6,5 @@ pub mod Telling
 pub mod Results
 pub mod Resolves
 pub mod Variables
+pub mod Nesting
+pub mod Depth

@@ -16,6 +16,7 @@ pub mod braces;
 mod call;
 mod context;
 pub mod fallback;
+mod frames;
 mod lent;
 pub mod marks;
 mod path;
@@ -28,6 +29,7 @@ pub mod variable;
 pub mod variant;
 
 pub use context::Context;
+pub use frames::Frames;
 pub use lent::Lent;
 pub use path::Path;
 pub use place::Place;

@@ -4,12 +4,14 @@ ghost use Rattle.std.specs.Prelude.{◌≡◌, ◌+◌, ◌-◌, ◌<◌, [], fa
 ghost use Rattle.fluent_errors.specs.View.{bundle_view, resolver_view};
 ghost use Rattle.fluent_meaning.specs.Steps.{done, entering, opens};
 ghost use Rattle.fluent_meaning.specs.Told.{Finds, after};
+ghost use Rattle.fluent_progress.specs.Depth.{open_in, with_closed, with_opened};
 ghost use Rattle.fluent_progress.specs.Telling.{fresh, with_error};
 ghost use Rattle.fluent_progress.specs.Views.{path_of, state};
 
+use crate::frames::Frames;
 use crate::path::Path;
 use fluent_errors::{FluentError, ResolverError};
-use fluent_text::stack::{Stack, StackBudget};
+use fluent_text::stack::StackBudget;
 use std::alloc::{AllocError, Global};
 
 /// How many placeables one answer may open.
@@ -29,7 +31,7 @@ pub struct Progress<'r, 's> {
     /// The patterns that are being written, the last one entered last.
     pub path: Path<'r, 's>,
     /// What is open of the machine's stack, in all patterns that are being written.
-    pub stack: Stack,
+    pub stack: Frames,
 }
 
 impl Progress<'_, '_> {
@@ -38,8 +40,8 @@ impl Progress<'_, '_> {
     pub fn within(alloc: Global, errors: Option<Vec<FluentError>>, budget: StackBudget) -> Self
         ensures state { state result ≡ fresh (option_map (λ es. map bundle_view es.items) errors) }
         ensures path { path_of result ≡ [] }
-        ensures closed { result.stack.taken ≡ 0 }
-        ensures budget { result.stack.budget ≡ budget }
+        ensures stack { open_in result.stack
+            ≡ record { taken = 0; budget = budget.bytes; is_past = false } }
     {
         Progress {
             errors,
@@ -47,17 +49,19 @@ impl Progress<'_, '_> {
             dirty: false,
             entered: 0,
             path: Path::new(alloc, None),
-            stack: Stack::new(budget),
+            stack: Frames::new(budget),
         }
     }
 
     /// Opens what takes so many bytes of the machine's stack.
     ///
     /// # Errors
-    /// [`AllocError`] if more bytes would be open than the budget has; the progress is unchanged.
+    /// [`AllocError`] if more bytes would be open than the budget has, which is noted; nothing is opened.
     pub fn open_frames(&mut self, bytes: usize) -> Result<(), AllocError>
-        ensures opened { OnOk result (self.new.stack.taken ≡ self.old.stack.taken + bytes) }
-        ensures past { OnErr result (self.old.stack.budget.bytes < self.old.stack.taken + bytes) }
+        ensures opened { OnOk result (open_in self.new.stack ≡ with_opened bytes (open_in self.old.stack)) }
+        ensures past { OnErr result ((open_in self.old.stack).budget
+            < (open_in self.old.stack).taken + bytes) }
+        ensures noted { OnErr result (self.new.stack.is_past ≡ true) }
         ensures state { state self.new ≡ state self.old }
         ensures path { self.new.path ≡ self.old.path }
     {
@@ -66,7 +70,7 @@ impl Progress<'_, '_> {
 
     /// Closes what took so many bytes of the machine's stack.
     pub fn close_frames(&mut self, bytes: usize)
-        ensures closed { self.new.stack.taken ≡ self.old.stack.taken - bytes }
+        ensures closed { open_in self.new.stack ≡ with_closed bytes (open_in self.old.stack) }
         ensures state { state self.new ≡ state self.old }
         ensures path { self.new.path ≡ self.old.path }
     {

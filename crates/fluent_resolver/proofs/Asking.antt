@@ -1,5 +1,5 @@
 -- A pattern that is written from the start is what is asked for.
-use Rattle.std.proofs.Common.{◌≡◌, ℕ, ◌+◌, true, false, List, [], ◌∷◌, ◌++◌, map, Option, None, Some, option_map, refl, ap, sym, ◌∙◌, append-nil}
+use Rattle.std.proofs.Common.{◌≡◌, ℕ, ◌+◌, false, List, [], ◌∷◌, ◌++◌, map, Option, None, Some, option_map, refl, ap, sym, ◌∙◌, append-nil}
 use Rattle.std.specs.Prelude.{◌==◌, length, IfOk, Result, Ok, Err, is_some}
 use Rattle.std.proofs.lemmas.Bool.{false≢true}
 use Rattle.fluent_ast.specs.View.{Element, text, placeable, elements_of}
@@ -21,14 +21,14 @@ use Rattle.fluent_progress.specs.Telling.{fresh}
 use Rattle.fluent_value.specs.Value.{Value}
 use Rattle.fluent_resolver.specs.Asked.{TellsAll, lone_text, told}
 
-some-same : {A : Type 0} {x y : A} → Some x ≡ Some y → x ≡ y
+pub some-same : {A : Type 0} {x y : A} → Some x ≡ Some y → x ≡ y
 some-same {x = x} e = ap (or_that x) e
   where
     or_that : {A : Type 0} → A → Option A → A
     or_that x None = x
     or_that x (Some y) = y
 
-none-some : {A : Type 0} {x : A} → None ≡ Some x → ⊥
+pub none-some : {A : Type 0} {x : A} → None ≡ Some x → ⊥
 none-some e = false≢true (ap is_some e)
 
 -- ---- from the start

@@ -19,7 +19,7 @@ use Rattle.fluent_errors.specs.Errors.{unknown, to_function}
 use Rattle.fluent_progress.specs.Results.{function_result}
 use Rattle.fluent_value.specs.Builtins.{number_called}
 use Rattle.fluent_value.specs.Value as v
-use Rattle.fluent_meaning.specs.Told.{State, Finds, after}
+use Rattle.fluent_meaning.specs.Told.{State, Finds}
 use Rattle.fluent_value.specs.Args.{all_set, with_argument}
 use Rattle.fluent_value.specs.Value.{Value}
 use Rattle.fluent_resolver.proofs.Parts.{tells-as}

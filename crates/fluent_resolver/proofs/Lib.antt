@@ -10,4 +10,5 @@ pub mod ArgumentLists
 pub mod Frames
 pub mod Braces
 pub mod Asking
+pub mod Depth
 pub mod Pieces

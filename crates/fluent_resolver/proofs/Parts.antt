@@ -2,7 +2,7 @@
 use Rattle.std.proofs.Common.{◌≡◌, ℕ, zero, suc, ◌+◌, ◌*◌, ◌<◌, ◌≤◌, Option, get_or, length, Bool, true, false, cond, List, [], ◌∷◌, ◌++◌, refl, ap, sym, subst, ◌∙◌, arith, append_assoc, append-nil}
 use Rattle.std.specs.Prelude.{encode_utf8}
 use Rattle.std.proofs.lemmas.Bool.{false≢true}
-use Rattle.fluent_ast.specs.View.{Element, Named, text, placeable, elements_of, inlines_of, nameds_of}
+use Rattle.fluent_ast.specs.View.{Element, Named, placeable, elements_of, inlines_of, nameds_of}
 use Rattle.fluent_errors.specs.Errors.{cyclic}
 use Rattle.fluent_grammar.specs.Tree as t
 use Rattle.fluent_grammar.specs.Tree.{Arguments, Elements, Expression, Inline, Inlines, MaybeArguments, Nameds, Variants}

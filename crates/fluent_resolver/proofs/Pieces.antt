@@ -1,6 +1,6 @@
 -- Pieces that are written to a program's own writer.
 use Rattle.std.proofs.Common.{◌≡◌, List, [], ◌∷◌, ◌++◌, refl, ap, sym, subst, ◌∙◌, append-nil}
-use Rattle.fluent_ast.specs.View.{Element, text, placeable, elements_of}
+use Rattle.fluent_ast.specs.View.{Element, placeable, elements_of}
 use Rattle.fluent_grammar.specs.Tree.{Elements, Expression}
 use Rattle.fluent_grammar.specs.Words.{Text}
 use Rattle.fluent_meaning.proofs.Refusals.{begins-none, tells-all, some-as, some-first, some-none, some-then}

@@ -5,14 +5,18 @@ ghost use Rattle.std.specs.Cow.{IsBorrowedStr};
 ghost use Rattle.fluent_resolver.specs.Asked.{GivesText, IsText, ReportsAll, ReportsFirst, Shows, WritesStart, WritesWhole, lone_text, told};
 ghost use Rattle.fluent_ast.specs.Borrowed.{elements_of};
 ghost use Rattle.fluent_errors.specs.Errors.{Reported};
-ghost use Rattle.fluent_progress.specs.Views.{state};
+ghost use Rattle.fluent_progress.specs.Depth.{NestsPast};
+ghost use Rattle.fluent_progress.specs.Views.{resolved_in, state};
+ghost use Rattle.fluent_resolver.specs.Deep.{IfTooDeep};
 ghost use Rattle.fluent_resolver.specs.Steps.{answer};
 
+use crate::fault::Fault;
 use crate::pattern::write_pattern;
 use crate::written::write_pieces;
 use fluent_ast::{Pattern, PatternElement};
 use fluent_errors::FluentError;
 use fluent_progress::{Context, Place, Progress};
+use fluent_text::stack::StackBudget;
 use fluent_text::{TextWrite, WriteError};
 use fluent_value::{FluentType, FluentValue, ValueScope};
 use std::alloc::AllocError;
@@ -38,9 +42,33 @@ pub fn answer<'b, 'r, 's, 'a, C: FluentType + Drop, F, E: Context<C, F>>(
     ensures borrowed { E.has_transform place.now.context.now ≡ false → IsText pattern.now
         → IsOkAnd result IsBorrowedStr }
 {
+    match answer_within(place, pattern, errors, place.context.stack_budget()) {
+        Ok(text) => Ok(text),
+        Err(Fault::Memory | Fault::TooDeep) => Err(AllocError),
+    }
+}
+
+/// The same within this budget of the machine's stack, and values that nest too deep are told from want of memory.
+///
+/// # Errors
+/// [`Memory`](Fault::Memory) if memory runs out, [`TooDeep`](Fault::TooDeep) only if the pattern takes more bytes at some
+/// place than the budget has; the first of the pattern's errors are reported.
+pub fn answer_within<'b, 'r, 's, 'a, C: FluentType + Drop, F, E: Context<C, F>>(
+    place: &Place<'b, 'r, 's, 'a, C, F, E>,
+    pattern: &'r Pattern<&'s str>,
+    errors: &mut Vec<FluentError>,
+    budget: StackBudget,
+) -> Result<CowStr<'s>, Fault>
+    ensures text { GivesText result (answer place.now pattern.now) }
+    ensures told { ReportsAll result errors.old errors.new (answer place.now pattern.now) }
+    ensures refused { ReportsFirst result errors.old errors.new (answer place.now pattern.now) }
+    ensures borrowed { E.has_transform place.now.context.now ≡ false → IsText pattern.now
+        → IsOkAnd result IsBorrowedStr }
+    ensures deep { IfTooDeep result (NestsPast budget.bytes (resolved_in place.now).find (elements_of pattern.now)) }
+{
     match lone_text(pattern) {
-        Some(text) => place.context.transform(text),
-        None => Ok(CowStr::Owned(resolved(place, pattern, errors)?)),
+        Some(text) => Ok(place.context.transform(text)?),
+        None => Ok(CowStr::Owned(resolved(place, pattern, errors, budget)?)),
     }
 }
 
@@ -55,24 +83,31 @@ pub fn lone_text<'s>(pattern: &Pattern<&'s str>) -> Option<&'s str>
     }
 }
 
-/// What a pattern writes. If memory runs out, or values nest past the budget of the stack, the first of the pattern's errors are reported.
+/// What a pattern writes. If memory runs out, or values nest past the budget, the first of the pattern's errors are
+/// reported.
 fn resolved<'b, 'r, 's, 'a, C: FluentType + Drop, F, E: Context<C, F>>(
     place: &Place<'b, 'r, 's, 'a, C, F, E>,
     pattern: &'r Pattern<&'s str>,
     errors: &mut Vec<FluentError>,
-) -> Result<String, AllocError>
+    budget: StackBudget,
+) -> Result<String, Fault>
     ensures text { IfOk result (λ text. string_bytes text ≡ (answer place.now pattern.now).value) }
     ensures told { ReportsAll result errors.old errors.new (answer place.now pattern.now) }
     ensures refused { ReportsFirst result errors.old errors.new (answer place.now pattern.now) }
+    ensures deep { IfTooDeep result (NestsPast budget.bytes (resolved_in place.now).find (elements_of pattern.now)) }
 {
     let alloc = place.context.alloc();
     let mut text = String::with_capacity(alloc, ROOM)?;
     let list = mem::replace(errors, Vec::new(alloc));
-    let mut progress = Progress::within(alloc, Some(list), place.context.stack_budget());
+    let mut progress = Progress::within(alloc, Some(list), budget);
     let written = write_pattern(&mut text, place, &mut progress, pattern);
+    let is_past = progress.stack.is_past;
     put_back(errors, progress);
-    written?;
-    Ok(text)
+    match written {
+        Ok(()) => Ok(text),
+        Err(AllocError) if is_past => Err(Fault::TooDeep),
+        Err(AllocError) => Err(Fault::Memory),
+    }
 }
 
 /// Writes what a pattern gives, piece by piece.

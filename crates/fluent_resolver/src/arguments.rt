@@ -5,6 +5,8 @@ ghost use Rattle.fluent_progress.specs.Resolves.{TellsOnErr};
 ghost use Rattle.fluent_progress.specs.Views.{entered_in};
 ghost use Rattle.fluent_resolver.specs.Finds.{Calls, FindsNamed, FindsOwn, FindsValues};
 ghost use Rattle.fluent_resolver.specs.Steps.{call_step, named_step, own_step, positional_step};
+ghost use Rattle.fluent_progress.specs.Depth.{open_in, PastOnErr};
+ghost use Rattle.fluent_resolver.specs.Nested.{arguments_take, call_takes, named_take, own_take, positional_take};
 
 use crate::value::value_of;
 use fluent_ast::{CallArguments, Identifier, InlineExpression, NamedArgument};
@@ -25,7 +27,8 @@ pub(crate) fn call_result<'b, 'r, 's, 'a, C: FluentType + Drop, F, E: Context<C,
     ensures found { Calls result place.now progress.old progress.new id.now arguments.now }
     ensures refused { TellsOnErr result progress.old progress.new (call_step place.now id.now arguments.now) }
     ensures path { OnOk result (entered_in progress.new ≡ entered_in progress.old) }
-    ensures stack { OnOk result (progress.new.stack.taken ≡ progress.old.stack.taken) }
+    ensures stack { OnOk result (open_in progress.new.stack ≡ open_in progress.old.stack) }
+    ensures deep { PastOnErr result progress.old progress.new (arguments_take place.now arguments.now) }
 {
     let positional = positional_values(place, progress, &arguments.positional)?;
     let named = named_values(place, progress, &arguments.named)?;
@@ -43,7 +46,8 @@ pub(crate) fn nested_call<'b, 'r, 's, 'a, C: FluentType + Drop, F, E: Context<C,
     ensures found { Calls result place.now progress.old progress.new id.now arguments.now }
     ensures refused { TellsOnErr result progress.old progress.new (call_step place.now id.now arguments.now) }
     ensures path { OnOk result (entered_in progress.new ≡ entered_in progress.old) }
-    ensures stack { OnOk result (progress.new.stack.taken ≡ progress.old.stack.taken) }
+    ensures stack { OnOk result (open_in progress.new.stack ≡ open_in progress.old.stack) }
+    ensures deep { PastOnErr result progress.old progress.new (call_takes place.now arguments.now) }
 {
     progress.open_frames(resolving::CALL)?;
     let result = call_result(place, progress, id, arguments)?;
@@ -61,7 +65,8 @@ pub(crate) fn own_arguments<'b, 'r, 's, 'a, C: FluentType + Drop, F, E: Context<
     ensures found { FindsOwn result place.now progress.old progress.new arguments.now }
     ensures refused { TellsOnErr result progress.old progress.new (own_step place.now arguments.now) }
     ensures path { OnOk result (entered_in progress.new ≡ entered_in progress.old) }
-    ensures stack { OnOk result (progress.new.stack.taken ≡ progress.old.stack.taken) }
+    ensures stack { OnOk result (open_in progress.new.stack ≡ open_in progress.old.stack) }
+    ensures deep { PastOnErr result progress.old progress.new (own_take place.now arguments.now) }
 {
     match arguments {
         Some(arguments) => {
@@ -85,7 +90,8 @@ pub fn positional_values<'b, 'r, 's, 'a, C: FluentType + Drop, F, E: Context<C, 
     ensures found { FindsValues result place.now progress.old progress.new arguments.now }
     ensures refused { TellsOnErr result progress.old progress.new (positional_step place.now arguments.now) }
     ensures path { OnOk result (entered_in progress.new ≡ entered_in progress.old) }
-    ensures stack { OnOk result (progress.new.stack.taken ≡ progress.old.stack.taken) }
+    ensures stack { OnOk result (open_in progress.new.stack ≡ open_in progress.old.stack) }
+    ensures deep { PastOnErr result progress.old progress.new (positional_take place.now arguments.now) }
 {
     let mut values = Vec::with_capacity(place.context.alloc(), arguments.len())?;
     for argument in arguments {
@@ -107,7 +113,8 @@ pub fn named_values<'b, 'r, 's, 'a, C: FluentType + Drop, F, E: Context<C, F>>(
     ensures found { FindsNamed result place.now progress.old progress.new arguments.now }
     ensures refused { TellsOnErr result progress.old progress.new (named_step place.now arguments.now) }
     ensures path { OnOk result (entered_in progress.new ≡ entered_in progress.old) }
-    ensures stack { OnOk result (progress.new.stack.taken ≡ progress.old.stack.taken) }
+    ensures stack { OnOk result (open_in progress.new.stack ≡ open_in progress.old.stack) }
+    ensures deep { PastOnErr result progress.old progress.new (named_take place.now arguments.now) }
 {
     let mut values = FluentArgs::new(place.context.alloc());
     for argument in arguments {

@@ -6,6 +6,8 @@ ghost use Rattle.fluent_progress.specs.Resolves.{TellsOnErr, Writes};
 ghost use Rattle.fluent_progress.specs.Views.{entered_in};
 ghost use Rattle.fluent_resolver.specs.Finds.{Chooses};
 ghost use Rattle.fluent_resolver.specs.Steps.{call_of, choice_step, expression_step, inline_step, select, term_reference_of};
+ghost use Rattle.fluent_progress.specs.Depth.{open_in, PastOnErr};
+ghost use Rattle.fluent_resolver.specs.Nested.{expression_takes, inline_takes, select_takes, value_takes};
 
 use crate::arguments::{call_result, own_arguments};
 use crate::pattern::{write_pattern, write_target};
@@ -35,7 +37,8 @@ pub fn write_expression<'b, 'r, 's, 'a, C: FluentType + Drop, F, E: Context<C, F
     ensures wrote { Writes result out.old out.new progress.old progress.new (expression_step place.now expression.now) }
     ensures refused { TellsOnErr result progress.old progress.new (expression_step place.now expression.now) }
     ensures path { OnOk result (entered_in progress.new ≡ entered_in progress.old) }
-    ensures stack { OnOk result (progress.new.stack.taken ≡ progress.old.stack.taken) }
+    ensures stack { OnOk result (open_in progress.new.stack ≡ open_in progress.old.stack) }
+    ensures deep { PastOnErr result progress.old progress.new (expression_takes place.now expression.now) }
 {
     match expression {
         Expression::Select { selector, variants } => {
@@ -58,7 +61,8 @@ fn write_select<'b, 'r, 's, 'a, C: FluentType + Drop, F, E: Context<C, F>>(
         (select place.now selector.now variants.now) }
     ensures refused { TellsOnErr result progress.old progress.new (select place.now selector.now variants.now) }
     ensures path { OnOk result (entered_in progress.new ≡ entered_in progress.old) }
-    ensures stack { OnOk result (progress.new.stack.taken ≡ progress.old.stack.taken) }
+    ensures stack { OnOk result (open_in progress.new.stack ≡ open_in progress.old.stack) }
+    ensures deep { PastOnErr result progress.old progress.new (select_takes place.now selector.now variants.now) }
 {
     match choose(place, progress, selector, variants)? {
         Some(pattern) => {
@@ -80,7 +84,8 @@ fn choose<'b, 'r, 's, 'a, C: FluentType + Drop, F, E: Context<C, F>>(
     ensures found { Chooses result place.now progress.old progress.new selector.now variants.now }
     ensures refused { TellsOnErr result progress.old progress.new (choice_step place.now selector.now variants.now) }
     ensures path { OnOk result (entered_in progress.new ≡ entered_in progress.old) }
-    ensures stack { OnOk result (progress.new.stack.taken ≡ progress.old.stack.taken) }
+    ensures stack { OnOk result (open_in progress.new.stack ≡ open_in progress.old.stack) }
+    ensures deep { PastOnErr result progress.old progress.new (value_takes place.now selector.now) }
 {
     let value = value_of(place, progress, selector)?;
     Ok(chosen(place.context, &value, variants))
@@ -100,7 +105,8 @@ pub fn write_inline<'b, 'r, 's, 'a, C: FluentType + Drop, F, E: Context<C, F>>(
     ensures wrote { Writes result out.old out.new progress.old progress.new (inline_step place.now inline.now) }
     ensures refused { TellsOnErr result progress.old progress.new (inline_step place.now inline.now) }
     ensures path { OnOk result (entered_in progress.new ≡ entered_in progress.old) }
-    ensures stack { OnOk result (progress.new.stack.taken ≡ progress.old.stack.taken) }
+    ensures stack { OnOk result (open_in progress.new.stack ≡ open_in progress.old.stack) }
+    ensures deep { PastOnErr result progress.old progress.new (inline_takes place.now inline.now) }
 {
     match inline {
         InlineExpression::StringLiteral { value } => write_literal(out, *value),
@@ -138,7 +144,8 @@ fn write_call<'b, 'r, 's, 'a, C: FluentType + Drop, F, E: Context<C, F>>(
     ensures wrote { Writes result out.old out.new progress.old progress.new (inline_step place.now inline.now) }
     ensures refused { TellsOnErr result progress.old progress.new (inline_step place.now inline.now) }
     ensures path { OnOk result (entered_in progress.new ≡ entered_in progress.old) }
-    ensures stack { OnOk result (progress.new.stack.taken ≡ progress.old.stack.taken) }
+    ensures stack { OnOk result (open_in progress.new.stack ≡ open_in progress.old.stack) }
+    ensures deep { PastOnErr result progress.old progress.new (inline_takes place.now inline.now) }
 {
     match call_result(place, progress, id, arguments)? {
         Some(result) => write_result(out, place.context, id.name, &result),
@@ -165,7 +172,8 @@ fn write_term<'b, 'r, 's, 'a, C: FluentType + Drop, F, E: Context<C, F>>(
     ensures wrote { Writes result out.old out.new progress.old progress.new (inline_step place.now inline.now) }
     ensures refused { TellsOnErr result progress.old progress.new (inline_step place.now inline.now) }
     ensures path { OnOk result (entered_in progress.new ≡ entered_in progress.old) }
-    ensures stack { OnOk result (progress.new.stack.taken ≡ progress.old.stack.taken) }
+    ensures stack { OnOk result (open_in progress.new.stack ≡ open_in progress.old.stack) }
+    ensures deep { PastOnErr result progress.old progress.new (inline_takes place.now inline.now) }
 {
     let own = own_arguments(place, progress, arguments)?;
     let target = place.term_target(id, attribute)?;

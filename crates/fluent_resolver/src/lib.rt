@@ -11,8 +11,9 @@
 //! enters no pattern is in `fluent_progress`. Contracts state what each function writes or finds by the definitions of
 //! `fluent_meaning`, which speak of plain data.
 //!
-//! Values that nest past the budget of the machine's stack are refused as if memory ran out. A function that returns `Ok`
-//! leaves as much of the stack open as before, so values side by side take none.
+//! Values that nest past the budget of the machine's stack are refused as if memory ran out, which the [`Progress`] notes, and
+//! [`answer::answer_within`] tells apart. A function that returns `Ok` leaves as much of the stack open as before, so values
+//! side by side take none.
 //!
 //! [`Place`]: fluent_progress::Place
 //! [`Progress`]: fluent_progress::Progress
@@ -21,7 +22,10 @@
 pub mod answer;
 pub mod arguments;
 pub mod expression;
+mod fault;
 pub mod pattern;
 pub mod steps;
 pub mod value;
 mod written;
+
+pub use fault::Fault;

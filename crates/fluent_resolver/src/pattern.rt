@@ -4,6 +4,8 @@ ghost use Rattle.std.specs.Prelude.{◌≡◌, false, OnOk};
 ghost use Rattle.fluent_progress.specs.Resolves.{TellsOnErr, Writes};
 ghost use Rattle.fluent_progress.specs.Views.{entered_in};
 ghost use Rattle.fluent_resolver.specs.Steps.{inside, pattern_step, placeable, reference, outcome};
+ghost use Rattle.fluent_progress.specs.Depth.{open_in, PastOnErr};
+ghost use Rattle.fluent_resolver.specs.Nested.{outcome_takes, pattern_takes, placeable_takes, reference_takes};
 
 use crate::expression::write_expression;
 use fluent_ast::{Expression, InlineExpression, Pattern, PatternElement};
@@ -29,7 +31,8 @@ pub fn write_pattern<'b, 'r, 's, 'a, C: FluentType + Drop, F, E: Context<C, F>>(
     ensures wrote { Writes result out.old out.new progress.old progress.new (pattern_step place.now pattern.now) }
     ensures refused { TellsOnErr result progress.old progress.new (pattern_step place.now pattern.now) }
     ensures path { OnOk result (entered_in progress.new ≡ entered_in progress.old) }
-    ensures stack { OnOk result (progress.new.stack.taken ≡ progress.old.stack.taken) }
+    ensures stack { OnOk result (open_in progress.new.stack ≡ open_in progress.old.stack) }
+    ensures deep { PastOnErr result progress.old progress.new (pattern_takes place.now pattern.now) }
 {
     for element in &pattern.elements {
         if progress.dirty {
@@ -62,7 +65,8 @@ pub fn write_placeable<'b, 'r, 's, 'a, C: FluentType + Drop, F, E: Context<C, F>
         (placeable place.now whole.now expression.now) }
     ensures refused { TellsOnErr result progress.old progress.new (placeable place.now whole.now expression.now) }
     ensures path { OnOk result (entered_in progress.new ≡ entered_in progress.old) }
-    ensures stack { OnOk result (progress.new.stack.taken ≡ progress.old.stack.taken) }
+    ensures stack { OnOk result (open_in progress.new.stack ≡ open_in progress.old.stack) }
+    ensures deep { PastOnErr result progress.old progress.new (placeable_takes place.now whole.now expression.now) }
 {
     if !progress.open_placeable()? {
         return Ok(());
@@ -90,7 +94,8 @@ pub fn write_opened<'b, 'r, 's, 'a, C: FluentType + Drop, F, E: Context<C, F>>(
         (inside place.now whole.now expression.now) }
     ensures refused { TellsOnErr result progress.old progress.new (inside place.now whole.now expression.now) }
     ensures path { OnOk result (entered_in progress.new ≡ entered_in progress.old) }
-    ensures stack { OnOk result (progress.new.stack.taken ≡ progress.old.stack.taken) }
+    ensures stack { OnOk result (open_in progress.new.stack ≡ open_in progress.old.stack) }
+    ensures deep { PastOnErr result progress.old progress.new (placeable_takes place.now whole.now expression.now) }
 {
     let is_root = progress.enter_root(whole);
     write_expression(out, place, progress, expression)?;
@@ -111,7 +116,8 @@ pub(crate) fn write_target<'b, 'r, 's, 'a, C: FluentType + Drop, F, E: Context<C
         (outcome place.now inline.now target.entry) }
     ensures refused { TellsOnErr result progress.old progress.new (outcome place.now inline.now target.entry) }
     ensures path { OnOk result (entered_in progress.new ≡ entered_in progress.old) }
-    ensures stack { OnOk result (progress.new.stack.taken ≡ progress.old.stack.taken) }
+    ensures stack { OnOk result (open_in progress.new.stack ≡ open_in progress.old.stack) }
+    ensures deep { PastOnErr result progress.old progress.new (outcome_takes place.now target.entry) }
 {
     match target {
         Target::There(pattern) => write_referred(out, place, progress, inline, pattern),
@@ -138,7 +144,8 @@ pub fn write_referred<'b, 'r, 's, 'a, C: FluentType + Drop, F, E: Context<C, F>>
         (reference place.now inline.now pattern.now) }
     ensures refused { TellsOnErr result progress.old progress.new (reference place.now inline.now pattern.now) }
     ensures path { OnOk result (entered_in progress.new ≡ entered_in progress.old) }
-    ensures stack { OnOk result (progress.new.stack.taken ≡ progress.old.stack.taken) }
+    ensures stack { OnOk result (open_in progress.new.stack ≡ open_in progress.old.stack) }
+    ensures deep { PastOnErr result progress.old progress.new (reference_takes place.now pattern.now) }
 {
     if progress.is_entered(pattern) {
         return fall_back(out, progress, inline, ResolverError::Cyclic);

@@ -4,6 +4,7 @@ ghost use Rattle.std.specs.Prelude.{◌≡◌, OnOk};
 ghost use Rattle.fluent_resolver.specs.Called.{FindsArguments, called_of, no_arguments};
 ghost use Rattle.fluent_progress.specs.Resolves.{TellsOnErr, Writes};
 ghost use Rattle.fluent_resolver.specs.Steps.{arguments_step, inside, reference};
+ghost use Rattle.fluent_progress.specs.Depth.{open_in};
 
 use crate::arguments::{named_values, positional_values};
 use crate::pattern::{write_opened, write_referred};
@@ -26,7 +27,7 @@ pub fn opened<'b, 'r, 's, 'a, C: FluentType + Drop, F, E: Context<C, F>>(
     ensures wrote { Writes result out.old out.new progress.old progress.new
         (inside place.now pattern.now expression.now) }
     ensures refused { TellsOnErr result progress.old progress.new (inside place.now pattern.now expression.now) }
-    ensures stack { OnOk result (progress.new.stack.taken ≡ progress.old.stack.taken) }
+    ensures stack { OnOk result (open_in progress.new.stack ≡ open_in progress.old.stack) }
 {
     write_opened(out, place, progress, pattern, expression)
 }
@@ -45,7 +46,7 @@ pub fn referred<'b, 'r, 's, 'a, C: FluentType + Drop, F, E: Context<C, F>>(
     ensures wrote { Writes result out.old out.new progress.old progress.new
         (reference place.now inline.now pattern.now) }
     ensures refused { TellsOnErr result progress.old progress.new (reference place.now inline.now pattern.now) }
-    ensures stack { OnOk result (progress.new.stack.taken ≡ progress.old.stack.taken) }
+    ensures stack { OnOk result (open_in progress.new.stack ≡ open_in progress.old.stack) }
 {
     write_referred(out, place, progress, inline, pattern)
 }
@@ -61,7 +62,7 @@ pub fn values<'b, 'r, 's, 'a, C: FluentType + Drop, F, E: Context<C, F>>(
 ) -> Result<(Vec<FluentValue<'s, C>>, FluentArgs<'s, C>), AllocError>
     ensures found { FindsArguments result place.now progress.old progress.new arguments.now }
     ensures refused { TellsOnErr result progress.old progress.new (arguments_step place.now arguments.now) }
-    ensures stack { OnOk result (progress.new.stack.taken ≡ progress.old.stack.taken) }
+    ensures stack { OnOk result (open_in progress.new.stack ≡ open_in progress.old.stack) }
 {
     let positional = positional_values(place, progress, &arguments.positional)?;
     let named = named_values(place, progress, &arguments.named)?;

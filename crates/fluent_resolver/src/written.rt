@@ -4,6 +4,8 @@ ghost use Rattle.std.specs.Prelude.{◌≡◌, ◌++◌, OnErr, OnOk, false};
 ghost use Rattle.fluent_resolver.specs.Pieces.{StartsPiece, Writes, WritesPiece, WritesSome};
 ghost use Rattle.fluent_progress.specs.Views.{entered_in};
 ghost use Rattle.fluent_resolver.specs.Steps.{pattern_step};
+ghost use Rattle.fluent_progress.specs.Depth.{open_in, PastOnErr};
+ghost use Rattle.fluent_resolver.specs.Nested.{pattern_takes, placeable_takes};
 
 use crate::pattern::write_placeable;
 use fluent_ast::{Expression, Pattern, PatternElement};
@@ -29,6 +31,7 @@ where
     ensures wrote { Writes W.text result w.old w.new progress.old progress.new (pattern_step place.now pattern.now) }
     ensures refused { WritesSome W.text result w.old w.new progress.old progress.new
         (pattern_step place.now pattern.now) }
+    ensures deep { PastOnErr result progress.old progress.new (pattern_takes place.now pattern.now) }
 {
     for element in &pattern.elements {
         if progress.dirty {
@@ -74,7 +77,8 @@ where
     ensures wrote { WritesPiece W.text result w.old w.new progress.old progress.new place.now whole.now expression.now }
     ensures refused { StartsPiece W.text result w.old w.new progress.old progress.new place.now whole.now expression.now }
     ensures path { OnOk result (entered_in progress.new ≡ entered_in progress.old) }
-    ensures stack { OnOk result (progress.new.stack.taken ≡ progress.old.stack.taken) }
+    ensures stack { OnOk result (open_in progress.new.stack ≡ open_in progress.old.stack) }
+    ensures deep { PastOnErr result progress.old progress.new (placeable_takes place.now whole.now expression.now) }
 {
     let mut piece = String::new(place.context.alloc());
     write_placeable(&mut piece, place, progress, whole, expression)?;

@@ -1,13 +1,9 @@
--- What some words ask for, by computing.
+-- What some words ask for, by computing. How `clap` reads options, and what it refuses, is in `tests/rows`, too.
 use Rattle.std.proofs.Common.{◌≡◌, [], ◌∷◌, true, false, Some, None, refl, codes}
-use Rattle.clap.specs.declared.error.kind.ErrorKind.TheVariants.{ArgumentConflict, DisplayHelp, InvalidValue, MissingRequiredArgument, MissingSubcommand, UnknownArgument}
+use Rattle.clap.specs.declared.error.kind.ErrorKind.TheVariants.{MissingRequiredArgument, UnknownArgument}
 use Rattle.clap.proofs.OnLiterals.{clap_on_literals}
-use Rattle.lint_findings.specs.Output.{github, json, text}
+use Rattle.lint_findings.specs.Output.{json, text}
 use Rattle.ftl_arguments.specs.Meaning.{AskForHelpAlone, AskForVersionAlone, check, clean, command_of, faults_of, format, join, lint, run, tidy, tidy_files}
-
-no_words : faults_of [] ≡ MissingSubcommand ∷ []
-unfolding clap_on_literals
-no_words = refl
 
 no_file : faults_of (codes "run" ∷ codes "--overriding" ∷ []) ≡ MissingRequiredArgument ∷ []
 unfolding clap_on_literals
@@ -17,14 +13,6 @@ an_unknown_option : faults_of (codes "run" ∷ codes "-x" ∷ codes "a" ∷ []) 
 unfolding clap_on_literals
 an_unknown_option = refl
 
-an_option_twice : faults_of (codes "run" ∷ codes "--no-isolating" ∷ codes "--no-isolating" ∷ codes "a" ∷ []) ≡ ArgumentConflict ∷ []
-unfolding clap_on_literals
-an_option_twice = refl
-
-two_to_clean : faults_of (codes "clean" ∷ codes "a" ∷ codes "b" ∷ []) ≡ UnknownArgument ∷ []
-unfolding clap_on_literals
-two_to_clean = refl
-
 help : AskForHelpAlone (codes "join" ∷ codes "--help" ∷ [])
 unfolding clap_on_literals
 help = refl
@@ -32,18 +20,6 @@ help = refl
 the_version : AskForVersionAlone (codes "--version" ∷ [])
 unfolding clap_on_literals
 the_version = refl
-
-the_version_by_a_letter : AskForVersionAlone (codes "-V" ∷ [])
-unfolding clap_on_literals
-the_version_by_a_letter = refl
-
-help_before_the_version : faults_of (codes "--help" ∷ codes "--version" ∷ []) ≡ DisplayHelp ∷ []
-unfolding clap_on_literals
-help_before_the_version = refl
-
-a_version_of_run : faults_of (codes "run" ∷ codes "--version" ∷ codes "a" ∷ []) ≡ UnknownArgument ∷ []
-unfolding clap_on_literals
-a_version_of_run = refl
 
 two_files : command_of (codes "run" ∷ codes "a" ∷ codes "b-" ∷ [])
     ≡ Some (run (record { isolating = true; overriding = false; locale = None; plain_numbers = false; files = codes "a" ∷ codes "b-" ∷ [] }))
@@ -60,27 +36,10 @@ a_locale : command_of (codes "run" ∷ codes "--locale" ∷ codes "pl_PL.UTF-8" 
 unfolding clap_on_literals
 a_locale = refl
 
-a_locale_behind_its_sign : command_of (codes "run" ∷ codes "a" ∷ codes "--locale=pl" ∷ [])
-    ≡ Some (run (record { isolating = true; overriding = false; locale = Some (codes "pl"); plain_numbers = false; files = codes "a" ∷ [] }))
-unfolding clap_on_literals
-a_locale_behind_its_sign = refl
-
 plain_numbers : command_of (codes "run" ∷ codes "--plain-numbers" ∷ codes "--locale" ∷ codes "de" ∷ codes "a" ∷ [])
     ≡ Some (run (record { isolating = true; overriding = false; locale = Some (codes "de"); plain_numbers = true; files = codes "a" ∷ [] }))
 unfolding clap_on_literals
 plain_numbers = refl
-
-no_locale : faults_of (codes "run" ∷ codes "a" ∷ codes "--locale" ∷ []) ≡ InvalidValue ∷ []
-unfolding clap_on_literals
-no_locale = refl
-
-two_locales : faults_of (codes "run" ∷ codes "--locale" ∷ codes "pl" ∷ codes "--locale" ∷ codes "cs" ∷ codes "a" ∷ []) ≡ ArgumentConflict ∷ []
-unfolding clap_on_literals
-two_locales = refl
-
-a_locale_to_clean : faults_of (codes "clean" ∷ codes "--locale" ∷ codes "pl" ∷ codes "a" ∷ []) ≡ UnknownArgument ∷ []
-unfolding clap_on_literals
-a_locale_to_clean = refl
 
 files_behind_two_hyphens : command_of (codes "check" ∷ codes "--" ∷ codes "-a" ∷ codes "--b" ∷ []) ≡ Some (check (codes "-a" ∷ codes "--b" ∷ []))
 unfolding clap_on_literals
@@ -122,10 +81,6 @@ no_value : command_of (codes "format" ∷ codes "hi" ∷ codes "a" ∷ codes "--
 unfolding clap_on_literals
 no_value = refl
 
-no_file_to_format : faults_of (codes "format" ∷ codes "hi" ∷ []) ≡ MissingRequiredArgument ∷ []
-unfolding clap_on_literals
-no_file_to_format = refl
-
 a_lint : command_of (codes "lint" ∷ codes "a" ∷ [])
     ≡ Some (lint (record { references = []; functions = []; ignored = []; locale = None; notes = false; counts = false; strict = false; format = text; files = codes "a" ∷ [] }))
 unfolding clap_on_literals
@@ -146,18 +101,9 @@ a_lint_with_options : command_of (codes "lint" ∷ codes "--reference" ∷ codes
 unfolding clap_on_literals
 a_lint_with_options = refl
 
-lint_after_two_hyphens : command_of (codes "lint" ∷ codes "--format=github" ∷ codes "--" ∷ codes "-a" ∷ codes "--notes" ∷ [])
-    ≡ Some (lint (record { references = []; functions = []; ignored = []; locale = None; notes = false; counts = false; strict = false; format = github; files = codes "-a" ∷ codes "--notes" ∷ [] }))
-unfolding clap_on_literals
-lint_after_two_hyphens = refl
-
 no_such_format : command_of (codes "lint" ∷ codes "--format" ∷ codes "xml" ∷ codes "a" ∷ []) ≡ None
 unfolding clap_on_literals
 no_such_format = refl
-
-a_format_in_capitals : command_of (codes "lint" ∷ codes "--format=JSON" ∷ codes "a" ∷ []) ≡ None
-unfolding clap_on_literals
-a_format_in_capitals = refl
 
 codes_to_ignore : command_of (codes "lint" ∷ codes "--ignore" ∷ codes "untranslated" ∷ codes "--counts" ∷ codes "a" ∷ codes "--ignore=no-value" ∷ [])
     ≡ Some (lint (record {
@@ -178,39 +124,6 @@ no_such_code : command_of (codes "lint" ∷ codes "--ignore" ∷ codes "untransl
 unfolding clap_on_literals
 no_such_code = refl
 
-two_formats : faults_of (codes "lint" ∷ codes "--format=json" ∷ codes "--format=line" ∷ codes "a" ∷ []) ≡ ArgumentConflict ∷ []
-unfolding clap_on_literals
-two_formats = refl
-
-a_reference_alone : faults_of (codes "lint" ∷ codes "--reference" ∷ codes "a" ∷ []) ≡ MissingRequiredArgument ∷ []
-unfolding clap_on_literals
-a_reference_alone = refl
-
-no_reference : faults_of (codes "lint" ∷ codes "a" ∷ codes "--reference" ∷ []) ≡ InvalidValue ∷ []
-unfolding clap_on_literals
-no_reference = refl
-
-notes_twice : faults_of (codes "lint" ∷ codes "--notes" ∷ codes "--notes" ∷ codes "a" ∷ []) ≡ ArgumentConflict ∷ []
-unfolding clap_on_literals
-notes_twice = refl
-
-notes_of_check : faults_of (codes "check" ∷ codes "--notes" ∷ codes "a" ∷ []) ≡ UnknownArgument ∷ []
-unfolding clap_on_literals
-notes_of_check = refl
-
-help_of_lint : AskForHelpAlone (codes "lint" ∷ codes "--help" ∷ [])
-unfolding clap_on_literals
-help_of_lint = refl
-
-files_in_place : command_of (codes "tidy" ∷ codes "a.ftl" ∷ codes "locales" ∷ [])
-    ≡ Some (tidy_files (record { check = false; paths = codes "a.ftl" ∷ codes "locales" ∷ [] }))
-unfolding clap_on_literals
-files_in_place = refl
-
 files_to_check : command_of (codes "tidy" ∷ codes "--check" ∷ codes "." ∷ []) ≡ Some (tidy_files (record { check = true; paths = codes "." ∷ [] }))
 unfolding clap_on_literals
 files_to_check = refl
-
-no_path : faults_of (codes "tidy" ∷ codes "--check" ∷ []) ≡ MissingRequiredArgument ∷ []
-unfolding clap_on_literals
-no_path = refl

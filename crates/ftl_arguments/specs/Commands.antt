@@ -36,6 +36,10 @@ file_rule = record (new_rule (codes "FILE")) { required = true }
 abbrev pub files_rule : Rule
 files_rule = record file_rule { range = Some (record { start_inclusive = 1; end_inclusive = usize_max }) }
 
+-- files and folders, one or more
+abbrev pub paths_rule : Rule
+paths_rule = record (new_rule (codes "PATH")) { required = true; range = Some (record { start_inclusive = 1; end_inclusive = usize_max }) }
+
 -- a command with these arguments
 abbrev pub shaped : Text → List Rule → Shape
 shaped name rules = record (new_shape name) { rules = rules }
@@ -70,11 +74,7 @@ abbrev pub linting_rules : List Rule
 linting_rules = reported_rules ++ flag_rule (codes "strict") ∷ default_rule (codes "format") (codes "text") ∷ []
 
 abbrev pub lint_shape : Shape
-lint_shape = shaped (codes "lint") (linting_rules ++ files_rule ∷ [])
-
--- files and folders, one or more
-abbrev pub paths_rule : Rule
-paths_rule = record (new_rule (codes "PATH")) { required = true; range = Some (record { start_inclusive = 1; end_inclusive = usize_max }) }
+lint_shape = shaped (codes "lint") (linting_rules ++ paths_rule ∷ [])
 
 abbrev pub tidy_shape : Shape
 tidy_shape = shaped (codes "tidy") (flag_rule (codes "check") ∷ paths_rule ∷ [])

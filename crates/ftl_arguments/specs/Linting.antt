@@ -3,12 +3,12 @@ use Rattle.std.specs.Prelude.{Bool, if◌then◌else◌, List, [], ◌∷◌, Op
 use Rattle.std.specs.List.{list_all, list_any}
 use Rattle.std.specs.Str.{bytes_eq}
 use Rattle.clap.specs.Words.{Row, Text, first_of}
-use Rattle.ftl_arguments.specs.Found.{is_given, values_in, locale_in, files_in}
+use Rattle.ftl_arguments.specs.Found.{is_given, values_in, locale_in}
 use Rattle.lint_findings.specs.Output.{Format, text, lines, json, github}
 
--- report what is found in the catalog that the sources in these files are
+-- report what is found in the catalog that the sources in these files, and below these folders, are
 pub record Lint : Type 0 where
-  -- the files of the catalog that is translated from
+  -- the files of the catalog that is translated from, and folders with such files
   pub references : List Text
   -- the names of functions that the program adds
   pub functions : List Text
@@ -24,6 +24,7 @@ pub record Lint : Type 0 where
   pub strict : Bool
   -- how findings are written
   pub format : Format
+  -- the files of the catalog, and folders with such files
   pub files : List Text
 
 -- the codes that findings have
@@ -31,12 +32,12 @@ abbrev pub finding_codes : List Text
 finding_codes =
     codes "syntax" ∷ codes "duplicate-id" ∷ codes "unknown-message" ∷ codes "unknown-term" ∷ codes "unknown-attribute"
     ∷ codes "no-value" ∷ codes "no-default" ∷ codes "cyclic-reference" ∷ codes "unknown-function" ∷ codes "duplicate-attribute"
-    ∷ codes "duplicate-variant" ∷ codes "invalid-escape" ∷ codes "missing-category" ∷ codes "missing-message"
-    ∷ codes "missing-value" ∷ codes "missing-attribute" ∷ codes "obsolete-value" ∷ codes "obsolete-attribute"
-    ∷ codes "unknown-variable" ∷ codes "unused-variable" ∷ codes "obsolete-message" ∷ codes "untranslated" ∷ []
+    ∷ codes "duplicate-variant" ∷ codes "invalid-escape" ∷ codes "unknown-option" ∷ codes "missing-category"
+    ∷ codes "missing-message" ∷ codes "missing-value" ∷ codes "missing-attribute" ∷ codes "obsolete-value"
+    ∷ codes "obsolete-attribute" ∷ codes "unknown-variable" ∷ codes "unused-variable" ∷ codes "obsolete-message" ∷ codes "untranslated" ∷ []
 
 abbrev pub is_code : Text → Bool
-is_code name = list_any (λ code. bytes_eq name code) finding_codes
+is_code name = list_any (λ code. bytes_eq code name) finding_codes
 
 -- the values of `--ignore`
 abbrev pub ignored_in : List Row → List Text
@@ -65,7 +66,7 @@ lint_with rows report_format = record {
   counts = is_given (codes "counts") rows;
   strict = is_given (codes "strict") rows;
   format = report_format;
-  files = files_in rows;
+  files = values_in (codes "PATH") rows;
 }
 
 -- With another format nothing is asked for, nor with a code to ignore that no finding has.

@@ -6,6 +6,20 @@ use clap::Error;
 use clap::error::ErrorKind;
 use std::alloc::{AllocError, Global};
 
+/// The commands that have help of their own.
+const COMMANDS: [&str; 10] = [
+    "run",
+    "format",
+    "check",
+    "lint",
+    "tidy",
+    "clean",
+    "normalize",
+    "join",
+    "export",
+    "import",
+];
+
 /// A line that says what is wrong with command-line arguments, and where help is. `None` if nothing is.
 ///
 /// ```no_run
@@ -24,8 +38,8 @@ pub fn advice<'words>(
         return Ok(None);
     }
     let reason = reason(alloc, words)?;
-    let command = command_name(words);
-    let line = format!(in alloc; "ftl: {reason} see ftl{command} --help\n")?;
+    let (space, command) = command_named(words);
+    let line = format!(in alloc; "ftl: {reason} see ftl{space}{command} --help\n")?;
     Ok(Some(line))
 }
 
@@ -98,19 +112,14 @@ fn near(tip: &str) -> Option<&str> {
     names.lines().next()
 }
 
-/// The command that the first argument names, after a space, if it names one.
-fn command_name(words: &[&str]) -> &'static str {
-    match words.first() {
-        Some(&"run") => " run",
-        Some(&"format") => " format",
-        Some(&"check") => " check",
-        Some(&"lint") => " lint",
-        Some(&"tidy") => " tidy",
-        Some(&"clean") => " clean",
-        Some(&"normalize") => " normalize",
-        Some(&"join") => " join",
-        Some(&"export") => " export",
-        Some(&"import") => " import",
-        _ => "",
+/// The command that the first argument names, with what is before it, if it names one.
+fn command_named<'words>(words: &[&'words str]) -> (&'static str, &'words str) {
+    let Some(&name) = words.first() else {
+        return ("", "");
+    };
+    if COMMANDS.contains(&name) {
+        (" ", name)
+    } else {
+        ("", "")
     }
 }

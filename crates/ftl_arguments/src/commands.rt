@@ -68,7 +68,7 @@ pub struct Format<'words> {
 /// Which sources are a catalog, what it is compared with, and how findings are reported.
 #[derive(Debug, PartialEq, Eq, Drop)]
 pub struct Lint<'words> {
-    /// The names of the files that are translated from.
+    /// The names of the files that are translated from, and of folders with such files.
     pub references: Vec<&'words str>,
     /// The names of the functions that the program adds.
     pub functions: Vec<&'words str>,
@@ -84,7 +84,7 @@ pub struct Lint<'words> {
     pub strict: bool,
     /// How findings are written.
     pub format: ReportFormat,
-    /// The names of the sources' files.
+    /// The names of the sources' files, and of folders with such files.
     pub files: Vec<&'words str>,
 }
 

@@ -7,10 +7,37 @@ ghost use Rattle.ftl_arguments.specs.CommandView.{found_rows, lint_view, IfRefus
 ghost use Rattle.lint_report.specs.Formats.{format_view};
 
 use crate::commands::Lint;
-use crate::reading::{WordsError, files_in, is_given, locale_in, values_in};
+use crate::reading::{WordsError, is_given, locale_in, values_in};
 use clap::ArgMatches;
 use lint_report::Format as ReportFormat;
 use std::alloc::Global;
+
+/// The codes that findings have.
+const CODES: [&str; 23] = [
+    "syntax",
+    "duplicate-id",
+    "unknown-message",
+    "unknown-term",
+    "unknown-attribute",
+    "no-value",
+    "no-default",
+    "cyclic-reference",
+    "unknown-function",
+    "duplicate-attribute",
+    "duplicate-variant",
+    "invalid-escape",
+    "unknown-option",
+    "missing-category",
+    "missing-message",
+    "missing-value",
+    "missing-attribute",
+    "obsolete-value",
+    "obsolete-attribute",
+    "unknown-variable",
+    "unused-variable",
+    "obsolete-message",
+    "untranslated",
+];
 
 /// What was found for `lint`.
 ///
@@ -36,7 +63,7 @@ pub(crate) fn lint_in<'words>(
         counts: is_given(found, "counts"),
         strict: is_given(found, "strict"),
         format,
-        files: files_in(alloc, found)?,
+        files: values_in(alloc, found, "PATH")?,
     })
 }
 
@@ -68,31 +95,7 @@ fn are_codes(names: &[&str]) -> bool
 fn is_code(name: &str) -> bool
     ensures { result ≡ is_code name.now }
 {
-    matches!(
-        name,
-        "syntax"
-            | "duplicate-id"
-            | "unknown-message"
-            | "unknown-term"
-            | "unknown-attribute"
-            | "no-value"
-            | "no-default"
-            | "cyclic-reference"
-            | "unknown-function"
-            | "duplicate-attribute"
-            | "duplicate-variant"
-            | "invalid-escape"
-            | "missing-category"
-            | "missing-message"
-            | "missing-value"
-            | "missing-attribute"
-            | "obsolete-value"
-            | "obsolete-attribute"
-            | "unknown-variable"
-            | "unused-variable"
-            | "obsolete-message"
-            | "untranslated"
-    )
+    CODES.contains(&name)
 }
 
 /// How findings are to be written, if there is such a format.

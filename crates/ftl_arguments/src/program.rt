@@ -7,7 +7,7 @@ ghost use Rattle.ftl_arguments.specs.Commands.{id_rule, file_rule, files_rule};
 ghost use Rattle.ftl_arguments.specs.Commands.{bare_program, program_app, asking_rules, flagged_rules, format_shape, run_shape};
 ghost use Rattle.ftl_arguments.specs.Commands.{known_rules, lint_shape, linting_rules, reported_rules, with_reports, with_tidying};
 
-use crate::tidying::with_tidy;
+use crate::tidying::{paths, with_tidy};
 use crate::version::VERSION;
 use clap::{Arg, ArgAction, Command};
 use std::alloc::{AllocError, Global};
@@ -172,11 +172,11 @@ fn lint<'a>(alloc: Global) -> Result<Command<'a>, AllocError>
     ensures { IfOk result (IsShaped lint_shape) }
 {
     reporting(alloc)?
-        .after_help("Example: ftl lint --reference en.ftl de.ftl")
-        .arg(files(alloc))
+        .after_help("Example: ftl lint --reference locales/en locales/de")
+        .arg(paths(alloc))
 }
 
-/// The command `lint` without its files.
+/// The command `lint` without its paths.
 fn reporting<'a>(alloc: Global) -> Result<Command<'a>, AllocError>
     ensures { IfOk result (IsShaped (shaped (codes "lint") linting_rules)) }
 {
@@ -261,12 +261,12 @@ fn each<'a>(alloc: Global, name: &'a str, value: &'a str) -> Arg<'a>
     option(alloc, name, value).action(ArgAction::Append)
 }
 
-/// A file that `lint` compares with.
+/// A file or a folder that `lint` compares with.
 fn reference<'a>(alloc: Global) -> Arg<'a>
     ensures { IsLocal (each_rule (codes "reference")) result }
 {
-    each(alloc, "reference", "FILE").help(
-        "Compare with this file of the source language (repeatable)",
+    each(alloc, "reference", "PATH").help(
+        "Compare with this file of the source language, or those below this folder (repeatable)",
     )
 }
 

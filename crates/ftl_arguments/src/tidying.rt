@@ -32,8 +32,8 @@ fn tidy<'a>(alloc: Global) -> Result<Command<'a>, AllocError>
         .arg(paths(alloc))
 }
 
-/// The files and folders that are tidied.
-fn paths<'a>(alloc: Global) -> Arg<'a>
+/// The files and folders that a command is on.
+pub(crate) fn paths<'a>(alloc: Global) -> Arg<'a>
     ensures { IsLocal paths_rule result }
 {
     Arg::new(alloc, "PATH")

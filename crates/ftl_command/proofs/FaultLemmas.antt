@@ -1,5 +1,5 @@
 -- Faults of files, and statuses.
-use Rattle.std.proofs.Common.{◌≡◌, ◌∙◌, ◌<◌, ℕ, suc, List, [], ◌∷◌, ◌++◌, Option, Bor, String, length, take, drop, map, get_or, ap, refl, sym, arith, subst, lit<, append_assoc, drop-cons, take-append-drop, string_bytes}
+use Rattle.std.proofs.Common.{◌≡◌, ◌∙◌, ◌<◌, ℕ, suc, List, [], ◌∷◌, ◌++◌, Option, Bor, String, length, take, drop, map, get_or, ap, refl, sym, arith, subst, lit<, drop-cons, take-append-drop, string_bytes}
 use Rattle.std.specs.List.{Contains}
 use Rattle.std.proofs.lemmas.List.Elements.{Contains-append_right, Contains-get_or}
 use Rattle.std.proofs.lemmas.List.{map-append}
@@ -7,7 +7,7 @@ use Rattle.std.proofs.lemmas.Str.{IsUtf8-string_bytes}
 use Rattle.fluent_serve.specs.Text.{Text}
 use Rattle.fluent_serve.specs.Texts.{texts}
 use Rattle.fluent_tidy_laws.specs.Joined.{AreUtf8}
-use Rattle.ftl_command.specs.Files.{AreHeld, Reaches}
+use Rattle.ftl_command.specs.Files.{Reaches}
 use Rattle.ftl_command.specs.Faults.{FailsAsTold, IsFaultOfFiles, ReachesFile, SaysNoUtf8, end_status, status_of}
 use Rattle.ftl_files.specs.declared.folder.Folder.{Ghosts as FolderGhosts}
 use Rattle.ftl_command.specs.declared.ended.Ended.{Ended}
@@ -51,72 +51,6 @@ one_of_files folders first before after files name fault same works reached one 
   of_files = one.of_files;
   says = record {
     reached = ReachesFile-one (folders.contents first) (folders.contents before) files name reached fault one.says.reached;
-    not_utf8 = subst (λ contents. SaysNoUtf8 contents fault) same one.says.not_utf8;
-    unreadable = subst (λ count. FailsAsTold count (folders.failures after) fault) works one.says.unreadable;
-  };
-}
-
--- ---- the files of two lists, the second after the first
-
-AreHeld-append : (contents : Text → Option Text) (fs gs ss ts : List Text) → AreHeld contents fs ss → AreHeld contents gs ts → AreHeld contents (fs ++ gs) (ss ++ ts)
-AreHeld-append contents [] gs [] ts first second = second
-AreHeld-append contents [] gs (s ∷ ss) ts first second = absurd first
-AreHeld-append contents (f ∷ fs) gs [] ts first second = absurd first
-AreHeld-append contents (f ∷ fs) gs (s ∷ ss) ts first second = (first.0, AreHeld-append contents fs gs ss ts first.1 second)
-
-AreUtf8-append : (ss ts : List Text) → AreUtf8 ss → AreUtf8 ts → AreUtf8 (ss ++ ts)
-AreUtf8-append [] ts first second = second
-AreUtf8-append (s ∷ ss) ts first second = (first.0, AreUtf8-append ss ts first.1 second)
-
-module _ (contents : Text → Option Text) (fs gs : List Text) where
-  Reaches-first_list : (file : Text) → Reaches contents fs file → Reaches contents (fs ++ gs) file
-  Reaches-first_list file r = record {
-    front = r.front;
-    behind = r.behind ++ gs;
-    split = ap (λ l. l ++ gs) r.split ∙ append_assoc r.front (file ∷ r.behind) gs;
-    sources = r.sources;
-    held = r.held;
-    utf8 = r.utf8;
-  }
-
-  Reaches-second_list : (ss : List Text) → AreHeld contents fs ss → AreUtf8 ss → (file : Text) → Reaches contents gs file → Reaches contents (fs ++ gs) file
-  Reaches-second_list ss held utf8 file r = record {
-    front = fs ++ r.front;
-    behind = r.behind;
-    split = ap (λ l. fs ++ l) r.split ∙ sym (append_assoc fs r.front (file ∷ r.behind));
-    sources = ss ++ r.sources;
-    held = AreHeld-append contents fs r.front ss r.sources held r.held;
-    utf8 = AreUtf8-append ss r.sources utf8 r.utf8;
-  }
-
-ReachesFile-weaker : (contents : Text → Option Text) (fs gs : List Text) → ((file : Text) → Reaches contents fs file → Reaches contents gs file) →
-    (fault : Fault) → ReachesFile contents fs fault → ReachesFile contents gs fault
-ReachesFile-weaker contents fs gs f (FileUnreadable file) reached = f file.now reached
-ReachesFile-weaker contents fs gs f (FileNotUtf8 file) reached = f file.now reached
-ReachesFile-weaker contents fs gs f fault reached = reached
-
--- a fault of one of the first list's files is one of a file of both
-pub of_first_list : {F : Type 0} (folders : FolderGhosts F) (before after : F) (fs gs : List Text) (fault : Fault) →
-    IsFaultOfFiles folders before after fs fault → IsFaultOfFiles folders before after (fs ++ gs) fault
-of_first_list folders before after fs gs fault one = record {
-  of_files = one.of_files;
-  says = record {
-    reached = ReachesFile-weaker (folders.contents before) fs (fs ++ gs) (Reaches-first_list (folders.contents before) fs gs) fault one.says.reached;
-    not_utf8 = one.says.not_utf8;
-    unreadable = one.says.unreadable;
-  };
-}
-
--- and so is one of the second list's, after the first list's were read
-pub of_second_list : {F : Type 0} (folders : FolderGhosts F) (first before after : F) (fs gs ss : List Text) (fault : Fault) →
-    folders.contents before ≡ folders.contents first → folders.failures before ≡ folders.failures first → AreHeld (folders.contents first) fs ss → AreUtf8 ss →
-    IsFaultOfFiles folders before after gs fault → IsFaultOfFiles folders first after (fs ++ gs) fault
-of_second_list folders first before after fs gs ss fault same works held utf8 one = record {
-  of_files = one.of_files;
-  says = record {
-    reached =
-        ReachesFile-weaker (folders.contents first) gs (fs ++ gs) (Reaches-second_list (folders.contents first) fs gs ss held utf8) fault
-        (subst (λ contents. ReachesFile contents gs fault) same one.says.reached);
     not_utf8 = subst (λ contents. SaysNoUtf8 contents fault) same one.says.not_utf8;
     unreadable = subst (λ count. FailsAsTold count (folders.failures after) fault) works one.says.unreadable;
   };

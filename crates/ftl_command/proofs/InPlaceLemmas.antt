@@ -13,7 +13,7 @@ none_tidied None files held held_after = tt
 none_tidied (Some (run r)) files held held_after = tt
 none_tidied (Some (format f)) files held held_after = tt
 none_tidied (Some (check fs)) files held held_after = tt
-none_tidied (Some (lint l)) files held held_after = tt
+none_tidied (Some (lint l)) files held held_after = record { linted = tt; output = λ is. absurd cc }
 none_tidied (Some (tidy_files t)) files held held_after = record {
   done = tt;
   memory = λ is. record { names = _; said = _; middle = files; there = files; listed = refl; through = at_start; stopped = refl };

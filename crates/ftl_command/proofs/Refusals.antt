@@ -7,6 +7,7 @@ use Rattle.fluent_serve.specs.Devices.{HasFailed}
 use Rattle.fluent_serve.specs.declared.stream.Sink.{Ghosts as SinkGhosts}
 use Rattle.fluent_serve.specs.declared.stream.Source.{Ghosts as SourceGhosts}
 use Rattle.ftl_arguments.specs.Meaning.{Asked, Format, Tidy, run, format, check, lint, tidy_files, tidy}
+use Rattle.ftl_arguments.specs.Linting.{Lint}
 use Rattle.ftl_arguments.specs.TidyFiles.{TidyFiles}
 use Rattle.fluent_serve.specs.Exchange.{GivesUp}
 use Rattle.fluent_serve.specs.declared.serve.RunError.{RunError}
@@ -18,7 +19,7 @@ use Rattle.fluent_tidy.specs.declared.error.NormalizeError.TheVariants as normal
 use Rattle.fluent_tidy.specs.declared.error.ImportError.{ImportError}
 use Rattle.fluent_tidy.specs.declared.error.ImportError.TheVariants as import
 use Rattle.ftl_command.specs.Faults.{IsBeforeInput, IsFaultOfFiles, IsOfLocale, SaysOfFiles, SaysUnknown, clean_fault, import_fault, normalize_fault, run_fault}
-use Rattle.ftl_command.specs.Program.{UnlessInPlace, files_named, locale_named}
+use Rattle.ftl_command.specs.Program.{UnlessListed, files_named, locale_named}
 use Rattle.ftl_command.specs.Refusals.{DevicesEnd, HaveNoNormalText, HoldNoTree, HoldReturn, IsDeviceFault, IsEarlyFault, IsFaultOf, IsRight, IsRightOf, IsTextFault, RefusesNothing, SaysNoMessage, TextWorks}
 use Rattle.ftl_command.specs.declared.fault.Fault.{Fault}
 use Rattle.ftl_command.specs.declared.fault.Fault.TheVariants.{CarriageReturn, NotNormal, NotTree, NotJson, NoMessage, CommandLine, UnknownLocale, FileUnreadable, FileNotUtf8, Input, Output, Memory}
@@ -48,13 +49,13 @@ module _ (contents : Text → Option Text) where
   right_by (Some (tidy_files t)) fault nothing = nothing
   right_by (Some (tidy t)) fault nothing = nothing_of_tidying t fault nothing
 
--- what is so of any command is so of those that don't tidy files in place
-pub of_any : {P : Type 0} (asked : Option Asked) → P → UnlessInPlace asked P
+-- what is so of any command is so of those that don't list folders
+pub of_any : {P : Type 0} (asked : Option Asked) → P → UnlessListed asked P
 of_any None p = p
 of_any (Some (run r)) p = p
 of_any (Some (format f)) p = p
 of_any (Some (check files)) p = p
-of_any (Some (lint l)) p = p
+of_any (Some (lint l)) p = tt
 of_any (Some (tidy_files t)) p = tt
 of_any (Some (tidy t)) p = p
 
@@ -276,22 +277,48 @@ module _ {F R W : Type 0} (folders : FolderGhosts F) (source : SourceGhosts R) (
     stops = untouched_devices source sink reader writer fault not_input not_output;
   }
 
--- ---- files that are tidied in place
+-- ---- files that are listed
+
+-- memory ran out, or the output failed
+abbrev IsOfListed : Fault → Type 0
+IsOfListed fault = (fault ≡ Memory) ⊎ (fault ≡ Output)
 
 module _ {F : Type 0} (folders : FolderGhosts F) (before after : F) (t : TidyFiles) where
-  -- memory ran out, or the output failed
-  in_place_fault : (fault : Fault) → (fault ≡ Memory) ⊎ (fault ≡ Output) → IsFaultOf folders before after (Some (tidy_files t)) fault
+  in_place_fault : (fault : Fault) → IsOfListed fault → IsFaultOf folders before after (Some (tidy_files t)) fault
   in_place_fault fault (inl is) = rw is (record { refused = λ bad. absurd cc; unknown = tt; unopened = λ of. absurd of; files = tt; right = tt })
   in_place_fault fault (inr is) = rw is (record { refused = λ bad. absurd cc; unknown = tt; unopened = λ of. absurd of; files = tt; right = tt })
 
   -- their names were written
   pub in_place_devices : {R W : Type 0} (source : SourceGhosts R) (sink : SinkGhosts W) (reader : R) (writer writer' : W) (result : Result Ended Fault) →
-      OnOk result (sink.failures writer' ≡ sink.failures writer) → IfErr result (λ fault. (fault ≡ Memory) ⊎ (fault ≡ Output)) →
+      OnOk result (sink.failures writer' ≡ sink.failures writer) → IfErr result IsOfListed →
       IfErr result (IsTextFault sink writer writer') → DevicesEnd folders before after source reader reader sink writer writer' (Some (tidy_files t)) result
   in_place_devices source sink reader writer writer' result writes fault stops = record {
     opens = on_ok_always result tt;
     reads = on_ok_always result refl;
     writes = writes;
     fault = IfErr-weaker result _ _ in_place_fault fault;
+    stops = IfErr-weaker result _ _ (unread_device source sink reader writer writer') stops;
+  }
+
+module _ {F : Type 0} (folders : FolderGhosts F) (before after : F) (l : Lint) where
+  lint_fault : (fault : Fault) → IsOfListed fault → IsFaultOf folders before after (Some (lint l)) fault
+  lint_fault fault (inl is) = rw is (record { refused = λ bad. absurd cc; unknown = tt; unopened = λ of. absurd of; files = tt; right = tt })
+  lint_fault fault (inr is) = rw is (record { refused = λ bad. absurd cc; unknown = tt; unopened = λ of. absurd of; files = tt; right = tt })
+
+  pub lint_output : (fault : Fault) → fault ≡ Output → IsFaultOf folders before after (Some (lint l)) fault
+  lint_output fault is = lint_fault fault (inr is)
+
+  pub lint_memory : IsEarlyFault folders before after (lint l) Memory
+  lint_memory = record { says = lint_fault Memory (inl refl); not_input = λ is. absurd cc; not_output = λ is. absurd cc }
+
+  -- the report was written
+  pub lint_devices : {R W : Type 0} (source : SourceGhosts R) (sink : SinkGhosts W) (reader : R) (writer writer' : W) (result : Result Ended Fault) →
+      OnOk result (sink.failures writer' ≡ sink.failures writer) → IfErr result (IsFaultOf folders before after (Some (lint l))) →
+      IfErr result (IsTextFault sink writer writer') → DevicesEnd folders before after source reader reader sink writer writer' (Some (lint l)) result
+  lint_devices source sink reader writer writer' result writes fault stops = record {
+    opens = on_ok_always result tt;
+    reads = on_ok_always result refl;
+    writes = writes;
+    fault = fault;
     stops = IfErr-weaker result _ _ (unread_device source sink reader writer writer') stops;
   }

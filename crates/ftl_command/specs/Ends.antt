@@ -16,7 +16,7 @@ use Rattle.ftl_files.specs.States.{state_of}
 use Rattle.ftl_files.specs.declared.folder.Folder.{Ghosts as FolderGhosts}
 use Rattle.ftl_command.specs.InPlace.{FilesEnd}
 use Rattle.ftl_command.specs.Faults.{outcome_status, fault_line, SaysOfFiles, SaysUnknown, IsBeforeInput}
-use Rattle.ftl_command.specs.Program.{IsDone, AfterMemory, AfterInput, AfterOutput, WithoutInput, UnlessInPlace, ShowsVersion, WritesFront, files_named, locale_named}
+use Rattle.ftl_command.specs.Program.{IsDone, AfterMemory, AfterInput, AfterOutput, WithoutInput, UnlessListed, ShowsVersion, WritesFront, files_named, locale_named}
 use Rattle.ftl_command.specs.Refusals.{IsRight}
 
 -- A device before and after: its bytes, if they are known, and how many of its calls have failed.
@@ -70,18 +70,18 @@ pub record Ends (before after : State) (input output faults : Seen) (words : Lis
   pub done : IfOk outcome (IsDone before.contents (exchanged input output) (command_of words))
   pub text : OnOk outcome (command_of words ≡ None → AskForText words)
   pub version : AskForVersionAlone words → ShowsVersion output.before output.after outcome
-  pub opens : OnOk outcome (UnlessInPlace (command_of words) (after.failures ≡ before.failures))
+  pub opens : OnOk outcome (UnlessListed (command_of words) (after.failures ≡ before.failures))
   pub reads : OnOk outcome (Works input)
   pub writes : OnOk outcome (Works output)
-  -- files that are tidied in place hold their tidy texts, and no other changes
-  pub in_place : FilesEnd (command_of words) before after output.before output.after outcome
+  -- files that are tidied in place hold their tidy texts, and no other changes; a catalog that is linted is that of the files
+  pub of_files : FilesEnd (command_of words) before after output.before output.after outcome
   pub no_input : WithoutInput (command_of words) (IsUntouched input)
   -- what a fault says is so, and before the words and all files are read nothing else is read or written
   pub refused : IsErrOf outcome CommandLine → command_of words ≡ None
   pub not_help : IsErrOf outcome CommandLine → AskForHelpAlone words → ⊥
   pub not_version : IsErrOf outcome CommandLine → AskForVersionAlone words → ⊥
   pub unknown : IfErr outcome (SaysUnknown (locale_named (command_of words)))
-  pub files : IfErr outcome (λ fault. UnlessInPlace (command_of words) (SaysOfFiles before after (files_named (command_of words)) fault))
+  pub files : IfErr outcome (λ fault. UnlessListed (command_of words) (SaysOfFiles before after (files_named (command_of words)) fault))
   pub right : IfErr outcome (IsRight before.contents (command_of words))
   pub unread : IfErr outcome (λ fault. IsBeforeInput fault → IsUntouched input)
   pub unwritten : IfErr outcome (λ fault. IsBeforeInput fault → IsUntouched output)

@@ -3,9 +3,10 @@ use Rattle.std.specs.Prelude.{◌≡◌, ℕ, ◌||◌, if◌then◌else◌, ⊤
 use Rattle.std.specs.Io.KnownBytes.{Appends}
 use Rattle.fluent_serve.specs.Text.{Text}
 use denote.Ref.{Bor}
-use Rattle.ftl_arguments.specs.CommandView.{command_view, tidy_files_view}
+use Rattle.ftl_arguments.specs.CommandView.{command_view, lint_view, tidy_files_view}
 use Rattle.ftl_arguments.specs.Meaning.{Asked, command_of, run, format, check, lint, texts, tidy_files, tidy}
 use Rattle.ftl_arguments.specs.declared.commands.Command.{Command}
+use Rattle.ftl_arguments.specs.declared.commands.Lint as linted
 use Rattle.ftl_arguments.specs.declared.commands.TidyFiles as code
 use Rattle.ftl_arguments.specs.TidyFiles.{TidyFiles}
 use Rattle.fluent_serve.specs.declared.stream.Sink.{Ghosts as SinkGhosts}
@@ -14,9 +15,12 @@ use Rattle.ftl_files.specs.States.{state_of}
 use Rattle.ftl_files.specs.declared.folder.Folder.{Ghosts as FolderGhosts}
 use Rattle.ftl_files.specs.Tidying.{AreTidied, AreTidiedFirst, Said}
 use Rattle.ftl_command.specs.Faults.{end_status}
+use Rattle.ftl_command.specs.Linted.{LintEnds, Lints, LintsBy}
 use Rattle.ftl_command.specs.Program.{WritesFront, errors_in}
 use Rattle.ftl_command.specs.declared.ended.Ended.{Ended}
 use Rattle.ftl_command.specs.declared.fault.Fault.{Fault}
+use Rattle.ftl_command.specs.declared.linting.Linted.{Linted}
+use Rattle.fluent_plurals.specs.declared.plurals.LanguagePlurals.{LanguagePlurals}
 use Rattle.ftl_command.specs.declared.fault.Fault.TheVariants.{Output, Memory}
 
 -- 3 if a file could not be read or written, or else 1 if one was refused, or was checked and isn't tidy
@@ -42,13 +46,13 @@ pub record InPlaceEnds (t : TidyFiles) (before after : State) (held held_after :
   -- all are, and a front of their names is written
   pub output : IsErrOf result Output → TidiesInPlace t before after (λ said. WritesFront held held_after said.names)
 
--- So it is of whatever the words ask for. Of the files that other commands read, it says nothing.
+-- So it is of whatever the words ask for, and of a catalog that is linted. Of the files that other commands read, it says nothing.
 abbrev pub FilesEnd : Option Asked → State → State → Option Text → Option Text → Result Ended Fault → Type 0
 FilesEnd None before after held held_after result = ⊤
 FilesEnd (Some (run r)) before after held held_after result = ⊤
 FilesEnd (Some (format f)) before after held held_after result = ⊤
 FilesEnd (Some (check files)) before after held held_after result = ⊤
-FilesEnd (Some (lint l)) before after held held_after result = ⊤
+FilesEnd (Some (lint l)) before after held held_after result = LintEnds l before after held held_after result
 FilesEnd (Some (tidy_files t)) before after held held_after result = InPlaceEnds t before after held held_after result
 FilesEnd (Some (tidy t)) before after held held_after result = ⊤
 
@@ -59,6 +63,11 @@ module _ {F W : Type 0} (folders : FolderGhosts F) (before after : F) (sink : Si
   InPlaceEndsOn t result =
       InPlaceEnds (tidy_files_view t) (state_of folders before) (state_of folders after) (sink.contents writer) (sink.contents writer') result
 
+  -- of a catalog that is linted
+  abbrev pub LintEndsOn : linted.Lint → Result Ended Fault → Type 0
+  LintEndsOn l result =
+      LintEnds (lint_view l) (state_of folders before) (state_of folders after) (sink.contents writer) (sink.contents writer') result
+
   -- of what a command asks for, or of what words do
   abbrev pub FilesEndBy : Command → Result Ended Fault → Type 0
   FilesEndBy command result =
@@ -67,3 +76,11 @@ module _ {F W : Type 0} (folders : FolderGhosts F) (before after : F) (sink : Si
   abbrev pub FilesEndFor : List (Bor Text) → Result Ended Fault → Type 0
   FilesEndFor words result =
       FilesEnd (command_of (texts words)) (state_of folders before) (state_of folders after) (sink.contents writer) (sink.contents writer') result
+
+-- of the report on a catalog, by what is known of a folder before and after
+module _ {F : Type 0} (folders : FolderGhosts F) (before after : F) where
+  abbrev pub LintsOn : linted.Lint → Linted → Type 0
+  LintsOn l made = Lints l (state_of folders before) (state_of folders after) made
+
+  abbrev pub LintsByOn : linted.Lint → Option LanguagePlurals → Linted → Type 0
+  LintsByOn l plurals made = LintsBy l plurals (state_of folders before) (state_of folders after) made

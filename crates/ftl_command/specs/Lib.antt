@@ -1,6 +1,7 @@
 pub mod Ends
 pub mod Faults
 pub mod Files
+pub mod Linted
 pub mod InPlace
 pub mod Plurals
 pub mod Program

@@ -1,5 +1,5 @@
 -- What the program does for its words, and how far it came before a fault.
-use Rattle.std.specs.Prelude.{◌≡◌, ℕ, Bool, if◌then◌else◌, List, [], ◌∷◌, ◌++◌, ⊤, false, Option, Some, None, IfSome, IsSomeAnd, option_map, Result, IfOk, OnOk, IsErrOf, string_bytes}
+use Rattle.std.specs.Prelude.{◌≡◌, ℕ, List, [], ◌∷◌, ◌++◌, ⊤, false, Option, Some, None, IfSome, IsSomeAnd, option_map, Result, IfOk, OnOk, IsErrOf, string_bytes}
 use Rattle.std.specs.List.{flat_map, list_any}
 use Rattle.std.specs.Io.KnownBytes.{Appends, IsAtEnd}
 use Rattle.fluent_value.specs.declared.function.NoFunction.{NoFunction}
@@ -27,10 +27,8 @@ use Rattle.fluent_tidy.specs.Trees.{IsImported}
 use Rattle.ftl_command.specs.FormatView.{IsWrittenAs}
 use Rattle.ftl_command.specs.Shown.{error_line, reply_asked}
 use Rattle.ftl_command.specs.declared.message.Formatted.{Formatted}
-use Rattle.fluent_lint.specs.LintReport.{LintReport, lint_report_from}
 use Rattle.fluent_check.specs.Report.{report_text}
 use Rattle.ftl_arguments.specs.Version.{version_line}
-use Rattle.ftl_arguments.specs.Linting.{Lint}
 use Rattle.ftl_arguments.specs.Meaning.{Asked, Run, Format, Tidy, run, format, check, lint, tidy_files, tidy, clean, normalize, join, export, import}
 use Rattle.ftl_command.specs.Files.{OnFile, OnTexts}
 use Rattle.ftl_command.specs.Faults.{end_status}
@@ -135,28 +133,6 @@ pub record CheckEnds {F W : Type 0} (folders : FolderGhosts F) (folder : F) (fil
   -- a front of the report is written
   pub output : IsErrOf result Output → OnReport (folders.contents folder) files (WritesFront (sink.contents writer) (sink.contents writer'))
 
--- ---- the report on a catalog
-
--- The locale that is asked for has plural rules, or none is, and the outcome holds of the report on what the files hold.
-abbrev pub OnLintReport : (Text → Option Text) → Lint → (LintReport → Type 0) → Type 0
-OnLintReport contents l Outcome =
-    IsSomeAnd (language_asked l.locale) (λ plurals. OnTexts contents l.references (λ references. OnTexts contents l.files (λ sources.
-    Outcome (lint_report_from l plurals references sources))))
-
--- this is that report
-abbrev pub IsLintReport : (Text → Option Text) → Lint → LintReport → Type 0
-IsLintReport contents l made = OnLintReport contents l (λ report. made ≡ report)
-
--- a catalog fails, or it doesn't
-abbrev pub lint_end : Bool → Ended
-lint_end failed = if failed then Found else Done
-
--- what became of linting, by how it ended
-pub record LintEnds {F W : Type 0} (folders : FolderGhosts F) (folder : F) (l : Lint) (sink : SinkGhosts W) (writer writer' : W) (result : Result Ended Fault) : Type 0 where
-  pub linted : IfOk result (λ end. OnLintReport (folders.contents folder) l (λ report. Appends (sink.contents writer) (sink.contents writer') report.text × (end ≡ lint_end report.has_failed)))
-  -- a front of the report is written
-  pub output : IsErrOf result Output → OnLintReport (folders.contents folder) l (λ report. WritesFront (sink.contents writer) (sink.contents writer') report.text)
-
 -- ---- the text of a message
 
 -- what the sources have for the message, by these rules of a locale
@@ -256,8 +232,8 @@ IsDone contents d None end = end ≡ Done
 IsDone contents d (Some (run r)) end = (end ≡ Done) × OnRun contents r (Answered d)
 IsDone contents d (Some (format f)) end = OnReply contents f (λ reply. Writes d (ended reply.text) × EndsWith reply.errors end)
 IsDone contents d (Some (check files)) end = OnReport contents files (λ text. Writes d text × (end ≡ end_by text))
-IsDone contents d (Some (lint l)) end = OnLintReport contents l (λ report. Writes d report.text × (end ≡ lint_end report.has_failed))
 -- of these `InPlace.FilesEnd` says what became
+IsDone contents d (Some (lint l)) end = ⊤
 IsDone contents d (Some (tidy_files t)) end = ⊤
 IsDone contents d (Some (tidy t)) end = (end ≡ Done) × Tidied contents t (Writes d)
 
@@ -302,7 +278,7 @@ AfterOutput contents d None = ⊤
 AfterOutput contents d (Some (run r)) = OnRun contents r (AnswersFront d)
 AfterOutput contents d (Some (format f)) = OnReply contents f (λ reply. WritesFront d.held_before d.held_after (ended reply.text))
 AfterOutput contents d (Some (check files)) = OnReport contents files (WritesFront d.held_before d.held_after)
-AfterOutput contents d (Some (lint l)) = OnLintReport contents l (λ report. WritesFront d.held_before d.held_after report.text)
+AfterOutput contents d (Some (lint l)) = ⊤
 AfterOutput contents d (Some (tidy_files t)) = ⊤
 AfterOutput contents d (Some (tidy t)) = Tidied contents t (WritesFront d.held_before d.held_after)
 
@@ -330,15 +306,15 @@ WithoutInput (Some (lint l)) Fact = Fact
 WithoutInput (Some (tidy_files t)) Fact = Fact
 WithoutInput (Some (tidy t)) Fact = Fact
 
--- a fact about commands that don't tidy files in place: they stop at the first file that can't be read
-abbrev pub UnlessInPlace : Option Asked → Type 0 → Type 0
-UnlessInPlace None Fact = Fact
-UnlessInPlace (Some (run r)) Fact = Fact
-UnlessInPlace (Some (format f)) Fact = Fact
-UnlessInPlace (Some (check files)) Fact = Fact
-UnlessInPlace (Some (lint l)) Fact = Fact
-UnlessInPlace (Some (tidy_files t)) Fact = ⊤
-UnlessInPlace (Some (tidy t)) Fact = Fact
+-- a fact about commands that stop at the first file that can't be read: those that don't list folders
+abbrev pub UnlessListed : Option Asked → Type 0 → Type 0
+UnlessListed None Fact = Fact
+UnlessListed (Some (run r)) Fact = Fact
+UnlessListed (Some (format f)) Fact = Fact
+UnlessListed (Some (check files)) Fact = Fact
+UnlessListed (Some (lint l)) Fact = ⊤
+UnlessListed (Some (tidy_files t)) Fact = ⊤
+UnlessListed (Some (tidy t)) Fact = Fact
 
 -- ---- the files that the words name
 
@@ -354,7 +330,7 @@ files_named None = []
 files_named (Some (run r)) = r.files
 files_named (Some (format f)) = f.files
 files_named (Some (check files)) = files
-files_named (Some (lint l)) = l.references ++ l.files
+files_named (Some (lint l)) = []
 files_named (Some (tidy_files t)) = []
 files_named (Some (tidy t)) = files_of t
 

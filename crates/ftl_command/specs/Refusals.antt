@@ -14,7 +14,7 @@ use Rattle.fluent_tidy.specs.Trees.{IsNotImported}
 use Rattle.ftl_arguments.specs.Meaning.{AskForHelpAlone, AskForText, AskForVersionAlone, Asked, Format, Tidy, command_of, run, format, check, lint, tidy_files, tidy, clean, normalize, join, export, import}
 use Rattle.ftl_command.specs.Files.{OnFile, OnTexts}
 use Rattle.ftl_command.specs.Faults.{IsBeforeInput, IsOfLocale, SaysOfFiles, SaysUnknown}
-use Rattle.ftl_command.specs.Program.{OnFound, OnValue, ShowsVersionOn, UnlessInPlace, files_named, locale_named}
+use Rattle.ftl_command.specs.Program.{OnFound, OnValue, ShowsVersionOn, UnlessListed, files_named, locale_named}
 use Rattle.ftl_command.specs.declared.ended.Ended.{Ended}
 use Rattle.ftl_files.specs.States.{state_of}
 use Rattle.ftl_files.specs.declared.folder.Folder.{Ghosts as FolderGhosts}
@@ -116,7 +116,7 @@ pub record IsFaultOf {F : Type 0} (folders : FolderGhosts F) (before after : F) 
   pub unknown : SaysUnknown (locale_named asked) fault
   -- before the locale is found no file is read
   pub unopened : IsOfLocale fault → after ≡ before
-  pub files : UnlessInPlace asked (SaysOfFiles (state_of folders before) (state_of folders after) (files_named asked) fault)
+  pub files : UnlessListed asked (SaysOfFiles (state_of folders before) (state_of folders after) (files_named asked) fault)
   pub right : IsRight (folders.contents before) asked fault
 
 -- so it is of a fault that came before anything but files was read, and before anything was written
@@ -148,7 +148,7 @@ pub record TextWorks {F W : Type 0} (folders : FolderGhosts F) (before after : F
 -- What became of the devices of any command: without a fault no call of them failed, and what a fault says of them is so.
 pub record DevicesEnd {F R W : Type 0} (folders : FolderGhosts F) (before after : F) (source : SourceGhosts R) (reader reader' : R) (sink : SinkGhosts W) (writer writer' : W)
     (asked : Option Asked) (result : Result Ended Fault) : Type 0 where
-  pub opens : OnOk result (UnlessInPlace asked (folders.failures after ≡ folders.failures before))
+  pub opens : OnOk result (UnlessListed asked (folders.failures after ≡ folders.failures before))
   pub reads : OnOk result (source.failures reader' ≡ source.failures reader)
   pub writes : OnOk result (sink.failures writer' ≡ sink.failures writer)
   pub fault : IfErr result (IsFaultOf folders before after asked)

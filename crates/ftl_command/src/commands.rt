@@ -102,7 +102,8 @@ pub fn run_command<'words, F: Folder, I: Source, O: Sink>(
     ensures help { AnswersHelp O.Sink writer.old writer.new (texts words.now) result }
     ensures devices { DevicesEnd F.Folder folder.old folder.new I.Source reader.old reader.new
         O.Sink writer.old writer.new (command_of (texts words.now)) result }
-    // Files that are tidied in place hold their tidy texts, and no other file changes.
+    // Files that are tidied in place hold their tidy texts, and no other file changes. What is linted are the files that the
+    // paths stand for, but for those that can't be read, which are reported.
     ensures files { FilesEndFor F.Folder folder.old folder.new
         O.Sink writer.old writer.new words.now result }
     ensures no_input { WithoutInput (command_of (texts words.now)) (reader.new ≡ reader.old) }

@@ -1,57 +1,67 @@
 //! The report on the catalog in files.
-ghost use Rattle.std.specs.Prelude.{◌≡◌, ◌++◌, Some, IfOk, IfErr, OnOk};
-ghost use Rattle.fluent_serve.specs.Texts.{texts};
-ghost use Rattle.fluent_lint.specs.LintView.{report_view};
+ghost use Rattle.std.specs.Prelude.{◌≡◌, Some, IfOk, IfErr, OnOk, string_bytes};
 ghost use Rattle.ftl_arguments.specs.CommandView.{lint_view};
 ghost use Rattle.ftl_arguments.specs.Meaning as asked;
-ghost use Rattle.ftl_command.specs.Faults.{IsFaultOfFiles};
-ghost use Rattle.ftl_command.specs.Files.{AreRead};
-ghost use Rattle.ftl_command.specs.Program.{IsLintReport, LintEnds, lint_end};
-ghost use Rattle.ftl_command.specs.Refusals.{IsEarlyFault, IsFaultOf, IsTextFault, TextWorks};
+ghost use Rattle.ftl_files.specs.TidyView.{read_view};
+ghost use Rattle.ftl_command.specs.InPlace.{LintEndsOn, LintsOn, LintsByOn};
+ghost use Rattle.ftl_command.specs.Linted.{EndsLinted, IsReportBy, IsReportOf, lint_errors};
+ghost use Rattle.ftl_command.specs.Refusals.{IsEarlyFault, IsFaultOf, IsTextFault};
 
 use crate::ended::Ended;
 use crate::fault::Fault;
-use crate::files::read_text_files;
 use crate::output::write_to_stream;
 use crate::plurals::language_plurals;
 use fluent_lint::{Report, lint_sources};
+use fluent_plurals::LanguagePlurals;
 use fluent_serve::stream::Sink;
 use ftl_arguments::Lint;
-use ftl_files::Folder;
-use std::alloc::Global;
+use ftl_files::{Folder, ReadSources, read_sources};
+use std::alloc::{AllocError, Global};
 
-/// Writes what is found in the catalog in files.
+/// Writes what is found in the catalog in files, and those below folders. A file that can't be read is reported in the
+/// end, and the report is on the others.
 ///
 /// # Errors
-/// The first fault: an unknown locale is found before any file is read, and the files of the reference are read before
-/// those of the catalog. After [`Fault::Output`] a front of the report was written, and after another fault nothing.
+/// The first fault: an unknown locale is found before any file is read. After [`Fault::Output`] a front of the report was
+/// written, and after another fault nothing.
 pub fn lint_files<'words, F: Folder, O: Sink>(
     folder: &mut F,
     alloc: Global,
     lint: &Lint<'words>,
     writer: &mut O,
 ) -> Result<Ended, Fault<'words>>
-    ensures ended { LintEnds F.Folder folder.old (lint_view lint.now)
-        O.Sink writer.old writer.new result }
-    ensures works { OnOk result (TextWorks F.Folder folder.old folder.new
-        O.Sink writer.old writer.new) }
+    ensures ended { LintEndsOn F.Folder folder.old folder.new
+        O.Sink writer.old writer.new lint.now result }
+    ensures writes { OnOk result (O.failures writer.new ≡ O.failures writer.old) }
     ensures fault { IfErr result (IsFaultOf F.Folder folder.old folder.new
         (Some (asked.lint (lint_view lint.now)))) }
     ensures stops { IfErr result (IsTextFault O.Sink writer.old writer.new) }
 {
-    let report = report_on(folder, alloc, lint)?;
-    write_to_stream(writer, report.text.as_str())?;
-    Ok(end_of(report.has_failed))
+    let linted = report_on(folder, alloc, lint)?;
+    write_to_stream(writer, linted.report.text.as_str())?;
+    Ok(end_of(linted))
 }
 
-/// The end of a report on a catalog that fails, or of one that doesn't.
-fn end_of(has_failed: bool) -> Ended
-    ensures { result ≡ lint_end has_failed }
+/// A report, and the lines of the files that could not be read.
+#[derive(Drop)]
+pub(crate) struct Linted {
+    report: Report,
+    errors: String,
+}
+
+/// The end of a catalog that was linted.
+fn end_of(linted: Linted) -> Ended
+    ensures { EndsLinted linted result }
 {
-    if has_failed {
-        Ended::Found
+    let Linted { report, errors } = linted;
+    if errors.is_empty() {
+        if report.has_failed {
+            Ended::Found
+        } else {
+            Ended::Done
+        }
     } else {
-        Ended::Done
+        Ended::Partial { errors }
     }
 }
 
@@ -60,44 +70,69 @@ fn report_on<'words, F: Folder>(
     folder: &mut F,
     alloc: Global,
     lint: &Lint<'words>,
-) -> Result<Report, Fault<'words>>
-    ensures report { IfOk result (λ made.
-        IsLintReport (F.contents folder.old) (lint_view lint.now) (report_view made)) }
+) -> Result<Linted, Fault<'words>>
+    ensures linted { IfOk result (LintsOn F.Folder folder.old folder.new lint.now) }
     ensures fault { IfErr result (IsEarlyFault F.Folder folder.old folder.new
         (asked.lint (lint_view lint.now))) }
-    ensures opens { OnOk result (F.failures folder.new ≡ F.failures folder.old) }
 {
     let plurals = language_plurals(lint.locale)?;
-    let texts = read_catalogs(folder, alloc, &lint.references, &lint.files)?;
-    Ok(lint_sources(alloc, lint, plurals, &texts.references, &texts.sources)?)
+    Ok(report_by(folder, alloc, lint, plurals)?)
 }
 
-/// The texts of a catalog and of its reference.
-#[derive(Drop)]
-struct CatalogTexts {
-    references: Vec<String>,
-    sources: Vec<String>,
-}
-
-/// Reads the files of a reference, and then those of a catalog.
-fn read_catalogs<'words, F: Folder>(
+/// The same by plural rules. The files of the reference are read before those of the catalog.
+fn report_by<F: Folder>(
     folder: &mut F,
     alloc: Global,
-    references: &[&'words str],
-    files: &[&'words str],
-) -> Result<CatalogTexts, Fault<'words>>
-    ensures references { IfOk result (λ read.
-        AreRead (F.contents folder.old) references.now read.references.items) }
-    ensures sources { IfOk result (λ read.
-        AreRead (F.contents folder.old) files.now read.sources.items) }
-    ensures fault { IfErr result (IsFaultOfFiles F.Folder folder.old folder.new
-        (texts references.now ++ texts files.now)) }
-    ensures opens { OnOk result (F.failures folder.new ≡ F.failures folder.old) }
+    lint: &Lint,
+    plurals: Option<LanguagePlurals>,
+) -> Result<Linted, AllocError>
+    ensures { IfOk result (LintsByOn F.Folder folder.old folder.new lint.now plurals) }
 {
-    let references = read_text_files(folder, alloc, references)?;
-    let sources = read_text_files(folder, alloc, files)?;
-    Ok(CatalogTexts {
-        references,
-        sources,
-    })
+    let references = read_sources(folder, alloc, &lint.references)?;
+    let files = read_sources(folder, alloc, &lint.files)?;
+    report_of(alloc, lint, plurals, &references, &files)
+}
+
+/// The report on what was read.
+fn report_of(
+    alloc: Global,
+    lint: &Lint,
+    plurals: Option<LanguagePlurals>,
+    references: &ReadSources,
+    files: &ReadSources,
+) -> Result<Linted, AllocError>
+    ensures { IfOk result (IsReportOf lint.now plurals (read_view references.now) (read_view files.now)) }
+{
+    let report = report_of_files(alloc, lint, plurals, references, files)?;
+    let errors = joined_errors(alloc, references, files)?;
+    Ok(Linted { report, errors })
+}
+
+/// The report on the files that were read.
+fn report_of_files(
+    alloc: Global,
+    lint: &Lint,
+    plurals: Option<LanguagePlurals>,
+    references: &ReadSources,
+    files: &ReadSources,
+) -> Result<Report, AllocError>
+    ensures { IfOk result (IsReportBy lint.now plurals (read_view references.now) (read_view files.now)) }
+{
+    let references = references.files(alloc)?;
+    let files = files.files(alloc)?;
+    lint_sources(alloc, lint, plurals, &references, &files)
+}
+
+/// The lines of the files that could not be read.
+fn joined_errors(
+    alloc: Global,
+    references: &ReadSources,
+    files: &ReadSources,
+) -> Result<String, AllocError>
+    ensures { IfOk result (λ errors. string_bytes errors
+        ≡ lint_errors (read_view references.now) (read_view files.now)) }
+{
+    let mut errors = String::from_str(alloc, references.errors.as_str())?;
+    errors.push_str(files.errors.as_str())?;
+    Ok(errors)
 }

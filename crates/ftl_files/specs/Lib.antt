@@ -2,4 +2,5 @@ pub mod Files
 pub mod States
 pub mod ErrorTexts
 pub mod Tidying
+pub mod Reading
 pub mod TidyView

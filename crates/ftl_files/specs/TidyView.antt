@@ -7,7 +7,11 @@ use Rattle.fluent_serve.specs.Texts.{texts}
 use Rattle.ftl_files.specs.Files.{OnFile, State}
 use Rattle.ftl_files.specs.States.{state_of}
 use Rattle.ftl_files.specs.declared.folder.Folder.{Ghosts as FolderGhosts}
+use Rattle.lint_findings.specs.Files.{File}
+use Rattle.ftl_files.specs.Reading as reading
 use Rattle.ftl_files.specs.Tidying as tidying
+use Rattle.ftl_files.specs.declared.reading.ReadSources.{ReadSources}
+use Rattle.ftl_files.specs.declared.reading.SourceFile.{SourceFile}
 use Rattle.ftl_files.specs.declared.ends.Failure.{Failure}
 use Rattle.ftl_files.specs.declared.ends.Failure.TheVariants.{Unreadable, NotUtf8, Unwritable}
 use Rattle.ftl_files.specs.declared.ends.FileEnd.{FileEnd}
@@ -28,17 +32,32 @@ end_view (Refused report) = tidying.refused (string_bytes report)
 abbrev pub said_view : TidiedFiles → tidying.Said
 said_view t = record { names = string_bytes t.names; reports = string_bytes t.reports; has_failed = t.has_failed; has_found = t.has_found }
 
--- the line of a failure is reported, too
+-- the line of a failure
+abbrev pub failure_line_of : Text → Failure → Option (Bor Text) → Text
+failure_line_of name failure why = tidying.failure_line name (tidying.failure_words (failure_view failure)) (option_copied why)
+
+-- it is reported, too
 abbrev pub after_failure : tidying.Said → Text → Failure → Option (Bor Text) → tidying.Said
-after_failure said name failure why =
-    tidying.with_report said (tidying.failure_line name (tidying.failure_words (failure_view failure)) (option_copied why))
+after_failure said name failure why = tidying.with_report said (failure_line_of name failure why)
+
+abbrev pub source_view : SourceFile → File
+source_view f = record { name = string_bytes f.name; source = string_bytes f.source }
+
+abbrev pub read_view : ReadSources → reading.Read
+read_view r = record { files = map source_view r.files.items; errors = string_bytes r.errors }
+
+abbrev pub after_source : reading.Read → Text → String Global → reading.Read
+after_source read name source = reading.read_after read name (reading.held (string_bytes source))
+
+abbrev pub after_read_failure : reading.Read → Text → Failure → Option (Bor Text) → reading.Read
+after_read_failure read name failure why = reading.read_after read name (reading.failed (failure_view failure) (option_copied why))
 
 -- ---- the same on a folder, by what is known of it before and after
 
 -- what was read of a file: a text, which is what it holds, if that is known, or why there is none
 abbrev IsRead : Text → State → State → Result (String Global) Failure → Type 0
 IsRead name before after (Ok text) = tidying.IsLeft before after × IfSome (before.contents name) (λ held. string_bytes text ≡ held)
-IsRead name before after (Err failure) = tidying.FailsSo name (failure_view failure) before after
+IsRead name before after (Err failure) = reading.ReadFailsSo name (failure_view failure) before after
 
 module _ {F : Type 0} (folders : FolderGhosts F) where
   abbrev pub IsReadOn : Text → F → F → Result (String Global) Failure → Type 0
@@ -71,3 +90,14 @@ module _ {F : Type 0} (folders : FolderGhosts F) where
 
   abbrev pub AreTidiedFirstOn : Bool → F → F → Type 0
   AreTidiedFirstOn check before after = tidying.AreTidiedFirst check (state_of folders before) (state_of folders after)
+
+  -- the files that paths stand for are read, and one after the other
+  abbrev pub AreReadOn : List (Bor Text) → F → F → ReadSources → Type 0
+  AreReadOn paths before after read = reading.AreRead (texts paths) (state_of folders before) (state_of folders after) (read_view read)
+
+  abbrev pub ReadsThroughOn : List (String Global) → F → F → ReadSources → Type 0
+  ReadsThroughOn names before after read =
+      reading.ReadsThrough (state_of folders before) (map string_bytes names) (read_view read) (state_of folders after)
+
+  abbrev pub ReadsOneOn : Text → F → F → ReadSources → ReadSources → Type 0
+  ReadsOneOn name before after old new = reading.ReadsOne name (read_view old) (read_view new) (state_of folders before) (state_of folders after)

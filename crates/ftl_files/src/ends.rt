@@ -1,8 +1,9 @@
 //! What becomes of a file that is tidied.
-ghost use Rattle.std.specs.Prelude.{Some};
-ghost use Rattle.ftl_files.specs.TidyView.{failure_view};
+ghost use Rattle.std.specs.Prelude.{◌≡◌, ◌++◌, OnOk, Some, string_bytes};
+ghost use Rattle.ftl_files.specs.TidyView.{failure_line_of, failure_view};
 ghost use Rattle.ftl_files.specs.Tidying.{failure_words};
 
+use std::alloc::AllocError;
 use std::fmt;
 
 /// Why a file couldn't be tidied, whatever its source is.
@@ -39,4 +40,20 @@ pub enum FileEnd {
     Failed(Failure, Option<&'static str>),
     /// It has no tidy text, and this is reported.
     Refused(String),
+}
+
+/// Appends the line of a failure.
+pub(crate) fn push_failure(
+    lines: &mut String,
+    name: &str,
+    failure: Failure,
+    why: Option<&'static str>,
+) -> Result<(), AllocError>
+    ensures { OnOk result (string_bytes lines.new
+        ≡ string_bytes lines.old ++ failure_line_of name.now failure why.entry) }
+{
+    match why {
+        Some(why) => writeln!(lines, "ftl: {name}: {failure}: {why}"),
+        None => writeln!(lines, "ftl: {name}: {failure}"),
+    }
 }

@@ -1,13 +1,14 @@
 //! Files by their names: what the program reads, lists and replaces.
 //!
-//! [`Folder`] is what the commands ask. [`FromFiles`] makes one of the system's files. [`tidy_files`] tidies files in
-//! place, as `ftl tidy` does.
+//! [`Folder`] is what the commands ask. [`FromFiles`] makes one of the system's files. [`read_sources`] reads
+//! files, and those below folders. [`tidy_files`] tidies them in place, as `ftl tidy` does.
 #![tactic(auto)]
 
 mod ends;
 mod errors;
 mod folder;
 mod listing;
+mod reading;
 mod refusals;
 mod replacing;
 mod system;
@@ -16,6 +17,7 @@ mod tidying;
 
 pub use ends::{Failure, FileEnd};
 pub use folder::{FileError, Folder, ReplaceError};
+pub use reading::{ReadSources, SourceFile, read_sources};
 pub use system::FromFiles;
 pub use tidied::TidiedFiles;
 pub use tidying::{tidy_file, tidy_files, tidy_source};

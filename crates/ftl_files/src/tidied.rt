@@ -3,7 +3,7 @@ ghost use Rattle.std.specs.Prelude.{◌≡◌, OnOk};
 ghost use Rattle.ftl_files.specs.TidyView.{after_failure, end_view, said_view};
 ghost use Rattle.ftl_files.specs.Tidying.{nothing_said, said_after};
 
-use crate::ends::{Failure, FileEnd};
+use crate::ends::{Failure, FileEnd, push_failure};
 use std::alloc::{AllocError, Global};
 
 /// What is said of files that are tidied.
@@ -42,10 +42,7 @@ impl TidiedFiles {
         ensures { OnOk result (said_view self.new
             ≡ after_failure (said_view self.old) name.now failure why.entry) }
     {
-        match why {
-            Some(why) => writeln!(self.reports, "ftl: {name}: {failure}: {why}"),
-            None => writeln!(self.reports, "ftl: {name}: {failure}"),
-        }
+        push_failure(&mut self.reports, name, failure, why)
     }
 
     /// Adds what became of a file.

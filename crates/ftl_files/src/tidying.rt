@@ -29,7 +29,7 @@ pub fn tidy_files<F: Folder>(
 }
 
 /// The names of the files that paths stand for, in their order.
-fn list_paths<F: Folder>(
+pub(crate) fn list_paths<F: Folder>(
     folder: &mut F,
     alloc: Global,
     paths: &[&str],
@@ -122,7 +122,7 @@ fn tidy_read<F: Folder>(
 }
 
 /// Reads a source; why it can't be read, if it can't.
-fn read_source<F: Folder>(
+pub(crate) fn read_source<F: Folder>(
     folder: &mut F,
     alloc: Global,
     name: &str,
@@ -142,7 +142,7 @@ fn read_source<F: Folder>(
 }
 
 /// Why a file could not be read, if that is known.
-fn why_of<F: Folder>(folder: &F, name: &str, failure: Failure) -> Option<&'static str> {
+pub(crate) fn why_of<F: Folder>(folder: &F, name: &str, failure: Failure) -> Option<&'static str> {
     match failure {
         Failure::Unreadable => folder.why(name),
         _ => None,

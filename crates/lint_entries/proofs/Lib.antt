@@ -16,3 +16,4 @@ pub mod Passing
 pub mod Parts
 pub mod Walked
 pub mod Added
+pub mod CommonIn

@@ -28,10 +28,15 @@ pushed old new one found added viewed = ap (map finding_view) added ∙ map-appe
 pub first_added : (x n rest : List f.Finding) {y l : List f.Finding} → y ≡ x ++ n → l ≡ n ++ rest → y ++ rest ≡ x ++ l
 first_added x n rest added is = ap (λ z. z ++ rest) added ∙ append_assoc x n rest ∙ ap (λ z. x ++ z) (sym is)
 
--- three times in a row
+-- twice, three and four times in a row
+two_added : (a l m : List f.Finding) {b c : List f.Finding} → b ≡ a ++ l → c ≡ b ++ m → c ≡ a ++ (l ++ m)
+two_added a l m p q = q ∙ ap (λ z. z ++ m) p ∙ append_assoc a l m
+
 pub three_added : (a l m n : List f.Finding) {b c d : List f.Finding} → b ≡ a ++ l → c ≡ b ++ m → d ≡ c ++ n → d ≡ a ++ (l ++ (m ++ n))
-three_added a l m n p q r =
-    r ∙ ap (λ z. z ++ n) (q ∙ ap (λ z. z ++ m) p ∙ append_assoc a l m) ∙ append_assoc a (l ++ m) n ∙ ap (λ z. a ++ z) (append_assoc l m n)
+three_added a l m n {b = b} p q r = two_added a l (m ++ n) p (two_added b m n q r)
+
+pub four_added : (a k l m n : List f.Finding) {b c d e : List f.Finding} → b ≡ a ++ k → c ≡ b ++ l → d ≡ c ++ m → e ≡ d ++ n → e ≡ a ++ (k ++ (l ++ (m ++ n)))
+four_added a k l m n {b = b} p q r s = two_added a k (l ++ (m ++ n)) p (three_added b l m n q r s)
 
 -- the finding of the next missing category is added
 pub category_added : (place : Place) (items : List PluralCategory) (i : ℕ) (default category : PluralCategory) (old new : List Finding) (one : Finding) → i < length items → category ≡ get_or items i default →

@@ -20,7 +20,7 @@ use Rattle.lint_nodes.specs.declared.occurrence.Occurrence.{Occurrence}
 use Rattle.fluent_plurals.specs.declared.plurals.LanguagePlurals.{LanguagePlurals}
 use Rattle.lint_entries.specs.AttributesFound.{attributes_found}
 use Rattle.lint_entries.specs.FirstEndless.{first_entered}
-use Rattle.lint_entries.specs.FoundAt.{endless_found, flaw_findings, node_found, nodes_of, occurrences_found, pattern_found, value_found}
+use Rattle.lint_entries.specs.FoundAt.{endless_found, flaw_findings, node_found, nodes_of, occurrences_found, option_findings, pattern_found, value_found}
 use Rattle.lint_entries.specs.Made.{Adds}
 use Rattle.lint_entries.specs.declared.catalog.Catalog.{Catalog}
 use Rattle.lint_entries.specs.declared.finding.Place.{Place}
@@ -49,6 +49,10 @@ endless_among ids name occurrences = endless_found name (first_entered ids (node
 -- those of a node at a place, in a pattern with these elements
 abbrev pub AddsNode : Catalog → Elements → Place → Node → Vec Finding Global → Vec Finding Global → Type 0
 AddsNode catalog es place node old new = Adds old new (node_found catalog es place (node_view node))
+
+-- those of the options of a node at a place
+abbrev pub AddsOptions : Place → Node → Vec Finding Global → Vec Finding Global → Type 0
+AddsOptions place node old new = Adds old new (option_findings place (node_view node))
 
 -- If all went well: those of occurrences in a source, whatever pattern they are in.
 abbrev pub AddsOccurrences : {A E : Type 0} → Result A E → Catalog → Text → Label → List Occurrence → Vec Finding Global → Vec Finding Global → Type 0

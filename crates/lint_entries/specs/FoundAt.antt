@@ -6,6 +6,7 @@ use Rattle.fluent_grammar.specs.Tree.{Elements}
 use Rattle.lint_findings.specs.EntryFindings as e
 use Rattle.lint_findings.specs.Finding.{Finding, warning}
 use Rattle.lint_findings.specs.Nodes as n
+use Rattle.lint_findings.specs.NumberOptions.{Misuse, misuse_text}
 use Rattle.lint_findings.specs.Occurrences as o
 use Rattle.lint_findings.specs.SyntaxErrors.{in_backticks}
 use Rattle.fluent_ids.specs.IdsView.{ids_view}
@@ -52,6 +53,20 @@ escape_finding place escape = record {
 
 abbrev pub escape_findings : Place → n.Node → List Finding
 escape_findings place node = map (escape_finding place) (e.node_escapes node)
+
+-- the finding at a place that `NUMBER` makes nothing of an argument
+abbrev pub option_finding : Place → Misuse → Finding
+option_finding place misuse = record {
+  offset = length place.source.now - length place.at.now;
+  code = codes "unknown-option";
+  severity = warning;
+  entry = Some (label_text place.label);
+  text = misuse_text misuse;
+  hint = None;
+}
+
+abbrev pub option_findings : Place → n.Node → List Finding
+option_findings place node = map (option_finding place) (e.node_misuses node)
 
 -- the finding at a place that references never end, and go on at one that is written so, if there is one
 abbrev pub endless_found : Place → Option Text → List Finding

@@ -6,6 +6,7 @@ pub mod FoundAt
 pub mod AttributePlaces
 pub mod HasNames
 pub mod EntryParts
+pub mod CommonIn
 pub mod CatalogView
 pub mod PartsView
 pub mod AttributesFound

@@ -1,7 +1,10 @@
 //! What is known of a catalog.
 
+ghost use Rattle.lint_entries.specs.CommonIn.{AreCommonIn};
+
 use fluent_plurals::LanguagePlurals;
 use lint_endless::EndlessPatterns;
+use lint_flaws::CommonCategories;
 
 /// What is known of a catalog: what its ids stand for and which of their references never end, and the plural rules of
 /// its language, if missing plural categories are to be found.
@@ -9,4 +12,7 @@ use lint_endless::EndlessPatterns;
 pub struct Catalog<'c, 'r, 's> {
     pub endless: &'c EndlessPatterns<'c, 'r, 's>,
     pub plurals: Option<LanguagePlurals>,
+    /// The categories that are common by these rules.
+    pub common: CommonCategories,
+    ghost in_language: { AreCommonIn plurals common },
 }

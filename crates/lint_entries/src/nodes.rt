@@ -2,10 +2,11 @@
 #![tactic(auto)]
 
 ghost use Rattle.std.specs.Prelude.{◌≡◌, OnOk};
-ghost use Rattle.lint_entries.specs.Added.{AddsFlaws, AddsNode, AddsOccurrences};
+ghost use Rattle.lint_entries.specs.Added.{AddsFlaws, AddsNode, AddsOccurrences, AddsOptions};
 ghost use Rattle.lint_entries.specs.FoundAt.{category_findings, escape_findings};
 ghost use Rattle.lint_entries.specs.Made.{Adds};
 ghost use Rattle.fluent_grammar.specs.Tree.{Elements};
+ghost use Rattle.lint_flaws.specs.Common.{AreCommonBy};
 ghost use Rattle.lint_nodes.specs.NodeView.{node_view};
 
 use crate::catalog::Catalog;
@@ -14,7 +15,7 @@ use crate::label::Label;
 use crate::problem::Problem;
 use fluent_plurals::LanguagePlurals;
 use lint_finding::{CatalogIds, Finding};
-use lint_flaws::{node_categories, node_escapes, node_flaw};
+use lint_flaws::{CommonCategories, node_categories, node_escapes, node_flaw, node_misuses};
 use lint_nodes::{Node, Occurrence};
 use std::alloc::{AllocError, Global};
 
@@ -44,7 +45,8 @@ pub fn push_occurrences<'s>(
     Ok(())
 }
 
-/// Adds the findings of a node at a place: its flaw, the plural categories that it lacks, and its invalid escapes.
+/// Adds the findings of a node at a place: its flaw, the plural categories that it lacks, its invalid escapes, and the
+/// options that `NUMBER` lacks.
 fn push_node<'s>(
     alloc: Global,
     catalog: &Catalog<'_, '_, 's>,
@@ -56,8 +58,16 @@ fn push_node<'s>(
         (AddsNode catalog.now es place.now node.entry findings.old findings.new) }
 {
     push_flaw(alloc, catalog.endless.ids, place, node, findings)?;
-    push_categories(alloc, catalog.plurals, place, node, findings)?;
-    push_escapes(alloc, place, node, findings)
+    push_categories(
+        alloc,
+        catalog.plurals,
+        &catalog.common,
+        place,
+        node,
+        findings,
+    )?;
+    push_escapes(alloc, place, node, findings)?;
+    push_options(alloc, place, node, findings)
 }
 
 fn push_flaw<'s>(
@@ -78,13 +88,15 @@ fn push_flaw<'s>(
 fn push_categories(
     alloc: Global,
     plurals: Option<LanguagePlurals>,
+    common: &CommonCategories,
     place: &Place<'_, '_, '_>,
     node: Node<'_, '_>,
     findings: &mut Vec<Finding>,
 ) -> Result<(), AllocError>
+    requires { AreCommonBy plurals common.now }
     ensures { OnOk result (Adds findings.old findings.new (category_findings plurals place.now (node_view node.entry))) }
 {
-    let categories = node_categories(alloc, plurals, node)?;
+    let categories = node_categories(alloc, plurals, common, node)?;
     for category in &categories {
         findings.push(problem_finding(alloc, place, Problem::MissingCategory(*category))?)?;
     }
@@ -102,6 +114,21 @@ fn push_escapes(
     let escapes = node_escapes(alloc, node)?;
     for escape in &escapes {
         findings.push(problem_finding(alloc, place, Problem::InvalidEscape(*escape))?)?;
+    }
+    Ok(())
+}
+
+fn push_options(
+    alloc: Global,
+    place: &Place<'_, '_, '_>,
+    node: Node<'_, '_>,
+    findings: &mut Vec<Finding>,
+) -> Result<(), AllocError>
+    ensures { OnOk result (AddsOptions place.now node.entry findings.old findings.new) }
+{
+    let misuses = node_misuses(alloc, node)?;
+    for misuse in &misuses {
+        findings.push(problem_finding(alloc, place, Problem::UnknownOption(*misuse))?)?;
     }
     Ok(())
 }

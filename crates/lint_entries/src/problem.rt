@@ -8,7 +8,7 @@ ghost use Rattle.lint_finding.specs.View.{severity_view};
 use crate::label::Label;
 use fluent_number::PluralCategory;
 use lint_finding::Severity;
-use lint_flaws::category_text;
+use lint_flaws::{Misuse, category_text};
 use std::fmt;
 
 /// What is wrong with a pattern or an attribute, besides the flaws of its nodes.
@@ -20,6 +20,8 @@ pub enum Problem<'s> {
     MissingCategory(PluralCategory),
     /// This escape stands for no character.
     InvalidEscape(&'s str),
+    /// `NUMBER` makes nothing of an argument.
+    UnknownOption(Misuse<'s>),
     /// An earlier attribute has the same name.
     DuplicateAttribute,
 }
@@ -32,6 +34,7 @@ impl<'s> Problem<'s> {
             Problem::Endless(_) => "cyclic-reference",
             Problem::MissingCategory(_) => "missing-category",
             Problem::InvalidEscape(_) => "invalid-escape",
+            Problem::UnknownOption(_) => "unknown-option",
             Problem::DuplicateAttribute => "duplicate-attribute",
         }
     }
@@ -41,8 +44,10 @@ impl<'s> Problem<'s> {
     {
         match self {
             Problem::Endless(_) => Severity::Error,
-            Problem::MissingCategory(_) | Problem::InvalidEscape(_) | Problem::DuplicateAttribute =>
-                Severity::Warning,
+            Problem::MissingCategory(_)
+            | Problem::InvalidEscape(_)
+            | Problem::UnknownOption(_)
+            | Problem::DuplicateAttribute => Severity::Warning,
         }
     }
 
@@ -70,6 +75,7 @@ impl fmt::Display for Problem<'_> {
             Problem::InvalidEscape(escape) => {
                 write!(f, "`{escape}` isn't a character, and is shown as U+FFFD")
             }
+            Problem::UnknownOption(misuse) => write!(f, "{misuse}"),
             Problem::DuplicateAttribute => f.write_str(
                 "an earlier attribute has this name, so this one is never shown",
             ),

@@ -63,7 +63,7 @@ fn hint_for_token(token: char, junk: &str, at: &str) -> Option<&'static str>
 {
     match token {
         '=' => hint_for_equals(junk, at),
-        '}' if words::begins_with(at.as_bytes(), b'.') => Some("a variable has no attributes"),
+        '}' => hint_for_brace(at),
         _ => None,
     }
 }
@@ -77,6 +77,17 @@ fn hint_for_equals(junk: &str, at: &str) -> Option<&'static str>
         [b':', ..] => Some("write `=` before the value"),
         _ if begins_attribute(junk) => None,
         _ => Some("a line that continues the text above begins with at least one space"),
+    }
+}
+
+/// The hint if a placeable isn't closed.
+fn hint_for_brace(at: &str) -> Option<&'static str>
+    ensures { option_copied result ≡ hints.first_hint (hints.hints_for_brace at.now) }
+{
+    match at.as_bytes() {
+        [b'.', ..] => Some("a variable has no attributes"),
+        [b'>', ..] => Some("an arrow has a space before it, as in `{ $name ->`"),
+        _ => None,
     }
 }
 

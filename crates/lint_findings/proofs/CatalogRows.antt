@@ -34,7 +34,7 @@ unfolding computing_findings file Reports
 a_lone_mark_and_a_key_twice = refl
 
 inside_calls_selects_and_placeables : Reports [] (file (codes "a.ftl") (codes "a = { NUMBER(b, {c}, -d(y: \"e\"), x: 1) } {{ f }}\n    .t = { $n ->\n        [one] { g } g\n       *[other] {\n        h\n        }\n    }\n") ∷ [])
-    (codes "a.ftl:1:14: error: a: there is no message `b` [unknown-message]\n1 | a = { NUMBER(b, {c}, -d(y: \"e\"), x: 1) } {{ f }}\n  |              ^\n  = a variable is written `$b`\na.ftl:1:18: error: a: there is no message `c` [unknown-message]\n1 | a = { NUMBER(b, {c}, -d(y: \"e\"), x: 1) } {{ f }}\n  |                  ^\n  = a variable is written `$c`\na.ftl:1:22: error: a: there is no term `-d` [unknown-term]\n1 | a = { NUMBER(b, {c}, -d(y: \"e\"), x: 1) } {{ f }}\n  |                      ^\na.ftl:1:45: error: a: there is no message `f` [unknown-message]\n1 | a = { NUMBER(b, {c}, -d(y: \"e\"), x: 1) } {{ f }}\n  |                                             ^\n  = a variable is written `$f`\na.ftl:3:17: error: a.t: there is no message `g` [unknown-message]\n3 |         [one] { g } g\n  |                 ^\n  = a variable is written `$g`\na.ftl:5:9: error: a.t: there is no message `h` [unknown-message]\n5 |         h\n  |         ^\n  = a variable is written `$h`\n")
+    (codes "a.ftl:1:7: warning: a: `NUMBER` has no option `x` [unknown-option]\n1 | a = { NUMBER(b, {c}, -d(y: \"e\"), x: 1) } {{ f }}\n  |       ^\na.ftl:1:14: error: a: there is no message `b` [unknown-message]\n1 | a = { NUMBER(b, {c}, -d(y: \"e\"), x: 1) } {{ f }}\n  |              ^\n  = a variable is written `$b`\na.ftl:1:18: error: a: there is no message `c` [unknown-message]\n1 | a = { NUMBER(b, {c}, -d(y: \"e\"), x: 1) } {{ f }}\n  |                  ^\n  = a variable is written `$c`\na.ftl:1:22: error: a: there is no term `-d` [unknown-term]\n1 | a = { NUMBER(b, {c}, -d(y: \"e\"), x: 1) } {{ f }}\n  |                      ^\na.ftl:1:45: error: a: there is no message `f` [unknown-message]\n1 | a = { NUMBER(b, {c}, -d(y: \"e\"), x: 1) } {{ f }}\n  |                                             ^\n  = a variable is written `$f`\na.ftl:3:17: error: a.t: there is no message `g` [unknown-message]\n3 |         [one] { g } g\n  |                 ^\n  = a variable is written `$g`\na.ftl:5:9: error: a.t: there is no message `h` [unknown-message]\n5 |         h\n  |         ^\n  = a variable is written `$h`\n")
 unfolding computing_findings file Reports
 inside_calls_selects_and_placeables = refl
 
@@ -79,6 +79,16 @@ unfolding computing_findings file Reports
 a_circle_with_a_selector = refl
 
 an_escape_in_a_named_argument : Reports [] (file (codes "a.ftl") (codes "a = { NUMBER(1, type: \"\\uD83D\") }\n") ∷ [])
-    (codes "a.ftl:1:7: warning: a: `\\uD83D` isn't a character, and is shown as U+FFFD [invalid-escape]\n1 | a = { NUMBER(1, type: \"\\uD83D\") }\n  |       ^\n")
+    (codes "a.ftl:1:7: warning: a: `\\uD83D` isn't a character, and is shown as U+FFFD [invalid-escape]\n1 | a = { NUMBER(1, type: \"\\uD83D\") }\n  |       ^\na.ftl:1:7: warning: a: the option `type` has no value `\\uD83D` [unknown-option]\n1 | a = { NUMBER(1, type: \"\\uD83D\") }\n  |       ^\n")
 unfolding computing_findings file Reports
 an_escape_in_a_named_argument = refl
+
+options_of_number : Reports (codes "DATETIME" ∷ []) (file (codes "a.ftl") (codes "a = { NUMBER($n, type: \"ordinal\", style: \"percent\", currency: \"EUR\", currencyDisplay: \"code\", useGrouping: \"false\", maximumFractionDigits: 2) } { DATETIME($d, x: 1) }\n") ∷ [])
+    []
+unfolding computing_findings file Reports
+options_of_number = refl
+
+options_that_number_lacks : Reports [] (file (codes "a.ftl") (codes "a = { NUMBER($n, digits: 2) }\nb = { NUMBER($n, style: \"percnt\") }\nc = { NUMBER($n, minimumFractionDigits: \"2\") }\nd = { NUMBER($n, style: 1) }\n") ∷ [])
+    (codes "a.ftl:1:7: warning: a: `NUMBER` has no option `digits` [unknown-option]\n1 | a = { NUMBER($n, digits: 2) }\n  |       ^\na.ftl:2:7: warning: b: the option `style` has no value `percnt` [unknown-option]\n2 | b = { NUMBER($n, style: \"percnt\") }\n  |       ^\na.ftl:3:7: warning: c: the option `minimumFractionDigits` takes a number, without quotes [unknown-option]\n3 | c = { NUMBER($n, minimumFractionDigits: \"2\") }\n  |       ^\na.ftl:4:7: warning: d: the option `style` takes a text, in quotes [unknown-option]\n4 | d = { NUMBER($n, style: 1) }\n  |       ^\n")
+unfolding computing_findings file Reports
+options_that_number_lacks = refl

@@ -25,7 +25,7 @@ use Rattle.lint_findings.specs.FlawWords.{flaw_code}
 use Rattle.lint_findings.specs.Nodes.{Node, expression, select, repeated_key, elements_nodes}
 use Rattle.lint_findings.specs.Occurrences.{Occurrence, occurrences, inline_read, pattern_read, PatternPlace}
 use Rattle.lint_findings.specs.Finding.{Finding}
-use Rattle.lint_findings.specs.EntryFindings.{flaw_finding, category_finding, escape_finding, node_flaws, node_categories, node_escapes, node_findings, nodes_findings, pattern_findings, attribute_findings, patterns_findings, pattern_places, entry_findings}
+use Rattle.lint_findings.specs.EntryFindings.{flaw_finding, category_finding, escape_finding, option_finding, node_flaws, node_categories, node_escapes, node_misuses, node_findings, nodes_findings, pattern_findings, attribute_findings, patterns_findings, pattern_places, entry_findings}
 use Rattle.lint_findings.specs.Files.{File}
 use Rattle.lint_findings.specs.DuplicateIds.{Declaration, id_of, duplicate_findings}
 use Rattle.lint_findings.specs.Findings.{Rules, FileFinding, findings_of_entry, findings_of_tile}
@@ -158,7 +158,9 @@ module _ (S : Type 0) (rules : Rules) (file : File) where
           both (map (flaw_finding rules.ids rules.plurals source es owner at) (node_flaws rules.ids node)) _ (of_flaws node read known)
           (both (map (category_finding rules.ids rules.plurals source owner at) (node_categories rules.plurals node)) _
           (mapped (category_finding rules.ids rules.plurals source owner at) (λ c. plain _ refl refl refl) (node_categories rules.plurals node))
-          (mapped (escape_finding rules.ids rules.plurals source owner at) (λ x. plain _ refl refl refl) (node_escapes node)))
+          (both (map (escape_finding rules.ids rules.plurals source owner at) (node_escapes node)) _
+          (mapped (escape_finding rules.ids rules.plurals source owner at) (λ x. plain _ refl refl refl) (node_escapes node))
+          (mapped (option_finding rules.ids rules.plurals source owner at) (λ m. plain _ refl refl refl) (node_misuses node))))
 
     of_nodes : (s : Text) → EndsIn s source → (at : Text) (os : List Occurrence) → All (IsReadIn s) os → All (IsOfSelects (source_selects source)) (nodes os) →
         AreSound (nodes_findings rules.ids rules.plurals source es owner at (nodes os) os)

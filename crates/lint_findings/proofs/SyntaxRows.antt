@@ -117,3 +117,8 @@ empty_entries : Reports [] (file (codes "a.ftl") (codes "a =\n-t =\n\nb = c\n") 
     (codes "a.ftl:1:1: error: a: the message has neither a value nor an attribute [syntax]\n1 | a =\n  | ^\n  = write an empty text as `{ \"\" }`\na.ftl:2:1: error: -t: the term has no value [syntax]\n2 | -t =\n  | ^\n  = write an empty text as `{ \"\" }`\n")
 unfolding computing_findings file Reports
 empty_entries = refl
+
+an_arrow_without_a_space : Reports [] (file (codes "a.ftl") (codes "a = { $n->\n   *[x] y\n }\n") ∷ [])
+    (codes "a.ftl:1:10: error: a: expected `}` at the end of a placeable, found `>` [syntax]\n1 | a = { $n->\n  |          ^\n  = an arrow has a space before it, as in `{ $name ->`\n")
+unfolding computing_findings file Reports
+an_arrow_without_a_space = refl

@@ -19,6 +19,7 @@ use Rattle.lint_findings.specs.Nodes.{Node, expression, select, repeated_key, el
 use Rattle.lint_findings.specs.Occurrences.{Occurrence, occurrences, PatternPlace, entry_places}
 use Rattle.lint_findings.specs.MissingCategories.{missing_categories}
 use Rattle.lint_findings.specs.Escapes.{invalid_escapes, named_escapes}
+use Rattle.lint_findings.specs.NumberOptions.{Misuse, call_misuses, misuse_text}
 use Rattle.lint_findings.specs.Finding.{warning, Finding}
 use Rattle.lint_findings.specs.FlawHints.{never_ends, flaw_hint}
 use Rattle.lint_findings.specs.FlawWords.{flaw_code, flaw_severity, flaw_text}
@@ -57,6 +58,11 @@ node_escapes (expression (t.function_reference id (t.arguments ps ns))) = named_
 node_escapes (expression (t.term_reference id a (t.with_arguments (t.arguments ps ns)))) = named_escapes ns
 node_escapes _ = []
 
+-- the named arguments that a call of `NUMBER` makes nothing of
+abbrev pub node_misuses : Node → List Misuse
+node_misuses (expression (t.function_reference id (t.arguments ps ns))) = call_misuses id ns
+node_misuses _ = []
+
 -- ---- findings of an entry of this source
 
 module _ {F : Type 0} (ids : Ids F) (plurals : Option LanguagePlurals) (source : Text) where
@@ -88,11 +94,15 @@ module _ {F : Type 0} (ids : Ids F) (plurals : Option LanguagePlurals) (source :
   escape_finding owner at escape =
       plain_warning owner at (codes "invalid-escape") (in_backticks escape ++ codes " isn't a character, and is shown as U+FFFD")
 
+  abbrev pub option_finding : Text → Text → Misuse → Finding
+  option_finding owner at misuse = plain_warning owner at (codes "unknown-option") (misuse_text misuse)
+
   -- of a node of a pattern, at its place
   abbrev pub node_findings : Elements → Text → Text → Node → List Finding
   node_findings es owner at node =
       map (flaw_finding es owner at) (node_flaws ids node)
-      ++ (map (category_finding owner at) (node_categories plurals node) ++ map (escape_finding owner at) (node_escapes node))
+      ++ (map (category_finding owner at) (node_categories plurals node)
+      ++ (map (escape_finding owner at) (node_escapes node) ++ map (option_finding owner at) (node_misuses node)))
 
   -- Of nodes in their order, each at the place of the occurrence with the same index. If there were none, it would be
   -- at the pattern; `OccurrencesAreTheNodes` says that there always is one.

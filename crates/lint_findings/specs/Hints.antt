@@ -47,6 +47,12 @@ hints_for_equals s at =
     ∷ (begins_with colon at, codes "write `=` before the value")
     ∷ (not (begins_attribute s), codes "a line that continues the text above begins with at least one space") ∷ []
 
+-- if a placeable isn't closed
+abbrev pub hints_for_brace : Text → List (Bool × Text)
+hints_for_brace at =
+    (begins_with dot at, codes "a variable has no attributes")
+    ∷ (begins_with 62 at, codes "an arrow has a space before it, as in `{ $name ->`") ∷ []
+
 -- if nothing at the front of junk begins an entry
 abbrev pub hints_for_entry : Text → List (Bool × Text)
 hints_for_entry s =
@@ -75,7 +81,7 @@ always hint = (true, hint) ∷ []
 abbrev pub hints : Text → Text → Kind → List (Bool × Text)
 hints s at (r.expected_token token) =
     if token == equals then hints_for_equals s at
-    else if token == close_brace then (begins_with dot at, codes "a variable has no attributes") ∷ []
+    else if token == close_brace then hints_for_brace at
     else []
 hints s at r.expected_letter = if length at == length s then hints_for_entry s else []
 hints s at (r.expected_message_field id) = hints_for_value at

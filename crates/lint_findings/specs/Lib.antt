@@ -10,6 +10,7 @@ pub mod Nodes
 pub mod Occurrences
 pub mod Escapes
 pub mod MissingCategories
+pub mod NumberOptions
 pub mod Files
 pub mod Finding
 pub mod FlawWords

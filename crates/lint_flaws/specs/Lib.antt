@@ -1,4 +1,6 @@
 pub mod FlawView
 pub mod HintText
+pub mod Common
 pub mod MissingAmong
+pub mod MisuseView
 pub mod Escape

@@ -4,12 +4,14 @@
 ghost use Rattle.std.specs.Prelude.{◌≡◌, filter, IfOk};
 ghost use Rattle.std.specs.List.{list_any};
 ghost use Rattle.fluent_ast.specs.Borrowed.{key_of, variants_of};
-ghost use Rattle.lint_flaws.specs.MissingAmong.{is_lacking, missing_of, missing_in};
+ghost use Rattle.lint_flaws.specs.Common.{AreCommonBy};
+ghost use Rattle.lint_flaws.specs.MissingAmong.{AreMissing, is_lacking, missing_in};
 ghost use Rattle.lint_findings.specs.EntryFindings as e;
 ghost use Rattle.lint_findings.specs.MissingCategories as m;
 ghost use Rattle.lint_nodes.specs.NodeView.{node_view};
 
-use crate::rules::{category_text, is_common, selector_rule};
+use crate::common::CommonCategories;
+use crate::rules::{category_text, selector_rule};
 use fluent_ast::{InlineExpression, Variant, VariantKey};
 use fluent_number::{PluralCategory, PluralRuleType};
 use fluent_plurals::LanguagePlurals;
@@ -25,22 +27,24 @@ const CATEGORIES: [PluralCategory; 5] = [
     PluralCategory::MANY,
 ];
 
-/// The plural categories that a node lacks by the rules of a language: none if it is no select, or if the rules aren't
-/// known.
+/// The plural categories that a node lacks by the rules of a language, in which these are common: none if it is no
+/// select, or if the rules aren't known.
 ///
 /// # Errors
 /// [`AllocError`] if memory runs out; nothing is kept.
 pub fn node_categories(
     alloc: Global,
     plurals: Option<LanguagePlurals>,
+    common: &CommonCategories,
     node: Node<'_, '_>,
 ) -> Result<Vec<PluralCategory>, AllocError>
+    requires { AreCommonBy plurals common.now }
     ensures { IfOk result (λ missing. missing.items
         ≡ e.node_categories plurals (node_view node.entry)) }
 {
     match (plurals, node) {
-        (Some(plurals), Node::Select { selector, variants }) => {
-            missing_categories(alloc, &plurals, selector, variants)
+        (Some(_), Node::Select { selector, variants }) => {
+            missing_categories(alloc, common, selector, variants)
         }
         _ => Ok(Vec::new(alloc)),
     }
@@ -49,49 +53,48 @@ pub fn node_categories(
 /// The categories that a select lacks: if it has a variant for one, the common ones that it has none for.
 fn missing_categories(
     alloc: Global,
-    plurals: &LanguagePlurals,
+    common: &CommonCategories,
     selector: &InlineExpression<&str>,
     variants: &[Variant<&str>],
 ) -> Result<Vec<PluralCategory>, AllocError>
-    ensures { IfOk result (λ missing. missing.items
-        ≡ missing_of plurals.now selector.now variants.now) }
+    ensures { AreMissing result common.now selector.now variants.now }
 {
-    missing_among(alloc, &CATEGORIES, plurals, selector, variants)
+    missing_among(alloc, &CATEGORIES, common, selector, variants)
 }
 
 /// The same, of these categories.
 fn missing_among(
     alloc: Global,
     categories: &[PluralCategory],
-    plurals: &LanguagePlurals,
+    common: &CommonCategories,
     selector: &InlineExpression<&str>,
     variants: &[Variant<&str>],
 ) -> Result<Vec<PluralCategory>, AllocError>
     ensures { IfOk result (λ missing. missing.items
-        ≡ missing_in categories.now plurals.now selector.now variants.now) }
+        ≡ missing_in categories.now common.now selector.now variants.now) }
 {
     let rule = selector_rule(alloc, selector)?;
     if !has_any(variants, categories) {
         return Ok(Vec::new(alloc));
     }
-    lacking(alloc, categories, plurals, rule, variants)
+    lacking(alloc, categories, common, rule, variants)
 }
 
 /// Those of these categories that are common and that no variant is for.
 fn lacking(
     alloc: Global,
     categories: &[PluralCategory],
-    plurals: &LanguagePlurals,
+    common: &CommonCategories,
     rule: PluralRuleType,
     variants: &[Variant<&str>],
 ) -> Result<Vec<PluralCategory>, AllocError>
     ensures { IfOk result (λ missing. missing.items
-        ≡ filter (is_lacking plurals.now rule variants.now) categories.now) }
+        ≡ filter (is_lacking common.now rule variants.now) categories.now) }
 {
     categories
         .iter()
         .copied()
-        .filter(|category| !has_variant(variants, *category) && is_common(plurals, rule, *category))
+        .filter(|category| !has_variant(variants, *category) && common.has(rule, *category))
         .collect(alloc)
 }
 

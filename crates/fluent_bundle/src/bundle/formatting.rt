@@ -7,13 +7,18 @@ ghost use Rattle.fluent_ast.specs.Borrowed.{elements_of};
 ghost use Rattle.fluent_bundle.specs.Bounds.{TellsTooManyOnce};
 ghost use Rattle.fluent_bundle.specs.BundleView.{IsLent, answer, bundle_of, handout};
 ghost use Rattle.fluent_bundle.specs.Contents.{ShowsAsIs};
+ghost use Rattle.fluent_meaning.specs.Ids.{find};
+ghost use Rattle.fluent_progress.specs.Depth.{NestsPast};
+ghost use Rattle.fluent_resolver.specs.Deep.{IfTooDeep};
 
 use super::FluentBundle;
 use fluent_ast::Pattern;
 use fluent_errors::FluentError;
 use fluent_meaning::laws::work_is_bounded;
 use fluent_progress::{Lent, Place};
-use fluent_resolver::answer::{answer, hand_out, lone_text, write_answer};
+use fluent_resolver::Fault;
+use fluent_resolver::answer::{answer, answer_within, hand_out, lone_text, write_answer};
+use fluent_text::stack::StackBudget;
 use fluent_text::{TextWrite, WriteError};
 use fluent_value::{
     FluentArgs, FluentFunction, FluentType, MemoizerKind, TextTransform, ValueFormatter,
@@ -108,6 +113,52 @@ where
             Some(text) => Ok(CowStr::Borrowed(text)),
             None => self.resolve_pattern(pattern, args, errors),
         }
+    }
+
+    /// As [`format_pattern`](FluentBundle::format_pattern), within this budget of the machine's stack. A pattern that nests
+    /// too deep is told from want of memory.
+    ///
+    /// What stands open inside each other takes the bytes that [`resolving`] has: calls and texts that are arguments or
+    /// selectors, in the pattern and in those that it enters. What is closed takes none, so no number of them side by side
+    /// is too deep.
+    ///
+    /// ```no_run
+    /// match bundle.format_pattern_within(pattern, None, &mut errors, StackBudget::THREAD) {
+    ///     Ok(text) => println!(rt; "{text}")?,
+    ///     Err(Fault::TooDeep) => bail!("nested too deep"),
+    ///     Err(Fault::Memory) => bail!("out of memory"),
+    /// }
+    /// ```
+    ///
+    /// # Errors
+    /// [`Memory`](Fault::Memory) if memory runs out, [`TooDeep`](Fault::TooDeep) only if the pattern takes more bytes at
+    /// some place than the budget has. The list then holds the old errors, and after them the first of the pattern's.
+    ///
+    /// [`resolving`]: fluent_text::stack::resolving
+    pub fn format_pattern_within<'x>(
+        &'x self,
+        pattern: &'r Pattern<&'s str>,
+        args: Option<&FluentArgs<'_, C>>,
+        errors: &mut Vec<FluentError>,
+        budget: StackBudget,
+    ) -> Result<CowStr<'s>, Fault>
+        ensures text { GivesText result (handout T.transformed self.now args.entry pattern.now) }
+        ensures told { ReportsAll result errors.old errors.new (handout T.transformed self.now args.entry pattern.now) }
+        ensures refused { ReportsFirst result errors.old errors.new
+            (handout T.transformed self.now args.entry pattern.now) }
+        ensures deep { IfTooDeep result (NestsPast budget.bytes (find (bundle_of self.now).ids)
+            (elements_of pattern.now)) }
+    {
+        let lent = self.lent();
+        let locals: Option<&'x FluentArgs<'s, C>> = None;
+        let place = Place {
+            ids: &self.ids,
+            context: &lent,
+            arguments: args,
+            locals,
+        };
+        let text = answer_within(&place, pattern, errors, budget)?;
+        Ok(hand_out(&lent, text)?)
     }
 
     /// The same by resolving the pattern, whatever it is. It is no part of its callers, so that one that asks for a text

@@ -27,11 +27,13 @@ use Rattle.fluent_meaning.specs.Environment.{value_text}
 use Rattle.fluent_meaning.specs.Refused.{TellsSome}
 use Rattle.fluent_meaning.specs.Steps.{done, entering, left, mapped, opens, shut}
 use Rattle.fluent_meaning.specs.Substitution as s
-use Rattle.fluent_meaning.specs.Substitution.{deeper, rooted}
+use Rattle.fluent_meaning.specs.Substitution.{deeper, rooted, rooted_path}
 use Rattle.fluent_meaning.specs.Told.{State, Writes, Finds, after, budget_of}
 use Rattle.fluent_meaning.specs.Weight.{arguments_weight, elements_weight, expression_weight, ids_weight, inline_weight, inlines_weight, maybe_arguments_weight, nameds_weight}
 use Rattle.fluent_progress.proofs.Telling.{on-err, tells-same, within}
 use Rattle.fluent_progress.specs.Results.{function_result}
+use Rattle.fluent_progress.specs.Depth.{open_in}
+use Rattle.fluent_progress.specs.Nesting.{TakesArguments, TakesElements, TakesExpression, TakesInline, TakesInlines, TakesMaybe, TakesNameds, TakesPattern, TakesTarget, TakesValue, as_call, as_text, enters, gives_text, in_braces, in_call, in_elements, in_given, in_inline, in_message, in_named, in_own, in_positional, in_selector, in_term, in_variants, call_opens, inside_call, inside_text, text_opens}
 use Rattle.fluent_progress.specs.Views.{entered_in, path_of, patterns_on, place_view, resolved_in, state, target_view}
 use Rattle.fluent_progress.specs.declared.path.Path.{Path}
 use Rattle.fluent_progress.specs.declared.progress.Progress.{Progress}
@@ -56,8 +58,10 @@ use Rattle.fluent_resolver.proofs.Terms.{term-first, term-refused, term-tells, t
 use Rattle.fluent_resolver.proofs.Selects.{none-tells, none-writes, select-first, variant-tells, variant-writes}
 use Rattle.fluent_progress.specs.Braces.{innermost}
 use Rattle.fluent_resolver.proofs.Braces.{innermost-light, innermost-written}
+use Rattle.fluent_resolver.proofs.Depth.{chosen-takes, innermost-takes, never-past, opened-closed, past-at, past-in, past-opened, past-refused, this-element, this-inline, this-named}
+use Rattle.fluent_text.specs.declared.stack.resolving.TheConstants.{CALL, TEXT}
 use Rattle.fluent_resolver.proofs.Frames.{framed-finds, framed-tells, less-framed}
-use Rattle.fluent_resolver.proofs.ArgumentLists.{given-first, given-found, given-second, nameds_in, positional_in, weight-in}
+use Rattle.fluent_resolver.proofs.ArgumentLists.{arguments-in, given-first, given-found, given-second, nameds_in, positional_in, weight-in}
 
 pub expression::write_expression-returns-in-Inline-clause-wrote : goal.expression::write_expression-returns-in-Inline-clause-wrote
 expression::write_expression-returns-in-Inline-clause-wrote g n c =
@@ -480,7 +484,7 @@ pattern::write_pattern-loop-element-preserved g n c =
             wrote = subst (λ p. Writes held next s0 (state p) (λ x. s.elements_written env whole (elements_of (map view (take (i + 1) items))) here x)) (sym w.progress-is)
                 (subst (λ es. Writes held next s0 (state c.loop-element.progress) (λ x. s.elements_written env whole es here x)) (ap (λ y. elements_of (xs ++ y ∷ [])) (sym is) ∙ grown) wrote);
             path = ap entered_in w.progress-is ∙ invariant.path;
-            stack = ap (λ (p : Progress). p.stack.taken) w.progress-is ∙ invariant.stack;
+            stack = ap (λ (p : Progress). open_in p.stack) w.progress-is ∙ invariant.stack;
           })
       | pattern::write_pattern-in-Placeable+in_ok-write_placeable-in-Placeable w ↦
           (let e = expression_of w.in-Placeable.expression in
@@ -495,7 +499,7 @@ pattern::write_pattern-loop-element-preserved g n c =
           record {
             wrote = subst (λ es. Writes held next s0 (state c.match-element.progress) (λ x. s.elements_written env whole es here x)) (ap (λ y. elements_of (xs ++ y ∷ [])) (sym is) ∙ grown) wrote;
             path = ap entered_in w.progress-is ∙ w.in_ok-write_placeable-in-Placeable.ensures.path ∙ invariant.path;
-            stack = ap (λ (p : Progress). p.stack.taken) w.progress-is ∙ w.in_ok-write_placeable-in-Placeable.ensures.stack ∙ invariant.stack;
+            stack = ap (λ (p : Progress). open_in p.stack) w.progress-is ∙ w.in_ok-write_placeable-in-Placeable.ensures.stack ∙ invariant.stack;
           })
     ]
 
@@ -1036,3 +1040,304 @@ arguments::nested_call-returns-clause-found g n c =
     let env = resolved_in c.args.place.now in
     let gives : s.Called g.row.C-Meaning.Denot → Option (v.Value g.row.C-Meaning.Denot) = λ called. function_result env (env.find (name_of c.args.id.now)) called.positional called.named in
     framed-finds c.args.place.now c.args.progress.now c.open_frames.new.self c.open_frames.ensures.state c.open_frames.ensures.path (λ p b. mapped gives (s.arguments_found env (t.with_arguments (arguments_of c.args.arguments.now)) p b)) c.close_frames.ensures.state c.in_ok-result.ensures.found
+
+pub pattern::write_pattern-returns-in_err-write_text-in-TextElement-clause-deep : goal.pattern::write_pattern-returns-in_err-write_text-in-TextElement-clause-deep
+pattern::write_pattern-returns-in_err-write_text-in-TextElement-clause-deep g n c =
+    on-err _ (never-past c.loop-element.invariant.stack)
+
+pub pattern::write_pattern-returns-in_err-write_placeable-in-Placeable-clause-deep : goal.pattern::write_pattern-returns-in_err-write_placeable-in-Placeable-clause-deep
+pattern::write_pattern-returns-in_err-write_placeable-in-Placeable-clause-deep g n c =
+    let find = (resolved_in c.args.place.now).find in
+    let path = path_of c.args.progress.now in
+    let of_path : Bor (Pattern (Bor (List ℕ))) → Elements = λ x. pattern_of x.now in
+    let whole = pattern_of c.args.pattern.now in
+    let view = element_view (Bor (List ℕ)) (λ s. s.now) in
+    let items = c.deref-element-items.result.now in
+    let i = c.loop-element.element-index in
+    let xs = map view (take i items) in
+    let ys = map view (drop (i + 1) items) in
+    let e = expression_of c.in-Placeable.expression in
+    let is : view c.element-item.result ≡ placeable e = ap view c.in-Placeable.is ∙ element_view-Placeable (Bor (List ℕ)) (λ s. s.now) c.in-Placeable.expression in
+    let joined : elements_of (xs ++ placeable e ∷ ys) ≡ whole = whole-around c.args.pattern.now c.deref-element-items.ensures.value i c.element-item.result (placeable e) c.loop-element-test.true c.element-item.is is in
+    let at : path_of c.loop-element.progress ≡ path = ap (map of_path) c.loop-element.invariant.path in
+    on-err _ (past-in (λ m h. in_elements (subst (λ x. TakesElements find (rooted_path whole path) x m) joined (this-element find (rooted_path whole path) xs ys e h))) (past-at (λ p m. TakesExpression find (rooted_path whole p) e m) c.loop-element.invariant.stack at c.in_err-write_placeable-in-Placeable.ensures.deep))
+
+pub pattern::write_placeable-returns-in_err-open_placeable-clause-deep : goal.pattern::write_placeable-returns-in_err-open_placeable-clause-deep
+pattern::write_placeable-returns-in_err-open_placeable-clause-deep g n c =
+    on-err _ (never-past (ap open_in c.open_placeable.ensures.stack))
+
+pub pattern::write_placeable-returns-in_err-write_front-clause-deep : goal.pattern::write_placeable-returns-in_err-write_front-clause-deep
+pattern::write_placeable-returns-in_err-write_front-clause-deep g n c =
+    on-err _ (never-past (ap open_in c.open_placeable.ensures.stack))
+
+pub pattern::write_placeable-returns-in_err-write_opened-clause-deep : goal.pattern::write_placeable-returns-in_err-write_opened-clause-deep
+pattern::write_placeable-returns-in_err-write_opened-clause-deep g n c =
+    let find = (resolved_in c.args.place.now).find in
+    let of_path : Bor (Pattern (Bor (List ℕ))) → Elements = λ x. pattern_of x.now in
+    let whole = pattern_of c.args.whole.now in
+    let e = expression_of c.args.expression.now in
+    on-err _ (past-at (λ (p : Path) m. TakesExpression find (rooted_path whole (map of_path (patterns_on p))) e m) (ap open_in c.open_placeable.ensures.stack) c.open_placeable.ensures.path c.in_err-write_opened.ensures.deep)
+
+pub pattern::write_placeable-returns-clause-deep : goal.pattern::write_placeable-returns-clause-deep
+pattern::write_placeable-returns-clause-deep g n c =
+    on-err c.write_back.result (never-past (c.in_ok-write_opened.ensures.stack ∙ ap open_in c.open_placeable.ensures.stack))
+
+pub pattern::write_opened-returns-in_err-write_expression-clause-deep : goal.pattern::write_opened-returns-in_err-write_expression-clause-deep
+pattern::write_opened-returns-in_err-write_expression-clause-deep g n c =
+    let find = (resolved_in c.args.place.now).find in
+    let e = expression_of c.args.expression.now in
+    on-err _ (past-at (λ p m. TakesExpression find p e m) (ap open_in c.enter_root-is_root.ensures.stack) c.enter_root-is_root.ensures.path c.in_err-write_expression.ensures.deep)
+
+pub pattern::write_opened-returns-clause-deep : goal.pattern::write_opened-returns-clause-deep
+pattern::write_opened-returns-clause-deep g n c =
+    on-err c.close.result (never-past (ap open_in c.leave_root.ensures.stack ∙ c.in_ok-write_expression.ensures.stack ∙ ap open_in c.enter_root-is_root.ensures.stack))
+
+pub pattern::write_referred-returns-in_err-enter_path-clause-deep : goal.pattern::write_referred-returns-in_err-enter_path-clause-deep
+pattern::write_referred-returns-in_err-enter_path-clause-deep g n c =
+    on-err _ (never-past (ap open_in (c.enter_path.ensures.stack ∙ c.count_entry.ensures.stack)))
+
+pub pattern::write_referred-returns-in_err-write_pattern-clause-deep : goal.pattern::write_referred-returns-in_err-write_pattern-clause-deep
+pattern::write_referred-returns-in_err-write_pattern-clause-deep g n c =
+    let find = (resolved_in c.args.place.now).find in
+    let path = path_of c.args.progress.now in
+    let of_path : Bor (Pattern (Bor (List ℕ))) → Elements = λ x. pattern_of x.now in
+    let pat = pattern_of c.args.pattern.now in
+    let first : s.is_on_path pat path ≡ false = sym c.is_entered.ensures ∙ c.if-is_entered.false in
+    let on_path : path_of c.enter_path.new.self ≡ path ++ pat ∷ [] = ap (map of_path) (c.in_ok-enter_path.ensures.path ∙ ap (λ (v : Path). patterns_on v ++ c.args.pattern ∷ []) c.count_entry.ensures.path) ∙ map-append of_path (entered_in c.args.progress.now) (c.args.pattern ∷ []) in
+    on-err _ (past-in (λ m h. enters first h) (past-at (λ p m. TakesPattern find p pat m) (ap open_in (c.enter_path.ensures.stack ∙ c.count_entry.ensures.stack)) on_path c.in_err-write_pattern.ensures.deep))
+
+pub expression::write_expression-returns-in-Inline-clause-deep : goal.expression::write_expression-returns-in-Inline-clause-deep
+expression::write_expression-returns-in-Inline-clause-deep g n c =
+    let find = (resolved_in c.args.place.now).find in
+    let path = path_of c.args.progress.now in
+    on_err_weaker c.write_inline.result (past-in (λ m h. subst (λ x. TakesExpression find path x m) (sym (is-inline c.in-Inline.is)) (in_inline h))) c.write_inline.ensures.deep
+
+pub expression::write_select-returns-in_err-pattern-clause-deep : goal.expression::write_select-returns-in_err-pattern-clause-deep
+expression::write_select-returns-in_err-pattern-clause-deep g n c =
+    on-err _ (past-in (λ m h. in_selector h) c.in_err-pattern.ensures.deep)
+
+pub expression::write_select-returns-in-None-clause-deep : goal.expression::write_select-returns-in-None-clause-deep
+expression::write_select-returns-in-None-clause-deep g n c =
+    on-err c.add_error.result (never-past (ap open_in c.add_error.ensures.stack ∙ c.in_ok-pattern.ensures.stack))
+
+pub expression::write_select-returns-in-Some-clause-deep : goal.expression::write_select-returns-in-Some-clause-deep
+expression::write_select-returns-in-Some-clause-deep g n c =
+    let env = resolved_in c.args.place.now in
+    let here = place_view c.args.place.now c.args.progress.now in
+    let b = (state c.args.progress.now).budget in
+    let find = (resolved_in c.args.place.now).find in
+    let path = path_of c.args.progress.now in
+    let of_path : Bor (Pattern (Bor (List ℕ))) → Elements = λ x. pattern_of x.now in
+    let i = inline_of c.args.selector.now in
+    let vs = variants_of c.args.variants.now.items in
+    let pat = pattern_of c.in-Some.pattern.now in
+    let some : (option_map pattern_of (option_copied c.in_ok-pattern.field-0)) ≡ Some pat = ap (λ q. option_map pattern_of (option_copied q)) c.in-Some.is in
+    let at : path_of c.count_entry.new.self ≡ path = ap (λ (p : Path). map of_path (patterns_on p)) c.count_entry.ensures.path ∙ ap (map of_path) c.in_ok-pattern.ensures.path in
+    on_err_weaker c.write_pattern.result (λ h. past-in (λ m k. in_variants (chosen-takes find path pat k env.plurals (s.value_found env i here b).value vs (sym c.in_ok-pattern.ensures.found.value ∙ some))) (past-at (λ p m. TakesPattern find p pat m) (ap open_in c.count_entry.ensures.stack ∙ c.in_ok-pattern.ensures.stack) at h)) c.write_pattern.ensures.deep
+
+pub expression::write_inline-returns-in-StringLiteral-clause-deep : goal.expression::write_inline-returns-in-StringLiteral-clause-deep
+expression::write_inline-returns-in-StringLiteral-clause-deep g n c =
+    on-err c.write_literal.result (never-past refl)
+
+pub expression::write_inline-returns-in-NumberLiteral-clause-deep : goal.expression::write_inline-returns-in-NumberLiteral-clause-deep
+expression::write_inline-returns-in-NumberLiteral-clause-deep g n c =
+    on-err c.write_number.result (never-past refl)
+
+pub expression::write_inline-returns-in-VariableReference-clause-deep : goal.expression::write_inline-returns-in-VariableReference-clause-deep
+expression::write_inline-returns-in-VariableReference-clause-deep g n c =
+    on-err c.write_variable.result (never-past (ap open_in c.write_variable.ensures.stack))
+
+pub expression::write_inline-returns-in_err-target-in-MessageReference-clause-deep : goal.expression::write_inline-returns-in_err-target-in-MessageReference-clause-deep
+expression::write_inline-returns-in_err-target-in-MessageReference-clause-deep g n c =
+    on-err _ (never-past refl)
+
+pub expression::write_inline-returns-in_ok-target-in-MessageReference-clause-deep : goal.expression::write_inline-returns-in_ok-target-in-MessageReference-clause-deep
+expression::write_inline-returns-in_ok-target-in-MessageReference-clause-deep g n c =
+    let find = (resolved_in c.args.place.now).find in
+    let path = path_of c.args.progress.now in
+    let id = name_of c.in-MessageReference.id in
+    let attr = option_map name_of c.in-MessageReference.attribute in
+    let meant : (target_view c.in_ok-target-in-MessageReference.target) ≡ s.message_target id attr (find id) = c.in_ok-target-in-MessageReference.ensures in
+    on_err_weaker c.write_target.result (past-in (λ m h. subst (λ x. TakesInline find path x m) (sym (is-message c.in-MessageReference.is)) (in_message (subst (λ x. TakesTarget find path x m) meant h)))) c.write_target.ensures.deep
+
+pub expression::write_inline-returns-in-Placeable-clause-deep : goal.expression::write_inline-returns-in-Placeable-clause-deep
+expression::write_inline-returns-in-Placeable-clause-deep g n c =
+    let find = (resolved_in c.args.place.now).find in
+    let path = path_of c.args.progress.now in
+    let e = expression_of c.in-Placeable.expression.value in
+    let inner : expression_of c.innermost.result.now ≡ innermost e = rw c.deref.ensures at c.innermost.ensures in
+    on_err_weaker c.write_expression.result (past-in (λ m h. subst (λ x. TakesInline find path x m) (sym (is-nested c.in-Placeable.is)) (in_braces (innermost-takes find path e (subst (λ x. TakesExpression find path x m) inner h))))) c.write_expression.ensures.deep
+
+pub expression::write_call-returns-in_err-result-clause-deep : goal.expression::write_call-returns-in_err-result-clause-deep
+expression::write_call-returns-in_err-result-clause-deep g n c =
+    let find = (resolved_in c.args.place.now).find in
+    let path = path_of c.args.progress.now in
+    on-err _ (past-in (λ m h. subst (λ x. TakesInline find path x m) (sym c.requires) (in_call h)) c.in_err-result.ensures.deep)
+
+pub expression::write_call-returns-in-Some-clause-deep : goal.expression::write_call-returns-in-Some-clause-deep
+expression::write_call-returns-in-Some-clause-deep g n c =
+    on-err _ (never-past c.in_ok-result.ensures.stack)
+
+pub expression::write_call-returns-in_err-id-in-None-clause-deep : goal.expression::write_call-returns-in_err-id-in-None-clause-deep
+expression::write_call-returns-in_err-id-in-None-clause-deep g n c =
+    on-err _ (never-past c.in_ok-result.ensures.stack)
+
+pub expression::write_call-returns-in_ok-id-in-None-clause-deep : goal.expression::write_call-returns-in_ok-id-in-None-clause-deep
+expression::write_call-returns-in_ok-id-in-None-clause-deep g n c =
+    on-err c.fall_back.result (never-past (ap open_in c.fall_back.ensures.stack ∙ c.in_ok-result.ensures.stack))
+
+pub expression::write_term-returns-in_err-own-clause-deep : goal.expression::write_term-returns-in_err-own-clause-deep
+expression::write_term-returns-in_err-own-clause-deep g n c =
+    let find = (resolved_in c.args.place.now).find in
+    let path = path_of c.args.progress.now in
+    on-err _ (past-in (λ m h. subst (λ x. TakesInline find path x m) (sym c.requires) (in_own h)) c.in_err-own.ensures.deep)
+
+pub expression::write_term-returns-in_err-target-clause-deep : goal.expression::write_term-returns-in_err-target-clause-deep
+expression::write_term-returns-in_err-target-clause-deep g n c =
+    on-err _ (never-past c.in_ok-own.ensures.stack)
+
+pub expression::write_term-returns-clause-deep : goal.expression::write_term-returns-clause-deep
+expression::write_term-returns-clause-deep g n c =
+    let find = (resolved_in c.args.place.now).find in
+    let path = path_of c.args.progress.now in
+    let of_path : Bor (Pattern (Bor (List ℕ))) → Elements = λ x. pattern_of x.now in
+    let id = name_of c.args.id.now in
+    let attr = option_map name_of c.args.attribute.now in
+    let target = target_view c.in_ok-target.target in
+    let meant : target ≡ s.term_target id attr (find id) = c.in_ok-target.ensures in
+    let at : path_of c.own_arguments.new.progress ≡ path = ap (map of_path) c.in_ok-own.ensures.path in
+    on_err_weaker c.write_target.result (λ h. past-in (λ m k. subst (λ x. TakesInline find path x m) (sym c.requires) (in_term (subst (λ x. TakesTarget find path x m) meant k))) (past-at (λ p m. TakesTarget find p target m) c.in_ok-own.ensures.stack at h)) c.write_target.ensures.deep
+
+pub value::value_of-returns-in-StringLiteral-clause-deep : goal.value::value_of-returns-in-StringLiteral-clause-deep
+value::value_of-returns-in-StringLiteral-clause-deep g n c =
+    on-err _ (never-past refl)
+
+pub value::value_of-returns-in_err-result-in-FunctionReference-clause-deep : goal.value::value_of-returns-in_err-result-in-FunctionReference-clause-deep
+value::value_of-returns-in_err-result-in-FunctionReference-clause-deep g n c =
+    let find = (resolved_in c.args.place.now).find in
+    let path = path_of c.args.progress.now in
+    on-err _ (past-in (λ m h. subst (λ x. TakesValue find path x m) (sym (is-function c.in-FunctionReference.is)) (as_call h)) c.in_err-result-in-FunctionReference.ensures.deep)
+
+pub value::value_of-returns-in-VariableReference-clause-deep : goal.value::value_of-returns-in-VariableReference-clause-deep
+value::value_of-returns-in-VariableReference-clause-deep g n c =
+    on-err c.variable_value.result (never-past (ap open_in c.variable_value.ensures.stack))
+
+pub value::value_of-returns-in-MessageReference-clause-deep : goal.value::value_of-returns-in-MessageReference-clause-deep
+value::value_of-returns-in-MessageReference-clause-deep g n c =
+    let gives : gives_text (inline_of c.args.inline.now) ≡ true = of-three
+    (λ p. ap gives_text (is-message p.2))
+    (λ p. ap gives_text (ap inline_of p.3 ∙ inline_view-TermReference (Bor (List ℕ)) (λ s. s.now) p.0 p.1 p.2))
+    (λ p. ap gives_text (is-nested p.1))
+    c.in-MessageReference.is in
+    on_err_weaker c.text_value.result (past-in (λ m h. as_text gives h)) c.text_value.ensures.deep
+
+pub value::text_value-returns-in_err-open_frames-clause-deep : goal.value::text_value-returns-in_err-open_frames-clause-deep
+value::text_value-returns-in_err-open_frames-clause-deep g n c =
+    on-err _ (past-refused TEXT text_opens c.in_err-open_frames.ensures.past)
+
+pub value::text_value-returns-in_err-write_inline-clause-deep : goal.value::text_value-returns-in_err-write_inline-clause-deep
+value::text_value-returns-in_err-write_inline-clause-deep g n c =
+    let find = (resolved_in c.args.place.now).find in
+    let of_path : Bor (Pattern (Bor (List ℕ))) → Elements = λ x. pattern_of x.now in
+    on-err _ (past-opened TEXT c.in_ok-open_frames.ensures.opened (λ m h. inside_text h) (past-at (λ (p : Path) m. TakesInline find (map of_path (patterns_on p)) (inline_of c.args.inline.now) m) refl c.open_frames.ensures.path c.in_err-write_inline.ensures.deep))
+
+pub value::text_value-returns-clause-stack : goal.value::text_value-returns-clause-stack
+value::text_value-returns-clause-stack g n c =
+    opened-closed TEXT c.in_ok-open_frames.ensures.opened c.in_ok-write_inline.ensures.stack c.close_frames.ensures.closed
+
+pub arguments::nested_call-returns-in_err-open_frames-clause-deep : goal.arguments::nested_call-returns-in_err-open_frames-clause-deep
+arguments::nested_call-returns-in_err-open_frames-clause-deep g n c =
+    on-err _ (past-refused CALL call_opens c.in_err-open_frames.ensures.past)
+
+pub arguments::nested_call-returns-in_err-result-clause-deep : goal.arguments::nested_call-returns-in_err-result-clause-deep
+arguments::nested_call-returns-in_err-result-clause-deep g n c =
+    let find = (resolved_in c.args.place.now).find in
+    let of_path : Bor (Pattern (Bor (List ℕ))) → Elements = λ x. pattern_of x.now in
+    on-err _ (past-opened CALL c.in_ok-open_frames.ensures.opened (λ m h. inside_call h) (past-at (λ (p : Path) m. TakesArguments find (map of_path (patterns_on p)) (arguments_of c.args.arguments.now) m) refl c.open_frames.ensures.path c.in_err-result.ensures.deep))
+
+pub arguments::nested_call-returns-clause-stack : goal.arguments::nested_call-returns-clause-stack
+arguments::nested_call-returns-clause-stack g n c =
+    opened-closed CALL c.in_ok-open_frames.ensures.opened c.in_ok-result.ensures.stack c.close_frames.ensures.closed
+
+pub arguments::call_result-returns-in_err-positional-clause-deep : goal.arguments::call_result-returns-in_err-positional-clause-deep
+arguments::call_result-returns-in_err-positional-clause-deep g n c =
+    let find = (resolved_in c.args.place.now).find in
+    let path = path_of c.args.progress.now in
+    let a = c.args.arguments.now in
+    on-err _ (past-in (λ m h. subst (λ x. TakesArguments find path x m) (sym (arguments-in a)) (in_positional h)) c.in_err-positional.ensures.deep)
+
+pub arguments::call_result-returns-in_err-named-clause-deep : goal.arguments::call_result-returns-in_err-named-clause-deep
+arguments::call_result-returns-in_err-named-clause-deep g n c =
+    let find = (resolved_in c.args.place.now).find in
+    let path = path_of c.args.progress.now in
+    let of_path : Bor (Pattern (Bor (List ℕ))) → Elements = λ x. pattern_of x.now in
+    let a = c.args.arguments.now in
+    let at : path_of c.positional_values.new.progress ≡ path = ap (map of_path) c.in_ok-positional.ensures.path in
+    on-err _ (past-in (λ m h. subst (λ x. TakesArguments find path x m) (sym (arguments-in a)) (in_named h)) (past-at (λ p m. TakesNameds find p (nameds_in a) m) c.in_ok-positional.ensures.stack at c.in_err-named.ensures.deep))
+
+pub arguments::call_result-returns-clause-deep : goal.arguments::call_result-returns-clause-deep
+arguments::call_result-returns-clause-deep g n c =
+    on-err c.call.result (never-past (c.in_ok-named.ensures.stack ∙ c.in_ok-positional.ensures.stack))
+
+pub arguments::own_arguments-returns-in_err-positional_values-in-Some-clause-deep : goal.arguments::own_arguments-returns-in_err-positional_values-in-Some-clause-deep
+arguments::own_arguments-returns-in_err-positional_values-in-Some-clause-deep g n c =
+    let find = (resolved_in c.args.place.now).find in
+    let path = path_of c.args.progress.now in
+    let a = c.in-Some.arguments in
+    let is = ap maybe_arguments_of c.in-Some.is in
+    on-err _ (past-in (λ m h. subst (λ x. TakesMaybe find path x m) (sym is) (in_given (subst (λ x. TakesArguments find path x m) (sym (arguments-in a)) (in_positional h)))) c.in_err-positional_values-in-Some.ensures.deep)
+
+pub arguments::own_arguments-returns-in_ok-positional_values-in-Some-clause-deep : goal.arguments::own_arguments-returns-in_ok-positional_values-in-Some-clause-deep
+arguments::own_arguments-returns-in_ok-positional_values-in-Some-clause-deep g n c =
+    let find = (resolved_in c.args.place.now).find in
+    let path = path_of c.args.progress.now in
+    let of_path : Bor (Pattern (Bor (List ℕ))) → Elements = λ x. pattern_of x.now in
+    let a = c.in-Some.arguments in
+    let is = ap maybe_arguments_of c.in-Some.is in
+    let at : path_of c.positional_values.new.progress ≡ path = ap (map of_path) c.in_ok-positional_values-in-Some.ensures.path in
+    on_err_weaker c.named_values.result (λ k. past-in (λ m h. subst (λ x. TakesMaybe find path x m) (sym is) (in_given (subst (λ x. TakesArguments find path x m) (sym (arguments-in a)) (in_named h)))) (past-at (λ p m. TakesNameds find p (nameds_in a) m) c.in_ok-positional_values-in-Some.ensures.stack at k)) c.named_values.ensures.deep
+
+pub arguments::positional_values-returns-in_err-values-clause-deep : goal.arguments::positional_values-returns-in_err-values-clause-deep
+arguments::positional_values-returns-in_err-values-clause-deep g n c =
+    on-err _ (never-past refl)
+
+pub arguments::positional_values-returns-in_err-value_of-clause-deep : goal.arguments::positional_values-returns-in_err-value_of-clause-deep
+arguments::positional_values-returns-in_err-value_of-clause-deep g n c =
+    let find = (resolved_in c.args.place.now).find in
+    let path = path_of c.args.progress.now in
+    let of_path : Bor (Pattern (Bor (List ℕ))) → Elements = λ x. pattern_of x.now in
+    let view = inline_of in
+    let items = c.deref-argument-items.result.now in
+    let i = c.loop-argument.argument-index in
+    let xs = map view (take i items) in
+    let ys = map view (drop (i + 1) items) in
+    let arg = c.argument-item.result in
+    let joined : xs ++ view arg ∷ ys ≡ map view items = around view items i arg c.loop-argument-test.true c.argument-item.is in
+    let at : path_of c.loop-argument.progress ≡ path = ap (map of_path) c.loop-argument.invariant.path in
+    let whole : inlines_of (xs ++ view arg ∷ ys) ≡ inlines_of (map view c.args.arguments.now.items) = ap inlines_of (joined ∙ ap (map view) c.deref-argument-items.ensures.value) in
+    on-err _ (past-in (λ m h. subst (λ x. TakesInlines find path x m) whole (this-inline find path xs ys (view arg) h)) (past-at (λ p m. TakesValue find p (view arg) m) c.loop-argument.invariant.stack at c.in_err-value_of.ensures.deep))
+
+pub arguments::positional_values-returns-in_err-push-clause-deep : goal.arguments::positional_values-returns-in_err-push-clause-deep
+arguments::positional_values-returns-in_err-push-clause-deep g n c =
+    on-err _ (never-past (c.in_ok-value_of.ensures.stack ∙ c.loop-argument.invariant.stack))
+
+pub arguments::named_values-returns-in_err-value-clause-deep : goal.arguments::named_values-returns-in_err-value-clause-deep
+arguments::named_values-returns-in_err-value-clause-deep g n c =
+    let find = (resolved_in c.args.place.now).find in
+    let path = path_of c.args.progress.now in
+    let of_path : Bor (Pattern (Bor (List ℕ))) → Elements = λ x. pattern_of x.now in
+    let view = named_view (Bor (List ℕ)) (λ s. s.now) in
+    let items = c.deref-argument-items.result.now in
+    let i = c.loop-argument.argument-index in
+    let xs = map view (take i items) in
+    let ys = map view (drop (i + 1) items) in
+    let arg = c.argument-item.result in
+    let joined : xs ++ view arg ∷ ys ≡ map view items = around view items i arg c.loop-argument-test.true c.argument-item.is in
+    let at : path_of c.loop-argument.progress ≡ path = ap (map of_path) c.loop-argument.invariant.path in
+    let whole : nameds_of (xs ++ view arg ∷ ys) ≡ nameds_of (map view c.args.arguments.now.items) = ap nameds_of (joined ∙ ap (map view) c.deref-argument-items.ensures.value) in
+    let is_value : (view arg).value ≡ inline_of (out-NamedArgument (Bor (List ℕ)) arg).value = ap (λ (n : Named). n.value) (named_view-out (Bor (List ℕ)) (λ s. s.now) arg) in
+    on-err _ (past-in (λ m h. subst (λ x. TakesNameds find path x m) whole (this-named find path xs ys (view arg) (subst (λ k. TakesValue find path k m) (sym is_value) h))) (past-at (λ p m. TakesValue find p (inline_of (out-NamedArgument (Bor (List ℕ)) arg).value) m) c.loop-argument.invariant.stack at c.in_err-value.ensures.deep))
+
+pub arguments::named_values-returns-in_err-set_value-clause-deep : goal.arguments::named_values-returns-in_err-set_value-clause-deep
+arguments::named_values-returns-in_err-set_value-clause-deep g n c =
+    on-err _ (never-past (c.in_ok-value.ensures.stack ∙ c.loop-argument.invariant.stack))

@@ -8,6 +8,7 @@ use Rattle.fluent_meaning.specs.Substitution as s
 use Rattle.fluent_meaning.specs.Told.{Finds, Writes}
 use Rattle.fluent_meaning.specs.Weight.{arguments_weight, elements_weight, expression_weight, ids_weight, inline_weight, inlines_weight, maybe_arguments_weight, nameds_weight}
 use Rattle.fluent_meaning.proofs.Weights.{target_weight}
+use Rattle.fluent_progress.specs.Depth.{open_in}
 use Rattle.fluent_progress.specs.Views.{entered_in, place_view, resolved_in, state, target_view}
 use Rattle.fluent_value.specs.Args.{all_set}
 use Rattle.fluent_value.specs.ArgsView.{args_view}
@@ -25,7 +26,7 @@ invariant-pattern::write_pattern-loop-element g l =
     record {
       wrote : Writes (string_bytes l.initial.out) (string_bytes l.out) (state l.initial.progress) (state l.progress) (λ b. s.elements_written env whole before here b);
       path : entered_in l.progress ≡ entered_in l.initial.progress;
-      stack : l.progress.stack.taken ≡ l.initial.progress.stack.taken;
+      stack : open_in l.progress.stack ≡ open_in l.initial.progress.stack;
     }
 
 -- The values of the arguments before this one were found.
@@ -37,7 +38,7 @@ invariant-arguments::positional_values-loop-argument g l =
     record {
       found : Finds (map (value_view g.C.FluentType.meaning) l.values.items) (state l.initial.progress) (state l.progress) (λ b. s.positional_found env before here b);
       path : entered_in l.progress ≡ entered_in l.initial.progress;
-      stack : l.progress.stack.taken ≡ l.initial.progress.stack.taken;
+      stack : open_in l.progress.stack ≡ open_in l.initial.progress.stack;
     }
 
 abbrev pub invariant-arguments::named_values-loop-argument : goal.invariant-arguments::named_values-loop-argument
@@ -48,7 +49,7 @@ invariant-arguments::named_values-loop-argument g l =
     record {
       found : Finds (args_view g.C.FluentType.meaning l.values) (state l.initial.progress) (state l.progress) (λ b. mapped (all_set []) (s.named_found env before here b));
       path : entered_in l.progress ≡ entered_in l.initial.progress;
-      stack : l.progress.stack.taken ≡ l.initial.progress.stack.taken;
+      stack : open_in l.progress.stack ≡ open_in l.initial.progress.stack;
     }
 
 -- What is left to do: placeables that may be opened count more than all patterns of the context, then the weight of what is

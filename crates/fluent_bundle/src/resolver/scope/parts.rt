@@ -14,9 +14,9 @@ use super::Scope;
 use fluent_ast::{CallArguments, Expression, InlineExpression, Pattern};
 use fluent_errors::{FluentError, ReferenceKind, ResolverError};
 use fluent_progress::fallback::write_inline_braced;
-use fluent_progress::{Path, Place, Progress};
+use fluent_progress::{Frames, Path, Place, Progress};
 use fluent_resolver::steps::{opened, referred, values};
-use fluent_text::stack::{Stack, StackBudget};
+use fluent_text::stack::StackBudget;
 use fluent_value::{
     FluentArgs, FluentFunction, FluentType, FluentValue, MemoizerKind, TextTransform,
     ValueFormatter,
@@ -57,7 +57,7 @@ where
             dirty: self.dirty,
             entered: self.entered,
             path: Path::new(alloc, self.root),
-            stack: Stack::new(StackBudget::PROGRAM),
+            stack: Frames::new(StackBudget::PROGRAM),
         }
     }
 

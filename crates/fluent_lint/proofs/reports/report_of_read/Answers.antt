@@ -3,6 +3,7 @@ use Rattle.std.specs.Prelude.{IfOk}
 use Rattle.fluent_ids.specs.IdsView.{ids_view}
 use Rattle.lint_endless.specs.Catalog.{AreDeclaredIn}
 use Rattle.lint_endless.specs.EndlessView.{ids_of}
+use Rattle.lint_entries.proofs.CommonIn.{in_language as common_in_language}
 use Rattle.lint_files.specs.RulesView.{compare_with}
 use Rattle.lint_findings.specs.Findings.{FileFinding}
 use Rattle.fluent_lint.specs.FileTiles.{files_view}
@@ -18,6 +19,10 @@ new-requires c =
     let files = c.args.files.now in
     subst (λ trees. AreDeclaredIn ids trees) (sym c.deref.ensures.value)
     (known_declared (options_view c.args.options.now) (files_view c.args.references.now.files.now) files.files.now files.trees.items c.requires.files.trees ids c.in_ok-known.ensures.ids)
+
+pub invariant_of-catalog : goal.invariant_of-catalog
+invariant_of-catalog c =
+    record { in_language = common_in_language c.args.options.now.plurals c.of-common.result c.of-common.ensures }
 
 pub returns : goal.returns
 returns c =

@@ -1,6 +1,6 @@
 use Rattle.std.proofs.Common.{◌≡◌, List, length, rules, ℕ, Bor, map, sym, ap, ◌∙◌}
 use Rattle.std.proofs.lemmas.List.{nil_from_length}
-use Rattle.fluent_ast.specs.View.{element_view, elements_of, pattern_view}
+use Rattle.fluent_ast.specs.View.{element_view, elements_of}
 use Rattle.fluent_ast.proofs.Views.{element_view-Placeable, element_view-TextElement, pattern_view-out}
 use Rattle.fluent_resolver.specs.Asked.{lone_text}
 use Rattle.fluent_resolver.proofs.Asking.{lone-placeable, lone-several, lone-text, not-nil}

@@ -13,7 +13,15 @@ use Rattle.fluent_meaning.specs.Steps.{is_shut, shut}
 use Rattle.fluent_meaning.specs.Substitution as s
 use Rattle.fluent_meaning.specs.Told.{State, Writes, budget_of}
 use Rattle.fluent_progress.proofs.Telling.{on-err, within}
-use Rattle.fluent_progress.specs.Views.{entered_in, place_view, resolved_in, state}
+use Rattle.fluent_ast.specs.Borrowed.{elements_of as pattern_of, expression_of}
+use Rattle.fluent_ast.specs.declared.Pattern.{Pattern}
+use Rattle.fluent_grammar.specs.Tree.{Elements}
+use Rattle.fluent_meaning.specs.Substitution.{rooted_path}
+use Rattle.fluent_progress.specs.Depth.{open_in}
+use Rattle.fluent_progress.specs.Nesting.{TakesElements, TakesExpression, in_elements}
+use Rattle.fluent_progress.specs.Views.{entered_in, path_of, place_view, resolved_in, state}
+use Rattle.fluent_progress.specs.declared.progress.Progress.{Progress}
+use Rattle.fluent_resolver.proofs.Depth.{never-past, past-at, past-in, this-element}
 use Rattle.fluent_resolver.proofs.Places.{same-place}
 use Rattle.fluent_resolver.proofs.Pieces.{placeable-refused, text-refused}
 use Rattle.fluent_resolver.proofs.Elements.{whole-around, whole-elements, whole-split}
@@ -22,7 +30,7 @@ use Rattle.fluent_resolver.proofs.written.write_pieces.Goals.{in-Placeable+in_ok
 
 pub loop-element-init : goal.loop-element-init
 loop-element-init g c =
-    record { wrote = writes-nothing _ _ _ (within c.args.progress.now) (elements-none _ _ _ _); path = refl }
+    record { wrote = writes-nothing _ _ _ (within c.args.progress.now) (elements-none _ _ _ _); path = refl; stack = refl }
 
 pub returns-clause-wrote : goal.returns-clause-wrote
 returns-clause-wrote g c =
@@ -116,6 +124,7 @@ loop-element-preserved g c =
             wrote = subst (λ p. Writes held next s0 (state p) (λ x. s.elements_written env whole (elements_of (map view (take (i + 1) items))) here x)) (sym w.progress-is)
                 (subst (λ es. Writes held next s0 (state c.loop-element.progress) (λ x. s.elements_written env whole es here x)) (ap (λ y. elements_of (xs ++ y ∷ [])) (sym is) ∙ grown) wrote);
             path = ap entered_in w.progress-is ∙ invariant.path;
+            stack = ap (λ (p : Progress). open_in p.stack) w.progress-is ∙ invariant.stack;
           })
       | in-Placeable+in_ok-write_piece-in-Placeable w ↦
           (let e = expression_view (Bor (List ℕ)) (λ s. s.now) w.in-Placeable.expression in
@@ -131,5 +140,27 @@ loop-element-preserved g c =
           record {
             wrote = subst (λ es. Writes held next s0 (state c.match-element.progress) (λ x. s.elements_written env whole es here x)) (ap (λ y. elements_of (xs ++ y ∷ [])) (sym is) ∙ grown) wrote;
             path = ap entered_in w.progress-is ∙ w.in_ok-write_piece-in-Placeable.ensures.path ∙ invariant.path;
+            stack = ap (λ (p : Progress). open_in p.stack) w.progress-is ∙ w.in_ok-write_piece-in-Placeable.ensures.stack ∙ invariant.stack;
           })
     ]
+
+pub returns-in_err-write_text-in-TextElement-clause-deep : goal.returns-in_err-write_text-in-TextElement-clause-deep
+returns-in_err-write_text-in-TextElement-clause-deep g c =
+    on-err _ (never-past c.loop-element.invariant.stack)
+
+pub returns-in_err-write_piece-in-Placeable-clause-deep : goal.returns-in_err-write_piece-in-Placeable-clause-deep
+returns-in_err-write_piece-in-Placeable-clause-deep g c =
+    let find = (resolved_in c.args.place.now).find in
+    let path = path_of c.args.progress.now in
+    let of_path : Bor (Pattern (Bor (List ℕ))) → Elements = λ x. pattern_of x.now in
+    let whole = pattern_of c.args.pattern.now in
+    let view = element_view (Bor (List ℕ)) (λ s. s.now) in
+    let items = c.deref-element-items.result.now in
+    let i = c.loop-element.element-index in
+    let xs = map view (take i items) in
+    let ys = map view (drop (i + 1) items) in
+    let e = expression_of c.in-Placeable.expression in
+    let is : view c.element-item.result ≡ placeable e = ap view c.in-Placeable.is ∙ element_view-Placeable (Bor (List ℕ)) (λ s. s.now) c.in-Placeable.expression in
+    let joined : elements_of (xs ++ placeable e ∷ ys) ≡ whole = whole-around c.args.pattern.now c.deref-element-items.ensures.value i c.element-item.result (placeable e) c.loop-element-test.true c.element-item.is is in
+    let at : path_of c.loop-element.progress ≡ path = ap (map of_path) c.loop-element.invariant.path in
+    on-err _ (past-in (λ m h. in_elements (subst (λ x. TakesElements find (rooted_path whole path) x m) joined (this-element find (rooted_path whole path) xs ys e h))) (past-at (λ p m. TakesExpression find (rooted_path whole p) e m) c.loop-element.invariant.stack at c.in_err-write_piece-in-Placeable.ensures.deep))

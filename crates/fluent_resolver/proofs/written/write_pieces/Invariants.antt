@@ -2,6 +2,7 @@ use Rattle.std.proofs.Common.{◌≡◌, map, take}
 use Rattle.fluent_ast.specs.View.{element_view, elements_of, pattern_view}
 use Rattle.fluent_meaning.specs.Substitution as s
 use Rattle.fluent_meaning.specs.Told.{Writes}
+use Rattle.fluent_progress.specs.Depth.{open_in}
 use Rattle.fluent_progress.specs.Views.{entered_in, place_view, resolved_in, state}
 use Rattle.fluent_resolver.proofs.written.write_pieces.Given as goal
 
@@ -15,4 +16,5 @@ invariant-loop-element g l =
     record {
       wrote : Writes (g.W.TextWrite.text l.initial.w) (g.W.TextWrite.text l.w) (state l.initial.progress) (state l.progress) (λ b. s.elements_written env whole before here b);
       path : entered_in l.progress ≡ entered_in l.initial.progress;
+      stack : open_in l.progress.stack ≡ open_in l.initial.progress.stack;
     }

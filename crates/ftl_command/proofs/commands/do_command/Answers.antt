@@ -2,7 +2,7 @@ use Rattle.std.proofs.lemmas.Result.{IfErr-weaker}
 use Rattle.std.proofs.Common.{ap}
 use Rattle.fluent_serve.proofs.Outcomes.{on_ok_always}
 use Rattle.ftl_arguments.specs.CommandView.{command_view}
-use Rattle.ftl_command.proofs.Refusals.{in_place_devices, text_devices}
+use Rattle.ftl_command.proofs.Refusals.{in_place_devices, lint_devices, text_devices}
 use Rattle.ftl_command.proofs.RunLemmas.{done_by, if_ok_any, first_by, kept_by, never_by}
 use Rattle.ftl_command.specs.declared.fault.Fault.TheVariants.{Input, Memory}
 use Rattle.std.specs.Prelude.{Some}
@@ -63,17 +63,20 @@ returns-in-Check-clause-devices g c =
 pub returns-in-Lint-clause-ended : goal.returns-in-Lint-clause-ended
 returns-in-Lint-clause-ended g c =
     rw c.in-Lint.is (record {
-      done = c.lint_files.ensures.ended.linted;
+      done = if_ok_any c.lint_files.result;
       tidied = on_ok_always c.lint_files.result tt;
       memory = λ memory. ap g.O.Sink.contents (kept_by c.lint_files.result Memory memory (λ same. absurd cc) (IfErr-weaker c.lint_files.result _ _ (λ fault f. f.unwritten) c.lint_files.ensures.stops));
       input = λ input. never_by c.lint_files.result Input input (IfErr-weaker c.lint_files.result _ _ (λ fault f. f.not_input) c.lint_files.ensures.stops);
-      output = λ output. c.lint_files.ensures.ended.output output;
+      output = λ output. tt;
     })
 
 pub returns-in-Lint-clause-devices : goal.returns-in-Lint-clause-devices
 returns-in-Lint-clause-devices g c =
-    rw c.in-Lint.is (text_devices g.F.Folder g.I.Source g.O.Sink c.args.reader.now c.args.writer.now _ c.args.folder.now c.lint_files.new.folder c.lint_files.new.writer
-    c.lint_files.result c.lint_files.ensures.works c.lint_files.ensures.fault c.lint_files.ensures.stops)
+    rw c.in-Lint.is (lint_devices g.F.Folder c.args.folder.now c.lint_files.new.folder _ g.I.Source g.O.Sink c.args.reader.now c.args.writer.now c.lint_files.new.writer
+    c.lint_files.result c.lint_files.ensures.writes c.lint_files.ensures.fault c.lint_files.ensures.stops)
+
+pub returns-in-Lint-clause-files : goal.returns-in-Lint-clause-files
+returns-in-Lint-clause-files g c = rw c.in-Lint.is c.lint_files.ensures.ended
 
 pub returns-in-Tidy-clause-ended : goal.returns-in-Tidy-clause-ended
 returns-in-Tidy-clause-ended g c =

@@ -16,7 +16,7 @@ returns-in-Ok-clause-ended g c = record {
   opens = c.in-Ok.ensures.devices.opens;
   reads = c.in-Ok.ensures.devices.reads;
   writes = c.in-Ok.ensures.devices.writes;
-  in_place = c.in-Ok.ensures.files;
+  of_files = c.in-Ok.ensures.files;
   no_input = without_input (command_of (texts c.args.words.now)) (untouched g.I.Source.remaining g.I.Source.failures) c.run_command.ensures.no_input;
   refused = λ is. absurd cc;
   not_help = λ is. absurd cc;
@@ -43,7 +43,7 @@ returns-in-Err-clause-ended g c = let fault = c.in-Err.ensures.devices.fault in 
   opens = tt;
   reads = tt;
   writes = tt;
-  in_place = c.in-Err.ensures.files;
+  of_files = c.in-Err.ensures.files;
   no_input = without_input (command_of (texts c.args.words.now)) (untouched g.I.Source.remaining g.I.Source.failures) c.run_command.ensures.no_input;
   refused = λ is. fault.refused cc;
   not_help = c.in-Err.ensures.help.not_help;

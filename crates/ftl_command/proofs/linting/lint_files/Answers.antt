@@ -1,15 +1,13 @@
-use Rattle.std.proofs.Common.{rules}
+use Rattle.std.proofs.Common.{rules, string_bytes}
 use Rattle.fluent_lint.specs.LintView.{report_view}
 use Rattle.ftl_arguments.specs.CommandView.{lint_view}
+use Rattle.ftl_files.specs.States.{state_of}
 use Rattle.ftl_command.proofs.LintLemmas.{lint_cut, linted_so}
-use Rattle.ftl_command.proofs.Refusals.{of_output, text_cut, text_unwritten}
+use Rattle.ftl_command.proofs.Refusals.{lint_output, text_cut}
 use Rattle.ftl_command.proofs.linting.lint_files.Goals as goal
 
-pub returns-in_err-report-clause-stops : goal.returns-in_err-report-clause-stops
-returns-in_err-report-clause-stops g c = search (rules, text_unwritten)
-
 pub returns-in_err-write_to_stream-clause-fault : goal.returns-in_err-write_to_stream-clause-fault
-returns-in_err-write_to_stream-clause-fault g c = search (rules, of_output)
+returns-in_err-write_to_stream-clause-fault g c = search (rules, lint_output)
 
 pub returns-in_err-write_to_stream-clause-stops : goal.returns-in_err-write_to_stream-clause-stops
 returns-in_err-write_to_stream-clause-stops g c = search (rules, text_cut)
@@ -18,14 +16,14 @@ pub returns-in_err-write_to_stream-clause-ended : goal.returns-in_err-write_to_s
 returns-in_err-write_to_stream-clause-ended g c = record {
   linted = search rules;
   output = λ is.
-      lint_cut (g.F.Folder.contents c.args.folder.now) (lint_view c.args.lint.now) (report_view c.in_ok-report.report) _ _ _
-      c.in_ok-report.ensures.report c.as_str.ensures.value c.in_err-write_to_stream.ensures.front;
+      lint_cut (lint_view c.args.lint.now) (state_of g.F.Folder c.args.folder.now) (state_of g.F.Folder c.report_on.new.folder) (report_view c.in_ok-linted.linted.report)
+      (string_bytes c.in_ok-linted.linted.errors) _ _ _ c.in_ok-linted.ensures.linted c.as_str.ensures.value c.in_err-write_to_stream.ensures.front;
 }
 
 pub returns-clause-ended : goal.returns-clause-ended
 returns-clause-ended g c = record {
   linted =
-      linted_so (g.F.Folder.contents c.args.folder.now) (lint_view c.args.lint.now) (report_view c.in_ok-report.report) _ _ _
-      c.in_ok-report.ensures.report c.as_str.ensures.value _ c.in_ok-write_to_stream.ensures.written c.end_of.ensures;
+      linted_so (lint_view c.args.lint.now) (state_of g.F.Folder c.args.folder.now) (state_of g.F.Folder c.report_on.new.folder) (report_view c.in_ok-linted.linted.report)
+      (string_bytes c.in_ok-linted.linted.errors) _ _ _ c.in_ok-linted.ensures.linted c.as_str.ensures.value _ c.in_ok-write_to_stream.ensures.written c.end_of.ensures;
   output = λ is. absurd cc;
 }

@@ -1,0 +1,1 @@
+welcome = Willkommen, { $name }.

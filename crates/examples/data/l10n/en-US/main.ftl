@@ -1,0 +1,3 @@
+welcome = Welcome, { $name }.
+thanks = Thank you.
+bye = Goodbye.

@@ -1,0 +1,177 @@
+//! What is said after the line of a failure: why, and at which line of which file.
+
+use ftl_command::{Command, Format, Invocation, Tidy, advice, command};
+use ftl_files::{FileEnd, Folder, FromFiles, tidy_source};
+use memchr::memchr;
+use std::alloc::{AllocError, Global};
+use std::rt::Files;
+use std::str::from_utf8;
+
+/// What there is to say of a failure with this status, on lines that end in a line feed.
+///
+/// # Errors
+/// [`AllocError`] if memory runs out; nothing is kept.
+pub fn explanation<'words, R: Files>(
+    rt: &R,
+    alloc: Global,
+    words: &'words [&'words str],
+    status: u8,
+) -> Result<Option<String>, AllocError> {
+    if status == 2 {
+        return advice(alloc, words);
+    }
+    let Ok(Invocation::Command(command)) = command(alloc, words) else {
+        return Ok(None);
+    };
+    let mut folder = FromFiles::new(rt);
+    match (status, command) {
+        (1, Command::Tidy(tidy)) => of_tidying(&mut folder, alloc, tidy),
+        (3, command) => {
+            let files = files_named(alloc, &command)?;
+            of_files(&mut folder, alloc, &files)
+        }
+        _ => Ok(None),
+    }
+}
+
+/// The files that a command names, but for those that it reports on by itself.
+fn files_named<'words>(
+    alloc: Global,
+    command: &Command<'words>,
+) -> Result<Vec<&'words str>, AllocError> {
+    match command {
+        Command::Run { files, .. }
+        | Command::Format(Format { files, .. })
+        | Command::Check { files } => Vec::from_slice(alloc, files),
+        Command::Tidy(tidy) => tidied_files(alloc, tidy),
+        Command::Lint(_) | Command::TidyFiles(_) => Ok(Vec::new(alloc)),
+    }
+}
+
+/// The files that are tidied.
+fn tidied_files<'words>(
+    alloc: Global,
+    tidy: &Tidy<'words>,
+) -> Result<Vec<&'words str>, AllocError> {
+    match tidy {
+        Tidy::Join(files) => Vec::from_slice(alloc, files),
+        Tidy::Clean(file) | Tidy::Normalize(file) | Tidy::Export(file) | Tidy::Import(file) => {
+            Vec::from_slice(alloc, &[*file])
+        }
+    }
+}
+
+/// What is wrong with the first file that has no text.
+fn of_files<F: Folder>(
+    folder: &mut F,
+    alloc: Global,
+    files: &[&str],
+) -> Result<Option<String>, AllocError> {
+    for file in files {
+        let found = of_file(folder, alloc, file)?;
+        if found.is_some() {
+            return Ok(found);
+        }
+    }
+    Ok(None)
+}
+
+/// Why a file has no text.
+fn of_file<F: Folder>(
+    folder: &mut F,
+    alloc: Global,
+    file: &str,
+) -> Result<Option<String>, AllocError> {
+    if let Some(why) = folder.why(file) {
+        return Ok(Some(format!(in alloc; "ftl: {file}: {why}\n")?));
+    }
+    let Ok(bytes) = folder.read(alloc, file) else {
+        return Ok(None);
+    };
+    let Err(error) = from_utf8(&bytes) else {
+        return Ok(None);
+    };
+    let line = line_of(&bytes, error.valid_up_to());
+    let text = format!(in alloc; "ftl: {file}:{line}: a byte that isn't UTF-8\n")?;
+    Ok(Some(text))
+}
+
+/// Where the first source that can't be tidied has what stands in the way.
+fn of_tidying<F: Folder>(
+    folder: &mut F,
+    alloc: Global,
+    tidy: Tidy,
+) -> Result<Option<String>, AllocError> {
+    match tidy {
+        Tidy::Normalize(file) => match returned(folder, alloc, file)? {
+            Some(line) => Ok(Some(line)),
+            None => of_shape(folder, alloc, file),
+        },
+        Tidy::Clean(file) | Tidy::Export(file) => returned(folder, alloc, file),
+        Tidy::Join(files) => first_returned(folder, alloc, &files),
+        Tidy::Import(_) => Ok(None),
+    }
+}
+
+/// Where the first of these files with a carriage return has it.
+fn first_returned<F: Folder>(
+    folder: &mut F,
+    alloc: Global,
+    files: &[&str],
+) -> Result<Option<String>, AllocError> {
+    for file in files {
+        let found = returned(folder, alloc, file)?;
+        if found.is_some() {
+            return Ok(found);
+        }
+    }
+    Ok(None)
+}
+
+/// Where a file has a carriage return, if it has one.
+fn returned<F: Folder>(
+    folder: &mut F,
+    alloc: Global,
+    file: &str,
+) -> Result<Option<String>, AllocError> {
+    let Ok(bytes) = folder.read(alloc, file) else {
+        return Ok(None);
+    };
+    let Some(place) = memchr(b'\r', &bytes) else {
+        return Ok(None);
+    };
+    let line = line_of(&bytes, place);
+    let text = format!(in alloc;
+        "ftl: {file}:{line}: a carriage return; `ftl tidy` makes line feeds of Windows line ends\n"
+    )?;
+    Ok(Some(text))
+}
+
+/// Which entry of a file would be read otherwise if it were written anew.
+fn of_shape<F: Folder>(
+    folder: &mut F,
+    alloc: Global,
+    file: &str,
+) -> Result<Option<String>, AllocError> {
+    let Ok(bytes) = folder.read(alloc, file) else {
+        return Ok(None);
+    };
+    let Ok(source) = String::from_utf8(bytes) else {
+        return Ok(None);
+    };
+    match tidy_source(alloc, file, source.as_str())? {
+        FileEnd::Refused(report) => Ok(Some(report)),
+        _ => Ok(None),
+    }
+}
+
+/// The number of the line that a place is in.
+fn line_of(bytes: &[u8], place: usize) -> usize {
+    let mut line: usize = 1;
+    for &byte in bytes.iter().take(place) {
+        if byte == b'\n' {
+            line = line.saturating_add(1);
+        }
+    }
+    line
+}

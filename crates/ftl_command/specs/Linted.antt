@@ -1,0 +1,82 @@
+-- What becomes of a catalog that is linted.
+use Rattle.std.specs.Prelude.{◌≡◌, ℕ, Bool, if◌then◌else◌, [], ◌∷◌, ◌++◌, Option, IsSomeAnd, Result, IfOk, IsErrOf, string_bytes}
+use Rattle.std.specs.Io.KnownBytes.{Appends}
+use Rattle.fluent_serve.specs.Text.{Text}
+use Rattle.fluent_plurals.specs.declared.plurals.LanguagePlurals.{LanguagePlurals}
+use Rattle.fluent_lint.specs.LintReport.{LintReport, lint_report}
+use Rattle.fluent_lint.specs.LintView.{report_view}
+use Rattle.fluent_lint.specs.declared.reports.Report.{Report}
+use Rattle.ftl_arguments.specs.CommandView.{lint_view}
+use Rattle.ftl_arguments.specs.Linting.{Lint}
+use Rattle.ftl_arguments.specs.declared.commands.Lint as code
+use Rattle.ftl_files.specs.Files.{State}
+use Rattle.ftl_files.specs.Reading.{AreRead, Read}
+use Rattle.ftl_command.specs.Faults.{end_status}
+use Rattle.ftl_command.specs.Plurals.{language_asked}
+use Rattle.ftl_command.specs.Program.{WritesFront, errors_in}
+use Rattle.ftl_command.specs.declared.ended.Ended.{Ended}
+use Rattle.ftl_command.specs.declared.fault.Fault.{Fault}
+use Rattle.ftl_command.specs.declared.fault.Fault.TheVariants.{Output}
+use Rattle.ftl_command.specs.declared.linting.Linted.{Linted}
+
+-- The files of the reference are read, and then those of the catalog, and the outcome holds of what was read.
+pub record OnCatalogs (l : Lint) (before after : State) (Outcome : Read → Read → Type 0) : Type 0 where
+  pub references : Read
+  pub files : Read
+  pub middle : State
+  pub of_reference : AreRead l.references before middle references
+  pub of_catalog : AreRead l.files middle after files
+  pub outcome : Outcome references files
+
+-- the lines of the files that could not be read
+abbrev pub lint_errors : Read → Read → Text
+lint_errors references files = references.errors ++ files.errors
+
+-- The locale that is asked for has plural rules, or none is, and the outcome holds of the report on the files that could be read, and of
+-- the lines of those that could not.
+abbrev pub OnLintReport : Lint → State → State → (LintReport → Text → Type 0) → Type 0
+OnLintReport l before after Outcome =
+    IsSomeAnd (language_asked l.locale) (λ plurals. OnCatalogs l before after (λ references files.
+    Outcome (lint_report l plurals references.files files.files) (lint_errors references files)))
+
+-- these are that report and these lines
+abbrev pub IsLintReport : Lint → State → State → LintReport → Text → Type 0
+IsLintReport l before after made errors = OnLintReport l before after (λ report lines. (made ≡ report) × (errors ≡ lines))
+
+-- 3 if a file could not be read, or else 1 if the catalog fails
+abbrev pub lint_status : Text → Bool → ℕ
+lint_status [] failed = if failed then 1 else 0
+lint_status (b ∷ bs) failed = 3
+
+-- an end has that status, and reports which files could not be read
+pub record EndsLint (errors : Text) (failed : Bool) (end : Ended) : Type 0 where
+  pub status : end_status end ≡ lint_status errors failed
+  pub reports : errors_in end ≡ errors
+
+-- What became of linting, by how it ended.
+pub record LintEnds (l : Lint) (before after : State) (held held_after : Option Text) (result : Result Ended Fault) : Type 0 where
+  pub linted : IfOk result (λ end. OnLintReport l before after (λ report errors. Appends held held_after report.text × EndsLint errors report.has_failed end))
+  -- a front of the report is written
+  pub output : IsErrOf result Output → OnLintReport l before after (λ report errors. WritesFront held held_after report.text)
+
+-- ---- the code's values
+
+-- this is the report by these plural rules on what was read
+abbrev pub IsReportBy : code.Lint → Option LanguagePlurals → Read → Read → Report → Type 0
+IsReportBy l plurals references files made = report_view made ≡ lint_report (lint_view l) plurals references.files files.files
+
+-- the same with the lines of what could not be read
+pub record IsReportOf (l : code.Lint) (plurals : Option LanguagePlurals) (references files : Read) (made : Linted) : Type 0 where
+  pub report : IsReportBy l plurals references files made.report
+  pub errors : string_bytes made.errors ≡ lint_errors references files
+
+-- so it is of what was read of a folder, by what is known of it
+abbrev pub LintsBy : code.Lint → Option LanguagePlurals → State → State → Linted → Type 0
+LintsBy l plurals before after made = OnCatalogs (lint_view l) before after (λ references files. IsReportOf l plurals references files made)
+
+abbrev pub Lints : code.Lint → State → State → Linted → Type 0
+Lints l before after made = IsLintReport (lint_view l) before after (report_view made.report) (string_bytes made.errors)
+
+-- the end is that of this report
+abbrev pub EndsLinted : Linted → Ended → Type 0
+EndsLinted made end = EndsLint (string_bytes made.errors) made.report.has_failed end

@@ -1,0 +1,27 @@
+-- Files that are read, one after the other.
+use Rattle.std.proofs.Common.{◌≡◌, ℕ, ◌+◌, ◌<◌, List, [], ◌∷◌, ◌++◌, Option, IfSome, String, length, take, map, get_or, string_bytes, subst}
+use Rattle.std.proofs.lemmas.List.{take_more, map-append}
+use Rattle.std.specs.Global.{Global}
+use Rattle.fluent_serve.specs.Text.{Text}
+use Rattle.ftl_files.specs.Files.{State}
+use Rattle.ftl_files.specs.Reading.{Read, ReadFailsSo, ReadsOne, ReadsThrough, failed, held, one_read, read_after}
+use Rattle.ftl_files.specs.Tidying.{Failure, IsLeft}
+
+-- one file more is read
+pub read_next : (start here there : State) (names : List (String Global)) (i : ℕ) (item : String Global) (old new : Read) → i < length names →
+    item ≡ get_or names i item → ReadsThrough start (map string_bytes (take i names)) old here → ReadsOne (string_bytes item) old new here there →
+    ReadsThrough start (map string_bytes (take (i + 1) names)) new there
+read_next start here there names i item old new inside at before one =
+    rw (one.is, take_more names i item inside, map-append string_bytes (take i names) (get_or names i item ∷ []))
+    (subst (λ n. ReadsThrough start (map string_bytes (take i names) ++ string_bytes n ∷ []) (read_after old (string_bytes item) one.end) there) at
+    (one_read (string_bytes item) one.end there before one.so))
+
+-- a file was read
+pub source_read : (name : Text) (old new : Read) (source : Text) (before after : State) → IsLeft before after → IfSome (before.contents name) (λ known. source ≡ known) →
+    new ≡ read_after old name (held source) → ReadsOne name old new before after
+source_read name old new source before after left known is = record { end = held source; so = (left, known); is = is }
+
+-- or it could not be
+pub read_failed : (name : Text) (old new : Read) (f : Failure) (why : Option Text) (before after : State) → ReadFailsSo name f before after →
+    new ≡ read_after old name (failed f why) → ReadsOne name old new before after
+read_failed name old new f why before after fails is = record { end = failed f why; so = fails; is = is }

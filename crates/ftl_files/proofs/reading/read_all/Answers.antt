@@ -1,0 +1,14 @@
+use Rattle.ftl_files.specs.States.{state_of}
+use Rattle.ftl_files.specs.Reading.{none_read}
+use Rattle.ftl_files.specs.TidyView.{read_view}
+use Rattle.ftl_files.proofs.ReadLemmas.{read_next}
+use Rattle.ftl_files.proofs.reading.read_all.Goals as goal
+
+pub loop-name-init : goal.loop-name-init
+loop-name-init g c = rw c.new-read.ensures none_read
+
+pub loop-name-preserved : goal.loop-name-preserved
+loop-name-preserved g c =
+    read_next (state_of g.F.Folder c.args.folder.now) (state_of g.F.Folder c.loop-name.folder) (state_of g.F.Folder c.read_one.new.folder) c.args.names.now
+    c.loop-name.name-index c.name-item.result (read_view c.loop-name.read) _ c.loop-name-test.true c.name-item.is c.loop-name.invariant
+    (rw c.as_str.ensures.value at c.in_ok-read_one.ensures)

@@ -1,0 +1,64 @@
+-- Sources that are read, one after the other: which they are, and what is said of files that can't be read.
+use Rattle.std.specs.Prelude.{◌≡◌, List, [], ◌∷◌, ◌++◌, ⊤, Option, IfSome}
+use Rattle.fluent_serve.specs.Text.{Text}
+use Rattle.lint_findings.specs.Files.{File}
+use Rattle.ftl_files.specs.Files.{State}
+use Rattle.ftl_files.specs.Tidying.{AreListed, Failure, FailsSo, IsLeft, failure_line, failure_words, unreadable, not_utf8, unwritable}
+
+-- ---- one file
+
+-- what is read of a file
+pub data ReadEnd : Type 0 where
+  -- its source
+  held : Text → ReadEnd
+  -- it could not be read, and maybe why
+  failed : Failure → Option Text → ReadEnd
+
+-- a read doesn't fail to write
+abbrev IsOfReading : Failure → Type 0
+IsOfReading unreadable = ⊤
+IsOfReading not_utf8 = ⊤
+IsOfReading unwritable = ⊥
+
+-- a read fails so
+abbrev pub ReadFailsSo : Text → Failure → State → State → Type 0
+ReadFailsSo name f before after = FailsSo name f before after × IsOfReading f
+
+-- What is read of a file is what it holds, if that is known.
+abbrev pub ReadsSo : Text → ReadEnd → State → State → Type 0
+ReadsSo name (held source) before after = IsLeft before after × IfSome (before.contents name) (λ known. source ≡ known)
+ReadsSo name (failed f why) before after = ReadFailsSo name f before after
+
+-- ---- files one after the other
+
+-- the files that were read, with their sources, and a line for each that could not be
+pub record Read : Type 0 where
+  pub files : List File
+  pub errors : Text
+
+abbrev pub nothing_read : Read
+nothing_read = record { files = []; errors = [] }
+
+-- and after one more file
+abbrev pub read_after : Read → Text → ReadEnd → Read
+read_after r name (held source) = record r { files = r.files ++ record { name = name; source = source } ∷ [] }
+read_after r name (failed f why) = record r { errors = r.errors ++ failure_line name (failure_words f) why }
+
+-- From a state of the folder files are read, one after the other, to another state.
+pub data ReadsThrough (start : State) : List Text → Read → State → Type 0 where
+  none_read : ReadsThrough start [] nothing_read start
+  one_read : {names : List Text} {read : Read} {here : State} (name : Text) (end : ReadEnd) (there : State) → ReadsThrough start names read here
+      → ReadsSo name end here there → ReadsThrough start (names ++ name ∷ []) (read_after read name end) there
+
+-- The files that the paths stand for are read.
+pub record AreRead (paths : List Text) (before after : State) (read : Read) : Type 0 where
+  pub names : List Text
+  pub middle : State
+  pub listed : AreListed before paths names middle
+  pub through : ReadsThrough middle names read after
+
+-- one file more is read
+pub record ReadsOne (name : Text) (old new : Read) (before after : State) : Type 0 where
+  pub end : ReadEnd
+  pub so : ReadsSo name end before after
+  pub is : new ≡ read_after old name end

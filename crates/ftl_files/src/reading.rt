@@ -1,0 +1,125 @@
+//! Sources that are read, one after the other.
+ghost use Rattle.std.specs.Prelude.{◌≡◌, IfOk, OnOk, map};
+ghost use Rattle.lint_finding.specs.View.{file_view};
+ghost use Rattle.ftl_files.specs.Reading.{nothing_read};
+ghost use Rattle.ftl_files.specs.TidyView.{AreReadOn, ReadsOneOn, ReadsThroughOn, after_read_failure, after_source, read_view};
+
+use crate::ends::{Failure, push_failure};
+use crate::folder::Folder;
+use crate::tidying::{list_paths, read_source, why_of};
+use lint_finding::File;
+use std::alloc::{AllocError, Global};
+
+/// A file that was read.
+#[derive(Debug, Drop)]
+pub struct SourceFile {
+    /// Its name.
+    pub name: String,
+    /// What it holds.
+    pub source: String,
+}
+
+/// Files that were read, and what is said of those that could not be.
+#[derive(Debug, Drop)]
+pub struct ReadSources {
+    /// The files that were read, in their order.
+    pub files: Vec<SourceFile>,
+    /// A line for each of the others.
+    pub errors: String,
+}
+
+impl ReadSources {
+    /// Nothing yet.
+    fn new(alloc: Global) -> ReadSources
+        ensures { read_view result ≡ nothing_read }
+    {
+        ReadSources {
+            files: Vec::new(alloc),
+            errors: String::new(alloc),
+        }
+    }
+
+    /// The files that were read, for a report on them.
+    ///
+    /// # Errors
+    /// [`AllocError`] if memory runs out; nothing is kept.
+    pub fn files(&self, alloc: Global) -> Result<Vec<File<'_>>, AllocError>
+        ensures { IfOk result (λ files. map file_view files.items ≡ (read_view self.now).files) }
+    {
+        let mut files = Vec::with_capacity(alloc, self.files.len())?;
+        for file in &self.files {
+            let name = file.name.as_str();
+            let source = file.source.as_str();
+            files.push(File { name, source })?;
+        }
+        Ok(files)
+    }
+
+    /// Adds a file that was read.
+    fn add_source(&mut self, alloc: Global, name: &str, source: String) -> Result<(), AllocError>
+        ensures { OnOk result (read_view self.new
+            ≡ after_source (read_view self.old) name.now source) }
+    {
+        let name = String::from_str(alloc, name)?;
+        self.files.push(SourceFile { name, source })?;
+        Ok(())
+    }
+
+    /// Adds the line of a failure.
+    fn add_failure(
+        &mut self,
+        name: &str,
+        failure: Failure,
+        why: Option<&'static str>,
+    ) -> Result<(), AllocError>
+        ensures { OnOk result (read_view self.new
+            ≡ after_read_failure (read_view self.old) name.now failure why.entry) }
+    {
+        push_failure(&mut self.errors, name, failure, why)
+    }
+}
+
+/// Reads the files that paths stand for, one after the other. Of a file that can't be read, a line says so.
+///
+/// # Errors
+/// [`AllocError`] if memory runs out; nothing is kept.
+pub fn read_sources<F: Folder>(
+    folder: &mut F,
+    alloc: Global,
+    paths: &[&str],
+) -> Result<ReadSources, AllocError>
+    ensures { IfOk result (AreReadOn F.Folder paths.now folder.old folder.new) }
+{
+    let names = list_paths(folder, alloc, paths)?;
+    read_all(folder, alloc, &names)
+}
+
+/// Reads files, one after the other.
+fn read_all<F: Folder>(
+    folder: &mut F,
+    alloc: Global,
+    names: &[String],
+) -> Result<ReadSources, AllocError>
+    ensures { IfOk result (ReadsThroughOn F.Folder names.now folder.old folder.new) }
+{
+    let mut read = ReadSources::new(alloc);
+    for name in names {
+        read_one(folder, alloc, name.as_str(), &mut read)?;
+    }
+    Ok(read)
+}
+
+/// Reads one file more.
+fn read_one<F: Folder>(
+    folder: &mut F,
+    alloc: Global,
+    name: &str,
+    read: &mut ReadSources,
+) -> Result<(), AllocError>
+    ensures { OnOk result (ReadsOneOn F.Folder name.now folder.old folder.new read.old read.new) }
+{
+    match read_source(folder, alloc, name)? {
+        Ok(source) => read.add_source(alloc, name, source),
+        Err(failure) => read.add_failure(name, failure, why_of(folder, name, failure)),
+    }
+}
