@@ -42,6 +42,8 @@ FREE = {
     "full": lambda it: type(it) is bool,
     "gone": lambda it: type(it) is bool,
     "terminal": lambda it: type(it) is bool,
+    "screen": lambda it: type(it) is bool,
+    "environment": lambda it: type(it) is dict and all(type(value) is str for value in it.values()),
 }
 
 
@@ -108,9 +110,10 @@ def ended(program, row, folder):
     # A folder can be opened, and not read.
     source = os.open(folder, os.O_RDONLY) if given is None else subprocess.PIPE
     target = os.open("/dev/full", os.O_WRONLY) if row.get("full") else unread() if row.get("gone") else subprocess.PIPE
+    page, target = terminal() if row.get("screen") else (None, target)
     screen, faults = terminal() if row.get("terminal") else (None, subprocess.PIPE)
     devices = {"stdin": source, "stdout": target, "stderr": faults}
-    with subprocess.Popen([program, *row["words"]], cwd=folder, env={}, **devices) as run:
+    with subprocess.Popen([program, *row["words"]], cwd=folder, env=row.get("environment", {}), **devices) as run:
         try:
             output, errors = run.communicate(given and given.encode(), timeout=SECONDS)
         except subprocess.TimeoutExpired:
@@ -118,6 +121,7 @@ def ended(program, row, folder):
             output, errors = run.communicate()
     for it in {source, target, faults} - {subprocess.PIPE}:
         os.close(it)
+    output = output if page is None else shown(page)
     errors = errors if screen is None else shown(screen)
     return {"status": run.returncode, "stdout": output or b"", "stderr": errors}
 

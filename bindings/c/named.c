@@ -60,6 +60,46 @@ static void try_arguments(struct FluentBundle *bundle) {
     check("none", fluent_bad_argument(bundle, arguments, 1) == 1 && fluent_bad_argument(bundle, NULL, 0) == 0);
 }
 
+static void try_options(void) {
+    static const char source[] = "n = { NUMBER($n) }\nn = last { $n }\n";
+    struct FluentBundle bundle = {0};
+    check("the usual options", fluent_bundle_with(source, NULL, &bundle) == FLUENT_READ
+        && shows(&bundle, fluent_decimal_argument("n", "1234.5"), "1234.5"));
+    struct FluentBundleOptions german = fluent_bundle_options("de");
+    check("a locale by options", fluent_bundle_with(source, &german, &bundle) == FLUENT_READ
+        && shows(&bundle, fluent_decimal_argument("n", "1234.5"), "1.234,5"));
+    struct FluentBundleOptions options = FLUENT_BUNDLE_OPTIONS;
+    options.overriding = true;
+    check("the last entry", fluent_bundle_with(source, &options, &bundle) == FLUENT_READ
+        && shows(&bundle, fluent_integer_argument("n", 1), "last \u2068" "1\u2069"));
+    struct FluentBundleOptions none = {0};
+    check("options without a size", fluent_bundle_with(source, &none, &bundle) == FLUENT_BAD_ARGUMENT && bundle.held);
+    struct FluentBundleOptions posix = fluent_bundle_options(NULL);
+    check("no locale by options", posix.locale && posix.locale_len == 0 && posix.isolating && posix.stack == 0);
+    fluent_bundle_free(&bundle);
+}
+
+/* Whether these are the lines of a list, each before a space. */
+static bool lists(const struct FluentText *list, const char *wanted) {
+    size_t len = 0;
+    for (const char *line = fluent_next_line(list, NULL, &len); line; line = fluent_next_line(list, line, &len)) {
+        if (strncmp(wanted, line, len) != 0 || wanted[len] != ' ')
+            return false;
+        wanted += len + 1;
+    }
+    return *wanted == 0;
+}
+
+static void try_lists(struct FluentBundle *bundle) {
+    struct FluentText list = {0};
+    check("no list", lists(&list, "") && lists(NULL, ""));
+    check("the messages", fluent_bundle_messages(bundle, &list) == FLUENT_READ && lists(&list, "a n "));
+    check("attributes", fluent_attributes(bundle, "a", &list) == FLUENT_READ && lists(&list, "title "));
+    check("no attributes", fluent_attributes(bundle, "n", &list) == FLUENT_READ && lists(&list, ""));
+    check("attributes of no message", fluent_attributes(bundle, NULL, &list) == FLUENT_NO_MESSAGE && holds(&list, ""));
+    fluent_free_text(&list);
+}
+
 static void try_tidy(void) {
     struct FluentText text = {0};
     struct FluentPlace place = {0};
@@ -69,6 +109,14 @@ static void try_tidy(void) {
     check("damage whose place isn't wanted", fluent_tidy_of("c", &text, NULL) == FLUENT_DAMAGED);
     check("the tidy text of NULL", fluent_tidy_of(NULL, &text, NULL) == FLUENT_READ && holds(&text, ""));
     fluent_free_text(&text);
+}
+
+static void try_occurrences(void) {
+    struct FluentText lines = {0};
+    const char *one = "{\"definition\":true,\"end\":1,\"kind\":\"message\",\"name\":\"a\",\"owner\":null,\"start\":0}\n";
+    check("occurrences", fluent_occurrences_of("a = b\n", &lines) == FLUENT_READ && holds(&lines, one));
+    check("the occurrences in NULL", fluent_occurrences_of(NULL, &lines) == FLUENT_READ && holds(&lines, ""));
+    fluent_free_text(&lines);
 }
 
 static void try_lint(void) {
@@ -96,7 +144,10 @@ int main(void) {
     check("counts", fluent_parse(fluent_bytes(SOURCE), fluent_len(SOURCE), &counts) == FLUENT_READ && counts.messages == 2);
     try_formats(&bundle);
     try_arguments(&bundle);
+    try_options();
+    try_lists(&bundle);
     try_tidy();
+    try_occurrences();
     try_lint();
     check("a value is there", fluent_has(&bundle, "a", NULL) == FLUENT_READ);
     check("an attribute isn't", fluent_has(&bundle, "n", "title") == FLUENT_NO_PATTERN);

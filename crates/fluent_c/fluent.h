@@ -25,7 +25,7 @@ static inline const char *fluent_status_text(uint32_t status) {
     case FLUENT_NO_PATTERN:
         return "the message has no value, or no attribute of the name";
     case FLUENT_BAD_ARGUMENT:
-        return "an argument's kind isn't known, or its decimal is no number";
+        return "an argument's kind isn't known, its decimal is no number, or the size of options isn't known";
     case FLUENT_NO_BUNDLE:
         return "there is no bundle";
     case FLUENT_HAS_ERRORS:
@@ -36,6 +36,8 @@ static inline const char *fluent_status_text(uint32_t status) {
         return "the source has a carriage return that ends no line";
     case FLUENT_NOT_TIDY:
         return "the source has no tidy text";
+    case FLUENT_CALL:
+        return "a call of a function has no answer yet";
     default:
         return "no call returns this number";
     }
@@ -93,6 +95,24 @@ static inline uint32_t fluent_bundle_of(const char *source, const char *locale, 
     return fluent_bundle_new(&only, 1, fluent_bytes(locale), fluent_len(locale), isolating, false, made);
 }
 
+/* The options of FLUENT_BUNDLE_OPTIONS with a locale, which may be NULL. */
+static inline struct FluentBundleOptions fluent_bundle_options(const char *locale) {
+    struct FluentBundleOptions options = FLUENT_BUNDLE_OPTIONS;
+    options.locale = fluent_bytes(locale);
+    options.locale_len = fluent_len(locale);
+    return options;
+}
+
+/* fluent_bundle_new_with of one source. `options` may be NULL for the usual ones. */
+static inline uint32_t fluent_bundle_with(
+    const char *source, const struct FluentBundleOptions *options, struct FluentBundle *made) {
+    struct FluentBundleOptions usual = FLUENT_BUNDLE_OPTIONS;
+    struct FluentSource only = {0};
+    only.text = fluent_bytes(source);
+    only.len = fluent_len(source);
+    return fluent_bundle_new_with(&only, 1, options ? options : &usual, made);
+}
+
 /* fluent_bundle_format. `attribute` is NULL for the value, `arguments` may be NULL if there are none, and `errors` if you
  * don't want them. */
 static inline uint32_t fluent_format(
@@ -107,15 +127,72 @@ static inline uint32_t fluent_format(
     return answered;
 }
 
+/* An answer that has no value, or such an argument. */
+static inline struct FluentArgument fluent_no_value(const char *name) {
+    struct FluentArgument argument = fluent_text_argument(name, NULL);
+    argument.kind = FLUENT_NO_VALUE;
+    return argument;
+}
+
+/* fluent_bundle_new_calling of one source. `options` may be NULL for the usual ones. */
+static inline uint32_t fluent_bundle_calling(
+    const char *source, const struct FluentBundleOptions *options, const struct FluentSource *functions,
+    size_t function_count, struct FluentBundle *made) {
+    struct FluentBundleOptions usual = FLUENT_BUNDLE_OPTIONS;
+    struct FluentSource only = {0};
+    only.text = fluent_bytes(source);
+    only.len = fluent_len(source);
+    return fluent_bundle_new_calling(&only, 1, options ? options : &usual, functions, function_count, made);
+}
+
+/* fluent_bundle_call. What may be NULL for fluent_format may be here, and `answers`, if there are none. */
+static inline uint32_t fluent_call(
+    struct FluentBundle *bundle, const char *id, const char *attribute, const struct FluentArgument *arguments,
+    size_t argument_count, const struct FluentArgument *answers, size_t answer_count, struct FluentText *text,
+    struct FluentText *errors, struct FluentText *call) {
+    static const struct FluentArgument none = {0};
+    struct FluentText unwanted = {0};
+    uint32_t answered = fluent_bundle_call(
+        bundle, fluent_bytes(id), fluent_len(id), fluent_bytes(attribute), fluent_len(attribute),
+        arguments ? arguments : &none, arguments ? argument_count : 0, answers ? answers : &none, answers ? answer_count : 0,
+        text, errors ? errors : &unwanted, call);
+    fluent_free_text(&unwanted);
+    return answered;
+}
+
 /* fluent_bundle_has. `attribute` is NULL for the value. */
 static inline uint32_t fluent_has(struct FluentBundle *bundle, const char *id, const char *attribute) {
     return fluent_bundle_has(bundle, fluent_bytes(id), fluent_len(id), fluent_bytes(attribute), fluent_len(attribute));
+}
+
+/* fluent_bundle_attributes. */
+static inline uint32_t fluent_attributes(struct FluentBundle *bundle, const char *id, struct FluentText *text) {
+    return fluent_bundle_attributes(bundle, fluent_bytes(id), fluent_len(id), text);
+}
+
+/* The next line of a list of fluent_bundle_messages or fluent_bundle_attributes, or NULL after the last. `len` is the one
+ * before, whose line is `line`; begin with NULL. The line ends in a line feed, which `len` doesn't count:
+ *
+ *     size_t len = 0;
+ *     for (const char *id = fluent_next_line(&ids, NULL, &len); id; id = fluent_next_line(&ids, id, &len))
+ *         printf("%.*s\n", (int)len, id);
+ */
+static inline const char *fluent_next_line(const struct FluentText *list, const char *line, size_t *len) {
+    const char *next = line ? line + *len + 1 : fluent_string(list);
+    const char *end = strchr(next, '\n');
+    *len = end ? (size_t)(end - next) : 0;
+    return end ? next : NULL;
 }
 
 /* fluent_tidy. `place` may be NULL if you don't want it. */
 static inline uint32_t fluent_tidy_of(const char *source, struct FluentText *made, struct FluentPlace *place) {
     struct FluentPlace unwanted = {0};
     return fluent_tidy(fluent_bytes(source), fluent_len(source), made, place ? place : &unwanted);
+}
+
+/* fluent_occurrences. */
+static inline uint32_t fluent_occurrences_of(const char *source, struct FluentText *made) {
+    return fluent_occurrences(fluent_bytes(source), fluent_len(source), made);
 }
 
 /* A file. */

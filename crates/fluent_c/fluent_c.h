@@ -52,7 +52,8 @@ uint32_t fluent_version(void);
 #define FLUENT_NO_MESSAGE 4
 /* The message has no value, or no attribute of the name. */
 #define FLUENT_NO_PATTERN 5
-/* An argument's kind isn't one of those below, or its decimal is no number; or there is no such strategy. */
+/* An argument's kind isn't one of those below, or its decimal is no number; there is no such strategy; or the size of
+ * options isn't one that the library knows. */
 #define FLUENT_BAD_ARGUMENT 6
 /* There is no bundle. */
 #define FLUENT_NO_BUNDLE 7
@@ -64,6 +65,8 @@ uint32_t fluent_version(void);
 #define FLUENT_CARRIAGE_RETURN 10
 /* The source has no tidy text: what would be written isn't read as the same messages. */
 #define FLUENT_NOT_TIDY 11
+/* The message calls a function, and the call has no answer yet: fluent_bundle_call has put its text into `call`. */
+#define FLUENT_CALL 12
 
 struct FluentCounts {
     size_t messages FLUENT_ZERO;
@@ -100,9 +103,20 @@ struct FluentText {
 /* Reads a source and writes its tree back, with its junk or without. It returns the numbers of fluent_parse. */
 uint32_t fluent_write(const uint8_t *text, size_t len, bool with_junk, struct FluentText *made);
 
+/* Does what fluent_write and fluent_parse do, and reads the source once. `made` and `counts` are as they were unless it
+ * returns FLUENT_READ. */
+uint32_t fluent_write_counted(
+    const uint8_t *text, size_t len, bool with_junk, struct FluentText *made, struct FluentCounts *counts);
+
 /* Reads a source and writes its tree, junk included, as JSON: compact, each object's keys in the order of their bytes.
  * It returns the numbers of fluent_parse. */
 uint32_t fluent_write_json(const uint8_t *text, size_t len, struct FluentText *made);
+
+/* Says where the symbols of a source are: a line of JSON for each definition of a message, a term or an attribute, and for
+ * each reference to one, to a variable or to a function, in the order of their offsets. docs/reference/occurrences.md has
+ * the keys. A stretch that can't be read has no lines, and the entries around it have theirs. It returns the numbers of
+ * fluent_parse. */
+uint32_t fluent_occurrences(const uint8_t *text, size_t len, struct FluentText *made);
 
 /* A source: its first byte, and its length in bytes. */
 struct FluentSource {
@@ -295,6 +309,38 @@ uint32_t fluent_bundle_new_plain(
     struct FluentBundle *made
 );
 
+/* How a bundle is made. Begin with `struct FluentBundleOptions options = FLUENT_BUNDLE_OPTIONS;`, and change what you want:
+ * then your program goes on as it is when a later header has more fields. */
+struct FluentBundleOptions {
+    /* The size of the struct in your header, by which the library knows the fields. */
+    size_t size FLUENT_ZERO;
+    /* The tag of the locale, which is that of fluent_answer. The pointer isn't null, also if the tag is empty. */
+    const uint8_t *locale FLUENT_ZERO;
+    size_t locale_len FLUENT_ZERO;
+    /* The budget of the stack in bytes, which is that of fluent_bundle_new_within; 0 for the usual 1.5 MB. */
+    size_t stack FLUENT_ZERO;
+    /* Whether placeables are between the marks U+2068 and U+2069. */
+    bool isolating FLUENT_ZERO;
+    /* Whether the last entry of an id counts, and not the first. */
+    bool overriding FLUENT_ZERO;
+    /* Whether numbers are plain, whatever the locale. */
+    bool plain_numbers FLUENT_ZERO;
+};
+
+/* The options of which none was changed: no locale, the usual budget, and isolation marks. */
+#define FLUENT_BUNDLE_OPTIONS \
+    { sizeof(struct FluentBundleOptions), (const uint8_t *)"", 0, 0, true, false, false }
+
+/* Makes a bundle of sources by options. It returns the numbers of fluent_bundle_new, and FLUENT_BAD_ARGUMENT if the size of
+ * the options isn't that of this header's struct: nobody set it, or the program was compiled with a later header than the
+ * library is of. A later library takes this size, too, and gives each field that comes later its default. */
+uint32_t fluent_bundle_new_with(
+    const struct FluentSource *sources,
+    size_t count,
+    const struct FluentBundleOptions *options,
+    struct FluentBundle *made
+);
+
 /* The kinds of arguments: a text; a number, written as a decimal such as "3" or "1.50", which keeps its digits after
  * the point; a signed and an unsigned integer. A text stays a text, whatever it looks like: "3" is no number here,
  * though it is one in a request line of fluent_answer. */
@@ -302,6 +348,8 @@ uint32_t fluent_bundle_new_plain(
 #define FLUENT_DECIMAL 1
 #define FLUENT_INTEGER 2
 #define FLUENT_UNSIGNED 3
+/* No value: an argument that is shown as nothing, or a call that has no answer and is shown as `NAME()`. */
+#define FLUENT_NO_VALUE 4
 
 /* An argument: its name, without `$`, and its value as its kind says. `text` is read for the first two kinds; for the
  * others it still needs a pointer that isn't null, and `text_len` is 0. */
@@ -338,6 +386,54 @@ uint32_t fluent_bundle_format(
     struct FluentText *errors
 );
 
+/* Makes a bundle whose messages call functions of your program, as `{ PLATFORM() }` does: fluent_bundle_new_with, and the
+ * names of the functions. Format its messages by fluent_bundle_call; by fluent_bundle_format the functions are unknown.
+ *
+ * A name that is the id of a message or a term of the sources, or NUMBER, is no function. The names are copied. The call returns
+ * the numbers of fluent_bundle_new_with, and FLUENT_NOT_UTF8, too, if a name isn't UTF-8. `functions` needs a pointer that
+ * isn't null, also if `function_count` is 0.
+ */
+uint32_t fluent_bundle_new_calling(
+    const struct FluentSource *sources,
+    size_t count,
+    const struct FluentBundleOptions *options,
+    const struct FluentSource *functions,
+    size_t function_count,
+    struct FluentBundle *made
+);
+
+/* Formats a message that calls functions of your program: fluent_bundle_format, with answers to calls.
+ *
+ * If the message comes to a call that has no answer, it returns FLUENT_CALL, and `call` holds the text of that call; `text`
+ * and `errors` are unchanged then. Find the answer, put it among `answers`, and make the call again, until it returns another
+ * number. An answer is an argument whose name is the text of the call; its value is what the function gives, or
+ * FLUENT_NO_VALUE if it gives none. So a function runs once for each different call of an answer, only if the answer comes to
+ * it, and in the order in which it does. It has to give the same value for the same arguments.
+ *
+ * The text of a call is JSON, an array of the function's name, an array of the positional arguments and an object of the named
+ * ones: `["PLATFORM",[],{}]`, or `["DATETIME",["2026-11-28"],{"dateStyle":"long"}]`. A text is a text there, a number
+ * `{"number":"1.50"}`, whose digits are plain, and an argument without a value is null. Of an argument's options only the
+ * digits after the point are passed on.
+ *
+ * Else it returns the numbers of fluent_bundle_format, and `call` is unchanged. FLUENT_NOT_UTF8 and FLUENT_BAD_ARGUMENT may
+ * also mean an answer. A bundle that was made without functions answers as fluent_bundle_format does. Of answers to one call
+ * the last counts. `answers` needs a pointer that isn't null, also if `answer_count` is 0.
+ */
+uint32_t fluent_bundle_call(
+    struct FluentBundle *bundle,
+    const uint8_t *id,
+    size_t id_len,
+    const uint8_t *attribute,
+    size_t attribute_len,
+    const struct FluentArgument *arguments,
+    size_t argument_count,
+    const struct FluentArgument *answers,
+    size_t answer_count,
+    struct FluentText *text,
+    struct FluentText *errors,
+    struct FluentText *call
+);
+
 /* Whether a bundle has a message's value, or an attribute of a name. It returns FLUENT_READ if it has, and else
  * FLUENT_NO_MESSAGE, FLUENT_NO_PATTERN, FLUENT_NOT_UTF8 or FLUENT_NO_BUNDLE. It allocates nothing. */
 uint32_t fluent_bundle_has(
@@ -346,6 +442,22 @@ uint32_t fluent_bundle_has(
     size_t id_len,
     const uint8_t *attribute,
     size_t attribute_len
+);
+
+/* Lists the messages of a bundle: `text` is their ids, each ended by a line feed, and empty if there is none. They are in
+ * the order of the first entries of the ids in the sources, and each is there once. A term isn't listed, and neither is an
+ * id of which a term is what counts. It returns FLUENT_READ, FLUENT_NO_BUNDLE or FLUENT_NO_MEMORY. */
+uint32_t fluent_bundle_messages(struct FluentBundle *bundle, struct FluentText *text);
+
+/* Lists the attributes of a message: `text` is their names, each ended by a line feed, in the order of the message, and
+ * empty if there is none. A name that the message has twice is there twice; fluent_bundle_format takes the first. It
+ * returns FLUENT_READ, FLUENT_NO_MESSAGE, FLUENT_NOT_UTF8, FLUENT_NO_BUNDLE or FLUENT_NO_MEMORY. `id` needs a pointer that
+ * isn't null, also if `id_len` is 0. */
+uint32_t fluent_bundle_attributes(
+    struct FluentBundle *bundle,
+    const uint8_t *id,
+    size_t id_len,
+    struct FluentText *text
 );
 
 /* Reports what is wrong with the sources of a bundle, as the command `ftl check` does: a line for each error, and for

@@ -15,8 +15,8 @@ from typing import NamedTuple
 FILES = {'FILE', 'PATH'}
 CODES = '''
     syntax duplicate-id unknown-message unknown-term unknown-attribute no-value no-default cyclic-reference
-    unknown-function duplicate-attribute duplicate-variant invalid-escape unknown-option missing-category missing-message
-    missing-value missing-attribute obsolete-value obsolete-attribute unknown-variable unused-variable obsolete-message
+    unknown-function duplicate-attribute duplicate-variant invalid-escape unknown-option missing-category unused-term
+    missing-message missing-value missing-attribute obsolete-value obsolete-attribute unknown-variable unused-variable obsolete-message
     untranslated
 '''
 CHOICES = {'FORMAT': ['text', 'line', 'json', 'github'], 'CODE': CODES.split()}

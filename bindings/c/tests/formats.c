@@ -34,11 +34,13 @@ static const struct Row ROWS[] = {
     {"two of one name", BYTES("welcome"), NONE,
      {{NAMED("name"), TEXT("Jane"), .kind = FLUENT_TEXT}, {NAMED("name"), TEXT("Jim"), .kind = FLUENT_TEXT}}, 2, FLUENT_READ,
      BYTES("Welcome, Jim."), {0}},
+    {"no value of an argument", BYTES("welcome"), NONE, {{NAMED("name"), TEXT(""), .kind = FLUENT_NO_VALUE}}, 1, FLUENT_READ,
+     BYTES("Welcome, ."), {0}},
     {"no argument", BYTES("welcome"), NONE, {{0}}, 0, FLUENT_READ, BYTES("Welcome, {$name}."), BYTES("Unknown variable: $name\n")},
     {"an argument too many", BYTES("login"), BYTES("title"), {{NAMED("n"), TEXT(""), .kind = FLUENT_TEXT}}, 1, FLUENT_READ, BYTES("Log in"), {0}},
     {"three errors", BYTES("both"), NONE, {{0}}, 0, FLUENT_READ, BYTES("{$a} {$b} {both}"),
      BYTES("Unknown variable: $a\nUnknown variable: $b\nCyclical dependency detected\n")},
-    {"an unknown kind", BYTES("n"), NONE, {{NAMED("n"), TEXT(""), .kind = 4}}, 1, FLUENT_BAD_ARGUMENT, {0}, {0}},
+    {"an unknown kind", BYTES("n"), NONE, {{NAMED("n"), TEXT(""), .kind = 5}}, 1, FLUENT_BAD_ARGUMENT, {0}, {0}},
     {"no number", BYTES("n"), NONE, {{NAMED("n"), TEXT("1e3"), .kind = FLUENT_DECIMAL}}, 1, FLUENT_BAD_ARGUMENT, {0}, {0}},
     {"no number, and no message", BYTES("nothing"), NONE, {{NAMED("n"), TEXT(""), .kind = FLUENT_DECIMAL}}, 1, FLUENT_BAD_ARGUMENT, {0}, {0}},
     {"no message", BYTES("nothing"), NONE, {{0}}, 0, FLUENT_NO_MESSAGE, {0}, {0}},
@@ -122,7 +124,7 @@ static void try_many(struct Tally *tally, struct FluentBundle *bundle) {
     arguments[3] = (struct FluentArgument){NAMED("name"), TEXT("Jane"), .kind = FLUENT_TEXT};
     arguments[80] = (struct FluentArgument){NAMED("name"), TEXT("Jim"), .kind = FLUENT_TEXT};
     try_all(tally, bundle, &row, arguments, MANY);
-    arguments[50].kind = 4;
+    arguments[50].kind = 5;
     row = (struct Row){"an unknown kind among many", BYTES("welcome"), NONE, {{0}}, 0, FLUENT_BAD_ARGUMENT, {0}, {0}};
     try_all(tally, bundle, &row, arguments, MANY);
     arguments[50] = (struct FluentArgument){NAMED("\xff"), TEXT(""), .kind = FLUENT_TEXT};

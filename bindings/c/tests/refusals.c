@@ -14,13 +14,16 @@ struct Kept {
 };
 
 static const struct FluentSource SOURCES[] = {
-    BYTES("# own\nwelcome = Welcome, { $name }.\nbroken = { $absent } and { nothing }\n"),
+    BYTES("# own\nwelcome = Welcome, { $name }.\n    .title = Title\nbroken = { $absent } and { nothing }\n"),
     BYTES("welcome = Again\ng@Rb@ge\n"),
 };
 
 static uint32_t parse(struct Kept *kept) { return fluent_parse(SOURCES[0].text, SOURCES[0].len, &kept->counts); }
 static uint32_t parse_runtime(struct Kept *kept) { return fluent_parse_runtime(SOURCES[0].text, SOURCES[0].len, &kept->counts); }
 static uint32_t write_tree(struct Kept *kept) { return fluent_write(SOURCES[0].text, SOURCES[0].len, true, &kept->text); }
+static uint32_t write_counted(struct Kept *kept) {
+    return fluent_write_counted(SOURCES[0].text, SOURCES[0].len, true, &kept->text, &kept->counts);
+}
 static uint32_t write_json(struct Kept *kept) { return fluent_write_json(SOURCES[0].text, SOURCES[0].len, &kept->text); }
 static uint32_t answer(struct Kept *kept) {
     return fluent_answer(SOURCES, 2, TEXT("pl"), true, false, TEXT("welcome\tname=Jane\nbroken\n"), &kept->text);
@@ -31,6 +34,10 @@ static uint32_t make_within(struct Kept *kept) {
 }
 static uint32_t make_plain(struct Kept *kept) {
     return fluent_bundle_new_plain(SOURCES, 2, TEXT("pl"), true, false, 100000, &kept->bundle);
+}
+static uint32_t make_with(struct Kept *kept) {
+    static const struct FluentBundleOptions options = FLUENT_BUNDLE_OPTIONS;
+    return fluent_bundle_new_with(SOURCES, 2, &options, &kept->bundle);
 }
 static uint32_t answer_plain(struct Kept *kept) {
     return fluent_answer_plain(SOURCES, 2, TEXT("pl"), true, false, TEXT("welcome\tname=Jane\nbroken\n"), &kept->text);
@@ -46,6 +53,31 @@ static uint32_t format_many(struct Kept *kept) {
         many[i] = name, many[i].name_len = 1 + i % 4;
     return fluent_bundle_format(&kept->bundle, TEXT("broken"), TEXT(""), many, 40, &kept->text, &kept->errors);
 }
+static const struct FluentSource CALLING[] = {BYTES("welcome = Hi\na = { F($name, x: 1) } { b }\n")};
+static const struct FluentSource FUNCTION = BYTES("F");
+#define CALL "[\"F\",[null],{\"x\":{\"number\":\"1\"}}]"
+static const struct FluentArgument ANSWER = {
+    .name = AT(CALL), .name_len = sizeof(CALL) - 1, .text = AT("y"), .text_len = 1, .kind = FLUENT_TEXT};
+static uint32_t make_calling(struct Kept *kept) {
+    static const struct FluentBundleOptions options = FLUENT_BUNDLE_OPTIONS;
+    return fluent_bundle_new_calling(CALLING, 1, &options, &FUNCTION, 1, &kept->bundle);
+}
+/* Makes a bundle with a function, and a call of it with so many answers. */
+static uint32_t call_with(struct Kept *kept, size_t answers) {
+    struct Kept calling = {.bundle = {0}};
+    struct FluentText unused = {0};
+    uint32_t status = make_calling(&calling);
+    if (status == FLUENT_READ)
+        status = fluent_bundle_call(
+            &calling.bundle, TEXT("a"), TEXT(""), &ANSWER, 0, &ANSWER, answers, answers ? &kept->text : &unused, &kept->errors,
+            answers ? &unused : &kept->text);
+    fluent_bundle_free(&calling.bundle);
+    return status == (answers ? FLUENT_READ : FLUENT_CALL) ? FLUENT_READ : status == FLUENT_NO_MEMORY ? status : FLUENT_NOT_TIDY;
+}
+static uint32_t call_missing(struct Kept *kept) { return call_with(kept, 0); }
+static uint32_t call_answered(struct Kept *kept) { return call_with(kept, 1); }
+static uint32_t messages(struct Kept *kept) { return fluent_bundle_messages(&kept->bundle, &kept->text); }
+static uint32_t attributes(struct Kept *kept) { return fluent_bundle_attributes(&kept->bundle, TEXT("welcome"), &kept->text); }
 static uint32_t report(struct Kept *kept) { return fluent_bundle_errors(&kept->bundle, &kept->text); }
 static uint32_t negotiate(struct Kept *kept) {
     static const struct FluentSource tags[] = {BYTES("de"), BYTES("de-AT")};
@@ -66,6 +98,9 @@ static uint32_t find_damage(struct Kept *kept) {
     uint32_t status = fluent_tidy(TEXT("a  =  b\r\nc"), &kept->text, &kept->place);
     return status == FLUENT_DAMAGED ? FLUENT_READ : status;
 }
+static uint32_t find_occurrences(struct Kept *kept) {
+    return fluent_occurrences(TEXT("a = { $b } { -c(d: 1) } { F() }\ng@Rb@ge\n-e = { a.f }\n .g = h\n"), &kept->text);
+}
 static uint32_t has(struct Kept *kept) { return fluent_bundle_has(&kept->bundle, TEXT("welcome"), TEXT("")); }
 
 static const struct {
@@ -75,12 +110,19 @@ static const struct {
     {"fluent_parse", parse},
     {"fluent_parse_runtime", parse_runtime},
     {"fluent_write", write_tree},
+    {"fluent_write_counted", write_counted},
     {"fluent_write_json", write_json},
     {"fluent_answer", answer},
     {"fluent_answer_plain", answer_plain},
     {"fluent_bundle_new", make},
     {"fluent_bundle_new_within", make_within},
     {"fluent_bundle_new_plain", make_plain},
+    {"fluent_bundle_new_with", make_with},
+    {"fluent_bundle_new_calling", make_calling},
+    {"fluent_bundle_call without an answer", call_missing},
+    {"fluent_bundle_call", call_answered},
+    {"fluent_bundle_messages", messages},
+    {"fluent_bundle_attributes", attributes},
     {"fluent_bundle_format", format},
     {"fluent_bundle_format of many arguments", format_many},
     {"fluent_bundle_errors", report},
@@ -89,6 +131,7 @@ static const struct {
     {"fluent_lint", lint},
     {"fluent_tidy", tidy},
     {"fluent_tidy of damage", find_damage},
+    {"fluent_occurrences", find_occurrences},
 };
 
 static const struct Bytes TEXT_BEFORE = BYTES("\xe2\x81\xa8{$absent}\xe2\x81\xa9 and {nothing}");

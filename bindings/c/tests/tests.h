@@ -51,9 +51,13 @@ bool try_counts(void);
 bool try_texts(void);
 bool try_answers(void);
 bool try_bundles(void);
+bool try_calls(void);
 bool try_formats(void);
 bool try_languages(void);
 bool try_linting(void);
+bool try_listing(void);
+bool try_options(void);
+bool try_occurrences(void);
 bool try_tidying(void);
 bool try_refusals(void);
 

@@ -18,6 +18,7 @@ from ._errors import (
 from ._languages import accepted_languages, negotiate_languages, system_languages
 from ._linting import FileCounts, Finding, Report, TidyError, lint, tidy
 from ._localization import Localization, LocalizedAnswer
+from ._occurrences import Occurrence, Symbol, occurrences
 from ._values import Formatter, Number, Value
 
 __version__ = "0.1.0"
@@ -34,15 +35,18 @@ __all__ = [
     "LocalizedAnswer",
     "MissingMessageError",
     "Number",
+    "Occurrence",
     "Report",
     "ResolverError",
     "SourceError",
+    "Symbol",
     "TidyError",
     "UnknownLocaleError",
     "Value",
     "accepted_languages",
     "lint",
     "negotiate_languages",
+    "occurrences",
     "system_languages",
     "tidy",
 ]

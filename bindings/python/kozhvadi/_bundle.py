@@ -19,6 +19,7 @@ from ._answers import Answer, resolver_errors
 from ._errors import FluentError, FluentWarning, MissingMessageError, SourceError, UnknownLocaleError
 from ._errors import source_error
 from ._extension import calls_type
+from ._functions import Functions, answer_to, functions_of
 from ._locks import new_lock
 from ._values import Formatter, arguments_of, encoded
 
@@ -35,16 +36,16 @@ _NAME = re.compile(r"[^\n=#]*\.ftl|[A-Za-z]{2,3}(?:[-_][A-Za-z0-9]+)*")
 
 
 class _Texts:
-    """The text and the errors of an answer, whose memory another answer uses."""
+    """The text and the errors of an answer, and a call, whose memory another answer uses."""
 
-    __slots__ = ("text", "errors")
+    __slots__ = ("text", "errors", "call")
 
     def __init__(self) -> None:
-        self.text, self.errors = c.FluentText(), c.FluentText()
+        self.text, self.errors, self.call = c.FluentText(), c.FluentText(), c.FluentText()
 
     def __del__(self, free: Callable[[c.FluentText], None] = c.library.fluent_free_text) -> None:
-        free(self.text)
-        free(self.errors)
+        for text in (self.text, self.errors, self.call):
+            free(text)
 
 
 class Bundle:
@@ -56,6 +57,11 @@ class Bundle:
     keep their direction from that of the text around them. With `overriding` the last entry of an id counts, and else
     the first. `formatter` makes a text or a number of an argument that is neither, such as a date or `None`: `str` if
     you set none.
+
+    `functions` are those that messages call, by their names: `functions={"PLATFORM": lambda: sys.platform}` for
+    `{ PLATFORM() }`. A function gets texts as `str`, numbers as `int` or `Decimal`, and `None` for what has no value; it
+    gives a text, a number, what the formatter takes, or `None` for no value. It is called once for each different call
+    that an answer meets, so it has to give the same for the same arguments. What it raises, `format` raises.
 
     `stack` is how many bytes of the machine's stack a message or a term may take when it is read, and an answer: the
     usual 1.5 MB suit a thread with 2 MB. What nests deeper raises `MemoryError`. A thread that makes or asks the bundle
@@ -74,11 +80,12 @@ class Bundle:
         isolating: bool = True,
         overriding: bool = False,
         formatter: Formatter = str,
+        functions: Functions | None = None,
         stack: int = c.THREAD_STACK,
     ) -> None:
         texts = _texts_of(sources)
         named = [(f"source {number}", text) for number, text in enumerate(texts, 1)]
-        self._make(named, locale, numbers, isolating, overriding, formatter, stack)
+        self._make(named, locale, numbers, isolating, overriding, formatter, functions, stack)
 
     @classmethod
     def from_files(
@@ -90,6 +97,7 @@ class Bundle:
         isolating: bool = True,
         overriding: bool = False,
         formatter: Formatter = str,
+        functions: Functions | None = None,
         stack: int = c.THREAD_STACK,
     ) -> Bundle:
         """A bundle of files, in their order. They are in UTF-8, and a byte order mark is passed over.
@@ -98,7 +106,8 @@ class Bundle:
         """
         each = [paths] if isinstance(paths, (str, os.PathLike)) else list(paths)
         bundle = cls.__new__(cls)
-        bundle._make([_file(path) for path in each], locale, numbers, isolating, overriding, formatter, stack)
+        named = [_file(path) for path in each]
+        bundle._make(named, locale, numbers, isolating, overriding, formatter, functions, stack)
         return bundle
 
     def _make(
@@ -109,6 +118,7 @@ class Bundle:
         isolating: bool,
         overriding: bool,
         formatter: Formatter,
+        functions: Functions | None,
         stack: SupportsIndex,
     ) -> None:
         tag = b"" if locale is None else encoded(locale, "the locale")
@@ -116,12 +126,17 @@ class Bundle:
             raise TypeError(f"the formatter can't be called: {type(formatter).__name__}")
         self._lock, self._handle = new_lock(), c.FluentBundle()
         self._spare: list[_Texts] = []
+        self._functions = functions_of(functions)
         self._formatter, self._overriding, self._stack = formatter, bool(overriding), _budget(stack)
         # What `errors` needs, until it was asked.
         self._sources: list[tuple[str, bytes]] | None = named
         self._errors: list[SourceError] = []
-        new = c.library.fluent_bundle_new_within if numbers else c.library.fluent_bundle_new_plain
-        made = self._read([text for _, text in named], tag, bool(isolating), self._handle, new)
+        texts = [text for _, text in named]
+        if self._functions:
+            made = self._read_calling(texts, tag, bool(isolating), bool(numbers))
+        else:
+            new = c.library.fluent_bundle_new_within if numbers else c.library.fluent_bundle_new_plain
+            made = self._read(texts, tag, bool(isolating), self._handle, new)
         if made == c.UNKNOWN_LOCALE:
             raise UnknownLocaleError(f"the locale {locale!r} has no plural rules")
         if made != c.READ:
@@ -134,6 +149,16 @@ class Bundle:
     ) -> int:
         array, count = c.sources(texts)
         return new(array, count, tag, len(tag), isolating, self._overriding, self._stack, handle)
+
+    def _read_calling(self, texts: list[bytes], tag: bytes, isolating: bool, numbers: bool) -> int:
+        """Reads sources whose messages call functions."""
+        options = c.FluentBundleOptions(
+            ctypes.sizeof(c.FluentBundleOptions), tag, len(tag), self._stack, isolating, self._overriding, not numbers
+        )
+        array, count = c.sources(texts)
+        names, named = c.sources([name.encode() for name in self._functions])
+        made: int = c.library.fluent_bundle_new_calling(array, count, options, names, named, self._handle)
+        return made
 
     def _too_deep(self, named: list[tuple[str, bytes]]) -> str:
         """Which source can't be read."""
@@ -155,7 +180,7 @@ class Bundle:
         """
         if self._sources is not None:
             self._warn()
-        ask = self._calls.format if self._calls else self._format
+        ask = self._call if self._functions else self._calls.format if self._calls else self._format
         answered = ask(id, attribute, arguments, self._formatter)
         if isinstance(answered, Answer):
             return answered
@@ -179,6 +204,36 @@ class Bundle:
             answered: int = c.library.fluent_bundle_format(
                 self._handle, key, len(key), name, len(name), array, count, texts.text, texts.errors
             )
+        if answered != c.READ:
+            return answered
+        errors = resolver_errors(c.string_of(texts.errors)) if texts.errors.held else []
+        answer = Answer(c.string_of(texts.text), errors)
+        self._spare.append(texts)
+        return answer
+
+    def _call(
+        self, id: str, attribute: str | None, arguments: dict[str, object], formatter: Formatter, /
+    ) -> Answer | int:
+        """The same of a bundle with functions, which are called until each call that the answer meets has an answer."""
+        key = encoded(id, "the id")
+        name = b"" if attribute is None else encoded(attribute, "the name of the attribute")
+        array, count = arguments_of(arguments, formatter)
+        answers: list[c.FluentArgument] = []
+        try:
+            texts = self._spare.pop()
+        except IndexError:
+            texts = _Texts()
+        while True:
+            given, number = c.arguments(answers)
+            with self._lock:
+                answered: int = c.library.fluent_bundle_call(
+                    self._handle, key, len(key), name, len(name), array, count, given, number,
+                    texts.text, texts.errors, texts.call,
+                )
+            if answered != c.CALL:
+                break
+            # A function may ask the bundle.
+            answers.append(answer_to(c.string_of(texts.call), self._functions, formatter))
         if answered != c.READ:
             return answered
         errors = resolver_errors(c.string_of(texts.errors)) if texts.errors.held else []
@@ -215,6 +270,40 @@ class Bundle:
         except ValueError:
             # It can't be written in UTF-8, so no message has it.
             return False
+
+    def messages(self) -> list[str]:
+        """The ids of the messages, in the order of their first entries in the sources.
+
+        A message of attributes alone is there, too.
+        """
+        listed, ids = self._list(c.library.fluent_bundle_messages)
+        if listed != c.READ:
+            self._refuse(listed, "the list of the messages")
+        return ids
+
+    def attributes(self, id: str) -> list[str]:
+        """The names of a message's attributes, in its order.
+
+        A name that it has twice is there twice: the first is the one that `format` takes. Raises `MissingMessageError`
+        if there is no such message.
+        """
+        key = encoded(id, "the id")
+        listed, names = self._list(c.library.fluent_bundle_attributes, key, len(key))
+        if listed == c.NO_MESSAGE:
+            raise MissingMessageError(_missing(id, None, listed))
+        if listed != c.READ:
+            self._refuse(listed, f"the list of the attributes of {id!r}")
+        return names
+
+    def _list(self, call: Callable[..., int], *of: object) -> tuple[int, list[str]]:
+        """The status of a call that lists, and the lines of its text."""
+        text = c.FluentText()
+        try:
+            with self._lock:
+                listed = call(self._handle, *of, text)
+            return listed, c.lines_of(text)
+        finally:
+            c.library.fluent_free_text(text)
 
     @property
     def errors(self) -> list[SourceError]:

@@ -8,8 +8,9 @@ from difflib import get_close_matches
 from typing import NamedTuple
 
 from ._linting import Finding
-from ._places import Places, Select
+from ._places import Places
 from ._samples import Catalog
+from ._scan import Select
 
 _TOKEN = re.compile(rb"[$.-]?[A-Za-z][A-Za-z0-9_-]*(?:\.[A-Za-z][A-Za-z0-9_-]*)?|-?[0-9]+(?:\.[0-9]+)?")
 _CHARACTER = re.compile(rb"[^\r\n][\x80-\xbf]*")

@@ -19,11 +19,13 @@ HAS_ERRORS = 8
 DAMAGED = 9
 CARRIAGE_RETURN = 10
 NOT_TIDY = 11
+CALL = 12
 
 TEXT = 0
 DECIMAL = 1
 INTEGER = 2
 UNSIGNED = 3
+NO_VALUE = 4
 
 # The budget of the stack that fluent_bundle_new has.
 THREAD_STACK = 1_572_864
@@ -53,6 +55,10 @@ class FluentLintOptions(ctypes.Structure):
     ]
 
 
+class FluentCounts(ctypes.Structure):
+    _fields_ = [(name, ctypes.c_size_t) for name in ("messages", "terms", "comments", "junk", "errors")]
+
+
 class FluentPlace(ctypes.Structure):
     _fields_ = [("line", ctypes.c_size_t), ("column", ctypes.c_size_t)]
 
@@ -72,6 +78,18 @@ class FluentBundle(ctypes.Structure):
         ("sources", ctypes.c_void_p),
         ("read", ctypes.c_void_p),
         ("desk", ctypes.c_void_p),
+    ]
+
+
+class FluentBundleOptions(ctypes.Structure):
+    _fields_ = [
+        ("size", ctypes.c_size_t),
+        ("locale", ctypes.c_char_p),
+        ("locale_len", ctypes.c_size_t),
+        ("stack", ctypes.c_size_t),
+        ("isolating", ctypes.c_bool),
+        ("overriding", ctypes.c_bool),
+        ("plain_numbers", ctypes.c_bool),
     ]
 
 
@@ -138,13 +156,24 @@ def _load() -> ctypes.CDLL:
         "fluent_bundle_format": [
             bundle, ctypes.c_char_p, size, ctypes.c_char_p, size, ctypes.POINTER(FluentArgument), size, text, text,
         ],
+        "fluent_bundle_new_calling": [
+            ctypes.POINTER(FluentSource), size, ctypes.POINTER(FluentBundleOptions), ctypes.POINTER(FluentSource), size,
+            bundle,
+        ],
+        "fluent_bundle_call": [
+            bundle, ctypes.c_char_p, size, ctypes.c_char_p, size, ctypes.POINTER(FluentArgument), size,
+            ctypes.POINTER(FluentArgument), size, text, text, text,
+        ],
         "fluent_bundle_has": [bundle, ctypes.c_char_p, size, ctypes.c_char_p, size],
+        "fluent_bundle_messages": [bundle, text],
+        "fluent_bundle_attributes": [bundle, ctypes.c_char_p, size, text],
         "fluent_bundle_errors": [bundle, text],
         "fluent_negotiate": [
             ctypes.POINTER(FluentSource), size, ctypes.POINTER(FluentSource), size, ctypes.c_uint32,
             ctypes.POINTER(size), size, ctypes.POINTER(size),
         ],
-        "fluent_write_json": [ctypes.c_char_p, size, text],
+        "fluent_parse": [ctypes.c_char_p, size, ctypes.POINTER(FluentCounts)],
+        "fluent_occurrences": [ctypes.c_char_p, size, text],
         "fluent_lint": [
             ctypes.POINTER(FluentFile), size, ctypes.POINTER(FluentFile), size, ctypes.POINTER(FluentLintOptions), text,
         ],
@@ -162,6 +191,12 @@ def _load() -> ctypes.CDLL:
 
 
 library = _load()
+
+
+def has_junk(source: bytes) -> bool:
+    """Whether a stretch of a source can't be read, or the source nests too deep to say."""
+    counts = FluentCounts()
+    return library.fluent_parse(source, len(source), counts) != READ or bool(counts.junk)
 
 
 def address_of(call: str) -> int:

@@ -113,7 +113,7 @@ def lint(
         if status == c.UNKNOWN_LOCALE:
             raise UnknownLocaleError(f"the locale {locale!r} has no plural rules")
         if status not in (c.READ, c.HAS_ERRORS):
-            _refuse(status, "the report")
+            refuse(status, "the report")
         lines = c.lines_of(text)
     finally:
         c.library.fluent_free_text(text)
@@ -142,7 +142,7 @@ def tidy(source: str) -> str:
         raise TidyError(_damage(source), place.line, place.column)
     if status in (c.CARRIAGE_RETURN, c.NOT_TIDY):
         raise TidyError(_CARRIAGE_RETURN if status == c.CARRIAGE_RETURN else _NOT_TIDY)
-    _refuse(status, "the source")
+    refuse(status, "the source")
 
 
 def _damage(source: str) -> str:
@@ -174,7 +174,8 @@ def _report(lines: list[str], status: int) -> Report:
     return Report(findings, counts, status)
 
 
-def _refuse(status: int, what: str) -> NoReturn:
+def refuse(status: int, what: str) -> NoReturn:
+    """Raises why the library returns this status."""
     if status == c.NO_MEMORY:
         raise MemoryError(f"{what} nests too deep for {c.THREAD_STACK} bytes of the stack, or memory ran out")
     raise FluentError(f"the library refuses {what}: status {status}")

@@ -11,7 +11,8 @@ from typing import NamedTuple, Union
 
 from ._bundle import Bundle
 from ._errors import UnknownLocaleError
-from ._places import Entry, Part, Places
+from ._places import Places
+from ._scan import Entry, Part
 
 Sample = Union[str, int, Decimal]
 

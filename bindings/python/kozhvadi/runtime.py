@@ -5,20 +5,19 @@
 >>> bundle.format_pattern(bundle.get_message("welcome").value, {"name": "Jane"})
 ('Welcome, Jane!', [])
 
-A number is shown without grouping, and a date as `str` shows it. There are no functions of the program's own, no
-`DATETIME`, and of the options of `fluent_number` there is `minimumFractionDigits`: what isn't there raises
+A number is shown without grouping, and a date as `str` shows it. Functions of the program's own get texts and numbers: a
+date comes as its text. There is no `DATETIME` but one of your own, and of the options of `fluent_number` there is `minimumFractionDigits`: what isn't there raises
 `NotImplementedError`.
 """
 
 from __future__ import annotations
 
-import json
 import os
+import threading
 from collections.abc import Callable, Generator, Iterable, Iterator, Mapping
 from decimal import Decimal
 from typing import Any, NoReturn
 
-from . import _library as c
 from ._bundle import Bundle
 from ._errors import ResolverError, UnknownLocaleError
 from ._values import Number, encoded
@@ -91,8 +90,8 @@ class Pattern:
 class _Attributes(Mapping[str, Pattern]):
     """The attributes of a message by their names. The first of a name counts."""
 
-    def __init__(self, owner: FluentBundle, bundle: Bundle, id: str) -> None:
-        self._owner, self._bundle, self._id = owner, bundle, id
+    def __init__(self, bundle: Bundle, id: str) -> None:
+        self._bundle, self._id = bundle, id
 
     def __getitem__(self, name: str) -> Pattern:
         if (self._id, name) not in self._bundle:
@@ -100,10 +99,10 @@ class _Attributes(Mapping[str, Pattern]):
         return Pattern(self._bundle, self._id, name)
 
     def __iter__(self) -> Iterator[str]:
-        return iter(self._owner._attributes_of(self._id))
+        return iter(dict.fromkeys(self._bundle.attributes(self._id)))
 
     def __len__(self) -> int:
-        return len(self._owner._attributes_of(self._id))
+        return len(set(self._bundle.attributes(self._id)))
 
 
 class Message:
@@ -113,10 +112,18 @@ class Message:
         self.value, self.attributes = value, attributes
 
 
+class _Raised(threading.local):
+    """What functions raised while an answer was made, in each thread."""
+
+    def __init__(self) -> None:
+        self.errors: list[Exception] = []
+
+
 class FluentBundle:
     """Messages and terms of resources, for the first of these locales that has plural rules.
 
-    The resources are read at the first question after one was added.
+    The resources are read at the first question after one was added. What a function raises is among the errors of the
+    answer, and the text has the call, such as `NAME()`.
     """
 
     def __init__(
@@ -125,10 +132,10 @@ class FluentBundle:
         functions: Mapping[str, Callable[..., Any]] | None = None,
         use_isolating: bool = True,
     ) -> None:
-        if functions:
-            raise NotImplementedError(f"there are no functions of the program's own: {', '.join(functions)}")
         self.locales = [locales] if isinstance(locales, str) else list(locales)
         self.use_isolating = use_isolating
+        self._functions = {name: self._caught(function) for name, function in (functions or {}).items()}
+        self._raised = _Raised()
         self._resources: list[tuple[str, bool]] = []
         self._made: Bundle | None = None
 
@@ -150,14 +157,30 @@ class FluentBundle:
         if not bundle.has_message(message_id):
             raise LookupError(message_id)
         value = Pattern(bundle, message_id, None) if message_id in bundle else None
-        return Message(value, _Attributes(self, bundle, message_id))
+        return Message(value, _Attributes(bundle, message_id))
 
     def format_pattern(
         self, pattern: Pattern, args: Mapping[str, Any] | None = None
-    ) -> tuple[str, list[FluentFormatError]]:
-        """The text of a pattern, and its errors."""
-        text, errors = pattern._bundle.format(pattern._id, pattern._attribute, **dict(args or {}))
-        return text, [_error_of(error) for error in errors]
+    ) -> tuple[str, list[Exception]]:
+        """The text of a pattern, and its errors: first those that functions raised."""
+        before, self._raised.errors = self._raised.errors, []
+        try:
+            text, errors = pattern._bundle.format(pattern._id, pattern._attribute, **dict(args or {}))
+            return text, [*self._raised.errors, *map(_error_of, errors)]
+        finally:
+            self._raised.errors = before
+
+    def _caught(self, function: Callable[..., Any]) -> Callable[..., Any]:
+        """A function that has no value in the place of an error."""
+
+        def call(*positional: Any, **named: Any) -> Any:
+            try:
+                return function(*positional, **named)
+            except Exception as error:
+                self._raised.errors.append(error)
+                return None
+
+        return call
 
     def _sources(self) -> list[str]:
         """The sources in the order in which the first entry of an id counts."""
@@ -172,34 +195,15 @@ class FluentBundle:
     def _read(self) -> Bundle:
         for locale in self.locales:
             try:
-                bundle = Bundle(self._sources(), locale=locale, isolating=self.use_isolating)
+                bundle = Bundle(self._sources(), locale=locale, isolating=self.use_isolating, functions=self._functions)
                 break
             except UnknownLocaleError:
                 continue
         else:
-            bundle = Bundle(self._sources(), isolating=self.use_isolating)
+            bundle = Bundle(self._sources(), isolating=self.use_isolating, functions=self._functions)
         # Whoever looks at the errors of the sources isn't warned of them.
         bundle.errors.clear()
         return bundle
-
-    def _attributes_of(self, id: str) -> list[str]:
-        for source in self._sources():
-            for entry in _tree_of(source)["body"]:
-                if entry["type"] == "Message" and entry["id"]["name"] == id:
-                    return list(dict.fromkeys(attribute["id"]["name"] for attribute in entry["attributes"]))
-        return []
-
-
-def _tree_of(source: str) -> dict[str, Any]:
-    """The tree of a source, as JSON."""
-    text, made = encoded(source, "a source"), c.FluentText()
-    try:
-        if c.library.fluent_write_json(text, len(text), made) != c.READ:
-            raise MemoryError("the source nests too deep, or memory ran out")
-        tree: dict[str, Any] = json.loads(c.string_of(made))
-        return tree
-    finally:
-        c.library.fluent_free_text(made)
 
 
 def _error_of(error: ResolverError) -> FluentFormatError:

@@ -186,8 +186,6 @@ class Runtime(unittest.TestCase):
         self.assertEqual(bundle.format_pattern(bundle.get_message("foo").value, {"message_id": 1, "id": 2}), ("Other", []))
 
     def test_what_is_not_there(self):
-        with self.assertRaisesRegex(NotImplementedError, "DATE_ISO"):
-            FluentBundle(["en"], functions={"DATE_ISO": str})
         with self.assertRaisesRegex(NotImplementedError, "currency"):
             fluent_number(1, currency="EUR")
         with self.assertRaisesRegex(NotImplementedError, "DATETIME"):

@@ -7,9 +7,11 @@ from pathlib import Path
 
 from kozhvadi import lint
 from kozhvadi._fixes import extent, fixes
-from kozhvadi._places import Places, Symbol, inside
+from kozhvadi._occurrences import Symbol
+from kozhvadi._places import Places
 from kozhvadi._positions import Lines, utf16_length
 from kozhvadi._samples import Catalog, categories
+from kozhvadi._scan import inside
 
 ROOT = Path(__file__).resolve().parents[3]
 
@@ -123,7 +125,10 @@ class Written:
 
 
 def is_read(source):
-    return not any(each.code == "syntax" for each in lint({"a": source}).findings)
+    try:
+        return not any(each.code == "syntax" for each in lint({"a": source}).findings)
+    except MemoryError:  # It nests too deep.
+        return False
 
 
 def references_by_lint(source):

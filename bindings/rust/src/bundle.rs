@@ -1,6 +1,7 @@
 //! Bundles of resources.
 
 use crate::args::FluentArgs;
+use crate::call::Functions;
 use crate::errors::{EntryKind, FluentError};
 use crate::kept::{Kept, Refusal, Settings};
 use crate::listing::Entry;
@@ -8,6 +9,7 @@ use crate::message::{FluentMessage, Message, Pattern};
 use crate::resolver::{ReferenceKind, ResolverError};
 use crate::resource::FluentResource;
 use crate::text::Text;
+use crate::value::FluentValue;
 use std::borrow::{Borrow, Cow};
 use std::collections::{hash_map, HashMap};
 use std::fmt;
@@ -31,6 +33,9 @@ pub struct FluentBundle<R = FluentResource> {
     resources: Vec<Added<R>>,
     /// The entry of each id that counts.
     entries: HashMap<Arc<str>, Held>,
+    /// The ids of messages and terms, in the order in which each came first.
+    ids: Vec<Arc<str>>,
+    functions: Functions,
     /// A number that no other bundle of the process has.
     number: u64,
     kept: OnceLock<Kept>,
@@ -64,7 +69,7 @@ impl<R: Borrow<FluentResource>> FluentBundle<R> {
         static BUNDLES: AtomicU64 = AtomicU64::new(0);
         let locales: Vec<String> = locales.iter().map(L::to_string).collect();
         let plain = Settings { isolating: true, last_counts: false, plain_numbers: true };
-        let has_rules = |locale: &&String| Kept::of(&[], locale, plain).is_some();
+        let has_rules = |locale: &&String| Kept::of(&[], locale, plain, &[]).is_some();
         let rules = locales.iter().filter(|locale| !locale.is_empty()).find(has_rules).cloned().unwrap_or_default();
         FluentBundle {
             locales,
@@ -73,6 +78,8 @@ impl<R: Borrow<FluentResource>> FluentBundle<R> {
             plain_numbers: false,
             resources: Vec::new(),
             entries: HashMap::from([(Arc::from("NUMBER"), Held::Other)]),
+            ids: Vec::new(),
+            functions: Functions::default(),
             number: BUNDLES.fetch_add(1, Ordering::Relaxed),
             kept: OnceLock::new(),
         }
@@ -94,6 +101,7 @@ impl<R: Borrow<FluentResource>> FluentBundle<R> {
             match self.entries.entry(entry.id.clone()) {
                 hash_map::Entry::Vacant(place) => {
                     place.insert(Held::of(entry, self.number));
+                    self.ids.push(entry.id.clone());
                 }
                 hash_map::Entry::Occupied(_) => {
                     errors.push(FluentError::Overriding { kind: entry.kind, id: entry.id.to_string() });
@@ -115,9 +123,42 @@ impl<R: Borrow<FluentResource>> FluentBundle<R> {
     pub fn add_resource_overriding(&mut self, resource: R) {
         self.forget();
         for entry in resource.borrow().entries() {
-            self.entries.insert(entry.id.clone(), Held::of(entry, self.number));
+            if self.entries.insert(entry.id.clone(), Held::of(entry, self.number)).is_none() {
+                self.ids.push(entry.id.clone());
+            }
         }
         self.resources.push(Added { resource, overriding: true });
+    }
+
+    /// Adds a function that messages call, such as `{ PLATFORM() }`.
+    ///
+    /// It gets copies of its arguments: texts, numbers, which keep the digits after the point as their one option, and
+    /// [`FluentValue::Error`] for what has no value. It is called once for each different call that an answer meets, so it
+    /// has to give the same for the same arguments. It may ask the bundle.
+    ///
+    /// ```
+    /// # use kozhvadi::{FluentBundle, FluentResource, FluentValue};
+    /// let mut bundle = FluentBundle::new(vec!["en"]);
+    /// bundle.add_resource(FluentResource::try_new("a = On { PLATFORM() }".to_string()).unwrap()).unwrap();
+    /// bundle.add_function("PLATFORM", |_, _| FluentValue::from("linux")).unwrap();
+    /// # bundle.set_use_isolating(false);
+    /// let pattern = bundle.get_message("a").and_then(|message| message.value()).unwrap();
+    /// assert_eq!(bundle.format_pattern(pattern, None, &mut vec![]), "On linux");
+    /// ```
+    ///
+    /// # Errors
+    /// [`FluentError::Overriding`] if the id was there; the function is dropped.
+    pub fn add_function<F>(&mut self, id: &str, function: F) -> Result<(), FluentError>
+    where
+        F: for<'a> Fn(&[FluentValue<'a>], &FluentArgs<'_>) -> FluentValue<'a> + Send + Sync + 'static,
+    {
+        if self.entries.contains_key(id) {
+            return Err(FluentError::Overriding { kind: EntryKind::Function, id: id.to_owned() });
+        }
+        self.forget();
+        self.entries.insert(Arc::from(id), Held::Other);
+        self.functions.add(id, Box::new(function));
+        Ok(())
     }
 
     /// Whether the values of placeables are between marks that keep their direction from that of the text around them,
@@ -144,12 +185,9 @@ impl<R: Borrow<FluentResource>> FluentBundle<R> {
         self.message(id).map(FluentMessage::of)
     }
 
-    /// The messages with their ids, in no order.
+    /// The messages with their ids, in the order in which each id came first.
     pub fn messages(&self) -> impl Iterator<Item = (&str, FluentMessage<'_>)> {
-        self.entries.iter().filter_map(|(id, held)| match held {
-            Held::Message(message) => Some((&**id, FluentMessage::of(message))),
-            Held::Other => None,
-        })
+        self.ids.iter().filter_map(|id| Some((&**id, self.get_message(id)?)))
     }
 
     /// The text of a pattern. Errors are added to `errors`, and you get the text even if there are errors.
@@ -223,7 +261,8 @@ impl<R: Borrow<FluentResource>> FluentBundle<R> {
         let own = self.own(pattern)?;
         own.fixed(|| {
             let fixed = |text: &mut Text, errors: &str| errors.is_empty().then(|| text.as_str().into());
-            self.kept().format(own, &FluentArgs::new(), fixed).ok()?
+            // A text that calls a function isn't kept.
+            self.kept().format(own, &FluentArgs::new(), |_| None, fixed).ok()?
         })
     }
 
@@ -236,7 +275,8 @@ impl<R: Borrow<FluentResource>> FluentBundle<R> {
         took: impl FnOnce(&mut Text) -> T,
     ) -> Option<T> {
         let none = FluentArgs::new();
-        let answered = self.kept().format(pattern, args.unwrap_or(&none), |text, lines| {
+        let answer = |call: &str| Some(self.functions.answer(call));
+        let answered = self.kept().format(pattern, args.unwrap_or(&none), answer, |text, lines| {
             errors.extend(lines.split_terminator('\n').map(|line| ResolverError::of_line(line).into()));
             took(text)
         });
@@ -246,7 +286,7 @@ impl<R: Borrow<FluentResource>> FluentBundle<R> {
                 id: pattern.id().to_owned(),
                 attribute: Some(pattern.attribute().to_owned()).filter(|name| !name.is_empty()),
             }),
-            Err(Refusal::Memory) => ResolverError::OutOfMemory,
+            Err(Refusal::Memory | Refusal::Call) => ResolverError::OutOfMemory,
         };
         errors.push(error.into());
         None
@@ -264,7 +304,8 @@ impl<R: Borrow<FluentResource>> FluentBundle<R> {
             };
             let sources: Vec<&str> = resources.into_iter().map(FluentResource::readable).collect();
             let settings = Settings { isolating: self.isolating, last_counts, plain_numbers: self.plain_numbers };
-            Kept::of(&sources, &self.rules, settings).unwrap_or_else(|| out_of_memory())
+            let functions = self.functions.names();
+            Kept::of(&sources, &self.rules, settings, &functions).unwrap_or_else(|| out_of_memory())
         })
     }
 
@@ -303,5 +344,36 @@ fn out_of_memory() -> ! {
 impl<R: Borrow<FluentResource>> Default for FluentBundle<R> {
     fn default() -> Self {
         FluentBundle::new(vec!["en"])
+    }
+}
+
+#[cfg(test)]
+mod tests {
+    use super::*;
+
+    /// What the library lists is what the bundle lists: its ids in the same order, unless resources override.
+    #[test]
+    fn the_library_lists_the_same() {
+        let sources = ["z = Z\n-t = T\na = A\n    .x = X\n    .y = Y\n    .x = Z\n", "t = T\nm =\n    .k = K\nz = Y\n"];
+        let mut bundle = FluentBundle::new(vec!["en"]);
+        for source in sources {
+            let resource = FluentResource::try_new(source.into()).expect("It is read.");
+            let _overriding = bundle.add_resource(resource);
+        }
+        let ids: Vec<&str> = bundle.messages().map(|(id, _)| id).collect();
+        assert_eq!(ids, ["z", "a", "m"]);
+        assert_eq!(bundle.kept().messages(), ids);
+        for (id, message) in bundle.messages() {
+            let names: Vec<&str> = message.attributes().map(|attribute| attribute.id()).collect();
+            assert_eq!(bundle.kept().attributes(id), names);
+        }
+        let over = FluentResource::try_new("n = N\nt = Message\n-z = Term\n".into()).expect("It is read.");
+        bundle.add_resource_overriding(over);
+        let mut ids: Vec<&str> = bundle.messages().map(|(id, _)| id).collect();
+        assert_eq!(ids, ["t", "a", "m", "n"]);
+        let mut listed = bundle.kept().messages();
+        ids.sort();
+        listed.sort();
+        assert_eq!(listed, ids);
     }
 }

@@ -7,14 +7,13 @@ pub const FLUENT_HAS_ERRORS: u32 = 8;
 pub const FLUENT_DAMAGED: u32 = 9;
 pub const FLUENT_CARRIAGE_RETURN: u32 = 10;
 pub const FLUENT_NOT_TIDY: u32 = 11;
+pub const FLUENT_CALL: u32 = 12;
 
 pub const FLUENT_TEXT: u32 = 0;
 pub const FLUENT_DECIMAL: u32 = 1;
 pub const FLUENT_INTEGER: u32 = 2;
 pub const FLUENT_UNSIGNED: u32 = 3;
-
-/// What a message or an answer may take of the machine's stack: what suits a thread with 2 MB.
-pub const THREAD_STACK: usize = 1_572_864;
+pub const FLUENT_NO_VALUE: u32 = 4;
 
 #[repr(C)]
 pub struct FluentSource {
@@ -72,6 +71,18 @@ pub struct FluentBundle {
     pub desk: *mut u8,
 }
 
+/// How a bundle is made. Of the budget of the machine's stack 0 is what suits a thread with 2 MB.
+#[repr(C)]
+pub struct FluentBundleOptions {
+    pub size: usize,
+    pub locale: *const u8,
+    pub locale_len: usize,
+    pub stack: usize,
+    pub isolating: bool,
+    pub overriding: bool,
+    pub plain_numbers: bool,
+}
+
 #[repr(C)]
 pub struct FluentArgument {
     pub name: *const u8,
@@ -84,9 +95,15 @@ pub struct FluentArgument {
 }
 
 extern "C" {
-    pub fn fluent_parse(text: *const u8, len: usize, counts: *mut FluentCounts) -> u32;
-    pub fn fluent_write(text: *const u8, len: usize, with_junk: bool, made: *mut FluentText) -> u32;
+    pub fn fluent_write_counted(
+        text: *const u8,
+        len: usize,
+        with_junk: bool,
+        made: *mut FluentText,
+        counts: *mut FluentCounts,
+    ) -> u32;
     pub fn fluent_tidy(text: *const u8, len: usize, made: *mut FluentText, place: *mut FluentPlace) -> u32;
+    pub fn fluent_occurrences(text: *const u8, len: usize, made: *mut FluentText) -> u32;
     pub fn fluent_lint(
         files: *const FluentFile,
         count: usize,
@@ -95,25 +112,33 @@ extern "C" {
         options: *const FluentLintOptions,
         report: *mut FluentText,
     ) -> u32;
-    pub fn fluent_bundle_new_within(
+    pub fn fluent_bundle_new_with(
         sources: *const FluentSource,
         count: usize,
-        locale: *const u8,
-        locale_len: usize,
-        isolating: bool,
-        overriding: bool,
-        stack: usize,
+        options: *const FluentBundleOptions,
         made: *mut FluentBundle,
     ) -> u32;
-    pub fn fluent_bundle_new_plain(
+    pub fn fluent_bundle_new_calling(
         sources: *const FluentSource,
         count: usize,
-        locale: *const u8,
-        locale_len: usize,
-        isolating: bool,
-        overriding: bool,
-        stack: usize,
+        options: *const FluentBundleOptions,
+        functions: *const FluentSource,
+        function_count: usize,
         made: *mut FluentBundle,
+    ) -> u32;
+    pub fn fluent_bundle_call(
+        bundle: *mut FluentBundle,
+        id: *const u8,
+        id_len: usize,
+        attribute: *const u8,
+        attribute_len: usize,
+        arguments: *const FluentArgument,
+        argument_count: usize,
+        answers: *const FluentArgument,
+        answer_count: usize,
+        text: *mut FluentText,
+        errors: *mut FluentText,
+        call: *mut FluentText,
     ) -> u32;
     pub fn fluent_bundle_format(
         bundle: *mut FluentBundle,
@@ -135,6 +160,15 @@ extern "C" {
         positions: *mut usize,
         room: usize,
         count: *mut usize,
+    ) -> u32;
+    #[cfg(test)]
+    pub fn fluent_bundle_messages(bundle: *mut FluentBundle, text: *mut FluentText) -> u32;
+    #[cfg(test)]
+    pub fn fluent_bundle_attributes(
+        bundle: *mut FluentBundle,
+        id: *const u8,
+        id_len: usize,
+        text: *mut FluentText,
     ) -> u32;
     pub fn fluent_bundle_errors(bundle: *mut FluentBundle, report: *mut FluentText) -> u32;
     pub fn fluent_bundle_free(bundle: *mut FluentBundle);

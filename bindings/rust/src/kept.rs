@@ -4,8 +4,9 @@ use crate::args::FluentArgs;
 use crate::c;
 use crate::message::Pattern;
 use crate::text::Text;
-use std::ptr;
+use crate::value::FluentValue;
 use std::sync::{Mutex, MutexGuard, PoisonError};
+use std::{mem, ptr};
 
 /// Why there is no answer.
 pub(crate) enum Refusal {
@@ -13,6 +14,8 @@ pub(crate) enum Refusal {
     NoPattern,
     /// Memory was refused, or the answer nests too deep.
     Memory,
+    /// A call has no answer.
+    Call,
 }
 
 /// How a bundle is asked.
@@ -36,6 +39,10 @@ struct Asked {
     handle: c::FluentBundle,
     text: Text,
     errors: Text,
+    /// The call that an answer met last.
+    call: Text,
+    /// Whether messages may call functions.
+    calls: bool,
 }
 
 // SAFETY: the library proves that its bundles and its texts may go to another thread.
@@ -43,26 +50,35 @@ unsafe impl Send for Asked {}
 
 impl Kept {
     /// A bundle of copies of sources; or `None` if the locale has no plural rules or the library was refused memory.
-    pub(crate) fn of(sources: &[&str], locale: &str, settings: Settings) -> Option<Kept> {
-        let make = if settings.plain_numbers { c::fluent_bundle_new_plain } else { c::fluent_bundle_new_within };
-        let sources: Vec<c::FluentSource> =
-            sources.iter().map(|source| c::FluentSource { text: source.as_ptr(), len: source.len() }).collect();
+    ///
+    /// Its messages may call functions of these names.
+    pub(crate) fn of(sources: &[&str], locale: &str, settings: Settings, functions: &[&str]) -> Option<Kept> {
+        let of_texts = |texts: &[&str]| -> Vec<c::FluentSource> {
+            texts.iter().map(|text| c::FluentSource { text: text.as_ptr(), len: text.len() }).collect()
+        };
+        let (sources, names) = (of_texts(sources), of_texts(functions));
         let mut handle =
             c::FluentBundle { held: false, sources: ptr::null_mut(), read: ptr::null_mut(), desk: ptr::null_mut() };
+        let options = c::FluentBundleOptions {
+            size: mem::size_of::<c::FluentBundleOptions>(),
+            locale: locale.as_ptr(),
+            locale_len: locale.len(),
+            stack: 0,
+            isolating: settings.isolating,
+            overriding: settings.last_counts,
+            plain_numbers: settings.plain_numbers,
+        };
         // SAFETY: each pointer is that of a slice of the length next to it, and the handle holds no bundle yet.
         let made = unsafe {
-            make(
-                sources.as_ptr(),
-                sources.len(),
-                locale.as_ptr(),
-                locale.len(),
-                settings.isolating,
-                settings.last_counts,
-                c::THREAD_STACK,
-                &mut handle,
-            )
+            if names.is_empty() {
+                c::fluent_bundle_new_with(sources.as_ptr(), sources.len(), &options, &mut handle)
+            } else {
+                let (functions, count) = (names.as_ptr(), names.len());
+                c::fluent_bundle_new_calling(sources.as_ptr(), sources.len(), &options, functions, count, &mut handle)
+            }
         };
-        let asked = Asked { handle, text: Text::none(), errors: Text::none() };
+        let (text, errors, call) = (Text::none(), Text::none(), Text::none());
+        let asked = Asked { handle, text, errors, call, calls: !names.is_empty() };
         (made == c::FLUENT_READ).then(|| Kept(Mutex::new(asked)))
     }
 
@@ -72,34 +88,31 @@ impl Kept {
     }
 
     /// Passes the text of a pattern on, and the lines of its errors. `took` may take the text, and doesn't ask the
-    /// bundle.
+    /// bundle. `answer` gives the answer to a call, by its text, and may ask the bundle.
     pub(crate) fn format<T>(
         &self,
         pattern: &Pattern,
         args: &FluentArgs<'_>,
+        answer: impl Fn(&str) -> Option<FluentValue<'static>>,
         took: impl FnOnce(&mut Text, &str) -> T,
     ) -> Result<T, Refusal> {
-        let Asked { handle, text, errors } = &mut *self.asked();
-        let (id, attribute) = (pattern.id(), pattern.attribute());
-        // SAFETY: each pointer is that of a slice of the length next to it, and the handle holds a bundle, which is
-        // lent by `&mut`.
-        let answered = args.with_c(|arguments| unsafe {
-            c::fluent_bundle_format(
-                handle,
-                id.as_ptr(),
-                id.len(),
-                attribute.as_ptr(),
-                attribute.len(),
-                arguments.as_ptr(),
-                arguments.len(),
-                text.place(),
-                errors.place(),
-            )
-        });
-        match answered {
-            c::FLUENT_READ => Ok(took(text, errors.as_str())),
-            c::FLUENT_NO_MEMORY => Err(Refusal::Memory),
-            _ => Err(Refusal::NoPattern),
+        let mut answers = FluentArgs::new();
+        loop {
+            let mut asked = self.asked();
+            let answered = asked.ask(pattern, args, &answers);
+            match answered {
+                c::FLUENT_READ => {
+                    let Asked { text, errors, .. } = &mut *asked;
+                    return Ok(took(text, errors.as_str()));
+                }
+                c::FLUENT_CALL => {}
+                c::FLUENT_NO_MEMORY => return Err(Refusal::Memory),
+                _ => return Err(Refusal::NoPattern),
+            }
+            let call = asked.call.as_str().to_owned();
+            drop(asked);
+            let value = answer(&call).ok_or(Refusal::Call)?;
+            answers.set(call, value);
         }
     }
 
@@ -108,12 +121,64 @@ impl Kept {
         self.asked().text = text;
     }
 
+    /// The ids of the messages, as the library lists them.
+    #[cfg(test)]
+    pub(crate) fn messages(&self) -> Vec<String> {
+        let mut ids = Text::none();
+        // SAFETY: the handle holds a bundle, which is lent by `&mut`.
+        let answered = unsafe { c::fluent_bundle_messages(&mut self.asked().handle, ids.place()) };
+        assert_eq!(answered, c::FLUENT_READ);
+        ids.as_str().lines().map(String::from).collect()
+    }
+
+    /// The names of a message's attributes, as the library lists them.
+    #[cfg(test)]
+    pub(crate) fn attributes(&self, id: &str) -> Vec<String> {
+        let mut names = Text::none();
+        // SAFETY: the pointer is that of a slice of the length next to it, and the handle holds a bundle, which is lent
+        // by `&mut`.
+        let answered =
+            unsafe { c::fluent_bundle_attributes(&mut self.asked().handle, id.as_ptr(), id.len(), names.place()) };
+        assert_eq!(answered, c::FLUENT_READ);
+        names.as_str().lines().map(String::from).collect()
+    }
+
     /// What a check of the sources reports, or `None` if the library was refused memory.
     pub(crate) fn report(&self) -> Option<String> {
         let mut report = Text::none();
         // SAFETY: the handle holds a bundle, which is lent by `&mut`.
         let answered = unsafe { c::fluent_bundle_errors(&mut self.asked().handle, report.place()) };
         (answered == c::FLUENT_READ).then(|| report.as_str().to_owned())
+    }
+}
+
+impl Asked {
+    /// Formats a pattern with these answers to calls, and gives the status of the library.
+    fn ask(&mut self, pattern: &Pattern, args: &FluentArgs<'_>, answers: &FluentArgs<'_>) -> u32 {
+        let Asked { handle, text, errors, call, calls } = self;
+        let (id, name) = (pattern.id(), pattern.attribute());
+        let (id, id_len, name, name_len) = (id.as_ptr(), id.len(), name.as_ptr(), name.len());
+        let (text, errors) = (text.place(), errors.place());
+        args.with_c(|args| {
+            let (arguments, count) = (args.as_ptr(), args.len());
+            // SAFETY: each pointer is that of a slice of the length next to it, and the handle holds a bundle, which is
+            // lent by `&mut`.
+            if !*calls {
+                return unsafe {
+                    c::fluent_bundle_format(handle, id, id_len, name, name_len, arguments, count, text, errors)
+                };
+            }
+            answers.with_c(|answers| {
+                let (answers, answered) = (answers.as_ptr(), answers.len());
+                let call = call.place();
+                // SAFETY: the same.
+                unsafe {
+                    c::fluent_bundle_call(
+                        handle, id, id_len, name, name_len, arguments, count, answers, answered, text, errors, call,
+                    )
+                }
+            })
+        })
     }
 }
 

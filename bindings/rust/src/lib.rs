@@ -9,7 +9,8 @@
 //! - [`FluentMessage`] is a message of a bundle.
 //! - [`FluentArgs`] are the arguments of a message.
 //! - [`negotiate_languages`] finds which of a program's languages suit a user, and [`Localization`] asks their bundles.
-//! - [`lint()`] finds what is wrong with the files of a catalog, and [`tidy`] formats a source.
+//! - [`lint()`] finds what is wrong with the files of a catalog, [`tidy`] formats a source, and
+//!   [`occurrences()`] says where its names are.
 //!
 //! ```
 //! use kozhvadi::{FluentArgs, FluentBundle, FluentResource};
@@ -33,6 +34,7 @@
 mod args;
 mod bundle;
 mod c;
+mod call;
 mod decimal;
 mod errors;
 mod kept;
@@ -42,6 +44,7 @@ mod listing;
 mod localization;
 mod message;
 mod number;
+mod occurrences;
 mod options;
 mod parser;
 mod report;
@@ -64,6 +67,7 @@ pub use linting::{lint, FileCounts, Finding, LintError, LintOptions, Report, Sev
 pub use localization::{L10nAttribute, L10nKey, L10nMessage, Localization, LocalizationError};
 pub use message::{FluentAttribute, FluentMessage, Pattern};
 pub use number::FluentNumber;
+pub use occurrences::{occurrences, Occurrence, OutOfMemory, Symbol, SymbolKind};
 pub use parser::{ErrorKind, ParserError};
 pub use resolver::{ReferenceKind, ResolverError};
 pub use resource::FluentResource;

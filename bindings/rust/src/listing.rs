@@ -38,20 +38,25 @@ impl Entry {
 /// What the library writes of the tree of a source, without its junk.
 ///
 /// Each entry and each comment begins at the beginning of a line, and all its other lines are indented or empty.
-pub(crate) struct Written(Text);
+pub(crate) struct Written {
+    text: Text,
+    /// How many errors the source has.
+    pub(crate) errors: usize,
+}
 
 impl Written {
     /// Writes the tree of a source, or returns `None` if the library was refused memory for it.
     pub(crate) fn of(source: &str) -> Option<Written> {
-        let mut text = Text::none();
+        let (mut text, mut counts) = (Text::none(), c::FluentCounts::default());
         // SAFETY: the pointer is that of a slice of the length next to it.
-        let answered = unsafe { c::fluent_write(source.as_ptr(), source.len(), false, text.place()) };
-        (answered == c::FLUENT_READ).then_some(Written(text))
+        let answered =
+            unsafe { c::fluent_write_counted(source.as_ptr(), source.len(), false, text.place(), &mut counts) };
+        (answered == c::FLUENT_READ).then_some(Written { text, errors: counts.errors })
     }
 
     /// The messages and terms, in their order.
     pub(crate) fn entries(&self) -> Vec<Entry> {
-        parts(self.0.as_str()).filter(|part| !part.starts_with('#')).filter_map(Entry::of).collect()
+        parts(self.text.as_str()).filter(|part| !part.starts_with('#')).filter_map(Entry::of).collect()
     }
 }
 

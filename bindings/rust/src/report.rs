@@ -1,4 +1,4 @@
-//! The lines of a report: a JSON object each, whose values are texts, numbers and nulls.
+//! Lines of JSON: an object each, whose values are texts, numbers, truth values and nulls.
 
 use std::collections::HashMap;
 use std::str::Chars;
@@ -6,6 +6,7 @@ use std::str::Chars;
 /// A value of an object.
 pub(crate) enum Value {
     Null,
+    Bool(bool),
     Number(usize),
     Text(String),
 }
@@ -16,7 +17,7 @@ pub(crate) struct Object(HashMap<String, Value>);
 impl Object {
     /// The object that a line is. The library writes no other line.
     pub(crate) fn of(line: &str) -> Option<Object> {
-        let mut reader = Reader(line.chars());
+        let mut reader = Reader::of(line);
         let mut members = HashMap::new();
         reader.expect('{')?;
         loop {
@@ -35,7 +36,7 @@ impl Object {
     pub(crate) fn text(&mut self, key: &str) -> Option<String> {
         match self.0.remove(key)? {
             Value::Text(text) => Some(text),
-            Value::Null | Value::Number(_) => None,
+            Value::Null | Value::Bool(_) | Value::Number(_) => None,
         }
     }
 
@@ -43,16 +44,30 @@ impl Object {
     pub(crate) fn number(&self, key: &str) -> Option<usize> {
         match self.0.get(key)? {
             Value::Number(number) => Some(*number),
-            Value::Null | Value::Text(_) => None,
+            Value::Null | Value::Bool(_) | Value::Text(_) => None,
         }
+    }
+
+    /// Whether the value of a key is true.
+    pub(crate) fn is_true(&self, key: &str) -> bool {
+        matches!(self.0.get(key), Some(Value::Bool(true)))
     }
 }
 
 /// What is left of a line.
-struct Reader<'l>(Chars<'l>);
+pub(crate) struct Reader<'l>(Chars<'l>);
 
-impl Reader<'_> {
-    fn expect(&mut self, wanted: char) -> Option<()> {
+impl<'l> Reader<'l> {
+    pub(crate) fn of(line: &'l str) -> Self {
+        Reader(line.chars())
+    }
+
+    /// The next character, which stays.
+    pub(crate) fn peek(&self) -> Option<char> {
+        self.0.clone().next()
+    }
+
+    pub(crate) fn expect(&mut self, wanted: char) -> Option<()> {
         (self.0.next()? == wanted).then_some(())
     }
 
@@ -65,11 +80,13 @@ impl Reader<'_> {
         self.0 = line[end..].chars();
         match &line[..end] {
             "null" => Some(Value::Null),
+            "true" => Some(Value::Bool(true)),
+            "false" => Some(Value::Bool(false)),
             digits => Some(Value::Number(digits.parse().ok()?)),
         }
     }
 
-    fn text(&mut self) -> Option<String> {
+    pub(crate) fn text(&mut self) -> Option<String> {
         self.expect('"')?;
         let mut text = String::new();
         loop {

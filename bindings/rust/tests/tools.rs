@@ -1,6 +1,8 @@
-//! What is wrong with files, and their tidy texts.
+//! What is wrong with files, their tidy texts, and where their names are.
 
-use kozhvadi::{lint, tidy, FileCounts, LintError, LintOptions, Severity, TidyError};
+use kozhvadi::{
+    lint, occurrences, tidy, FileCounts, LintError, LintOptions, OutOfMemory, Severity, SymbolKind, TidyError,
+};
 
 #[test]
 fn reports() {
@@ -70,4 +72,38 @@ fn tidies() {
     assert_eq!(tidy("a = \r b\n"), Err(TidyError::CarriageReturn));
     assert_eq!(tidy("a = é }\nb\n"), Err(TidyError::Damaged { line: 1, column: 7 }));
     assert_eq!(tidy("a b").unwrap_err().to_string(), "line 1, column 3: it can't be read there");
+}
+
+#[test]
+fn finds_occurrences() {
+    let source = "hi = { -b(n: 1) } é { $n } { F($n) }\n  .t = { other.t }\njunk { $x\n-b = { $n }\n";
+    let found = occurrences(source).expect("It is read.");
+    let shown: Vec<String> = found
+        .iter()
+        .map(|each| {
+            assert_eq!(&source[each.place.clone()], each.symbol.name);
+            let owner = each.symbol.owner.as_deref().unwrap_or("");
+            format!("{}{} {} {owner}", if each.is_definition { "=" } else { "" }, each.symbol, each.place.start)
+        })
+        .collect();
+    assert_eq!(
+        shown,
+        [
+            "=hi 0 ",
+            "-b 8 ",
+            "$n 10 -b",
+            "$n 24 hi",
+            "F 30 ",
+            "$n 33 hi",
+            "=hi.t 41 hi",
+            "other 47 ",
+            "other.t 53 other",
+            "=-b 68 ",
+            "$n 75 -b",
+        ]
+    );
+    assert_eq!(found[4].symbol.kind, SymbolKind::Function);
+    assert_eq!(occurrences(""), Ok(vec![]));
+    let deep = format!("a = {}1{}\n", "{".repeat(1430), "}".repeat(1430));
+    assert_eq!(occurrences(&deep), Err(OutOfMemory));
 }

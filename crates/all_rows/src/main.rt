@@ -48,8 +48,8 @@ fn try_group(rt: &HostRuntime, name: &str) -> Result<()> {
         "patterns" => rows_patterns::try_all(rt),
         "memory" => rows_requests::try_memory(rt),
         "requests" => rows_requests::try_all(rt),
-        "tidying" => rows_ftl::try_tidying(rt),
-        "ftl" => rows_ftl::try_all(rt),
+        "tidying" => rows_requests::try_tidying(rt),
+        "ftl" => rows_requests::try_commands(rt),
         _ => bail!("there are no rows of this name"),
     }
 }

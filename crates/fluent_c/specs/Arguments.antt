@@ -4,11 +4,11 @@ use Rattle.fluent_grammar.specs.Words.{Text}
 use Rattle.fluent_number.specs.Number.{number_from_integer}
 use Rattle.fluent_number.specs.Reading.{read_number}
 use Rattle.fluent_value.specs.Args.{with_argument}
-use Rattle.fluent_value.specs.Value.{Value, none, number, text}
+use Rattle.fluent_value.specs.Value.{Value, error, none, number, text}
 use Rattle.fluent_value.specs.View.{value_view}
 use Rattle.fluent_value.specs.declared.custom.NoCustom.{NoCustom}
 use Rattle.fluent_value.specs.declared.value.FluentValue.{FluentValue}
-use Rattle.fluent_c.specs.declared.TheConstants.{FLUENT_TEXT, FLUENT_DECIMAL, FLUENT_UNSIGNED}
+use Rattle.fluent_c.specs.declared.TheConstants.{FLUENT_TEXT, FLUENT_DECIMAL, FLUENT_UNSIGNED, FLUENT_NO_VALUE}
 use Rattle.fluent_c.specs.declared.arguments.ArgumentRefusal.{ArgumentRefusal}
 use Rattle.fluent_c.specs.declared.arguments.ArgumentRefusal.TheVariants.{Memory, NotUtf8, NoValue}
 use Rattle.fluent_c.specs.declared.arguments.FluentArgument.{FluentArgument}
@@ -17,12 +17,13 @@ use Rattle.fluent_c.specs.declared.arguments.FluentArgument.{FluentArgument}
 abbrev pub number_given : Text → Option (Value (Unit {0}))
 number_given t = option_map number (read_number t)
 
--- the value of an argument, if it has one: by its kind its text, also if that is a number's; the number that its text is; or
--- one of its integers
+-- the value of an argument, if it has one: by its kind its text, also if that is a number's; the number that its text is; one of
+-- its integers; or what a missing value is
 abbrev pub value_given : FluentArgument → Option (Value (Unit {0}))
 value_given a =
     if a.kind == FLUENT_TEXT then Some (text a.text.now) else (if a.kind == FLUENT_DECIMAL then number_given a.text.now else (if a.kind == 2
-    then Some (number (number_from_integer a.integer)) else (if a.kind == FLUENT_UNSIGNED then Some (number (number_from_integer (pos a.unsigned))) else None)))
+    then Some (number (number_from_integer a.integer)) else (if a.kind == FLUENT_UNSIGNED then Some (number (number_from_integer (pos a.unsigned)))
+    else (if a.kind == FLUENT_NO_VALUE then Some error else None))))
 
 -- what the code's value stands for
 abbrev pub value_seen : Option (FluentValue NoCustom) → Option (Value (Unit {0}))

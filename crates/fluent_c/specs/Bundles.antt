@@ -1,6 +1,7 @@
 -- What C learns of a bundle that it keeps.
-use Rattle.std.specs.Prelude.{◌≡◌, ◌⊎◌, Bool, true, false, List, [], ◌∷◌, Option, Some, None, IsNone, IsSome, IsSomeAnd, IsUtf8, map, option_and_then, option_copied, option_map}
+use Rattle.std.specs.Prelude.{◌≡◌, ◌⊎◌, Bool, true, false, List, [], ◌∷◌, Option, Some, None, IsNone, IsSome, IsSomeAnd, IsUtf8, map, option_and_then, option_copied, option_map, String, Vec, string_bytes, vec_items}
 use Rattle.std.specs.List.{flat_map}
+use Rattle.std.specs.declared.alloc.Global.{Global}
 use denote.Ref.{Bor}
 use Rattle.fluent_answers.specs.Answers.{pattern_asked, reply_to}
 use Rattle.fluent_grammar.specs.Tree.{Elements}
@@ -21,8 +22,13 @@ use Rattle.fluent_c.specs.declared.arguments.FluentArgument.{FluentArgument}
 use Rattle.fluent_c.specs.declared.text.FluentText.{FluentText}
 
 -- what a bundle is made of, if the locale has plural rules
-abbrev pub catalog_in : Settings → Text → List Text → Option Catalog
-catalog_in settings locale sources = option_map (λ plurals. record { settings = settings; plurals = plurals; sources = sources }) (plurals_in locale)
+abbrev pub catalog_in : Option (List Text) → Settings → Text → List Text → Option Catalog
+catalog_in functions settings locale sources =
+    option_map (λ plurals. record { settings = settings; plurals = plurals; sources = sources; functions = functions }) (plurals_in locale)
+
+-- the names of functions, if there are any
+abbrev pub names_in : Option (Vec (String Global) Global) → Option (List Text)
+names_in functions = option_map (λ names. map string_bytes (vec_items names)) functions
 
 -- how a bundle is asked: numbers are written as the locale of a tag writes them, and plainly without one
 abbrev pub settings_asked : Option (Bor Text) → Asking → Settings
@@ -32,9 +38,18 @@ settings_asked tag asking = settings_of (option_and_then locale_for (option_copi
 abbrev pub Keeps : FluentBundle → Catalog → Type 0
 Keeps bundle catalog = (bundle.held ≡ true) × (bundle.catalog ≡ catalog)
 
--- there is a bundle of these sources, for a locale that has plural rules and with these settings
+-- there is a bundle of these sources, for a locale that has plural rules and with these settings, whose messages may call functions
+-- of these names, if there are any
+abbrev pub KeepsWith : Option (List Text) → Settings → Text → List FluentSource → FluentBundle → Type 0
+KeepsWith functions settings locale sources bundle = IsSomeAnd (catalog_in functions settings locale (texts_of sources)) (Keeps bundle)
+
+-- the same by the code's values
+abbrev pub KeepsAsked : Option (Vec (String Global) Global) → Option (Bor Text) → Asking → Text → List FluentSource → FluentBundle → Type 0
+KeepsAsked functions tag asking = KeepsWith (names_in functions) (settings_asked tag asking)
+
+-- the same without functions
 abbrev pub KeepsBy : Settings → Text → List FluentSource → FluentBundle → Type 0
-KeepsBy settings locale sources bundle = IsSomeAnd (catalog_in settings locale (texts_of sources)) (Keeps bundle)
+KeepsBy = KeepsWith None
 
 -- it writes numbers as the locale writes them, and plainly if CLDR doesn't say how
 abbrev pub KeepsSources : Text → Bool → Bool → List FluentSource → FluentBundle → Type 0
@@ -74,6 +89,10 @@ pattern_in bundle id attribute = pattern_asked (attribute_in attribute) ((catalo
 abbrev pub reply_in : FluentBundle → Text → Text → List FluentArgument → Option Reply
 reply_in bundle id attribute arguments =
     reply_to (catalog_environment bundle.catalog) (record { id = id; attribute = attribute_in attribute; arguments = map pair_of arguments })
+
+-- texts hold such a reply
+abbrev pub Replies : FluentBundle → Text → Text → List FluentArgument → FluentText → FluentText → Type 0
+Replies bundle id attribute arguments made errors = IsSomeAnd (reply_in bundle id attribute arguments) (HoldReply made errors)
 
 -- there is no message of the id
 abbrev pub HasNoMessage : FluentBundle → Text → Type 0

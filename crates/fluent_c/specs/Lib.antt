@@ -11,5 +11,8 @@ pub mod Arguments
 pub mod Bundles
 pub mod Languages
 pub mod Linting
+pub mod Listing
+pub mod Options
+pub mod Calling
 pub mod Statuses
 pub mod Tidying

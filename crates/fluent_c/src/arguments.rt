@@ -7,7 +7,7 @@ ghost use Rattle.fluent_value.specs.Args.{all_set, order};
 ghost use Rattle.fluent_c.specs.Arguments.{AreRefusedFor, AreTaken, IsRefusedFor, IsTaken, number_given, pair_of, value_given, value_seen, with_given};
 ghost use Rattle.fluent_c.specs.declared.arguments.ArgumentRefusal.TheVariants.{Memory};
 
-use crate::{FLUENT_DECIMAL, FLUENT_INTEGER, FLUENT_TEXT, FLUENT_UNSIGNED};
+use crate::{FLUENT_DECIMAL, FLUENT_INTEGER, FLUENT_NO_VALUE, FLUENT_TEXT, FLUENT_UNSIGNED};
 use fluent_number::FluentNumber;
 use fluent_value::{FluentArgs, FluentValue, NoCustom};
 use simdutf8::basic::from_utf8;
@@ -28,7 +28,7 @@ pub struct FluentArgument<'a> {
     pub text: &'a [u8],
     pub integer: i64,
     pub unsigned: u64,
-    /// [`FLUENT_TEXT`], [`FLUENT_DECIMAL`], [`FLUENT_INTEGER`] or [`FLUENT_UNSIGNED`].
+    /// [`FLUENT_TEXT`], [`FLUENT_DECIMAL`], [`FLUENT_INTEGER`], [`FLUENT_UNSIGNED`] or [`FLUENT_NO_VALUE`].
     pub kind: u32,
 }
 
@@ -67,6 +67,9 @@ fn value_of<'a>(argument: &FluentArgument<'a>, text: &'a str) -> Option<FluentVa
     }
     if argument.kind == FLUENT_UNSIGNED {
         return Some(FluentValue::from(argument.unsigned));
+    }
+    if argument.kind == FLUENT_NO_VALUE {
+        return Some(FluentValue::Error);
     }
     None
 }

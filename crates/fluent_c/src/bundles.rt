@@ -4,7 +4,7 @@ ghost use Rattle.std.specs.Prelude.{◌≡◌, ◌≢◌, ◌∷◌, [], true, I
 ghost use Rattle.fluent_serve.specs.Texts.{texts};
 ghost use Rattle.fluent_check.specs.Report.{report_text};
 ghost use Rattle.fluent_c.specs.Answering.{HoldsOther, plurals_in};
-ghost use Rattle.fluent_c.specs.Bundles.{KeepsBy, KeepsNone, KeepsPlain, KeepsSame, KeepsSources, settings_asked};
+ghost use Rattle.fluent_c.specs.Bundles.{KeepsAsked, KeepsNone, KeepsPlain, KeepsSame, KeepsSources};
 ghost use Rattle.fluent_c.specs.Made.{Holds, HoldsSame};
 ghost use Rattle.fluent_c.specs.Statuses.{IsOneOf, LooksFor, ReadsSources};
 ghost use Rattle.fluent_c.specs.declared.TheConstants.{FLUENT_READ, FLUENT_NO_MEMORY, FLUENT_NO_BUNDLE};
@@ -26,7 +26,7 @@ use std::alloc::{AllocError, Global};
 ///
 /// # Errors
 /// [`AllocError`] if memory runs out; nothing is kept.
-fn copied(alloc: Global, borrowed: &[&str]) -> Result<Vec<String>, AllocError>
+pub(crate) fn copied(alloc: Global, borrowed: &[&str]) -> Result<Vec<String>, AllocError>
     ensures { IfOk result (λ owned. map string_bytes owned.items ≡ texts borrowed.now) }
 {
     let mut owned = Vec::with_capacity(alloc, borrowed.len())?;
@@ -55,17 +55,17 @@ fn copied_tag(alloc: Global, tag: Option<&[u8]>) -> Result<Option<Vec<u8>>, Allo
 
 /// How a bundle is asked.
 #[derive(Clone, Copy)]
-struct Asking {
+pub(crate) struct Asking {
     /// Whether placeables are between isolation marks.
-    isolating: bool,
+    pub(crate) isolating: bool,
     /// Whether the last entry of an id counts, and not the first.
-    overriding: bool,
+    pub(crate) overriding: bool,
     /// What reading and an answer may take of the machine's stack.
-    stack: StackBudget,
+    pub(crate) stack: StackBudget,
 }
 
 /// A bundle of copies of sources, which reads and answers within a budget of the machine's stack. Numbers are written as the locale
-/// of the tag `numerals` writes them, and plainly without one.
+/// of the tag `numerals` writes them, and plainly without one. Messages may call functions of these names, if there are any.
 ///
 /// # Errors
 /// [`Refusal::UnknownLocale`] if the locale has no plural rules, [`Refusal::NotUtf8`] if a source isn't UTF-8, and
@@ -75,9 +75,10 @@ fn kept(
     sources: &[FluentSource<'_>],
     locale: &[u8],
     numerals: Option<&[u8]>,
+    functions: Option<Vec<String>>,
     asking: Asking,
 ) -> Result<FluentBundle, Refusal>
-    ensures kept { IfOk result (KeepsBy (settings_asked numerals.entry asking) locale.now sources.now) }
+    ensures kept { IfOk result (KeepsAsked functions numerals.entry asking locale.now sources.now) }
     ensures not_utf8 { IfErr result (λ refusal. refusal ≡ NotUtf8 → HoldsOther sources.now) }
     ensures unknown { IfErr result (λ refusal. refusal ≡ UnknownLocale
         → plurals_in locale.now ≡ None) }
@@ -93,6 +94,7 @@ fn kept(
         isolating: asking.isolating,
         overriding: asking.overriding,
         numerals,
+        functions,
         plurals,
         stack: asking.stack,
     };
@@ -100,23 +102,24 @@ fn kept(
 }
 
 /// Puts such a bundle into `made`.
-fn keep(
+pub(crate) fn keep(
     alloc: Global,
     sources: &[FluentSource<'_>],
     locale: &[u8],
     numerals: Option<&[u8]>,
+    functions: Option<Vec<String>>,
     asking: Asking,
     made: &mut FluentBundle,
 ) -> u32
     ensures status { ReadsSources sources.now locale.now result }
     ensures made { result ≡ FLUENT_READ
-        → KeepsBy (settings_asked numerals.entry asking) locale.now sources.now made.new }
+        → KeepsAsked functions numerals.entry asking locale.now sources.now made.new }
     ensures unchanged { result ≢ FLUENT_READ → made.new ≡ made.old }
 {
     if !are_utf8(sources) {
         return FLUENT_NOT_UTF8;
     }
-    match kept(alloc, sources, locale, numerals, asking) {
+    match kept(alloc, sources, locale, numerals, functions, asking) {
         Ok(bundle) => {
             made.put(alloc, bundle);
             FLUENT_READ
@@ -177,7 +180,7 @@ pub extern "C" fn fluent_bundle_new_within(
         overriding,
         stack: StackBudget::of_bytes(stack),
     };
-    keep(alloc, sources, locale, Some(locale), asking, made)
+    keep(alloc, sources, locale, Some(locale), None, asking, made)
 }
 
 /// As [`fluent_bundle_new_within`], but numbers are written plainly, whatever the locale.
@@ -201,7 +204,7 @@ pub extern "C" fn fluent_bundle_new_plain(
         overriding,
         stack: StackBudget::of_bytes(stack),
     };
-    keep(alloc, sources, locale, None, asking, made)
+    keep(alloc, sources, locale, None, None, asking, made)
 }
 
 /// Whether a bundle has what is asked for: a message's value, or its first attribute of a name, and the value for the empty name.
@@ -226,7 +229,13 @@ pub extern "C" fn fluent_bundle_has<'a>(
         Some(Answer::Found) => FLUENT_READ,
         Some(Answer::NoMessage) => FLUENT_NO_MESSAGE,
         Some(Answer::NoPattern) => FLUENT_NO_PATTERN,
-        Some(Answer::Memory | Answer::Reply(_) | Answer::Report(_)) => unreachable!(),
+        Some(
+            Answer::Memory
+            | Answer::Reply(_)
+            | Answer::Call(_)
+            | Answer::Names(_)
+            | Answer::Report(_),
+        ) => unreachable!(),
         None => FLUENT_NO_BUNDLE,
     }
 }

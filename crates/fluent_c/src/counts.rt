@@ -34,7 +34,7 @@ pub struct FluentCounts {
 
 impl FluentCounts {
     /// The counts of a tree with this many errors.
-    fn of(resource: &Resource<&str>, errors: usize) -> Self
+    pub(crate) fn of(resource: &Resource<&str>, errors: usize) -> Self
         ensures entries { HasEntries result (plain resource.now) }
         ensures errors { result.errors ≡ errors }
     {

@@ -1,8 +1,8 @@
 //! The text of a message, from a bundle that is kept.
 
-ghost use Rattle.std.specs.Prelude.{◌≡◌, ◌≢◌, IfOk, IsSomeAnd, MatchResult};
+ghost use Rattle.std.specs.Prelude.{◌≡◌, ◌≢◌, IfOk, MatchResult};
 ghost use Rattle.fluent_run.specs.ReplyView.{reply_view};
-ghost use Rattle.fluent_c.specs.Bundles.{HoldReply, HoldsLines, KeepsSame, reply_in};
+ghost use Rattle.fluent_c.specs.Bundles.{HoldReply, HoldsLines, KeepsSame, Replies};
 ghost use Rattle.fluent_c.specs.Made.{HoldsSame};
 ghost use Rattle.fluent_c.specs.Statuses.{Formats};
 ghost use Rattle.fluent_c.specs.declared.TheConstants.{FLUENT_READ};
@@ -38,7 +38,7 @@ fn error_lines(alloc: Global, reply: &Reply) -> Result<FluentText, AllocError>
 ///
 /// # Errors
 /// [`AllocError`] if memory runs out; the texts hold what they held.
-fn hand_out(
+pub(crate) fn hand_out(
     alloc: Global,
     reply: Reply,
     text: &mut FluentText,
@@ -83,8 +83,7 @@ pub extern "C" fn fluent_bundle_format<'a>(
 ) -> u32
     ensures status { Formats bundle.old id.now attribute.now arguments.now result }
     ensures answered { result ≡ FLUENT_READ
-        → IsSomeAnd (reply_in bundle.old id.now attribute.now arguments.now)
-        (HoldReply text.new errors.new) }
+        → Replies bundle.old id.now attribute.now arguments.now text.new errors.new }
     ensures kept { KeepsSame bundle.new bundle.old }
     ensures unchanged { result ≢ FLUENT_READ
         → HoldsSame text.new text.old × HoldsSame errors.new errors.old }

@@ -14,14 +14,18 @@ mod answering;
 mod arguments;
 mod buffers;
 mod bundles;
+mod calling;
 mod counts;
 mod files;
 mod filling;
 mod formatting;
 mod languages;
 mod linting;
+mod listing;
 mod locales;
 mod names;
+mod occurrences;
+mod options;
 mod text;
 mod threads;
 mod tidying;
@@ -34,17 +38,21 @@ pub use bundles::{
     fluent_bundle_errors, fluent_bundle_free, fluent_bundle_has, fluent_bundle_new,
     fluent_bundle_new_plain, fluent_bundle_new_within,
 };
+pub use calling::{fluent_bundle_call, fluent_bundle_new_calling};
 pub use counts::{FluentCounts, fluent_parse, fluent_parse_runtime};
 pub use files::FluentFile;
 pub use fluent_kept::FluentBundle;
 pub use formatting::fluent_bundle_format;
 pub use languages::fluent_negotiate;
 pub use linting::{FluentLintOptions, fluent_lint};
+pub use listing::{fluent_bundle_attributes, fluent_bundle_messages};
+pub use occurrences::fluent_occurrences;
+pub use options::{FluentBundleOptions, fluent_bundle_new_with};
 pub use text::{FluentText, fluent_free_text};
 pub use threads::texts_are_send;
 pub use tidying::{FluentPlace, fluent_tidy};
 pub use version::fluent_version;
-pub use writing::{fluent_write, fluent_write_json};
+pub use writing::{fluent_write, fluent_write_counted, fluent_write_json};
 
 /// The version of the library: a million for the first number, a thousand for the second, and one for the third.
 pub const FLUENT_VERSION: u32 = 1000;
@@ -60,7 +68,8 @@ pub const FLUENT_UNKNOWN_LOCALE: u32 = 3;
 pub const FLUENT_NO_MESSAGE: u32 = 4;
 /// What a call returns that asks for a value or an attribute that the message doesn't have.
 pub const FLUENT_NO_PATTERN: u32 = 5;
-/// What a call returns that has an argument whose kind isn't known, or whose decimal is no number, or that names no strategy.
+/// What a call returns that has an argument whose kind isn't known, or whose decimal is no number, that names no strategy, or that
+/// has options of another size than [`FLUENT_BUNDLE_OPTIONS_SIZE`].
 pub const FLUENT_BAD_ARGUMENT: u32 = 6;
 /// What a call returns that asks a bundle that isn't there.
 pub const FLUENT_NO_BUNDLE: u32 = 7;
@@ -72,6 +81,8 @@ pub const FLUENT_DAMAGED: u32 = 9;
 pub const FLUENT_CARRIAGE_RETURN: u32 = 10;
 /// What a call returns whose source has no tidy text.
 pub const FLUENT_NOT_TIDY: u32 = 11;
+/// What a call returns that met a call of a function which has no answer yet: the text of that call is there.
+pub const FLUENT_CALL: u32 = 12;
 /// The kind of an argument that is a text.
 pub const FLUENT_TEXT: u32 = 0;
 /// The kind of an argument that is a number, written as a decimal.
@@ -80,9 +91,13 @@ pub const FLUENT_DECIMAL: u32 = 1;
 pub const FLUENT_INTEGER: u32 = 2;
 /// The kind of an argument that is an unsigned integer.
 pub const FLUENT_UNSIGNED: u32 = 3;
+/// The kind of an argument that has no value, as a variable that is missing; of an answer to a call, that there is none.
+pub const FLUENT_NO_VALUE: u32 = 4;
 /// The strategy that finds all languages that suit any of the user's.
 pub const FLUENT_FILTERING: u32 = 0;
 /// The strategy that finds the best language for each of the user's.
 pub const FLUENT_MATCHING: u32 = 1;
 /// The strategy that finds one language: the best for the first of the user's that any suits.
 pub const FLUENT_LOOKUP: u32 = 2;
+/// The size of [`FluentBundleOptions`] in bytes.
+pub const FLUENT_BUNDLE_OPTIONS_SIZE: usize = 40;

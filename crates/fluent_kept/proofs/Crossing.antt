@@ -1,8 +1,11 @@
 -- What a bundle owns says the same to every thread.
 use base.Fml.{Lft, fex}
 use base.Shift.{Keyless}
-use denote.Param.Send.{IsSend, IsSync, part_keyless, sendable}
+use denote.Param.Send.{IsSend, IsSync, part_keyless, recorded_sync, sendable, struct_sync}
+use denote.Builtin.{usize}
 use denote.RattleType.{RattleType}
+use denote.Struct.Declared.{shape}
+use denote.Struct.Struct.{Struct}
 use denote.RawPtr.{Ptr}
 use denote.Ref.{NamedLft}
 use denote.Text.{str-field}
@@ -14,6 +17,7 @@ use Rattle.fluent_ast.proofs.Expression.TheLaws.TheKnot as knot
 use Rattle.fluent_ast.specs.contracts.Message as message
 use Rattle.fluent_ast.specs.contracts.Resource as resource
 use Rattle.fluent_ast.specs.contracts.Term as term
+use Rattle.fluent_calls.specs.contracts.desk.FunctionDesk as function_desk
 use Rattle.fluent_ids.specs.contracts.entry.Entry as entry
 use Rattle.fluent_ids.specs.contracts.ids.FluentIds as ids
 use Rattle.core.specs.contracts.option.Option as option
@@ -57,11 +61,32 @@ module _ (r s : NamedLft) where
   sources_sync : IsSync sources_row
   sources_sync = sources.the_sync
 
+  str_sync : IsSync (str-field s).row
+  str_sync = search (std.crosses, sendable) depth 40
+
+  tree_sync : IsSync (resource.the_field (str-field s).row).row
+  tree_sync = search (std.crosses, knot.crosses, knot.crosses_both, sendable) depth 60 fits 20000
+
+  read_sync : IsSync (read.the_row s)
+  read_sync = let t = read.the_type s in recorded_sync (Struct (shape t)) t.D t.to t.to_one (struct_sync (shape t) (str_sync, (tree_sync, tt)))
+
   run_desk_send : IsSend (run_desk.the_field s r s plurals.the_row).row
-  run_desk_send = let a = ids_send in let b = plurals_sync in let c = numerals_send in search sendable depth 60 fits 20000
+  run_desk_send = let a = ids_send in let b = plurals_sync in let c = numerals_send in let d = read_sync in search (std.crosses, sendable) depth 60 fits 20000
+
+  calling_entry_send : IsSend (entry.the_row r s usize)
+  calling_entry_send = let a = resource_sync in let b = message_sync in let c = term_sync in search sendable depth 40
+
+  calling_ids_send : IsSend (ids.the_field r s usize).row
+  calling_ids_send = let a = calling_entry_send in search (maps.crosses, std.crosses, sendable) depth 40 fits 20000
+
+  function_desk_send : IsSend (function_desk.the_row s r s plurals.the_row)
+  function_desk_send = let a = calling_ids_send in let b = plurals_sync in let c = numerals_send in search (std.crosses, sendable) depth 60 fits 20000
+
+  functions_send : IsSend (option.the_field (function_desk.the_row s r s plurals.the_row)).row
+  functions_send = let a = function_desk_send in search sendable depth 40
 
   pub desk_send : IsSend (kept_desk.the_row r s)
-  desk_send = let a = run_desk_send in let b = sources_sync in search sendable depth 60 fits 20000
+  desk_send = let a = run_desk_send in let b = sources_sync in let c = functions_send in search sendable depth 60 fits 20000
 
   read_send : IsSend (read.the_row s)
   read_send = search (std.crosses, knot.crosses, knot.crosses_both, sendable) depth 60 fits 20000

@@ -6,5 +6,6 @@ mod Rows
 mod Tokens
 mod BundleMade
 mod Environments
+mod Calling
 mod HandleMade
 mod Crossing

@@ -1,25 +1,31 @@
 -- Which answers there are to a question.
-use Rattle.std.specs.Prelude.{◌≡◌, List, Option, Some, IsNone, IsSome, option_copied, string_bytes}
+use Rattle.std.specs.Prelude.{◌≡◌, ℕ, List, Option, None, Some, IsNone, IsSome, option_copied, string_bytes}
 use denote.Ref.{Bor}
 use Rattle.fluent_answers.specs.Answers.{pattern_asked}
+use Rattle.fluent_calls.specs.Functions.{Table}
+use Rattle.fluent_calls.specs.declared.desk.FunctionDesk.{FunctionDesk}
+use Rattle.fluent_plurals.specs.declared.plurals.LanguagePlurals.{LanguagePlurals}
 use Rattle.fluent_grammar.specs.Words.{Text}
 use Rattle.fluent_ids.specs.Found.{message_in}
 use Rattle.fluent_meaning.specs.Environment.{Environment}
+use Rattle.fluent_meaning.specs.Ids.{Meaning}
 use Rattle.fluent_run.specs.DeskView.{arguments_view, message_reply}
+use Rattle.fluent_run.specs.Listing.{attribute_lines, message_lines}
 use Rattle.fluent_run.specs.ReplyView.{reply_view}
+use Rattle.fluent_value.specs.Args.{argument}
 use Rattle.fluent_value.specs.Value.{Value}
 use Rattle.fluent_value.specs.declared.args.FluentArgs.{FluentArgs}
 use Rattle.fluent_value.specs.declared.custom.NoCustom.{NoCustom}
 use Rattle.fluent_value.specs.declared.function.NoFunction.{NoFunction}
 use Rattle.fluent_check.specs.Report.{report_text}
-use Rattle.fluent_kept.specs.Catalogs.{Catalog, IsDeskOf, catalog_environment}
+use Rattle.fluent_kept.specs.Catalogs.{Catalog, IsDeskOf, calling_in, catalog_calling, catalog_entries, catalog_environment, catalog_of, desk_calling, desk_entries, desk_environment}
 use Rattle.fluent_kept.specs.declared.desk.KeptDesk.{KeptDesk}
 use Rattle.fluent_kept.specs.declared.question.Answer.{Answer}
 use Rattle.fluent_kept.specs.declared.question.Answer.TheVariants as answer
 use Rattle.fluent_kept.specs.declared.question.Question.{Question}
 use Rattle.fluent_kept.specs.declared.question.Question.TheVariants as question
 
-module _ (env : Environment (Unit {0}) NoFunction) (id : Text) where
+module _ {F : Type 0} (env : Environment (Unit {0}) F) (id : Text) where
   -- there is no message of the id, or there is one
   abbrev pub IsMissing : Answer → Type 0
   IsMissing answer.Memory = ⊥
@@ -27,6 +33,8 @@ module _ (env : Environment (Unit {0}) NoFunction) (id : Text) where
   IsMissing answer.NoPattern = IsSome (message_in (env.find id))
   IsMissing answer.Found = ⊥
   IsMissing (answer.Reply reply) = ⊥
+  IsMissing (answer.Call call) = ⊥
+  IsMissing (answer.Names text) = ⊥
   IsMissing (answer.Report text) = ⊥
 
   -- there is no message of the id, or it has no value, or no attribute of the name
@@ -40,6 +48,8 @@ module _ (env : Environment (Unit {0}) NoFunction) (id : Text) where
   IsFound attribute answer.NoPattern = Lacks attribute answer.NoPattern
   IsFound attribute answer.Found = IsSome (pattern_asked attribute (env.find id))
   IsFound attribute (answer.Reply reply) = ⊥
+  IsFound attribute (answer.Call call) = ⊥
+  IsFound attribute (answer.Names text) = ⊥
   IsFound attribute (answer.Report text) = ⊥
 
   -- what the message gives for these arguments, unless memory ran out
@@ -49,11 +59,66 @@ module _ (env : Environment (Unit {0}) NoFunction) (id : Text) where
   IsReply attribute args answer.NoPattern = Lacks attribute answer.NoPattern
   IsReply attribute args answer.Found = ⊥
   IsReply attribute args (answer.Reply reply) = message_reply env id attribute args ≡ Some (reply_view reply)
+  IsReply attribute args (answer.Call call) = ⊥
+  IsReply attribute args (answer.Names text) = ⊥
   IsReply attribute args (answer.Report text) = ⊥
 
 -- the same for the code's name and arguments
 abbrev pub IsReplyTo : Environment (Unit {0}) NoFunction → Text → Option (Bor Text) → FluentArgs NoCustom → Answer → Type 0
 IsReplyTo env id attribute arguments answer = IsReply env id (option_copied attribute) (arguments_view arguments) answer
+
+-- what a message that may call functions gives for these arguments, or a call that the table of answers lacks
+abbrev pub IsCalled : Environment (Unit {0}) ℕ → Text → Option Text → List (Text × Value (Unit {0})) → Table → Answer → Type 0
+IsCalled env id attribute args table answer.Memory = Unit {0}
+IsCalled env id attribute args table answer.NoMessage = Lacks env id attribute answer.NoMessage
+IsCalled env id attribute args table answer.NoPattern = Lacks env id attribute answer.NoPattern
+IsCalled env id attribute args table answer.Found = ⊥
+IsCalled env id attribute args table (answer.Reply reply) = message_reply env id attribute args ≡ Some (reply_view reply)
+IsCalled env id attribute args table (answer.Call call) = IsSome (pattern_asked attribute (env.find id)) × (argument (string_bytes call) table ≡ None)
+IsCalled env id attribute args table (answer.Names text) = ⊥
+IsCalled env id attribute args table (answer.Report text) = ⊥
+
+-- the same for the code's desk, name, arguments and answers
+abbrev pub IsCalledTo : FunctionDesk LanguagePlurals → Text → Option (Bor Text) → FluentArgs NoCustom → FluentArgs NoCustom → Answer → Type 0
+IsCalledTo desk id attribute arguments answers answer =
+    IsCalled (calling_in desk (arguments_view answers)) id (option_copied attribute) (arguments_view arguments) (arguments_view answers) answer
+
+-- the same where messages may call functions, and a plain reply where they don't
+abbrev pub IsReplyOrCall : Environment (Unit {0}) NoFunction → Option (Environment (Unit {0}) ℕ) → Text → Option Text → List (Text × Value (Unit {0})) → Table → Answer → Type 0
+IsReplyOrCall env None id attribute args table answer = IsReply env id attribute args answer
+IsReplyOrCall env (Some calling) id attribute args table answer = IsCalled calling id attribute args table answer
+
+-- the same for the code's name, arguments and answers
+abbrev pub IsReplyOrCallTo : Environment (Unit {0}) NoFunction → (Table → Option (Environment (Unit {0}) ℕ)) → Text → Option (Bor Text) → FluentArgs NoCustom → FluentArgs NoCustom → Answer → Type 0
+IsReplyOrCallTo env calling id attribute arguments answers answer =
+    IsReplyOrCall env (calling (arguments_view answers)) id (option_copied attribute) (arguments_view arguments) (arguments_view answers) answer
+
+-- the same by what a desk has
+abbrev pub IsCallOf : KeptDesk → Text → Option (Bor Text) → FluentArgs NoCustom → FluentArgs NoCustom → Answer → Type 0
+IsCallOf desk id attribute arguments answers answer =
+    IsReplyOrCallTo (desk_environment desk) (desk_calling desk) id attribute arguments answers answer
+
+-- the ids of the messages among these entries, unless memory ran out
+abbrev pub AreMessages : Environment (Unit {0}) NoFunction → List (Text × Meaning NoFunction) → Answer → Type 0
+AreMessages env entries answer.Memory = Unit {0}
+AreMessages env entries answer.NoMessage = ⊥
+AreMessages env entries answer.NoPattern = ⊥
+AreMessages env entries answer.Found = ⊥
+AreMessages env entries (answer.Reply reply) = ⊥
+AreMessages env entries (answer.Call call) = ⊥
+AreMessages env entries (answer.Names text) = string_bytes text ≡ message_lines env.find entries
+AreMessages env entries (answer.Report text) = ⊥
+
+-- the names of the attributes of a message, unless memory ran out
+abbrev pub AreAttributes : Environment (Unit {0}) NoFunction → Text → Answer → Type 0
+AreAttributes env id answer.Memory = Unit {0}
+AreAttributes env id answer.NoMessage = IsNone (message_in (env.find id))
+AreAttributes env id answer.NoPattern = ⊥
+AreAttributes env id answer.Found = ⊥
+AreAttributes env id (answer.Reply reply) = ⊥
+AreAttributes env id (answer.Call call) = ⊥
+AreAttributes env id (answer.Names text) = attribute_lines (message_in (env.find id)) ≡ Some (string_bytes text)
+AreAttributes env id (answer.Report text) = ⊥
 
 -- the report on sources, unless memory ran out
 abbrev pub IsReport : List Text → Answer → Type 0
@@ -62,17 +127,26 @@ IsReport sources answer.NoMessage = ⊥
 IsReport sources answer.NoPattern = ⊥
 IsReport sources answer.Found = ⊥
 IsReport sources (answer.Reply reply) = ⊥
+IsReport sources (answer.Call call) = ⊥
+IsReport sources (answer.Names text) = ⊥
 IsReport sources (answer.Report text) = string_bytes text ≡ report_text sources
 
--- the answer to a question, from an environment and the sources
-abbrev pub IsAnswer : Environment (Unit {0}) NoFunction → List Text → Question → Answer → Type 0
-IsAnswer env sources (question.Format id attribute arguments spare) answer = IsReplyTo env id.now attribute arguments answer
-IsAnswer env sources (question.Has id attribute) answer = IsFound env id.now (option_copied attribute) answer
-IsAnswer env sources question.Report answer = IsReport sources answer
+-- the answer to a question, from an environment, that of messages that call functions, the entries by their ids, and the sources
+abbrev pub IsAnswer : Environment (Unit {0}) NoFunction → (Table → Option (Environment (Unit {0}) ℕ)) → List (Text × Meaning NoFunction) → List Text → Question → Answer → Type 0
+IsAnswer env calling entries sources (question.Format id attribute arguments spare) answer = IsReplyTo env id.now attribute arguments answer
+IsAnswer env calling entries sources (question.Call id attribute arguments answers spare) answer = IsReplyOrCallTo env calling id.now attribute arguments answers answer
+IsAnswer env calling entries sources (question.Has id attribute) answer = IsFound env id.now (option_copied attribute) answer
+IsAnswer env calling entries sources question.Messages answer = AreMessages env entries answer
+IsAnswer env calling entries sources (question.Attributes id) answer = AreAttributes env id.now answer
+IsAnswer env calling entries sources question.Report answer = IsReport sources answer
+
+-- the answer by what a desk has
+abbrev pub IsAnswerOf : KeptDesk → Question → Answer → Type 0
+IsAnswerOf desk = IsAnswer (desk_environment desk) (desk_calling desk) (desk_entries desk) (catalog_of desk.sources.now).sources
 
 -- the answer of a catalog
 abbrev pub Answers : Catalog → Question → Answer → Type 0
-Answers catalog question answer = IsAnswer (catalog_environment catalog) catalog.sources question answer
+Answers catalog question answer = IsAnswer (catalog_environment catalog) (catalog_calling catalog) (catalog_entries catalog) catalog.sources question answer
 
 -- this is the answer of whatever catalog a desk answers as, and the desk still does
 abbrev pub AnswersAsIts : KeptDesk → KeptDesk → Question → Answer → Type 0

@@ -2,16 +2,17 @@
 
 ghost use Rattle.std.specs.Prelude.{◌≡◌, IfOk, IfSome, option_copied, string_bytes};
 ghost use Rattle.fluent_check.specs.Report.{report_text};
-ghost use Rattle.fluent_kept.specs.Catalogs.{IsDeskFor, catalog_of, desk_environment};
-ghost use Rattle.fluent_kept.specs.Answers.{AnswersAsIts, IsAnswer, IsFound, IsMissing, IsReplyTo};
+ghost use Rattle.fluent_kept.specs.Catalogs.{CallsFor, IsDeskFor, catalog_of, desk_entries, desk_environment};
+ghost use Rattle.fluent_kept.specs.Answers.{AnswersAsIts, AreAttributes, AreMessages, IsAnswerOf, IsCallOf, IsCalledTo, IsFound, IsMissing, IsReplyTo};
 
 use crate::loose::Loose;
 use crate::question::{Answer, Question};
 use crate::resources::Resources;
 use crate::sources::{Sources, borrow_texts};
+use fluent_calls::{FunctionDesk, Outcome, Unanswered, Written};
 use fluent_check::check_text;
 use fluent_plurals::LanguagePlurals;
-use fluent_run::Desk;
+use fluent_run::{Desk, Reply};
 use fluent_value::{FluentArgs, NoCustom};
 use std::alloc::{AllocError, Global};
 
@@ -20,6 +21,7 @@ use std::alloc::{AllocError, Global};
 pub(crate) struct KeptDesk<'r, 's> {
     sources: &'s Sources,
     desk: Desk<'s, 'r, 's, LanguagePlurals>,
+    functions: Option<FunctionDesk<'s, 'r, 's, LanguagePlurals>>,
 }
 
 impl<'r, 's> KeptDesk<'r, 's> {
@@ -38,7 +40,12 @@ impl<'r, 's> KeptDesk<'r, 's> {
             &sources.plurals,
             sources.stack,
         )?;
-        Ok(KeptDesk { sources, desk })
+        let functions = function_desk(alloc, read)?;
+        Ok(KeptDesk {
+            sources,
+            desk,
+            functions,
+        })
     }
 
     /// What a message gives for these arguments. The text is written into the memory of `spare`.
@@ -59,6 +66,25 @@ impl<'r, 's> KeptDesk<'r, 's> {
             Ok(Some(reply)) => Answer::Reply(reply),
             Ok(None) => self.missing(id),
             Err(_) => Answer::Memory,
+        }
+    }
+
+    /// What a message that may call functions gives for these arguments, with these answers to calls. The text is written into
+    /// the memory of `spare`.
+    fn call(
+        &self,
+        alloc: Global,
+        id: &str,
+        attribute: Option<&str>,
+        arguments: &FluentArgs<'_, NoCustom>,
+        answers: &FluentArgs<'_, NoCustom>,
+        spare: String,
+    ) -> Answer
+        ensures { IsCallOf self.now id.now attribute.entry arguments.now answers.now result }
+    {
+        match &self.functions {
+            Some(desk) => called(desk, alloc, id, attribute, arguments, answers, spare),
+            None => self.format(alloc, id, attribute, arguments, spare),
         }
     }
 
@@ -84,6 +110,27 @@ impl<'r, 's> KeptDesk<'r, 's> {
         }
     }
 
+    /// The ids of the messages.
+    fn messages(&self, alloc: Global) -> Answer
+        ensures { AreMessages (desk_environment self.now) (desk_entries self.now) result }
+    {
+        match self.desk.messages(alloc) {
+            Ok(text) => Answer::Names(text),
+            Err(_) => Answer::Memory,
+        }
+    }
+
+    /// The names of a message's attributes.
+    fn attributes(&self, alloc: Global, id: &str) -> Answer
+        ensures { AreAttributes (desk_environment self.now) id.now result }
+    {
+        match self.desk.attributes(alloc, id) {
+            Ok(Some(text)) => Answer::Names(text),
+            Ok(None) => Answer::NoMessage,
+            Err(_) => Answer::Memory,
+        }
+    }
+
     /// What a check of the sources reports. It reads them whole, within the budget of the stack.
     ///
     /// # Errors
@@ -98,8 +145,7 @@ impl<'r, 's> KeptDesk<'r, 's> {
 
     /// The answer to a question.
     fn answer(&self, alloc: Global, question: &Question<'_>) -> Answer
-        ensures { IsAnswer (desk_environment self.now)
-            (catalog_of self.now.sources.now).sources question.now result }
+        ensures { IsAnswerOf self.now question.now result }
     {
         match question {
             Question::Format {
@@ -111,12 +157,72 @@ impl<'r, 's> KeptDesk<'r, 's> {
                 let spare = spare.replace(String::new(alloc));
                 self.format(alloc, *id, *attribute, arguments, spare)
             }
+            Question::Call {
+                id,
+                attribute,
+                arguments,
+                answers,
+                spare,
+            } => {
+                let spare = spare.replace(String::new(alloc));
+                self.call(alloc, *id, *attribute, arguments, answers, spare)
+            }
             Question::Has { id, attribute } => self.has(*id, *attribute),
+            Question::Messages => self.messages(alloc),
+            Question::Attributes { id } => self.attributes(alloc, *id),
             Question::Report => match self.report(alloc) {
                 Ok(text) => Answer::Report(text),
                 Err(_) => Answer::Memory,
             },
         }
+    }
+}
+
+/// What answers if messages call functions, and `None` if they don't.
+///
+/// # Errors
+/// [`AllocError`] if memory runs out; nothing is kept.
+fn function_desk<'r, 's>(
+    alloc: Global,
+    read: &'r Resources<'s>,
+) -> Result<Option<FunctionDesk<'s, 'r, 's, LanguagePlurals>>, AllocError>
+    ensures { IfOk result (CallsFor read.now) }
+{
+    let sources = read.sources;
+    match &sources.functions {
+        Some(names) => {
+            let desk = FunctionDesk::new(
+                alloc,
+                &read.list,
+                names,
+                sources.desk_settings(),
+                &sources.plurals,
+                sources.stack,
+            )?;
+            Ok(Some(desk))
+        }
+        None => Ok(None),
+    }
+}
+
+/// What a message that may call functions gives for these arguments, with these answers to calls.
+fn called(
+    desk: &FunctionDesk<'_, '_, '_, LanguagePlurals>,
+    alloc: Global,
+    id: &str,
+    attribute: Option<&str>,
+    arguments: &FluentArgs<'_, NoCustom>,
+    answers: &FluentArgs<'_, NoCustom>,
+    spare: String,
+) -> Answer
+    ensures { IsCalledTo desk.now id.now attribute.entry arguments.now answers.now result }
+{
+    match desk.format::<Unanswered>(alloc, id, attribute, arguments, answers, spare) {
+        Ok(Some(Outcome::Text(Written { text, errors }))) => Answer::Reply(Reply { text, errors }),
+        Ok(Some(Outcome::Call(call))) => Answer::Call(call),
+        Ok(None) if desk.has_message(id) => Answer::NoPattern,
+        Ok(None) => Answer::NoMessage,
+        Err(_) => Answer::Memory,
     }
 }
 

@@ -15,10 +15,24 @@ pub enum Question<'a> {
         arguments: FluentArgs<'a, NoCustom>,
         spare: Cell<String>,
     },
+    /// The same for a message that may call the program's functions, with answers to calls by the calls' texts.
+    Call {
+        id: &'a str,
+        attribute: Option<&'a str>,
+        arguments: FluentArgs<'a, NoCustom>,
+        answers: FluentArgs<'a, NoCustom>,
+        spare: Cell<String>,
+    },
     /// Whether a message has a value, or an attribute of a name.
     Has {
         id: &'a str,
         attribute: Option<&'a str>,
+    },
+    /// The ids of the messages.
+    Messages,
+    /// The names of a message's attributes.
+    Attributes {
+        id: &'a str,
     },
     /// What a check of the sources reports.
     Report,
@@ -37,6 +51,10 @@ pub enum Answer {
     Found,
     /// What the message gives.
     Reply(Reply),
+    /// The first call that has no answer.
+    Call(String),
+    /// A line for each id, in the order of the first entries, or for each name, in the order of the message.
+    Names(String),
     /// A line for each error and for each entry whose id was there before it.
     Report(String),
 }

@@ -6,6 +6,7 @@ ghost use Rattle.fluent_run.specs.RunView.{settings_view};
 ghost use Rattle.fluent_serve.specs.Texts.{texts};
 ghost use Rattle.fluent_kept.specs.Catalogs.{catalog_of, numerals_of};
 
+use fluent_calls::DeskSettings;
 use fluent_numerals::LocaleNumerals;
 use fluent_plurals::LanguagePlurals;
 use fluent_run::Settings;
@@ -23,6 +24,8 @@ pub struct Sources {
     pub overriding: bool,
     /// The tag of the locale whose numbers are written; `None` if they are written plainly.
     pub numerals: Option<Vec<u8>>,
+    /// The names of the program's functions; `None` if messages call none.
+    pub functions: Option<Vec<String>>,
     /// The rules by which variants are chosen.
     pub plurals: LanguagePlurals,
     /// How much of the machine's stack a message or a term takes when it is read, and an answer.
@@ -35,6 +38,20 @@ impl Sources {
         ensures { settings_view result ≡ (catalog_of self.now).settings }
     {
         Settings {
+            isolating: self.isolating,
+            overriding: self.overriding,
+            numerals: self.locale_numerals(),
+        }
+    }
+
+    /// The same for messages that may call functions.
+    pub(crate) fn desk_settings(&self) -> DeskSettings
+        ensures isolating { result.isolating ≡ (catalog_of self.now).settings.isolating }
+        ensures overriding { result.overriding ≡ (catalog_of self.now).settings.overriding }
+        ensures numerals { option_map locale_view result.numerals
+            ≡ (catalog_of self.now).settings.numerals }
+    {
+        DeskSettings {
             isolating: self.isolating,
             overriding: self.overriding,
             numerals: self.locale_numerals(),

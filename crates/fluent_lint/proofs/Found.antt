@@ -1,5 +1,5 @@
 -- What is known and found of a catalog and of its reference.
-use Rattle.std.proofs.Common.{◌≡◌, ◌∙◌, List, [], ◌∷◌, ◌++◌, map, sym, ap, subst, append-nil, Bor}
+use Rattle.std.proofs.Common.{◌≡◌, ◌∙◌, Bool, List, [], ◌∷◌, ◌++◌, map, sym, ap, subst, append-nil, Bor}
 use Rattle.fluent_ast.specs.Borrowed.{entries_of}
 use Rattle.fluent_ast.specs.declared.Resource.{Resource}
 use Rattle.lint_endless.specs.Catalog.{AreDeclaredIn}
@@ -9,6 +9,7 @@ use Rattle.lint_findings.specs.Files.{File}
 use Rattle.lint_findings.specs.Finding.{Finding}
 use Rattle.lint_findings.specs.Findings.{Options, FileFinding, Rules, called_functions, catalog_rules, known_functions, known_ids, sources, translation_rules}
 use Rattle.lint_findings.specs.Flaws.{catalog_ids}
+use Rattle.lint_findings.specs.UnusedTerms.{is_referred_in}
 use Rattle.fluent_grammar.specs.Tree as t
 use Rattle.fluent_grammar.specs.Words.{Text}
 use Rattle.fluent_meaning.specs.Ids.{Ids}
@@ -41,8 +42,12 @@ module _ (options : Options) (references : List File) (files : List code.File) (
 -- ---- findings
 
 module _ (options : Options) (ignored : List Text) (files : List File) where
+  abbrev rules_with : (Text → Bool) → Ids (Unit {0}) → Ids (Unit {0}) → (Text → t.Entry → Text → List Finding) → Rules
+  rules_with is_referred functions ids compare =
+      record { functions = functions; ids = ids; plurals = options.plurals; is_referred = is_referred; compare = compare }
+
   abbrev rules_by : Ids (Unit {0}) → Ids (Unit {0}) → (Text → t.Entry → Text → List Finding) → Rules
-  rules_by functions ids compare = record { functions = functions; ids = ids; plurals = options.plurals; compare = compare }
+  rules_by = rules_with (is_referred_in (sources files))
 
   abbrev known : List File → List File → Ids (Unit {0})
   known references of = known_ids options references of
@@ -70,13 +75,16 @@ module _ (options : Options) (ignored : List Text) (files : List File) where
   by_known (r ∷ rs) = compared (files_view (r ∷ rs))
 
   -- By the ids that are known, this is all that is reported of the files with the reference, if it has files.
-  pub all_found : (references : List code.File) (functions ids reference : Ids (Unit {0})) (compare : Text → t.Entry → Text → List Finding) →
+  pub all_found : (references : List code.File) (is_referred : Text → Bool) (functions ids reference : Ids (Unit {0})) (compare : Text → t.Entry → Text → List Finding) →
+      ((id : Text) → is_referred id ≡ is_referred_in (sources files) id) →
       functions ≡ known (files_view references) [] → ids ≡ known (files_view references) files → reference ≡ known (files_view references) (files_view references) →
       compare ≡ compare_by ids reference references →
-      reported_by (rules_by functions ids compare) ignored (files_view references) files ≡ reported options ignored (files_view references) files
-  all_found references functions ids reference compare functions_are ids_are reference_is compares =
+      reported_by (rules_with is_referred functions ids compare) ignored (files_view references) files ≡ reported options ignored (files_view references) files
+  all_found references is_referred functions ids reference compare referred functions_are ids_are reference_is compares =
       let rs = files_view references in
-      ap (λ these. reported_by (rules_by functions ids these) ignored rs files) compares
+      let same : is_referred ≡ is_referred_in (sources files) = λ i. λ id. referred id i in
+      ap (λ these. reported_by (rules_with these functions ids compare) ignored rs files) same
+      ∙ ap (λ these. reported_by (rules_by functions ids these) ignored rs files) compares
       ∙ ap (λ these. reported_by (rules_by these ids (compare_by ids reference references)) ignored rs files) functions_are
       ∙ ap (λ these. reported_by (rules_by (known rs []) these (compare_by these reference references)) ignored rs files) ids_are
       ∙ ap (λ these. reported_by (rules_by (known rs []) (known rs files) (compare_by (known rs files) these references)) ignored rs files) reference_is

@@ -11,14 +11,21 @@ use Rattle.fluent_lint.specs.Reports.{options_view}
 use Rattle.fluent_lint.specs.declared.known.Known.{Known}
 use Rattle.fluent_lint.specs.declared.reports.Options.{Options}
 use Rattle.fluent_resource.specs.Sources.{texts}
+use Rattle.lint_entries.specs.Terms.{is_referred}
+use Rattle.lint_entries.specs.declared.terms.ReferredTerms.{ReferredTerms}
 use Rattle.lint_finding.specs.declared.records.File.{File}
 use Rattle.lint_findings.specs.ComparisonFindings.{message_findings}
 use Rattle.lint_findings.specs.Finding.{Finding}
+use Rattle.lint_findings.specs.UnusedTerms.{is_referred_in}
 use Rattle.lint_findings.specs.Findings.{called_functions, known_ids, sources}
 
 -- these are the functions that the files of a reference call
 abbrev pub AreCalledBy : List File → List (Bor Text) → Type 0
 AreCalledBy references called = texts called ≡ called_functions (sources (files_view references))
+
+-- these are the terms that the files of a catalog refer to
+abbrev pub AreTermsIn : List File → ReferredTerms → Type 0
+AreTermsIn files terms = (id : Text) → is_referred terms id ≡ is_referred_in (sources (files_view files)) id
 
 -- these are the ids of some files, with the functions that are known
 abbrev pub AreKnownIds : Options → List File → List File → FluentIds (Unit {0}) → Type 0

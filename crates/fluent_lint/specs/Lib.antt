@@ -5,6 +5,7 @@ pub mod InOrder
 pub mod Reported
 pub mod Lacking
 pub mod Totals
+pub mod Counting
 pub mod Found
 pub mod Reports
 pub mod KnownIds

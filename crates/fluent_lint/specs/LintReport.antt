@@ -7,9 +7,9 @@ use Rattle.lint_findings.specs.Findings.{Options, FileFinding, findings, finding
 use Rattle.lint_findings.specs.Output as out
 use Rattle.lint_findings.specs.Output.{Format}
 use Rattle.lint_findings.specs.Report as report
-use Rattle.lint_findings.specs.Summary.{Summary, summaries}
+use Rattle.lint_findings.specs.Summary.{Summary, entry_count, summaries}
 use Rattle.fluent_lint.specs.Lacking.{is_lacking}
-use Rattle.fluent_lint.specs.Totals.{totals_line}
+use Rattle.fluent_lint.specs.Totals.{taken_line, totals_line}
 use Rattle.lint_report.specs.View.{shown_width}
 use Rattle.ftl_arguments.specs.Linting.{Lint}
 use Rattle.fluent_lint.specs.Reported.{reported}
@@ -27,6 +27,7 @@ all_summaries (r ∷ rs) files fs = summaries (r ∷ rs) files fs
 -- text, which is for people
 abbrev pub is_text : Format → Bool
 is_text out.text = true
+is_text out.terminal = true
 is_text out.lines = false
 is_text out.json = false
 is_text out.github = false
@@ -35,9 +36,9 @@ is_text out.github = false
 abbrev pub shown_counts : Format → Bool → List Summary → List Summary
 shown_counts format all ss = if is_text format && not all then filter is_lacking ss else ss
 
--- and it ends with how many findings there are
-abbrev pub totals : Format → Bool → ℕ → List FileFinding → Text
-totals format notes files fs = if is_text format then totals_line notes files fs else []
+-- and it ends with how many findings there are in so many files, and with a question if most ids of the entries are taken
+abbrev pub totals : Format → Bool → ℕ → ℕ → List FileFinding → Text
+totals format notes files entries fs = if is_text format then totals_line notes files fs ++ taken_line entries fs else []
 
 -- what is written, and whether the catalog fails
 pub record LintReport : Type 0 where
@@ -51,6 +52,7 @@ lint_report l plurals references files =
     let found = reported (record { functions = l.functions; plurals = plurals }) l.ignored references files in
     let counts = shown_counts l.format l.counts (all_summaries references files found) in
     record {
-      text = out.output l.format shown_width (report.shown l.notes found) counts ++ totals l.format l.notes (length files) found;
+      text = out.output l.format shown_width (report.shown l.notes found) counts
+          ++ totals l.format l.notes (length files) (entry_count files) found;
       has_failed = report.has_failed l.strict found;
     }

@@ -18,7 +18,7 @@ use Rattle.lint_findings.specs.Findings as f
 use Rattle.lint_findings.specs.Findings.{FileFinding, Rules}
 use Rattle.lint_findings.specs.Output as out
 use Rattle.lint_findings.specs.Report.{has_failed, shown}
-use Rattle.lint_findings.specs.Summary.{Summary, summaries}
+use Rattle.lint_findings.specs.Summary.{Summary, entry_count, summaries}
 use Rattle.lint_report.specs.Formats.{format_view}
 use Rattle.lint_report.specs.ReportView.{summary_view}
 use Rattle.lint_report.specs.View.{shown_width}
@@ -35,14 +35,14 @@ ignored_by output = texts output.ignored.now
 abbrev pub counts_by : Output → List Summary → List Summary
 counts_by output ss = shown_counts (format_view output.format) output.counts ss
 
--- what follows the counts, about these findings of this many files
-abbrev pub ending : Output → ℕ → List FileFinding → Text
-ending output files found = totals (format_view output.format) output.notes files found
+-- what follows the counts, about these findings of this many files and entries
+abbrev pub ending : Output → ℕ → ℕ → List FileFinding → Text
+ending output files entries found = totals (format_view output.format) output.notes files entries found
 
--- the report of these findings of this many files, with these summaries
-pub record IsReportOf (found : List FileFinding) (ss : List Summary) (files : ℕ) (output : Output) (report : Report) : Type 0 where
+-- the report of these findings of this many files and entries, with these summaries
+pub record IsReportOf (found : List FileFinding) (ss : List Summary) (files entries : ℕ) (output : Output) (report : Report) : Type 0 where
   pub text : string_bytes report.text
-      ≡ out.output (format_view output.format) shown_width (shown output.notes found) ss ++ ending output files found
+      ≡ out.output (format_view output.format) shown_width (shown output.notes found) ss ++ ending output files entries found
   pub failed : report.has_failed ≡ has_failed output.strict found
 
 -- the counts of these files with a reference, by all findings
@@ -62,7 +62,7 @@ AreShown output found references files counts =
 abbrev pub IsReportWith : List FileFinding → List File → List File → Output → Report → Type 0
 IsReportWith found references files output report =
     IsReportOf found (counts_by output (all_summaries (files_view references) (files_view files) found))
-    (length (files_view files)) output report
+    (length (files_view files)) (entry_count (files_view files)) output report
 
 -- by these rules
 abbrev pub IsReportBy : Rules → List File → List File → Output → Report → Type 0

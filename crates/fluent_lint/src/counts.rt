@@ -6,6 +6,7 @@ ghost use Rattle.lint_finding.specs.View.{findings_view};
 ghost use Rattle.fluent_lint.specs.FileTiles.{AreTilesOf, files_of, files_view};
 ghost use Rattle.fluent_lint.specs.Reports.{AreShown, counts_by, counts_of, summaries_of};
 ghost use Rattle.fluent_lint.specs.Lacking.{is_lacking};
+ghost use Rattle.lint_findings.specs.Summary.{entry_count};
 ghost use Rattle.lint_report.specs.ReportView.{summary_view};
 ghost use Rattle.lint_report.specs.Counted as counted;
 ghost use Rattle.lint_report.specs.Counted.{IsCounted};
@@ -42,7 +43,7 @@ fn keep_shown(output: Output<'_>, counts: &mut Vec<Summary>)
     ensures { map summary_view counts.new.items ≡ counts_by output.entry (map summary_view counts.old.items) }
 {
     match output.format {
-        Format::Text if !output.counts => keep_lacking(counts),
+        Format::Text | Format::Terminal if !output.counts => keep_lacking(counts),
         _ => {}
     }
 }
@@ -84,6 +85,24 @@ fn counts_by_reference<'s>(
         [] => Ok(Vec::new(alloc)),
         [_, ..] => counts_of_files(alloc, references, files, found),
     }
+}
+
+/// How many messages and terms files have. More than `usize` can count don't fit in memory.
+///
+/// # Errors
+/// [`AllocError`] if there are more.
+pub fn entry_count(files: &[FileTiles]) -> Result<usize, AllocError>
+    requires { All AreTilesOf files.now }
+    ensures { IfOk result (λ count. count ≡ entry_count (files_view (files_of files.now))) }
+{
+    let mut total: usize = 0;
+    for file in files {
+        let Some(sum) = total.checked_add(lint_entries::entry_count(&file.tiles)) else {
+            return Err(AllocError);
+        };
+        total = sum;
+    }
+    Ok(total)
 }
 
 /// The counts with a reference.

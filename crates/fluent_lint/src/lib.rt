@@ -19,6 +19,7 @@ mod missing;
 mod read;
 mod reported;
 mod reports;
+mod terms;
 mod tiles;
 mod totals;
 

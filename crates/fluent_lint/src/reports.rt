@@ -9,12 +9,13 @@ ghost use Rattle.lint_finding.specs.View.{findings_view};
 ghost use Rattle.lint_report.specs.Changes.{Appends};
 ghost use Rattle.lint_report.specs.ReportView.{summary_view};
 
-use crate::counts::shown_counts;
+use crate::counts::{entry_count, shown_counts};
 use crate::findings::all_findings;
 use crate::known::Known;
 use crate::read::{ReadFiles, read_files};
+use crate::terms::terms_of;
 use crate::tiles::tiles_of_files;
-use crate::totals::push_totals;
+use crate::totals::{push_taken, push_totals};
 use fluent_parser::StackBudget;
 use fluent_plurals::LanguagePlurals;
 use lint_endless::EndlessPatterns;
@@ -92,6 +93,7 @@ fn report_of_read<'r, 's: 'r>(
 {
     let known = Known::of(alloc, options, references, files)?;
     let endless = EndlessPatterns::new(alloc, &known.ids, &files.trees)?;
+    let terms = terms_of(alloc, files)?;
     let common = CommonCategories::of(options.plurals);
     let catalog = Catalog {
         endless: &endless,
@@ -101,6 +103,7 @@ fn report_of_read<'r, 's: 'r>(
     let rules = Rules {
         functions: &known.functions,
         catalog,
+        terms: &terms,
         reference: known.comparison(references),
     };
     report_by_rules(alloc, output, &rules, references, files)
@@ -123,21 +126,24 @@ fn report_by_rules<'r, 's: 'r>(
     let files = tiles_of_files(alloc, files)?;
     let found = all_findings(alloc, rules, output.ignored, &references, &files)?;
     let counts = shown_counts(alloc, output, &references, &files, &found)?;
-    report_of(alloc, output, count, &found, &counts)
+    let entries = entry_count(&files)?;
+    report_of(alloc, output, count, entries, &found, &counts)
 }
 
-/// The report of findings of this many files, with these summaries.
+/// The report of findings of this many files and entries, with these counts.
 fn report_of(
     alloc: Global,
     output: Output<'_>,
     files: usize,
+    entries: usize,
     found: &[FileFindings],
-    summaries: &[Summary],
+    counts: &[Summary],
 ) -> Result<Report, AllocError>
-    ensures { IfOk result (IsReportOf (findings_view found.now) (map summary_view summaries.now) files output.entry) }
+    ensures { IfOk result
+        (IsReportOf (findings_view found.now) (map summary_view counts.now) files entries output.entry) }
 {
-    let mut text = report(alloc, output.format, output.notes, found, summaries)?;
-    push_ending(&mut text, output, files, found)?;
+    let mut text = report(alloc, output.format, output.notes, found, counts)?;
+    push_ending(&mut text, output, files, entries, found)?;
     Ok(Report {
         text,
         has_failed: has_failed(output.strict, found),
@@ -149,12 +155,17 @@ fn push_ending(
     text: &mut String,
     output: Output<'_>,
     files: usize,
+    entries: usize,
     found: &[FileFindings],
 ) -> Result<(), AllocError>
-    ensures { OnOk result (Appends text.old text.new (ending output.entry files (findings_view found.now))) }
+    ensures { OnOk result
+        (Appends text.old text.new (ending output.entry files entries (findings_view found.now))) }
 {
     match output.format {
-        Format::Text => push_totals(text, output.notes, files, found),
+        Format::Text | Format::Terminal => {
+            push_totals(text, output.notes, files, found)?;
+            push_taken(text, entries, found)
+        }
         Format::Line | Format::Json | Format::Github => Ok(()),
     }
 }

@@ -1,9 +1,10 @@
-//! The last line of a report for people.
+//! The last lines of a report for people.
 
 ghost use Rattle.lint_report.specs.Changes.{Appends};
 ghost use Rattle.std.specs.Prelude.{◌≡◌, ◌++◌, [], IfOk, OnOk, codes, count_by, if◌then◌else◌};
-ghost use Rattle.lint_finding.specs.View.{findings_view, severity_view};
-ghost use Rattle.fluent_lint.specs.Totals.{counted, notes_total, same_severity, severity_count, totals_line};
+ghost use Rattle.lint_finding.specs.View.{finding_view, findings_view, severity_view};
+ghost use Rattle.fluent_lint.specs.Counting.{is_counted};
+ghost use Rattle.fluent_lint.specs.Totals.{are_most_taken, counted, found_count, notes_total, same_severity, severity_count, taken_line, totals_line};
 
 use lint_finding::{FileFindings, Finding, Severity};
 use std::alloc::AllocError;
@@ -53,13 +54,67 @@ fn push_counted(text: &mut String, count: usize, what: &str) -> Result<(), Alloc
     write!(text, "{count} {what}{plural}")
 }
 
-/// How many findings have this severity. More than `usize` can count don't fit in memory.
+/// Appends a question if most ids of this many entries are taken.
+///
+/// # Errors
+/// [`AllocError`] if memory runs out; a part of it may have been appended.
+pub fn push_taken(
+    text: &mut String,
+    entries: usize,
+    findings: &[FileFindings],
+) -> Result<(), AllocError>
+    ensures { OnOk result (Appends text.old text.new (taken_line entries (findings_view findings.now))) }
+{
+    let taken = count(findings, Counted::TakenIds)?;
+    let errors = severity_count(findings, Severity::Error)?;
+    if !are_most_taken(entries, taken, errors) {
+        return Ok(());
+    }
+    text.push_str("most ids are taken: are these files of two languages?\n")
+}
+
+/// Whether most ids of this many entries are taken, and most of the errors are of that.
+fn are_most_taken(entries: usize, taken: usize, errors: usize) -> bool
+    ensures { result ≡ are_most_taken entries taken errors }
+{
+    10 <= taken && entries.saturating_sub(taken) / 2 < taken && errors.saturating_sub(taken) < taken
+}
+
+/// How many findings have this severity.
 fn severity_count(findings: &[FileFindings], severity: Severity) -> Result<usize, AllocError>
     ensures { IfOk result (λ count. count ≡ severity_count (severity_view severity) (findings_view findings.now)) }
 {
+    count(findings, Counted::Severity(severity))
+}
+
+/// Which findings are counted.
+#[derive(Clone, Copy)]
+enum Counted {
+    /// Those of a severity.
+    Severity(Severity),
+    /// Those of entries whose id is taken.
+    TakenIds,
+}
+
+impl Counted {
+    /// Whether a finding is counted.
+    fn has(self, finding: &Finding) -> bool
+        ensures { result ≡ is_counted self (finding_view finding.now) }
+    {
+        match self {
+            Counted::Severity(severity) => same_severity(severity, finding.severity),
+            Counted::TakenIds => finding.code == "duplicate-id",
+        }
+    }
+}
+
+/// How many findings are counted. More than `usize` can count don't fit in memory.
+fn count(findings: &[FileFindings], counted: Counted) -> Result<usize, AllocError>
+    ensures { IfOk result (λ count. count ≡ found_count (is_counted counted) (findings_view findings.now)) }
+{
     let mut total: usize = 0;
     for file in findings {
-        let Some(sum) = total.checked_add(count_of(&file.findings, severity)) else {
+        let Some(sum) = total.checked_add(count_in(&file.findings, counted)) else {
             return Err(AllocError);
         };
         total = sum;
@@ -67,13 +122,13 @@ fn severity_count(findings: &[FileFindings], severity: Severity) -> Result<usize
     Ok(total)
 }
 
-/// How many of some findings have this severity.
-fn count_of(findings: &[Finding], severity: Severity) -> usize
-    ensures { result ≡ count_by (λ f. same_severity (severity_view severity) (severity_view f.severity)) findings.now }
+/// How many of some findings are counted.
+fn count_in(findings: &[Finding], counted: Counted) -> usize
+    ensures { result ≡ count_by (λ f. is_counted counted (finding_view f)) findings.now }
 {
     findings
         .iter()
-        .filter(|finding| same_severity(severity, finding.severity))
+        .filter(|finding| counted.has(finding))
         .count()
 }
 

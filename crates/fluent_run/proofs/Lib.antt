@@ -5,5 +5,6 @@ pub mod Numerals
 pub mod Lines
 pub mod Replies
 pub mod Valued
+mod Listed
 mod OneText
 mod AskedLines

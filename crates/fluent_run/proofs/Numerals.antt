@@ -2,7 +2,6 @@
 use Rattle.std.proofs.Common.{◌≡◌, Option, None, Some, Bor, ap}
 use Rattle.std.specs.Prelude.{option_copied, option_map}
 use Rattle.fluent_answers.specs.Sources.{formatted_in}
-use Rattle.fluent_grammar.specs.Words.{Text}
 use Rattle.fluent_ids.specs.Settings.{formatted_by}
 use Rattle.fluent_numerals.specs.Text.{value_text}
 use Rattle.fluent_numerals.specs.Views.{locale_view}

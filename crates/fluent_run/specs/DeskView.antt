@@ -8,6 +8,7 @@ use Rattle.fluent_ast.specs.declared.Pattern.{Pattern}
 use Rattle.fluent_run.specs.ResourceIds.{all_by_id}
 use Rattle.fluent_grammar.specs.Tree.{Elements}
 use Rattle.fluent_grammar.specs.Words.{Text}
+use Rattle.fluent_ids.specs.Found.{message_in}
 use Rattle.fluent_ids.specs.IdsView.{ids_view}
 use Rattle.fluent_ids.specs.declared.ids.FluentIds.{FluentIds}
 use Rattle.fluent_meaning.specs.Environment.{Environment}
@@ -16,6 +17,7 @@ use Rattle.fluent_meaning.specs.Substitution.{answer_written}
 use Rattle.fluent_serve.specs.Frames.{Answer, Reply, bad, frame_of, ok}
 use Rattle.fluent_numerals.specs.Views.{locale_view}
 use Rattle.fluent_resource.specs.declared.resource.FluentResource.{FluentResource}
+use Rattle.fluent_run.specs.Listing.{attribute_lines, message_lines}
 use Rattle.fluent_run.specs.declared.desk.Desk.{Desk}
 use Rattle.fluent_run.specs.declared.reply.Reply as code
 use Rattle.fluent_run.specs.ReplyView.{reply_view}
@@ -41,6 +43,14 @@ plain_ids ids = ids_view NoFunction ids
 -- what the ids of a desk stand for
 abbrev pub desk_ids : {M : Type 0} → Desk M → Ids NoFunction
 desk_ids desk = plain_ids desk.ids
+
+-- a line for each message of a desk
+abbrev pub messages_in : {M : Type 0} → Desk M → Text
+messages_in desk = message_lines (find (desk_ids desk)) (all_by_id desk.resources.now)
+
+-- a line for each attribute of a message of a desk, if there is one of the id
+abbrev pub attributes_in : {M : Type 0} → Desk M → Text → Option Text
+attributes_in desk id = attribute_lines (message_in (find (desk_ids desk) id))
 
 -- the elements of a pattern
 abbrev pub elements_of : Pattern (Bor Text) → Elements

@@ -1,4 +1,6 @@
 pub mod ResourceIds
+pub mod Listing
+pub mod Listed
 pub mod RunView
 pub mod DeskView
 pub mod ReplyView

@@ -1,18 +1,19 @@
 //! Answers request lines from the messages and terms of sources.
 
-ghost use Rattle.std.specs.Prelude.{◌≡◌, [], IfOk, OnOk, is_some, option_copied};
+ghost use Rattle.std.specs.Prelude.{◌≡◌, [], IfOk, OnOk, is_some, option_copied, option_map, string_bytes};
 ghost use Rattle.fluent_answers.specs.Answers.{pattern_asked};
 ghost use Rattle.fluent_meaning.specs.Ids.{attribute_named, find};
 ghost use Rattle.fluent_ids.specs.Found.{message_in};
 ghost use Rattle.fluent_ids.specs.MessageView.{message_of};
 ghost use Rattle.fluent_serve.specs.Frames.{none, ok};
-ghost use Rattle.fluent_run.specs.DeskView.{desk_ids, elements_found, IsFormatted, ids_added, frame_asked, line_frame, reply_frame, reply_to};
+ghost use Rattle.fluent_run.specs.DeskView.{attributes_in, desk_ids, elements_found, IsFormatted, ids_added, frame_asked, line_frame, messages_in, reply_frame, reply_to};
 ghost use Rattle.fluent_run.specs.ReplyView.{reply_of, reply_view};
 ghost use Rattle.fluent_serve.specs.AnswerView.{Adds};
 ghost use Rattle.fluent_serve.specs.Exchange.{IsFrontOf};
 
 use crate::arguments::{ValuedArguments, are_arguments};
 use crate::catalog::ids_of;
+use crate::listing::{message_lines, name_lines};
 use crate::reply::{ErrorLine, Reply, push_text, resolve};
 use crate::settings::Settings;
 use fluent_ast::Pattern;
@@ -29,10 +30,11 @@ use fluent_text::stack::StackBudget;
 use fluent_value::{FluentArgs, MemoizerKind, NoCustom, NoFunction, NoTransform};
 use std::alloc::{AllocError, Global};
 
-/// What lines are answered from: the ids of the sources, the plural source, whether placeables stand between isolation marks, how
+/// What lines are answered from: the sources and their ids, the plural source, whether placeables stand between isolation marks, how
 /// numbers are written, and how much of the machine's stack an answer may take.
 #[derive(Drop)]
 pub struct Desk<'b, 'r, 's, M> {
+    resources: &'r [FluentResource<'s>],
     ids: FluentIds<'r, 's, NoFunction>,
     plurals: &'b M,
     isolating: bool,
@@ -54,12 +56,14 @@ impl<'b, 'r, 's, M: MemoizerKind> Desk<'b, 'r, 's, M> {
     ) -> Result<Self, AllocError>
         ensures ids { IfOk result (λ desk. desk_ids desk
             ≡ ids_added settings.overriding resources.now) }
+        ensures resources { IfOk result (λ desk. desk.resources.now ≡ resources.now) }
         ensures plurals { IfOk result (λ desk. desk.plurals.now ≡ plurals.now) }
         ensures isolating { IfOk result (λ desk. desk.isolating ≡ settings.isolating) }
         ensures numerals { IfOk result (λ desk. desk.numerals ≡ settings.numerals) }
     {
         let ids = ids_of(alloc, resources, settings.overriding)?;
         Ok(Desk {
+            resources,
             ids,
             plurals,
             isolating: settings.isolating,
@@ -93,6 +97,31 @@ impl<'b, 'r, 's, M: MemoizerKind> Desk<'b, 'r, 's, M> {
             (pattern_asked (option_copied attribute.entry) (find (desk_ids self.now) id.now)) }
     {
         self.pattern_named(id, attribute).is_some()
+    }
+
+    /// The ids of the messages, each in a line that ends in LF, in the order of their first entries in the resources. An id is
+    /// there if what counts of it is a message.
+    ///
+    /// # Errors
+    /// [`AllocError`] if memory runs out; nothing is kept.
+    pub fn messages(&self, alloc: Global) -> Result<String, AllocError>
+        ensures { IfOk result (λ text. string_bytes text ≡ messages_in self.now) }
+    {
+        message_lines(alloc, &self.ids, self.resources)
+    }
+
+    /// The names of a message's attributes, each in a line that ends in LF, in their order. A name that the message has twice is
+    /// there twice. `None` if there is no message of the id.
+    ///
+    /// # Errors
+    /// [`AllocError`] if memory runs out; nothing is kept.
+    pub fn attributes(&self, alloc: Global, id: &str) -> Result<Option<String>, AllocError>
+        ensures { IfOk result (λ text. option_map string_bytes text ≡ attributes_in self.now id.now) }
+    {
+        let Some(message) = self.ids.get_message(id) else {
+            return Ok(None);
+        };
+        Ok(Some(name_lines(alloc, &message)?))
     }
 
     /// What a message gives for these arguments: its value, or its first attribute of a name. `None` if there is no such

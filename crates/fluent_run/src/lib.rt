@@ -9,6 +9,7 @@ mod answering;
 mod arguments;
 mod catalog;
 mod desk;
+mod listing;
 mod memory;
 mod reply;
 mod settings;

@@ -2,7 +2,7 @@
 use Rattle.std.proofs.Common.{◌≡◌, [], ◌∷◌, true, false, Some, None, refl, codes}
 use Rattle.clap.specs.declared.error.kind.ErrorKind.TheVariants.{MissingRequiredArgument, UnknownArgument}
 use Rattle.clap.proofs.OnLiterals.{clap_on_literals}
-use Rattle.lint_findings.specs.Output.{json, text}
+use Rattle.lint_findings.specs.Output.{json, terminal, text}
 use Rattle.ftl_arguments.specs.Meaning.{AskForHelpAlone, AskForVersionAlone, check, clean, command_of, faults_of, format, join, lint, run, tidy, tidy_files}
 
 no_file : faults_of (codes "run" ∷ codes "--overriding" ∷ []) ≡ MissingRequiredArgument ∷ []
@@ -100,6 +100,20 @@ a_lint_with_options : command_of (codes "lint" ∷ codes "--reference" ∷ codes
     }))
 unfolding clap_on_literals
 a_lint_with_options = refl
+
+in_colours : command_of (codes "lint" ∷ codes "--color=always" ∷ codes "a" ∷ [])
+    ≡ Some (lint (record { references = []; functions = []; ignored = []; locale = None; notes = false; counts = false; strict = false; format = terminal; files = codes "a" ∷ [] }))
+unfolding clap_on_literals
+in_colours = refl
+
+no_colours_in_json : command_of (codes "lint" ∷ codes "--color" ∷ codes "always" ∷ codes "--format" ∷ codes "json" ∷ codes "a" ∷ [])
+    ≡ Some (lint (record { references = []; functions = []; ignored = []; locale = None; notes = false; counts = false; strict = false; format = json; files = codes "a" ∷ [] }))
+unfolding clap_on_literals
+no_colours_in_json = refl
+
+no_such_colours : command_of (codes "lint" ∷ codes "--color" ∷ codes "yes" ∷ codes "a" ∷ []) ≡ None
+unfolding clap_on_literals
+no_such_colours = refl
 
 no_such_format : command_of (codes "lint" ∷ codes "--format" ∷ codes "xml" ∷ codes "a" ∷ []) ≡ None
 unfolding clap_on_literals

@@ -71,7 +71,7 @@ reported_rules = known_rules ++ each_rule (codes "ignore") ∷ flag_rule (codes 
 
 -- and how
 abbrev pub linting_rules : List Rule
-linting_rules = reported_rules ++ flag_rule (codes "strict") ∷ default_rule (codes "format") (codes "text") ∷ []
+linting_rules = reported_rules ++ flag_rule (codes "strict") ∷ default_rule (codes "format") (codes "text") ∷ default_rule (codes "color") (codes "auto") ∷ []
 
 abbrev pub lint_shape : Shape
 lint_shape = shaped (codes "lint") (linting_rules ++ paths_rule ∷ [])

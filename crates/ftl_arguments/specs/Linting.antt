@@ -1,10 +1,10 @@
 -- What `lint` is asked for.
-use Rattle.std.specs.Prelude.{Bool, if◌then◌else◌, List, [], ◌∷◌, Option, Some, None, option_map, option_and_then, codes}
+use Rattle.std.specs.Prelude.{Bool, true, false, if◌then◌else◌, List, [], ◌∷◌, Option, Some, None, option_map, option_and_then, codes}
 use Rattle.std.specs.List.{list_all, list_any}
 use Rattle.std.specs.Str.{bytes_eq}
 use Rattle.clap.specs.Words.{Row, Text, first_of}
 use Rattle.ftl_arguments.specs.Found.{is_given, values_in, locale_in}
-use Rattle.lint_findings.specs.Output.{Format, text, lines, json, github}
+use Rattle.lint_findings.specs.Output.{Format, text, terminal, lines, json, github}
 
 -- report what is found in the catalog that the sources in these files, and below these folders, are
 pub record Lint : Type 0 where
@@ -33,7 +33,7 @@ finding_codes =
     codes "syntax" ∷ codes "duplicate-id" ∷ codes "unknown-message" ∷ codes "unknown-term" ∷ codes "unknown-attribute"
     ∷ codes "no-value" ∷ codes "no-default" ∷ codes "cyclic-reference" ∷ codes "unknown-function" ∷ codes "duplicate-attribute"
     ∷ codes "duplicate-variant" ∷ codes "invalid-escape" ∷ codes "unknown-option" ∷ codes "missing-category"
-    ∷ codes "missing-message" ∷ codes "missing-value" ∷ codes "missing-attribute" ∷ codes "obsolete-value"
+    ∷ codes "unused-term" ∷ codes "missing-message" ∷ codes "missing-value" ∷ codes "missing-attribute" ∷ codes "obsolete-value"
     ∷ codes "obsolete-attribute" ∷ codes "unknown-variable" ∷ codes "unused-variable" ∷ codes "obsolete-message" ∷ codes "untranslated" ∷ []
 
 abbrev pub is_code : Text → Bool
@@ -52,8 +52,34 @@ format_named name =
     else None
 
 -- the value of `--format`
+abbrev pub format_in : List Row → Option Format
+format_in rows = option_and_then format_named (first_of (codes "format") rows)
+
+-- Whether the value of `--color` asks for colours. The program asks for them by itself on a terminal, in place of `auto`.
+abbrev pub colours_named : Text → Option Bool
+colours_named name =
+    if bytes_eq name (codes "auto") then Some false
+    else if bytes_eq name (codes "always") then Some true
+    else if bytes_eq name (codes "never") then Some false
+    else None
+
+abbrev pub colours_in : List Row → Option Bool
+colours_in rows = option_and_then colours_named (first_of (codes "color") rows)
+
+-- text has colours, and no other format
+abbrev pub on_terminal : Format → Format
+on_terminal text = terminal
+on_terminal terminal = terminal
+on_terminal lines = lines
+on_terminal json = json
+on_terminal github = github
+
+abbrev pub format_by : Format → Bool → Format
+format_by format colours = if colours then on_terminal format else format
+
+-- by `--format` and `--color`
 abbrev pub report_format_in : List Row → Option Format
-report_format_in rows = option_and_then format_named (first_of (codes "format") rows)
+report_format_in rows = option_and_then (λ format. option_map (format_by format) (colours_in rows)) (format_in rows)
 
 -- with what else was found
 abbrev pub lint_with : List Row → Format → Lint

@@ -68,7 +68,7 @@ fn reason_of(alloc: Global, error: &Error) -> Result<String, AllocError> {
 fn refused_value(words: &[&str]) -> &'static str {
     match words.first() {
         Some(&"lint") => {
-            "--format takes text, line, json or github, and --ignore the code of a finding;"
+            "--format takes text, line, json or github, --color auto, always or never, and --ignore the code of a finding;"
         }
         Some(&"format") => "--argument takes NAME=VALUE;",
         _ => "that isn't understood;",

@@ -1,7 +1,7 @@
 //! What `lint` is asked for.
 ghost use Rattle.std.specs.Prelude.{◌≡◌, IfErr, IfOk, Some, None, false, option_map, true};
 ghost use Rattle.std.specs.List.{list_all};
-ghost use Rattle.ftl_arguments.specs.Linting.{format_named, ignored_in, is_code, lint_in, report_format_in};
+ghost use Rattle.ftl_arguments.specs.Linting.{colours_in, colours_named, format_by, format_in, format_named, ignored_in, is_code, lint_in, report_format_in};
 ghost use Rattle.ftl_arguments.specs.Meaning.{texts};
 ghost use Rattle.ftl_arguments.specs.CommandView.{found_rows, lint_view, IfRefused};
 ghost use Rattle.lint_report.specs.Formats.{format_view};
@@ -13,7 +13,7 @@ use lint_report::Format as ReportFormat;
 use std::alloc::Global;
 
 /// The codes that findings have.
-const CODES: [&str; 23] = [
+const CODES: [&str; 24] = [
     "syntax",
     "duplicate-id",
     "unknown-message",
@@ -28,6 +28,7 @@ const CODES: [&str; 23] = [
     "invalid-escape",
     "unknown-option",
     "missing-category",
+    "unused-term",
     "missing-message",
     "missing-value",
     "missing-attribute",
@@ -42,7 +43,7 @@ const CODES: [&str; 23] = [
 /// What was found for `lint`.
 ///
 /// # Errors
-/// [`WordsError::Bad`]: there is no such format, or no finding has such a code. [`WordsError::Memory`]: memory ran out.
+/// [`WordsError::Bad`]: there is no such format or choice of colours, or no finding has such a code. [`WordsError::Memory`]: memory ran out.
 pub(crate) fn lint_in<'words>(
     alloc: Global,
     found: &ArgMatches<'words>,
@@ -98,11 +99,48 @@ fn is_code(name: &str) -> bool
     CODES.contains(&name)
 }
 
-/// How findings are to be written, if there is such a format.
+/// How findings are to be written, if there is such a format and such a choice of colours.
 fn report_format_in(found: &ArgMatches<'_>) -> Option<ReportFormat>
     ensures { option_map format_view result ≡ report_format_in (found_rows found.now) }
 {
+    let format = format_in(found)?;
+    let colours = colours_in(found)?;
+    Some(format_by(format, colours))
+}
+
+/// The format that is named, if there is such a one.
+fn format_in(found: &ArgMatches<'_>) -> Option<ReportFormat>
+    ensures { option_map format_view result ≡ format_in (found_rows found.now) }
+{
     format_named(found.get_str("format")?)
+}
+
+/// Whether colours are asked for, if there is such a choice.
+fn colours_in(found: &ArgMatches<'_>) -> Option<bool>
+    ensures { result ≡ colours_in (found_rows found.now) }
+{
+    colours_named(found.get_str("color")?)
+}
+
+/// Whether this choice asks for colours, if there is such a one.
+fn colours_named(name: &str) -> Option<bool>
+    ensures { result ≡ colours_named name.now }
+{
+    match name {
+        "auto" | "never" => Some(false),
+        "always" => Some(true),
+        _ => None,
+    }
+}
+
+/// A format with colours, if it is for people and they are asked for.
+fn format_by(format: ReportFormat, colours: bool) -> ReportFormat
+    ensures { format_view result ≡ format_by (format_view format) colours }
+{
+    match format {
+        ReportFormat::Text if colours => ReportFormat::Terminal,
+        _ => format,
+    }
 }
 
 /// The format of a name.

@@ -182,7 +182,8 @@ fn reporting<'a>(alloc: Global) -> Result<Command<'a>, AllocError>
 {
     choosing(alloc)?
         .arg(flag(alloc, "strict").help("End with 1 for warnings, too"))?
-        .arg(report_format(alloc))
+        .arg(report_format(alloc))?
+        .arg(colours(alloc))
 }
 
 /// The same without the options that say how findings are reported.
@@ -312,6 +313,15 @@ fn report_format<'a>(alloc: Global) -> Arg<'a>
 {
     option_or(alloc, "format", "FORMAT", "text").help(
         "Write findings as text, line, json or github",
+    )
+}
+
+/// Whether `lint` writes text in colours.
+fn colours<'a>(alloc: Global) -> Arg<'a>
+    ensures { IsLocal (default_rule (codes "color") (codes "auto")) result }
+{
+    option_or(alloc, "color", "WHEN", "auto").help(
+        "Write text in colours: always, never, or auto: on a terminal, unless NO_COLOR is set",
     )
 }
 

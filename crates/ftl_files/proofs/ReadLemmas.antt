@@ -1,10 +1,10 @@
 -- Files that are read, one after the other.
-use Rattle.std.proofs.Common.{◌≡◌, ℕ, ◌+◌, ◌<◌, List, [], ◌∷◌, ◌++◌, Option, IfSome, String, length, take, map, get_or, string_bytes, subst}
+use Rattle.std.proofs.Common.{◌≡◌, ℕ, ◌+◌, ◌<◌, List, [], ◌∷◌, ◌++◌, ◌⊎◌, inl, inr, Option, IfSome, String, length, take, map, get_or, string_bytes, subst}
 use Rattle.std.proofs.lemmas.List.{take_more, map-append}
 use Rattle.std.specs.Global.{Global}
 use Rattle.fluent_serve.specs.Text.{Text}
 use Rattle.ftl_files.specs.Files.{State}
-use Rattle.ftl_files.specs.Reading.{Read, ReadFailsSo, ReadsOne, ReadsThrough, failed, held, one_read, read_after}
+use Rattle.ftl_files.specs.Reading.{IsAddedRead, Read, ReadFailsSo, ReadsOne, ReadsThrough, failed, held, one_read, read_after, refused}
 use Rattle.ftl_files.specs.Tidying.{Failure, IsLeft}
 
 -- one file more is read
@@ -16,10 +16,12 @@ read_next start here there names i item old new inside at before one =
     (subst (λ n. ReadsThrough start (map string_bytes (take i names) ++ string_bytes n ∷ []) (read_after old (string_bytes item) one.end) there) at
     (one_read (string_bytes item) one.end there before one.so))
 
--- a file was read
+-- a file was read, and its source is held or refused
 pub source_read : (name : Text) (old new : Read) (source : Text) (before after : State) → IsLeft before after → IfSome (before.contents name) (λ known. source ≡ known) →
-    new ≡ read_after old name (held source) → ReadsOne name old new before after
-source_read name old new source before after left known is = record { end = held source; so = (left, known); is = is }
+    IsAddedRead name source old new → ReadsOne name old new before after
+source_read name old new source before after left known (inl is) = record { end = held source; so = (left, known); is = is }
+source_read name old new source before after left known (inr refusal) =
+    record { end = refused source refusal.0; so = ((left, known), refusal.1.0); is = refusal.1.1 }
 
 -- or it could not be
 pub read_failed : (name : Text) (old new : Read) (f : Failure) (why : Option Text) (before after : State) → ReadFailsSo name f before after →

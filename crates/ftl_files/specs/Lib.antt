@@ -1,6 +1,7 @@
 pub mod Files
 pub mod States
 pub mod ErrorTexts
+pub mod Depth
 pub mod Tidying
 pub mod Reading
 pub mod TidyView

@@ -1,7 +1,8 @@
 -- Sources that are read, one after the other: which they are, and what is said of files that can't be read.
-use Rattle.std.specs.Prelude.{◌≡◌, List, [], ◌∷◌, ◌++◌, ⊤, Option, IfSome}
+use Rattle.std.specs.Prelude.{◌≡◌, ◌⊎◌, List, [], ◌∷◌, ◌++◌, ⊤, Option, IfSome}
 use Rattle.fluent_serve.specs.Text.{Text}
 use Rattle.lint_findings.specs.Files.{File}
+use Rattle.ftl_files.specs.Depth.{IsDepthReport}
 use Rattle.ftl_files.specs.Files.{State}
 use Rattle.ftl_files.specs.Tidying.{AreListed, Failure, FailsSo, IsLeft, failure_line, failure_words, unreadable, not_utf8, unwritable}
 
@@ -11,6 +12,8 @@ use Rattle.ftl_files.specs.Tidying.{AreListed, Failure, FailsSo, IsLeft, failure
 pub data ReadEnd : Type 0 where
   -- its source
   held : Text → ReadEnd
+  -- its source nests too deep, and this is reported
+  refused : Text → Text → ReadEnd
   -- it could not be read, and maybe why
   failed : Failure → Option Text → ReadEnd
 
@@ -24,14 +27,19 @@ IsOfReading unwritable = ⊥
 abbrev pub ReadFailsSo : Text → Failure → State → State → Type 0
 ReadFailsSo name f before after = FailsSo name f before after × IsOfReading f
 
--- What is read of a file is what it holds, if that is known.
+-- what is read of a file is what it holds, if that is known
+abbrev pub ReadsSource : Text → Text → State → State → Type 0
+ReadsSource name source before after = IsLeft before after × IfSome (before.contents name) (λ known. source ≡ known)
+
+-- A source that nests too deep is refused.
 abbrev pub ReadsSo : Text → ReadEnd → State → State → Type 0
-ReadsSo name (held source) before after = IsLeft before after × IfSome (before.contents name) (λ known. source ≡ known)
+ReadsSo name (held source) before after = ReadsSource name source before after
+ReadsSo name (refused source report) before after = ReadsSource name source before after × IsDepthReport name source report
 ReadsSo name (failed f why) before after = ReadFailsSo name f before after
 
 -- ---- files one after the other
 
--- the files that were read, with their sources, and a line for each that could not be
+-- the files that were read, with their sources, and a line for each of the others
 pub record Read : Type 0 where
   pub files : List File
   pub errors : Text
@@ -42,6 +50,7 @@ nothing_read = record { files = []; errors = [] }
 -- and after one more file
 abbrev pub read_after : Read → Text → ReadEnd → Read
 read_after r name (held source) = record r { files = r.files ++ record { name = name; source = source } ∷ [] }
+read_after r name (refused source report) = record r { errors = r.errors ++ report }
 read_after r name (failed f why) = record r { errors = r.errors ++ failure_line name (failure_words f) why }
 
 -- From a state of the folder files are read, one after the other, to another state.
@@ -62,3 +71,8 @@ pub record ReadsOne (name : Text) (old new : Read) (before after : State) : Type
   pub end : ReadEnd
   pub so : ReadsSo name end before after
   pub is : new ≡ read_after old name end
+
+-- A source that was read is held, or refused if it nests too deep.
+abbrev pub IsAddedRead : Text → Text → Read → Read → Type 0
+IsAddedRead name source old new =
+    (new ≡ read_after old name (held source)) ⊎ ((report : Text) × (IsDepthReport name source report × (new ≡ read_after old name (refused source report))))

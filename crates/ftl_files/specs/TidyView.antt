@@ -49,6 +49,14 @@ read_view r = record { files = map source_view r.files.items; errors = string_by
 abbrev pub after_source : reading.Read → Text → String Global → reading.Read
 after_source read name source = reading.read_after read name (reading.held (string_bytes source))
 
+-- what was read is refused with this report
+abbrev pub after_refusal : reading.Read → Text → Text → Text → reading.Read
+after_refusal read name source report = reading.read_after read name (reading.refused source report)
+
+-- a source that was read is added, or refused
+abbrev pub IsAddedTo : Text → Text → ReadSources → ReadSources → Type 0
+IsAddedTo name source old new = reading.IsAddedRead name source (read_view old) (read_view new)
+
 abbrev pub after_read_failure : reading.Read → Text → Failure → Option (Bor Text) → reading.Read
 after_read_failure read name failure why = reading.read_after read name (reading.failed (failure_view failure) (option_copied why))
 

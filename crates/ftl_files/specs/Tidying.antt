@@ -16,6 +16,7 @@ use Rattle.lint_findings.specs.Report.{report_text}
 use Rattle.lint_findings.specs.SyntaxFindings.{syntax_findings}
 use Rattle.lint_findings.specs.Tiles.{tiles}
 use Rattle.lint_report.specs.View.{shown_width}
+use Rattle.ftl_files.specs.Depth.{IsDepthReport}
 use Rattle.ftl_files.specs.Files.{IsReplaced, OnFile, State}
 
 -- ---- what becomes of a file
@@ -94,14 +95,14 @@ pub record IsReportOf (Kind : Finding → Type 0) (name source report : Text) : 
   pub kind : Kind finding
   pub is : report ≡ finding_report name source finding
 
--- The report on a source that has no tidy text for this reason.
+-- The report on a source that has no tidy text for this reason. If memory runs out while it is read, it may nest too deep.
 abbrev pub IsReport : Text → Text → TidyError → Text → Type 0
-IsReport name source Memory report = report ≡ failure_line name (codes "nests too deep, or memory ran out") None
+IsReport name source Memory report = (report ≡ failure_line name (codes "memory ran out") None) ⊎ IsDepthReport name source report
 IsReport name source CarriageReturn report = IsReportOf (IsReturn source) name source report
 IsReport name source Damaged report = report ≡ damage_report name source
 IsReport name source NotTidy report = IsReportOf IsShape name source report
 
--- the reason is right; that memory ran out, or that it nests too deep, isn't seen
+-- the reason is right; that memory ran out isn't seen
 abbrev pub IsReason : Text → TidyError → Type 0
 IsReason source Memory = ⊤
 IsReason source CarriageReturn = IsTrue (holds_return (plain source))

@@ -4,6 +4,7 @@
 //! files, and those below folders. [`tidy_files`] tidies them in place, as `ftl tidy` does.
 #![tactic(auto)]
 
+mod depth;
 mod ends;
 mod errors;
 mod folder;

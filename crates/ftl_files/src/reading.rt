@@ -1,9 +1,10 @@
 //! Sources that are read, one after the other.
-ghost use Rattle.std.specs.Prelude.{◌≡◌, IfOk, OnOk, map};
+ghost use Rattle.std.specs.Prelude.{◌≡◌, IfOk, OnOk, map, string_bytes};
 ghost use Rattle.lint_finding.specs.View.{file_view};
 ghost use Rattle.ftl_files.specs.Reading.{nothing_read};
-ghost use Rattle.ftl_files.specs.TidyView.{AreReadOn, ReadsOneOn, ReadsThroughOn, after_read_failure, after_source, read_view};
+ghost use Rattle.ftl_files.specs.TidyView.{AreReadOn, IsAddedTo, ReadsOneOn, ReadsThroughOn, after_read_failure, after_refusal, after_source, read_view};
 
+use crate::depth::depth_report;
 use crate::ends::{Failure, push_failure};
 use crate::folder::Folder;
 use crate::tidying::{list_paths, read_source, why_of};
@@ -19,12 +20,12 @@ pub struct SourceFile {
     pub source: String,
 }
 
-/// Files that were read, and what is said of those that could not be.
+/// Files that were read, and what is said of the others.
 #[derive(Debug, Drop)]
 pub struct ReadSources {
     /// The files that were read, in their order.
     pub files: Vec<SourceFile>,
-    /// A line for each of the others.
+    /// A line for each of the others: that could not be read, or nests too deep.
     pub errors: String,
 }
 
@@ -65,6 +66,14 @@ impl ReadSources {
         Ok(())
     }
 
+    /// Adds the line of a source that is refused.
+    fn add_refusal(&mut self, name: &str, source: &str, report: &str) -> Result<(), AllocError>
+        ensures { OnOk result (read_view self.new
+            ≡ after_refusal (read_view self.old) name.now source.now report.now) }
+    {
+        self.errors.push_str(report)
+    }
+
     /// Adds the line of a failure.
     fn add_failure(
         &mut self,
@@ -79,7 +88,8 @@ impl ReadSources {
     }
 }
 
-/// Reads the files that paths stand for, one after the other. Of a file that can't be read, a line says so.
+/// Reads the files that paths stand for, one after the other. Of a file that can't be read, or whose source nests too deep
+/// for that, a line says so.
 ///
 /// # Errors
 /// [`AllocError`] if memory runs out; nothing is kept.
@@ -119,7 +129,22 @@ fn read_one<F: Folder>(
     ensures { OnOk result (ReadsOneOn F.Folder name.now folder.old folder.new read.old read.new) }
 {
     match read_source(folder, alloc, name)? {
-        Ok(source) => read.add_source(alloc, name, source),
+        Ok(source) => add_read(alloc, name, source, read),
         Err(failure) => read.add_failure(name, failure, why_of(folder, name, failure)),
+    }
+}
+
+/// Adds a file that was read, or if its source nests too deep, the line that says so.
+fn add_read(
+    alloc: Global,
+    name: &str,
+    source: String,
+    read: &mut ReadSources,
+) -> Result<(), AllocError>
+    ensures { OnOk result (IsAddedTo name.now (string_bytes source) read.old read.new) }
+{
+    match depth_report(alloc, name, source.as_str())? {
+        Some(report) => read.add_refusal(name, source.as_str(), report.as_str()),
+        None => read.add_source(alloc, name, source),
     }
 }

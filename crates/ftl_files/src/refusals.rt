@@ -7,6 +7,7 @@ ghost use Rattle.lint_findings.specs.SyntaxFindings.{syntax_findings};
 ghost use Rattle.lint_findings.specs.Tiles.{tiles};
 ghost use Rattle.ftl_files.specs.Tidying.{IsReport, IsReturn, IsShape, damage_report, finding_report, findings_report};
 
+use crate::depth::depth_report;
 use fluent_parser::{Error, parse, starts_of};
 use fluent_tidy::{TidyError, tidy, with_line_feeds, without_mark};
 use lint_files::syntax_findings;
@@ -46,12 +47,20 @@ fn report_of_plain(
     ensures { IfOk result (λ report. IsReport name.now source.now reason (string_bytes report)) }
 {
     match reason {
-        TidyError::Memory => {
-            format!(in alloc; "ftl: {name}: nests too deep, or memory ran out\n")
-        }
+        TidyError::Memory => memory_report(alloc, name, source),
         TidyError::CarriageReturn => report_on(alloc, name, source, return_finding(alloc, source)?),
         TidyError::Damaged => damage_report(alloc, name, source),
         TidyError::NotTidy => report_on(alloc, name, source, shape_finding(alloc, source)?),
+    }
+}
+
+/// The report on a source for which memory ran out, or which nests too deep.
+fn memory_report(alloc: Global, name: &str, source: &str) -> Result<String, AllocError>
+    ensures { IfOk result (λ report. IsReport name.now source.now TidyError.Memory (string_bytes report)) }
+{
+    match depth_report(alloc, name, source)? {
+        Some(report) => Ok(report),
+        None => format!(in alloc; "ftl: {name}: memory ran out\n"),
     }
 }
 

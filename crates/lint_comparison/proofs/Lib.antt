@@ -13,4 +13,4 @@ pub mod FindingsAdded
 pub mod Placed
 pub mod Lists
 pub mod MissingParts
-pub mod Called
+pub mod Naming

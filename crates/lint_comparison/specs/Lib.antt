@@ -8,5 +8,5 @@ pub mod HasPlaces
 pub mod Found
 pub mod InCode
 pub mod Missing
-pub mod Calls
+pub mod Referred
 pub mod ComparedBy

@@ -2,7 +2,7 @@
 //!
 //! [`Reference`] compares the messages of the catalog with those of the reference, [`missing_findings`] lists the
 //! messages of the reference that the catalog hasn't, and [`called_functions`] the functions that the reference calls:
-//! these are known. [`message_findings`] lists how a message differs from that of the reference with the same id, each
+//! these are known. [`referred_terms`] lists the terms that a catalog refers to. [`message_findings`] lists how a message differs from that of the reference with the same id, each
 //! difference with its place. `Findings.antt` and `ComparisonFindings.antt` of `lint_findings` say which findings they are
 //! and how they go together; `docs/reference/lint.md` has the rules in plain words.
 //!
@@ -15,17 +15,17 @@ mod attributes;
 mod compared;
 mod findings;
 mod first_places;
-mod functions;
 mod lack;
 mod missing;
 mod names;
 mod places;
 mod reached;
 mod reference;
+mod referred;
 mod same;
 mod variables;
 
 pub use findings::{message_findings, missing_finding};
-pub use functions::called_functions;
 pub use missing::missing_findings;
 pub use reference::Reference;
+pub use referred::{called_functions, referred_terms};

@@ -1,5 +1,6 @@
 pub mod BodiesAreRead
 pub mod NameSets
+pub mod TermSets
 pub mod FirstIsHint
 pub mod PatternFound
 pub mod EntryFound

@@ -20,3 +20,4 @@ pub mod Walks
 pub mod LocationText
 pub mod DuplicateText
 pub mod First
+pub mod Terms

@@ -33,6 +33,15 @@ abbrev pub is_message_part : Part → Bool
 is_message_part (entry_part s (t.message m)) = true
 is_message_part _ = false
 
--- if the tiles are those of a source, it has this many messages
+abbrev pub is_entry_part : Part → Bool
+is_entry_part (entry_part s (t.message m)) = true
+is_entry_part (entry_part s (t.term m)) = true
+is_entry_part _ = false
+
+-- if the tiles are those of a source, it has this many messages and terms
+abbrev pub CountsEntries : List Tile → ℕ → Type 0
+CountsEntries found count = (source : Text) → map tile_view found ≡ parts source → count ≡ count_by summary.has_id (tiles source)
+
+-- and this many messages
 abbrev pub CountsMessages : List Tile → ℕ → Type 0
 CountsMessages found count = (source : Text) → map tile_view found ≡ parts source → count ≡ count_by summary.is_message (tiles source)

@@ -4,7 +4,8 @@
 //! source: the tree says what is next, and the source where that ends. [`entry_findings`] lists what is wrong with a
 //! message or a term: its attributes, and each of the references, selects and strings of its patterns, in the order in
 //! which they are written, with its place. [`Declarations`] has the first entry of each id, with its
-//! [`Location`], and looks an id up once for each entry. So a catalog takes linear time.
+//! [`Location`], and looks an id up once for each entry. So a catalog takes linear time. [`ReferredTerms`] knows the terms
+//! that a catalog refers to, and so those that it doesn't.
 //!
 //! What is known of the catalog is a [`Catalog`]. The entry is one of a tree, and the text is the source from the entry on:
 //! how much of the source is left at a finding says where it is. [`text`] has what follows the words of an entry, for
@@ -28,6 +29,7 @@ mod pattern;
 mod problem;
 mod rest;
 mod start;
+mod terms;
 pub mod text;
 mod tile;
 mod walk;
@@ -37,4 +39,5 @@ pub use declarations::Declarations;
 pub use entry::entry_findings;
 pub use finding::push_found;
 pub use location::Location;
-pub use tile::{Tile, message_count, source_tiles};
+pub use terms::ReferredTerms;
+pub use tile::{Tile, entry_count, message_count, source_tiles};

@@ -4,7 +4,7 @@
 ghost use Rattle.std.specs.Prelude.{◌≡◌, All, IfOk, count_by, map};
 ghost use Rattle.fluent_ast.specs.Borrowed.{entries_of};
 ghost use Rattle.lint_entries.specs.Kept.{parts};
-ghost use Rattle.lint_entries.specs.TileView.{AreErrorsOf, CountsMessages, IsReadPart, IsTreeOf, is_message_part, tile_view};
+ghost use Rattle.lint_entries.specs.TileView.{AreErrorsOf, CountsEntries, CountsMessages, IsReadPart, IsTreeOf, is_entry_part, is_message_part, tile_view};
 
 use crate::walk::Walk;
 use fluent_ast::{Entry, Resource};
@@ -57,6 +57,26 @@ fn count_of_messages(tiles: &[Tile]) -> usize
     ensures { result ≡ count_by (λ tile. is_message_part (tile_view tile)) tiles.now }
 {
     tiles.iter().filter(|tile| is_message(tile)).count()
+}
+
+/// How many of the tiles of a source are messages or terms.
+pub fn entry_count(tiles: &[Tile]) -> usize
+    ensures { CountsEntries tiles.now result }
+{
+    count_of_entries(tiles)
+}
+
+fn count_of_entries(tiles: &[Tile]) -> usize
+    ensures { result ≡ count_by (λ tile. is_entry_part (tile_view tile)) tiles.now }
+{
+    tiles.iter().filter(|tile| is_entry(tile)).count()
+}
+
+/// Whether a tile is a message or a term.
+fn is_entry(tile: &Tile) -> bool
+    ensures { result ≡ is_entry_part (tile_view tile.now) }
+{
+    matches!(tile, Tile::Entry(Entry::Message(_) | Entry::Term(_), _))
 }
 
 /// Whether a tile is a message.

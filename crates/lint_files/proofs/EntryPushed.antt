@@ -9,7 +9,8 @@ use Rattle.lint_findings.specs.DuplicateIds.{Declaration, duplicate_findings, id
 use Rattle.lint_findings.specs.EntryFindings.{entry_findings}
 use Rattle.lint_findings.specs.Files.{File}
 use Rattle.lint_findings.specs.Finding.{Finding}
-use Rattle.lint_findings.specs.Findings.{Rules, findings_of_entry}
+use Rattle.lint_findings.specs.Findings.{Rules, findings_if_first, findings_of_entry}
+use Rattle.lint_findings.specs.UnusedTerms.{unused_findings}
 use Rattle.fluent_grammar.specs.Tree as t
 use Rattle.fluent_grammar.specs.Words.{Text}
 use Rattle.fluent_meaning.specs.Ids.{Ids}
@@ -32,6 +33,15 @@ same_duplicates functions before (t.group_comment c) at id = refl
 same_duplicates functions before (t.resource_comment c) at id = refl
 same_duplicates functions before (t.junk x) at id = refl
 
+-- the same of terms that nothing refers to
+pub same_unused : (is_referred : Text → Bool) (e : t.Entry) (at place : ℕ) → at ≡ place → unused_findings is_referred e at ≡ unused_findings is_referred (uncommented e) place
+same_unused is_referred (t.message m) at place is = refl
+same_unused is_referred (t.term m) at place is = ap (unused_findings is_referred (t.term m)) is
+same_unused is_referred (t.comment c) at place is = refl
+same_unused is_referred (t.group_comment c) at place is = refl
+same_unused is_referred (t.resource_comment c) at place is = refl
+same_unused is_referred (t.junk x) at place is = refl
+
 -- what counts if there is no duplicate
 if_new : (d : Option code.Finding) (is_new : Bool) (xs : List Finding) → is_some d ≡ not is_new →
     (if is_new then xs else []) ≡ (if length (map finding_view (option_to_list d)) == 0 then xs else [])
@@ -41,20 +51,24 @@ if_new (Some f) true xs e = absurd cc
 if_new (Some f) false xs e = refl
 
 module _ (rules : Rules) (file : File) (before : List Declaration) (s : Text) (e : t.Entry) (id : Text) where
+  -- what is found of it if it is the first
+  abbrev if_first : List Finding
+  if_first = findings_if_first rules file.source (uncommented e) (offset_in file s) s
+
   -- the findings of an entry of this id, after its duplicates
   abbrev with_duplicates : List Finding → List Finding
   with_duplicates ds =
-      ds ++ (entry_findings rules.ids rules.plurals file.source (uncommented e) s ++ (if length ds == 0 then rules.compare file.source (uncommented e) s else []))
+      ds ++ (entry_findings rules.ids rules.plurals file.source (uncommented e) s ++ (if length ds == 0 then if_first else []))
 
   pub entry_added : (d : Option code.Finding) (is_new : Bool) (x y z w : List Finding) → id_of e ≡ Some id →
       map finding_view (option_to_list d) ≡ duplicate_findings rules.functions before e (offset_in file s) id → is_some d ≡ not is_new →
       y ≡ x ++ map finding_view (option_to_list d) → z ≡ y ++ entry_findings rules.ids rules.plurals file.source (uncommented e) s →
-      w ≡ z ++ (if is_new then rules.compare file.source (uncommented e) s else []) →
+      w ≡ z ++ (if is_new then if_first else []) →
       w ≡ x ++ entry_findings_at rules file before s (uncommented e)
   entry_added d is_new x y z w has_id duplicates new p q r =
       let found = map finding_view (option_to_list d) in
       let own = entry_findings rules.ids rules.plurals file.source (uncommented e) s in
-      three_added x found own (if is_new then rules.compare file.source (uncommented e) s else []) p q r
-      ∙ ap (λ l. x ++ (found ++ (own ++ l))) (if_new d is_new (rules.compare file.source (uncommented e) s) new)
+      three_added x found own (if is_new then if_first else []) p q r
+      ∙ ap (λ l. x ++ (found ++ (own ++ l))) (if_new d is_new if_first new)
       ∙ ap (λ l. x ++ with_duplicates l) (duplicates ∙ same_duplicates rules.functions before e (offset_in file s) id)
       ∙ ap (λ i. x ++ findings_of_entry rules before file.source (uncommented e) (offset_in file s) s i) (sym (same_id e ∙ has_id))

@@ -2,7 +2,7 @@
 use Rattle.std.specs.Prelude.{◌≡◌, ◌-◌, Bool, List, [], ◌∷◌, ◌++◌, if◌then◌else◌, length, map, Vec}
 use Rattle.std.specs.Global.{Global}
 use Rattle.std.specs.Vec.Iter.{into_iter_items}
-use Rattle.lint_files.specs.PartFindings.{declared_by, declared_by_parts, entry_findings_at, findings_of_parts}
+use Rattle.lint_files.specs.PartFindings.{declared_by, declared_by_parts, entry_findings_at, findings_of_parts, offset_in}
 use Rattle.lint_files.specs.declared.cursor.Cursor.{Cursor}
 use Rattle.lint_files.specs.declared.entry.Placed.{Placed}
 use Rattle.lint_entries.specs.First.{AreFirst}
@@ -16,6 +16,7 @@ use Rattle.lint_findings.specs.DuplicateIds.{Declaration}
 use Rattle.lint_findings.specs.EntryFindings.{entry_findings}
 use Rattle.lint_findings.specs.Finding as f
 use Rattle.lint_findings.specs.Findings.{Rules}
+use Rattle.lint_findings.specs.UnusedTerms.{unused_findings}
 use Rattle.fluent_grammar.specs.Tree as t
 use Rattle.fluent_grammar.specs.Words.{Text}
 use Rattle.lint_finding.specs.PlaceView.{IsPlaceIn}
@@ -57,8 +58,20 @@ compared_findings rules placed = rules.compare placed.file.source.now (bare_entr
 abbrev pub AddsOwn : Rules → Placed → Vec Finding Global → Vec Finding Global → Type 0
 AddsOwn rules placed old new = Adds old new (own_findings rules placed)
 
-abbrev pub AddsComparison : Rules → Placed → Bool → Vec Finding Global → Vec Finding Global → Type 0
-AddsComparison rules placed is_new old new = Adds old new (if is_new then compared_findings rules placed else [])
+-- whether it is a term that nothing refers to
+abbrev pub unused_of : Rules → Placed → List f.Finding
+unused_of rules placed =
+    unused_findings rules.is_referred (bare_entry placed.entry.now) (offset_in (file_view placed.file) placed.text.now)
+
+abbrev pub AddsUnused : Rules → Placed → Vec Finding Global → Vec Finding Global → Type 0
+AddsUnused rules placed old new = Adds old new (unused_of rules placed)
+
+abbrev pub AddsComparison : Rules → Placed → Vec Finding Global → Vec Finding Global → Type 0
+AddsComparison rules placed old new = Adds old new (compared_findings rules placed)
+
+abbrev pub AddsIfFirst : Rules → Placed → Bool → Vec Finding Global → Vec Finding Global → Type 0
+AddsIfFirst rules placed is_new old new =
+    Adds old new (if is_new then unused_of rules placed ++ compared_findings rules placed else [])
 
 -- ---- a tile
 

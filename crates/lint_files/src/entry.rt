@@ -2,7 +2,7 @@
 #![tactic(auto)]
 
 ghost use Rattle.std.specs.Prelude.{OnOk};
-ghost use Rattle.lint_files.specs.Pushes.{AddsComparison, AddsOwn, AddsPlaced, DeclaresPlaced, IsPlaced};
+ghost use Rattle.lint_files.specs.Pushes.{AddsComparison, AddsIfFirst, AddsOwn, AddsPlaced, AddsUnused, DeclaresPlaced, IsPlaced};
 ghost use Rattle.lint_files.specs.RulesView.{rules_view};
 
 use crate::rules::Rules;
@@ -22,7 +22,7 @@ pub struct Placed<'r, 's> {
 }
 
 /// Adds the findings of an entry, after these declarations: first of its id, then of its patterns, and if the id is new,
-/// by the comparison with the reference. Its own declaration is added, too.
+/// whether it is an unused term, and how it differs from the reference. Its own declaration is added, too.
 ///
 /// # Errors
 /// [`AllocError`] if memory runs out; some findings may be added then.
@@ -45,7 +45,7 @@ pub fn push_entry<'s>(
     let is_new = duplicate.is_none();
     push_found(duplicate, findings)?;
     push_own(alloc, rules, placed, findings)?;
-    push_comparison(alloc, rules, placed, is_new, findings)?;
+    push_if_first(alloc, rules, placed, is_new, findings)?;
     declarations.add(id, Location::new(placed.file, placed.place))?;
     Ok(())
 }
@@ -70,8 +70,8 @@ fn push_own<'s>(
     findings.append(&mut found)
 }
 
-/// Adds how an entry differs from the reference, if there is one and the id of the entry is new.
-fn push_comparison<'s>(
+/// Adds what is found of an entry only if its id is new.
+fn push_if_first<'s>(
     alloc: Global,
     rules: &Rules<'_, '_, 's>,
     placed: &Placed<'_, 's>,
@@ -79,12 +79,40 @@ fn push_comparison<'s>(
     findings: &mut Vec<Finding>,
 ) -> Result<(), AllocError>
     requires { IsPlaced placed.now }
-    ensures { OnOk result (AddsComparison (rules_view rules.now) placed.now is_new
+    ensures { OnOk result (AddsIfFirst (rules_view rules.now) placed.now is_new
         findings.old findings.new) }
 {
     if !is_new {
         return Ok(());
     }
+    push_unused(rules, placed, findings)?;
+    push_comparison(alloc, rules, placed, findings)
+}
+
+/// Adds that an entry is a term to which the catalog doesn't refer, if it is one.
+fn push_unused<'s>(
+    rules: &Rules<'_, '_, 's>,
+    placed: &Placed<'_, 's>,
+    findings: &mut Vec<Finding>,
+) -> Result<(), AllocError>
+    requires { IsPlaced placed.now }
+    ensures { OnOk result (AddsUnused (rules_view rules.now) placed.now findings.old findings.new) }
+{
+    let unused = rules.terms.unused(placed.entry, placed.place.offset())?;
+    push_found(unused, findings)
+}
+
+/// Adds how an entry differs from the reference, if there is one.
+fn push_comparison<'s>(
+    alloc: Global,
+    rules: &Rules<'_, '_, 's>,
+    placed: &Placed<'_, 's>,
+    findings: &mut Vec<Finding>,
+) -> Result<(), AllocError>
+    requires { IsPlaced placed.now }
+    ensures { OnOk result (AddsComparison (rules_view rules.now) placed.now
+        findings.old findings.new) }
+{
     match &rules.reference {
         Some(reference) => reference.compare(
             alloc,

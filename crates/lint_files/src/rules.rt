@@ -1,7 +1,7 @@
 //! How findings are made.
 
 use lint_comparison::Reference;
-use lint_entries::Catalog;
+use lint_entries::{Catalog, ReferredTerms};
 use lint_finding::CatalogIds;
 
 /// How the findings of a catalog are made.
@@ -10,6 +10,8 @@ pub struct Rules<'c, 'r, 's> {
     /// The functions, which no entry may have the id of.
     pub functions: &'c CatalogIds<'r, 's>,
     pub catalog: Catalog<'c, 'r, 's>,
+    /// The terms that the catalog refers to.
+    pub terms: &'c ReferredTerms<'s>,
     /// What entries that count are compared with, if there is a reference.
     pub reference: Option<Reference<'c, 'r, 's>>,
 }

@@ -1,5 +1,5 @@
 -- What the worked rows share: the definitions that computing opens, and the forms of rows.
-use Rattle.std.specs.Prelude.{◌≡◌, ℕ, ⊤, Bool, false, List, [], None}
+use Rattle.std.specs.Prelude.{◌≡◌, ℕ, ⊤, Bool, true, false, List, [], None}
 use Rattle.std.specs.Fmt.{digits}
 use Rattle.std.specs.Str.{chars}
 use Rattle.fluent_grammar.specs.Words.{Text}
@@ -30,6 +30,10 @@ one c = 1
 -- What is reported of files, with these functions of the program.
 unfoldable pub Reports : List Text → List File → Text → Type 0
 Reports functions files text = report_text one (shown false (findings (options_with functions) files)) ≡ text
+
+-- The same with notes.
+unfoldable pub ReportsNotes : List File → Text → Type 0
+ReportsNotes files text = report_text one (shown true (findings (options_with []) files)) ≡ text
 
 -- What is reported of files with a reference, with or without notes.
 unfoldable pub ReportsWithReference : Bool → List File → List File → Text → Type 0

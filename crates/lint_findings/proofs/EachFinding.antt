@@ -28,7 +28,8 @@ use Rattle.lint_findings.specs.Finding.{Finding}
 use Rattle.lint_findings.specs.EntryFindings.{flaw_finding, category_finding, escape_finding, option_finding, node_flaws, node_categories, node_escapes, node_misuses, node_findings, nodes_findings, pattern_findings, attribute_findings, patterns_findings, pattern_places, entry_findings}
 use Rattle.lint_findings.specs.Files.{File}
 use Rattle.lint_findings.specs.DuplicateIds.{Declaration, id_of, duplicate_findings}
-use Rattle.lint_findings.specs.Findings.{Rules, FileFinding, findings_of_entry, findings_of_tile}
+use Rattle.lint_findings.specs.UnusedTerms.{unused_findings}
+use Rattle.lint_findings.specs.Findings.{Rules, FileFinding, findings_if_first, findings_of_entry, findings_of_tile}
 use Rattle.lint_findings.specs.PlaceLaws.{IsReadAt, IsReadIn, nodes, ArePatternsAt}
 use Rattle.lint_findings.specs.FindingLaws.{reference_codes, IsOfReference, source_selects, IsOfLostVariant, is_repeated}
 use Rattle.lint_findings.proofs.OccurrencesAreRead.{occurrences_are_read}
@@ -104,6 +105,10 @@ module _ (S : Type 0) (rules : Rules) (file : File) where
   pub if_one : (b : Bool) (f : Finding) → IsSound f → AreSound (if b then f ∷ [] else [])
   if_one true f h = one f h
   if_one false f h = none
+
+  unless_one : (b : Bool) (f : Finding) → IsSound f → AreSound (if b then [] else f ∷ [])
+  unless_one true f h = none
+  unless_one false f h = one f h
 
   pub mapped : {X : Type 0} (make : X → Finding) → ((x : X) → IsSound (make x)) → (xs : List X) → AreSound (map make xs)
   mapped make h [] = none
@@ -212,15 +217,23 @@ module _ (S : Type 0) (rules : Rules) (file : File) where
     of_id : (before : List Declaration) (e : t.Entry) (at : ℕ) (id : Text) → AreSound (duplicate_findings rules.functions before e at id)
     of_id before e at id = if_one _ _ (plain _ refl refl refl)
 
-    unless_taken : (b : Bool) (e : t.Entry) (s : Text) → AreSound (if b then rules.compare source e s else [])
-    unless_taken true e s = compares e s
-    unless_taken false e s = none
+    of_unused : (e : t.Entry) (at : ℕ) → AreSound (unused_findings rules.is_referred e at)
+    of_unused (t.message m) at = none
+    of_unused (t.term m) at = unless_one (rules.is_referred m.id) _ (plain _ refl refl refl)
+    of_unused (t.comment c) at = none
+    of_unused (t.group_comment c) at = none
+    of_unused (t.resource_comment c) at = none
+    of_unused (t.junk x) at = none
+
+    unless_taken : (b : Bool) (e : t.Entry) (at : ℕ) (s : Text) → AreSound (if b then findings_if_first rules source e at s else [])
+    unless_taken true e at s = both (unused_findings rules.is_referred e at) _ (of_unused e at) (compares e s)
+    unless_taken false e at s = none
 
     of_known : (before : List Declaration) (e : t.Entry) (at : ℕ) (s : Text) (o : Option Text) → AreSound (entry_findings rules.ids rules.plurals source e s) → AreSound (findings_of_entry rules before source e at s o)
     of_known before e at s None h = none
     of_known before e at s (Some id) h =
         let duplicates = duplicate_findings rules.functions before e at id in
-        both duplicates _ (of_id before e at id) (both (entry_findings rules.ids rules.plurals source e s) _ h (unless_taken (length duplicates == 0) e s))
+        both duplicates _ (of_id before e at id) (both (entry_findings rules.ids rules.plurals source e s) _ h (unless_taken (length duplicates == 0) e at s))
 
     pub of_entry_tile : (before : List Declaration) (at : ℕ) (s : Text) (e : t.Entry) → IsReadTile source (entry_tile at s e) → IsTileAmong (source_selects source) (entry_tile at s e) →
         AreSound (findings_of_tile rules before file (entry_tile at s e))

@@ -1,5 +1,5 @@
 -- Worked rows: the other formats, and summaries.
-use Rattle.std.specs.Prelude.{◌≡◌, [], ◌∷◌, List, true, false, codes}
+use Rattle.std.specs.Prelude.{◌≡◌, [], ◌∷◌, ◌++◌, List, true, false, codes}
 use Rattle.std.proofs.Common.{refl}
 use Rattle.serde_json.proofs.OnLiterals.{serde_json_on_literals}
 use Rattle.fluent_grammar.specs.Words.{Text}
@@ -7,7 +7,7 @@ use Rattle.lint_findings.specs.Files.{File}
 use Rattle.lint_findings.specs.Findings.{FileFinding, findings, findings_with_reference}
 use Rattle.lint_findings.specs.Report.{shown, has_failed}
 use Rattle.lint_findings.specs.Summary.{Summary, summaries, summary_text, summary_json}
-use Rattle.lint_findings.specs.Output.{Format, lines, json, github, output}
+use Rattle.lint_findings.specs.Output.{Format, terminal, lines, json, github, output}
 use Rattle.lint_findings.proofs.Computing.{computing_findings, file, one, options_with}
 
 -- What is written of files in a format.
@@ -18,6 +18,12 @@ in_lines : Writes lines (file (codes "a.ftl") (codes "a = { -b }\nc\n") ∷ [])
     (codes "a.ftl:1:7: error: a: there is no term `-b` [unknown-term]\na.ftl:2:2: error: c: expected `=` after `c`, found the end of the line [syntax]\n")
 unfolding computing_findings file Writes
 in_lines = refl
+
+in_colours : Writes terminal (file (codes "a.ftl") (codes "a = { -b }\n") ∷ [])
+    (27 ∷ codes "[1ma.ftl:1:7" ++ (27 ∷ codes "[0m: " ++ (27 ∷ codes "[1;31merror" ++ (27 ∷ codes "[0m: a: there is no term `-b` [unknown-term]\n1 | a = { -b }\n  |       "
+    ++ (27 ∷ codes "[1;31m^" ++ (27 ∷ codes "[0m\n"))))))
+unfolding computing_findings file Writes
+in_colours = refl
 
 in_json : Writes json (file (codes "a.ftl") (codes "key1=Value 1\ng@Rb@ge\nkey2 = x\n") ∷ [])
     (codes "{\"code\":\"syntax\",\"column\":2,\"entry\":\"g\",\"file\":\"a.ftl\",\"hint\":\"a line that continues the text above begins with at least one space\",\"line\":2,\"offset\":14,\"severity\":\"error\",\"text\":\"expected `=` after `g`, found `@`\"}\n")

@@ -1,5 +1,5 @@
 -- The findings of a catalog, and of a catalog with a reference.
-use Rattle.std.specs.Prelude.{ℕ, ◌==◌, if◌then◌else◌, List, [], ◌∷◌, ◌++◌, length, map, Option, Some, None}
+use Rattle.std.specs.Prelude.{ℕ, ◌==◌, Bool, if◌then◌else◌, List, [], ◌∷◌, ◌++◌, length, map, Option, Some, None}
 use Rattle.std.specs.List.{flat_map}
 use Rattle.fluent_grammar.specs.Words.{Text}
 use Rattle.fluent_grammar.specs.Tree as t
@@ -16,6 +16,7 @@ use Rattle.lint_findings.specs.EntryFindings.{entry_findings}
 use Rattle.lint_findings.specs.Files.{File}
 use Rattle.lint_findings.specs.DuplicateIds.{Declaration, id_of, declarations, duplicate_findings}
 use Rattle.lint_findings.specs.ComparisonFindings.{message_findings, missing_findings}
+use Rattle.lint_findings.specs.UnusedTerms.{is_referred_in, unused_findings}
 
 -- What is known of the program and of the language: the functions that the program adds, and the plural rules, if
 -- plurals are looked at.
@@ -42,23 +43,29 @@ tiles_in file = map (λ tile. record { file = file; tile = tile }) (tiles file.s
 abbrev pub sources : List File → List Text
 sources files = map (λ (file : File). file.source) files
 
--- How findings of a catalog are made: the ids of functions and those of the catalog, the plural rules, and what else
--- is found of an entry that counts, in a source from the entry on.
+-- How findings of a catalog are made: the ids of functions and those of the catalog, the plural rules, whether the
+-- catalog refers to the term of an id, and what else is found of an entry that counts, in a source from the entry on.
 pub record Rules : Type 0 where
   pub functions : Ids (Unit {0})
   pub ids : Ids (Unit {0})
   pub plurals : Option LanguagePlurals
+  pub is_referred : Text → Bool
   pub compare : Text → t.Entry → Text → List Finding
 
 module _ (rules : Rules) where
-  -- Of an entry with this id, after these declarations: first of the id, then of its patterns. Only an entry that
-  -- counts is compared with the reference.
+  -- of an entry that counts: whether it is a term that nothing refers to, and how it differs from the reference
+  abbrev pub findings_if_first : Text → t.Entry → ℕ → Text → List Finding
+  findings_if_first source e at s = unused_findings rules.is_referred e at ++ rules.compare source e s
+
+  -- Of an entry with this id, after these declarations: first of the id, then of its patterns. An entry whose id is taken
+  -- doesn't count.
   abbrev pub findings_of_entry : List Declaration → Text → t.Entry → ℕ → Text → Option Text → List Finding
   findings_of_entry before source e at s None = []
   findings_of_entry before source e at s (Some id) =
       let duplicates = duplicate_findings rules.functions before e at id in
       duplicates
-      ++ (entry_findings rules.ids rules.plurals source e s ++ (if length duplicates == 0 then rules.compare source e s else []))
+      ++ (entry_findings rules.ids rules.plurals source e s
+      ++ (if length duplicates == 0 then findings_if_first source e at s else []))
 
   abbrev pub findings_of_tile : List Declaration → File → Tile → List Finding
   findings_of_tile before file (junk_tile at s refusal) = syntax_finding at s refusal ∷ []
@@ -82,6 +89,7 @@ catalog_rules options files = record {
   functions = catalog_ids options.functions [];
   ids = catalog_ids options.functions (sources files);
   plurals = options.plurals;
+  is_referred = is_referred_in (sources files);
   compare = λ source e s. [];
 }
 
@@ -112,6 +120,7 @@ translation_rules options references files = record {
   functions = known_ids options references [];
   ids = known_ids options references files;
   plurals = options.plurals;
+  is_referred = is_referred_in (sources files);
   compare = message_findings (known_ids options references files) (known_ids options references references);
 }
 

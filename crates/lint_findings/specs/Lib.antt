@@ -18,10 +18,12 @@ pub mod FlawHints
 pub mod SyntaxFindings
 pub mod EntryFindings
 pub mod DuplicateIds
+pub mod UnusedTerms
 pub mod ComparisonFindings
 pub mod Findings
 pub mod ShownLine
 pub mod Report
+pub mod Colours
 pub mod JsonReport
 pub mod GithubReport
 pub mod Summary

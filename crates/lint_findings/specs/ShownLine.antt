@@ -59,15 +59,18 @@ module _ (width : ℕ → ℕ) where
   abbrev pub padding : List ℕ → Text
   padding cs = flat_map character_padding cs
 
-  -- The number of the line, the line, a caret below the finding, and the hint if there is one. Before a finding are as
-  -- many characters as its column says, less one.
-  abbrev pub shown_line : File → Finding → Text
-  shown_line file f =
+  -- The number of the line, the line, this caret below the finding, and the hint if there is one. Before a finding are
+  -- as many characters as its column says, less one.
+  abbrev pub shown_line_by : Text → File → Finding → Text
+  shown_line_by caret file f =
       let p = position_of file.source f.offset in
       let number = decimal p.line in
       let margin = replicate (length number) space in
       let line = chars (line_at file.source f.offset) in
       let at = p.column - 1 in
       number ++ (codes " | " ++ (encode_utf8_all (shown_characters line at) ++ (codes "\n"
-      ++ (margin ++ (codes " | " ++ (padding (characters_before line at) ++ (codes "^\n"
-      ++ option_map_or (λ hint. margin ++ (codes " = " ++ (masked_text hint ++ codes "\n"))) f.hint [])))))))
+      ++ (margin ++ (codes " | " ++ (padding (characters_before line at) ++ (caret ++ (codes "\n"
+      ++ option_map_or (λ hint. margin ++ (codes " = " ++ (masked_text hint ++ codes "\n"))) f.hint []))))))))
+
+  abbrev pub shown_line : File → Finding → Text
+  shown_line file f = shown_line_by (codes "^") file f

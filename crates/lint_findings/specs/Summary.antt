@@ -1,6 +1,6 @@
 -- The counts at the end of a report with a reference.
 use Rattle.std.specs.Prelude.{ℕ, ◌==◌, Bool, true, false, ◌&&◌, if◌then◌else◌, List, [], ◌++◌, map, Option, Some, None, codes, decimal}
-use Rattle.std.specs.List.{flat_map, count_by}
+use Rattle.std.specs.List.{flat_map, count_by, sum_by}
 use Rattle.std.specs.Option.{option_map_or}
 use Rattle.std.specs.Str.{bytes_eq}
 use Rattle.serde_json.specs.Data.{Data, null, string, number, unsigned, object, no_members, member}
@@ -29,6 +29,16 @@ is_message _ = false
 
 abbrev pub message_count : File → ℕ
 message_count file = count_by is_message (tiles file.source)
+
+-- a message or a term
+abbrev pub has_id : Tile → Bool
+has_id (entry_tile at s (t.message m)) = true
+has_id (entry_tile at s (t.term m)) = true
+has_id _ = false
+
+-- how many messages and terms these files have
+abbrev pub entry_count : List File → ℕ
+entry_count files = sum_by (λ (file : File). count_by has_id (tiles file.source)) files
 
 -- how many findings in files of this name have this code
 abbrev pub finding_count : Text → Text → List FileFinding → ℕ

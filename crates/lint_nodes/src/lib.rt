@@ -12,9 +12,9 @@ mod keys;
 mod names;
 mod nodes;
 mod occurrence;
-mod texts;
+pub mod texts;
 mod walk;
-mod words;
+pub mod words;
 
 pub use keys::Keys;
 pub use names::{declared_id, key_text, name_of};

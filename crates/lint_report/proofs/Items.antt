@@ -15,7 +15,7 @@ use Rattle.lint_finding.specs.declared.records.Finding.{Finding}
 use Rattle.lint_finding.specs.declared.records.File.{File}
 use Rattle.lint_report.specs.View.{in_file}
 use Rattle.lint_report.specs.declared.reports.Format.{Format}
-use Rattle.lint_report.specs.declared.reports.Format.TheVariants.{Text as AsText, Line, Json, Github}
+use Rattle.lint_report.specs.declared.reports.Format.TheVariants.{Text as AsText, Line, Terminal, Json, Github}
 use Rattle.lint_report.specs.Formats.{finding_output, format_view, shown_piece, summaries_output}
 use Rattle.lint_report.specs.View.{shown_width}
 
@@ -62,6 +62,7 @@ of_shown format notes (f ∷ fs) =
 of_format : (format : Format) (fs : List FileFinding) (ss : List Summary) →
     flat_map (finding_output format) fs ++ summaries_output format ss ≡ output (format_view format) shown_width fs ss
 of_format AsText fs ss = refl
+of_format Terminal fs ss = refl
 of_format Line fs ss = append-nil (report_lines fs)
 of_format Json fs ss = refl
 of_format Github fs ss = append-nil (report_github fs)

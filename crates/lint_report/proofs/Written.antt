@@ -10,7 +10,7 @@ use lib.Utf8.{encode}
 use Rattle.unicode_width.specs.Width.{char_width}
 use Rattle.fluent_grammar.specs.Words.{Text, space}
 use Rattle.lint_findings.specs.Position.{Position, line_at, to_line_end}
-use Rattle.lint_findings.specs.ShownLine.{character_padding, characters_before, dots_if, masked_character, masked_text, padding, shown_characters, shown_line}
+use Rattle.lint_findings.specs.ShownLine.{character_padding, characters_before, dots_if, masked_character, masked_text, padding, shown_characters, shown_line_by}
 use Rattle.lint_finding.specs.View.{file_view, finding_view}
 use Rattle.lint_finding.specs.declared.records.Finding.{Finding}
 use Rattle.lint_finding.specs.declared.records.File.{File}
@@ -66,25 +66,27 @@ padding_pieces cs = flat_map-map (character_padding shown_width) masked_characte
 pub one_space : (n : ℕ) → replicate n space ++ space ∷ [] ≡ replicate (n + 1) space
 one_space n = replicate-append-replicate n 1 space
 
-pub caret_line_is : (digits : ℕ) (e : Excerpt) (dots : Text) (len : ℕ) → dots ≡ dots_if e.is_cut → len ≡ length dots →
-    caret_line digits e ≡ (((replicate digits space ++ codes " | ") ++ replicate len space) ++ padding shown_width (masked_excerpt e)) ++ codes "^\n"
-caret_line_is digits e dots len is count =
-    ap (λ t. replicate digits space ++ (codes " | " ++ (t ++ codes "^\n"))) (padding_is e
+pub caret_line_is : (digits : ℕ) (e : Excerpt) (caret dots : Text) (len : ℕ) → dots ≡ dots_if e.is_cut → len ≡ length dots →
+    caret_line digits e caret
+    ≡ ((((replicate digits space ++ codes " | ") ++ replicate len space) ++ padding shown_width (masked_excerpt e)) ++ caret) ++ codes "\n"
+caret_line_is digits e caret dots len is count =
+    ap (λ t. replicate digits space ++ (codes " | " ++ (t ++ (caret ++ codes "\n")))) (padding_is e
     ∙ ap (λ n. replicate n space ++ padding shown_width (masked_excerpt e)) (sym (count ∙ ap length is)))
     ∙ simp append_assoc
 
 -- ---- the line of a finding
 
-shown_text : ℕ → List ℕ → List ℕ → Option Text → Text
-shown_text number shown before hint =
+shown_text : Text → ℕ → List ℕ → List ℕ → Option Text → Text
+shown_text caret number shown before hint =
     decimal number ++ (codes " | " ++ (encode_utf8_all shown ++ (codes "\n"
-    ++ (replicate (length (decimal number)) space ++ (codes " | " ++ (padding shown_width before ++ (codes "^\n"
-    ++ hint_line (length (decimal number)) hint)))))))
+    ++ (replicate (length (decimal number)) space ++ (codes " | " ++ (padding shown_width before ++ (caret ++ (codes "\n"
+    ++ hint_line (length (decimal number)) hint))))))))
 
-shown_text_is : (number : ℕ) (w : Window) (hint : Option Text) → shown_text number (before_finding w.before ++ from_finding w.after) (before_finding w.before) hint
-    ≡ ((decimal number ++ source_line w) ++ caret_line (length (decimal number)) w.before) ++ hint_line (length (decimal number)) hint
+shown_text_is : (caret : Text) (number : ℕ) (w : Window) (hint : Option Text) →
+    shown_text caret number (before_finding w.before ++ from_finding w.after) (before_finding w.before) hint
+    ≡ ((decimal number ++ source_line w) ++ caret_line (length (decimal number)) w.before caret) ++ hint_line (length (decimal number)) hint
 unfolding shown_text
-shown_text_is number w hint = simp append_assoc
+shown_text_is caret number w hint = simp append_assoc
 
 window_characters : (w : Window) → dots_if w.before.is_cut ++ (map masked_character (chars w.before.text.now ++ chars w.after.text.now) ++ dots_if w.after.is_cut)
     ≡ before_finding w.before ++ from_finding w.after
@@ -92,22 +94,22 @@ window_characters w =
     ap (λ t. dots_if w.before.is_cut ++ (t ++ dots_if w.after.is_cut)) (map-append masked_character (chars w.before.text.now) (chars w.after.text.now))
     ∙ simp append_assoc
 
-pub shown_line_is : (file : File) (f : Finding) (place : Place) (front rest : Text) (w : Window) (number digits : ℕ) →
+pub shown_line_is : (caret : Text) (file : File) (f : Finding) (place : Place) (front rest : Text) (w : Window) (number digits : ℕ) →
     IsAt file f place → IsOnLine file f place → to_line_end (drop place.line_start file.source.now) ≡ front ++ to_line_end rest →
     IsAfter front rest (place.column - 1) → IsWindow front rest w → number ≡ place.line → digits ≡ length (decimal number) →
-    shown_line shown_width (file_view file) (finding_view f)
-    ≡ ((decimal number ++ source_line w) ++ caret_line digits w.before) ++ hint_line digits (optional_text f.hint)
+    shown_line_by shown_width caret (file_view file) (finding_view f)
+    ≡ ((decimal number ++ source_line w) ++ caret_line digits w.before caret) ++ hint_line digits (optional_text f.hint)
 unfolding shown_text
-shown_line_is file f place front rest w number digits at on line after window same count =
+shown_line_is caret file f place front rest w number digits at on line after window same count =
     let hint = optional_text f.hint in
     let characters : chars (line_at file.source.now f.offset) ≡ chars (front ++ to_line_end rest) =
     ap (λ s. chars (to_line_end s)) on.line ∙ ap chars line in
     let both = window (place.column - 1) after in
-    ap (λ (p : Position). shown_text p.line (shown_characters (chars (line_at file.source.now f.offset)) (p.column - 1))
+    ap (λ (p : Position). shown_text caret p.line (shown_characters (chars (line_at file.source.now f.offset)) (p.column - 1))
     (characters_before (chars (line_at file.source.now f.offset)) (p.column - 1)) hint) at
-    ∙ ap (λ l. shown_text place.line (shown_characters l (place.column - 1)) (characters_before l (place.column - 1)) hint) characters
-    ∙ ap (λ s. shown_text place.line s (characters_before (chars (front ++ to_line_end rest)) (place.column - 1)) hint) (both.0 ∙ window_characters w)
-    ∙ ap (λ s. shown_text place.line (before_finding w.before ++ from_finding w.after) s hint) both.1
-    ∙ ap (λ n. shown_text n (before_finding w.before ++ from_finding w.after) (before_finding w.before) hint) (sym same)
-    ∙ shown_text_is number w hint
-    ∙ ap (λ n. ((decimal number ++ source_line w) ++ caret_line n w.before) ++ hint_line n hint) (sym count)
+    ∙ ap (λ l. shown_text caret place.line (shown_characters l (place.column - 1)) (characters_before l (place.column - 1)) hint) characters
+    ∙ ap (λ s. shown_text caret place.line s (characters_before (chars (front ++ to_line_end rest)) (place.column - 1)) hint) (both.0 ∙ window_characters w)
+    ∙ ap (λ s. shown_text caret place.line (before_finding w.before ++ from_finding w.after) s hint) both.1
+    ∙ ap (λ n. shown_text caret n (before_finding w.before ++ from_finding w.after) (before_finding w.before) hint) (sym same)
+    ∙ shown_text_is caret number w hint
+    ∙ ap (λ n. ((decimal number ++ source_line w) ++ caret_line n w.before caret) ++ hint_line n hint) (sym count)

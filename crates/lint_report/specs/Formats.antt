@@ -4,6 +4,7 @@ use Rattle.std.specs.List.{flat_map}
 use Rattle.fluent_grammar.specs.Words.{Text}
 use Rattle.lint_findings.specs.Findings.{FileFinding}
 use Rattle.lint_findings.specs.Output as out
+use Rattle.lint_findings.specs.Colours.{coloured_text}
 use Rattle.lint_findings.specs.Report.{finding_line, finding_text, is_shown, shown}
 use Rattle.lint_findings.specs.Summary.{Summary, summary_json, summary_text}
 use Rattle.lint_findings.specs.JsonReport.{json_line, finding_data}
@@ -18,12 +19,14 @@ use Rattle.lint_report.specs.declared.reports.Format.TheVariants as format
 
 abbrev pub format_view : Format → out.Format
 format_view format.Text = out.text
+format_view format.Terminal = out.terminal
 format_view format.Line = out.lines
 format_view format.Json = out.json
 format_view format.Github = out.github
 
 abbrev pub finding_output : Format → FileFinding → Text
 finding_output format.Text f = finding_text shown_width f
+finding_output format.Terminal f = coloured_text shown_width f
 finding_output format.Line f = finding_line f
 finding_output format.Json f = json_line (finding_data f)
 finding_output format.Github f = finding_command f
@@ -35,6 +38,7 @@ shown_piece format notes f = if is_shown notes f.finding.severity then finding_o
 -- what is written after all findings
 abbrev pub summaries_output : Format → List Summary → Text
 summaries_output format.Text ss = summary_text ss
+summaries_output format.Terminal ss = summary_text ss
 summaries_output format.Line ss = []
 summaries_output format.Json ss = summary_json ss
 summaries_output format.Github ss = []

@@ -1,6 +1,7 @@
 pub mod Changes
 pub mod View
 pub mod Excerpts
+pub mod ByColours
 pub mod Texts
 pub mod ReportView
 pub mod Parts

@@ -22,6 +22,8 @@ pub enum Format {
     /// For people: for each finding its line as in [`Format::Line`], the line of the source with a caret below the
     /// finding, and the hint, and then a line for each summary.
     Text,
+    /// As [`Format::Text`], in the colours of a terminal.
+    Terminal,
     /// A line for each finding: `FILE:LINE:COLUMN: SEVERITY: ENTRY: TEXT [CODE]`.
     Line,
     /// An object of JSON on a line of its own for each finding, with its texts as they are.
@@ -63,7 +65,7 @@ fn push_summaries(
     ensures { OnOk result (Appends text.old text.new (summaries_output format (map summary_view summaries.now))) }
 {
     match format {
-        Format::Text => push_summary_lines(text, summaries),
+        Format::Text | Format::Terminal => push_summary_lines(text, summaries),
         Format::Json => push_json_summaries(text, alloc, summaries),
         Format::Line | Format::Github => Ok(()),
     }
@@ -123,8 +125,9 @@ fn push_finding(
     ensures { OnOk result (Appends text.old text.new (finding_output format (in_file file.now finding.now))) }
 {
     match format {
-        Format::Text => push_finding_text(text, file, finding, place),
-        Format::Line => push_finding_line(text, file, finding, place),
+        Format::Text => push_finding_text(text, file, finding, place, false),
+        Format::Terminal => push_finding_text(text, file, finding, place, true),
+        Format::Line => push_finding_line(text, file, finding, place, false),
         Format::Json => push_json_line(text, alloc, file, finding, place),
         Format::Github => push_command(text, file, finding, place),
     }

@@ -3,21 +3,21 @@
 ghost use Rattle.std.specs.Prelude.{◌≡◌, IfOk, OnOk, decimal, length, replicate};
 ghost use Rattle.std.specs.Str.{encode_utf8_all};
 ghost use Rattle.fluent_grammar.specs.Words.{space};
-ghost use Rattle.lint_findings.specs.Report.{finding_text};
 ghost use Rattle.lint_findings.specs.ShownLine.{character_padding, dots_if};
+ghost use Rattle.lint_report.specs.ByColours.{text_by};
 ghost use Rattle.lint_report.specs.Changes.{Appends};
 ghost use Rattle.lint_report.specs.Texts.{before_finding, caret_line, finding_lines, from_finding, hint_line, masked_padding, source_line};
 ghost use Rattle.lint_report.specs.View.{IsAt, IsOnLine, in_file, optional_text, shown_width};
 
 use crate::excerpts::{Excerpt, Window};
-use crate::lines::push_finding_line;
+use crate::lines::{caret, push_finding_line};
 use crate::masked::{masked, push_masked};
 use lint_finding::{File, Finding, Place};
 use std::alloc::AllocError;
 use unicode_width::UnicodeWidthChar;
 
 /// Appends a finding that is at this place as text: its first line, the line that it is on with a caret below it, and
-/// its hint. It reads no more of that line than it shows.
+/// its hint, in colours if `coloured` is true. It reads no more of that line than it shows.
 ///
 /// # Errors
 /// [`AllocError`] if memory runs out; a part of it may have been appended.
@@ -26,13 +26,14 @@ pub fn push_finding_text(
     file: &File,
     finding: &Finding,
     place: Place,
+    coloured: bool,
 ) -> Result<(), AllocError>
     requires at { IsAt file.now finding.now place }
     requires line { IsOnLine file.now finding.now place }
-    ensures { OnOk result (Appends text.old text.new (finding_text shown_width (in_file file.now finding.now))) }
+    ensures { OnOk result (Appends text.old text.new (text_by coloured (in_file file.now finding.now))) }
 {
-    push_finding_line(text, file, finding, place)?;
-    push_shown_line(text, file, finding, place)
+    push_finding_line(text, file, finding, place, coloured)?;
+    push_shown_line(text, file, finding, place, coloured)
 }
 
 /// Appends the line that a finding is on, with a caret below the finding, and its hint.
@@ -41,16 +42,18 @@ fn push_shown_line(
     file: &File,
     finding: &Finding,
     place: Place,
+    coloured: bool,
 ) -> Result<(), AllocError>
     requires at { IsAt file.now finding.now place }
     requires line { IsOnLine file.now finding.now place }
-    ensures { OnOk result (Appends text.old text.new (finding_lines file.now finding.now)) }
+    ensures { OnOk result (Appends text.old text.new (finding_lines coloured file.now finding.now)) }
 {
     let (front, rest) = place.split(file.source);
     let shown = Window::around(front, rest);
     let digits = push_number(text, place.line())?;
     push_source_line(text, &shown)?;
-    push_caret_line(text, digits, &shown.before)?;
+    let caret = caret(coloured, finding.severity);
+    push_caret_line(text, digits, &shown.before, caret)?;
     push_hint_line(text, digits, &finding.hint)
 }
 
@@ -98,14 +101,20 @@ fn dots_if(is_cut: bool) -> &'static str
 }
 
 /// Appends the caret, below a finding that is after this.
-fn push_caret_line(text: &mut String, digits: usize, before: &Excerpt) -> Result<(), AllocError>
-    ensures { OnOk result (Appends text.old text.new (caret_line digits before.now)) }
+fn push_caret_line(
+    text: &mut String,
+    digits: usize,
+    before: &Excerpt,
+    caret: &str,
+) -> Result<(), AllocError>
+    ensures { OnOk result (Appends text.old text.new (caret_line digits before.now caret.now)) }
 {
     push_spaces(text, digits)?;
     text.push_str(" | ")?;
     push_spaces(text, dots_if(before.is_cut).len())?;
     push_padding(text, before.text)?;
-    text.push_str("^\n")
+    text.push_str(caret)?;
+    text.push_str("\n")
 }
 
 /// Appends the hint of a finding, if it has one.

@@ -10,8 +10,9 @@ from .._bundle import Bundle
 from .._errors import FluentError, MissingMessageError
 from .._fixes import extent, fixes
 from .._linting import Finding, TidyError, lint, tidy
-from .._places import Entry, Places
+from .._places import Places
 from .._samples import Case, Catalog, Sample, Variable, categories, has_rules, known
+from .._scan import Entry
 from .._values import Number
 
 Json = dict[str, Any]

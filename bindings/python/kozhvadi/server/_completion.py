@@ -6,8 +6,9 @@ import re
 from collections.abc import Iterable
 
 from .._fixes import NUMBER_OPTIONS, reference_variables
-from .._places import Inside, Symbol, inside
+from .._occurrences import Symbol
 from .._samples import Catalog, categories
+from .._scan import Inside, inside
 from ._checks import Json, position_of
 from ._session import Params
 from ._workspace import Document, Workspace

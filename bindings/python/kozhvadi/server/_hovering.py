@@ -4,9 +4,10 @@ from __future__ import annotations
 
 from .._bundle import Bundle
 from .._errors import FluentError
-from .._places import Entry, Symbol
+from .._occurrences import Symbol
 from .._positions import utf16_length
 from .._samples import Catalog, categories, known
+from .._scan import Entry
 from ._checks import Json, position_of
 from ._session import Params
 from ._workspace import Document, Workspace
@@ -43,7 +44,7 @@ class Hovering:
             return self._of_variable(document, symbol)
         if symbol.kind == "function":
             return []
-        key, attribute = (symbol.of, symbol.name) if symbol.kind == "attribute" else (str(symbol), None)
+        key, attribute = (symbol.owner, symbol.name) if symbol.owner else (str(symbol), None)
         catalog, locale = self._workspace.catalog(document), self._workspace.locale(document)
         told = self._of_entry(catalog, key, attribute, locale)
         reference = self._workspace.reference(document)
@@ -68,10 +69,11 @@ class Hovering:
     def _of_variable(self, document: Document, symbol: Symbol) -> list[str]:
         locale = self._workspace.locale(document) or "en"
         entries = self._workspace.samples(self._workspace.catalog(document))
-        entry = entries.entries.get(symbol.of)
+        key = symbol.owner or ""
+        entry = entries.entries.get(key)
         parts = [part.attribute for part in entry.parts] if entry else []
-        found = [each for name in parts for each in entries.variables(symbol.of, name) if each.name == symbol.name]
-        told = [f"{self._code(str(symbol))} of {self._code(symbol.of)}"]
+        found = [each for name in parts for each in entries.variables(key, name) if each.name == symbol.name]
+        told = [f"{self._code(str(symbol))} of {self._code(key)}"]
         plural = next((each for each in found if each.is_plural), None)
         if plural:
             kind = "an ordinal" if plural.is_ordinal else "a number"

@@ -5,7 +5,8 @@ from __future__ import annotations
 import re
 from collections.abc import Iterator
 
-from .._places import Entry, Occurrence, Symbol
+from .._occurrences import Occurrence, Symbol
+from .._scan import Entry
 from ._checks import Json, position_of
 from ._session import INVALID_PARAMS, REQUEST_FAILED, Params, Refused
 from ._workspace import Document, Workspace
@@ -120,7 +121,7 @@ class Naming:
 
     def _refuse_if_taken(self, symbol: Symbol, name: str) -> None:
         """Two entries of one id would clash, and so would a message and a term."""
-        taken = [Symbol(symbol.kind, name, symbol.of)]
+        taken = [Symbol(symbol.kind, name, symbol.owner)]
         if symbol.kind in ("message", "term"):
             taken = [Symbol("message", name), Symbol("term", name)]
         is_held = symbol.kind == "variable"

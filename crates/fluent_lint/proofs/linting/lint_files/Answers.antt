@@ -9,6 +9,7 @@ use Rattle.fluent_resource.specs.Sources.{texts}
 use Rattle.lint_findings.specs.Findings.{FileFinding}
 use Rattle.lint_findings.specs.Output as out
 use Rattle.lint_findings.specs.Report.{has_failed, shown}
+use Rattle.lint_findings.specs.Summary.{entry_count}
 use Rattle.lint_report.specs.View.{shown_width}
 use Rattle.fluent_lint.proofs.linting.lint_files.Goals as goal
 
@@ -21,7 +22,7 @@ returns c =
     let found_by : List (Bor Text) → List (Bor Text) → List FileFinding =
     λ functions ignored. reported (record { functions = texts functions; plurals = c.args.plurals }) (texts ignored) references files in
     let text_of : List FileFinding → Text =
-    λ found. out.output lint.format shown_width (shown lint.notes found) (shown_counts lint.format lint.counts (all_summaries references files found)) ++ totals lint.format lint.notes (length files) found in
+    λ found. out.output lint.format shown_width (shown lint.notes found) (shown_counts lint.format lint.counts (all_summaries references files found)) ++ totals lint.format lint.notes (length files) (entry_count files) found in
     let made_of : List FileFinding → LintReport = λ found. made (text_of found) (has_failed lint.strict found) in
     IfOk-weaker c.report_findings.result _ _
     (λ report is.

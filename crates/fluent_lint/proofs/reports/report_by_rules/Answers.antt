@@ -5,7 +5,7 @@ use Rattle.lint_files.specs.RulesView.{rules_view}
 use Rattle.lint_finding.specs.View.{file_view, findings_view}
 use Rattle.lint_finding.specs.declared.records.File.{File}
 use Rattle.lint_findings.specs.Findings.{FileFinding}
-use Rattle.lint_findings.specs.Summary.{Summary}
+use Rattle.lint_findings.specs.Summary.{Summary, entry_count}
 use Rattle.lint_report.specs.ReportView.{summary_view}
 use Rattle.fluent_lint.specs.FileTiles.{AreTilesOf, files_of, files_view}
 use Rattle.fluent_lint.specs.Found.{reported_by}
@@ -37,13 +37,19 @@ returns c =
     c.in_ok-found.ensures
     ∙ ap (λ (fs : List File). reported_by rules ignored (files_view fs) (files_view (files_of c.deref-2.result.now))) (ap files_of c.deref.ensures.value ∙ c.in_ok-references.ensures.files)
     ∙ ap (λ (fs : List File). reported_by rules ignored (files_view references) (files_view fs)) (ap files_of c.deref-2.ensures.value ∙ c.in_ok-files.ensures.files) in
-    let counts : map summary_view c.deref-7.result.now ≡ counts_by output (all_summaries (files_view references) (files_view files) found) =
-    ap (map summary_view) c.deref-7.ensures.value
+    let counts : map summary_view c.deref-8.result.now ≡ counts_by output (all_summaries (files_view references) (files_view files) found) =
+    ap (map summary_view) c.deref-8.ensures.value
     ∙ c.in_ok-counts.ensures
     ∙ ap (λ (fs : List FileFinding). counts_by output (all_summaries (files_view (files_of c.deref-3.result.now)) (files_view (files_of c.deref-4.result.now)) fs)) (ap findings_view c.deref-5.ensures.value ∙ found_there)
     ∙ ap (λ (fs : List File). counts_by output (all_summaries (files_view fs) (files_view (files_of c.deref-4.result.now)) found)) (ap files_of c.deref-3.ensures.value ∙ c.in_ok-references.ensures.files)
     ∙ ap (λ (fs : List File). counts_by output (all_summaries (files_view references) (files_view fs) found)) (ap files_of c.deref-4.ensures.value ∙ c.in_ok-files.ensures.files) in
     let number : length files ≡ length (files_view files) = sym (length-map files file_view) in
-    subst (λ (n : ℕ). IfOk c.report_of.result (IsReportOf found (counts_by output (all_summaries (files_view references) (files_view files) found)) n output)) number
-    (subst (λ (ss : List Summary). IfOk c.report_of.result (IsReportOf found ss (length files) output)) counts
-    (subst (λ (fs : List FileFinding). IfOk c.report_of.result (IsReportOf fs (map summary_view c.deref-7.result.now) (length files) output)) (ap findings_view c.deref-6.ensures.value ∙ found_there) c.report_of.ensures))
+    let entries : c.in_ok-entries.entries ≡ entry_count (files_view files) =
+    c.in_ok-entries.ensures ∙ ap (λ (fs : List File). entry_count (files_view fs)) (ap files_of c.deref-6.ensures.value ∙ c.in_ok-files.ensures.files) in
+    subst (λ (n : ℕ). IfOk c.report_of.result (IsReportOf found (counts_by output (all_summaries (files_view references) (files_view files) found)) (length (files_view files)) n output)) entries
+    (subst (λ (n : ℕ). IfOk c.report_of.result (IsReportOf found (counts_by output (all_summaries (files_view references) (files_view files) found)) n c.in_ok-entries.entries output)) number
+    (subst (λ (ss : List Summary). IfOk c.report_of.result (IsReportOf found ss (length files) c.in_ok-entries.entries output)) counts
+    (subst (λ (fs : List FileFinding). IfOk c.report_of.result (IsReportOf fs (map summary_view c.deref-8.result.now) (length files) c.in_ok-entries.entries output)) (ap findings_view c.deref-7.ensures.value ∙ found_there) c.report_of.ensures)))
+
+pub entry_count-requires : goal.entry_count-requires
+entry_count-requires c = subst (All AreTilesOf) (sym c.deref-6.ensures.value) c.in_ok-files.ensures.tiles

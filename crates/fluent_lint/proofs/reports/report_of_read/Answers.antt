@@ -4,6 +4,7 @@ use Rattle.fluent_ids.specs.IdsView.{ids_view}
 use Rattle.lint_endless.specs.Catalog.{AreDeclaredIn}
 use Rattle.lint_endless.specs.EndlessView.{ids_of}
 use Rattle.lint_entries.proofs.CommonIn.{in_language as common_in_language}
+use Rattle.lint_entries.specs.Terms.{is_referred}
 use Rattle.lint_files.specs.RulesView.{compare_with}
 use Rattle.lint_findings.specs.Findings.{FileFinding}
 use Rattle.fluent_lint.specs.FileTiles.{files_view}
@@ -32,7 +33,7 @@ returns c =
     let reference = ids_view (Unit {0}) known.reference in
     let same = c.in_ok-endless.ensures in
     subst (λ (found : List FileFinding). IfOk c.report_by_rules.result (IsReportWith found references files c.args.output))
-    (all_found (options_view c.args.options.now) (ignored_by c.args.output) (files_view files) references (ids_view (Unit {0}) known.functions) (ids_of c.in_ok-endless.endless) reference
-    (compare_with c.comparison.result) c.in_ok-known.ensures.functions (same ∙ c.in_ok-known.ensures.ids) c.in_ok-known.ensures.reference
+    (all_found (options_view c.args.options.now) (ignored_by c.args.output) (files_view files) references (is_referred c.in_ok-terms.terms) (ids_view (Unit {0}) known.functions) (ids_of c.in_ok-endless.endless) reference
+    (compare_with c.comparison.result) c.in_ok-terms.ensures c.in_ok-known.ensures.functions (same ∙ c.in_ok-known.ensures.ids) c.in_ok-known.ensures.reference
     (c.comparison.ensures ∙ ap (λ ids. compare_by ids reference references) (sym same)))
     c.report_by_rules.ensures

@@ -8,10 +8,10 @@ use Rattle.ftl_files.proofs.reading.read_one.Goals as goal
 pub returns-in-Ok : goal.returns-in-Ok
 returns-in-Ok g c =
     let read = rw c.in-Ok.is at c.in_ok-source.ensures.read in
-    on_ok_weaker c.add_source.result
-    (λ is. source_read c.args.name.now (read_view c.args.read.now) (read_view c.add_source.new.self) (string_bytes c.in-Ok.source) (state_of g.F.Folder c.args.folder.now)
+    on_ok_weaker c.add_read.result
+    (λ is. source_read c.args.name.now (read_view c.args.read.now) (read_view c.add_read.new.read) (string_bytes c.in-Ok.source) (state_of g.F.Folder c.args.folder.now)
     (state_of g.F.Folder c.read_source.new.folder) read.0 read.1 is)
-    c.add_source.ensures
+    c.add_read.ensures
 
 pub returns-in-Err : goal.returns-in-Err
 returns-in-Err g c =

@@ -14,6 +14,6 @@ returns-clause-findings c = λ before first.
     let has_id : id_of e ≡ Some c.in-Some.id.now = sym c.declared_id.ensures ∙ ap (option_map (λ s. s.now)) c.in-Some.is in
     let at = c.offset.ensures ∙ c.requires.placed.offset in
     entry_added rules (file_view placed.file) before placed.text.now e c.in-Some.id.now c.in_ok-duplicate.duplicate c.is_none-is_new.result
-    (map finding_view c.args.findings.now.items) (map finding_view c.push_found.new.findings.items) (map finding_view c.push_own.new.findings.items) (map finding_view c.push_comparison.new.findings.items)
+    (map finding_view c.args.findings.now.items) (map finding_view c.push_found.new.findings.items) (map finding_view c.push_own.new.findings.items) (map finding_view c.push_if_first.new.findings.items)
     has_id (c.in_ok-duplicate.ensures before first ∙ ap (λ n. duplicate_findings rules.functions before e n c.in-Some.id.now) at) c.is_none-is_new.ensures
-    c.in_ok-push_found.ensures c.in_ok-push_own.ensures c.in_ok-push_comparison.ensures
+    c.in_ok-push_found.ensures c.in_ok-push_own.ensures c.in_ok-push_if_first.ensures

@@ -19,6 +19,9 @@ returns c =
     c.in_ok-push_spaces-2.ensures a in
     let d = then_more (string_bytes c.push_padding.new.text) (string_bytes c.push_spaces-2.new.text) old ((margin ++ codes " | ") ++ dots) front
     c.in_ok-push_padding.ensures b in
-    pushed_second c.push_str-2.result (string_bytes c.push_str-2.new.self) (string_bytes c.push_padding.new.text) old
-    (((margin ++ codes " | ") ++ dots) ++ front) (codes "^\n") (caret_line c.args.digits c.args.before.now) c.push_str-2.ensures.bytes d
-    (caret_line_is c.args.digits c.args.before.now c.dots_if.result.now (length c.dots_if.result.now) c.dots_if.ensures refl)
+    let caret = c.args.caret.now in
+    let e = then_more (string_bytes c.push_str-2.new.self) (string_bytes c.push_padding.new.text) old (((margin ++ codes " | ") ++ dots) ++ front) caret
+    c.in_ok-push_str-2.ensures.bytes d in
+    pushed_second c.push_str-3.result (string_bytes c.push_str-3.new.self) (string_bytes c.push_str-2.new.self) old
+    ((((margin ++ codes " | ") ++ dots) ++ front) ++ caret) (codes "\n") (caret_line c.args.digits c.args.before.now caret) c.push_str-3.ensures.bytes e
+    (caret_line_is c.args.digits c.args.before.now caret c.dots_if.result.now (length c.dots_if.result.now) c.dots_if.ensures refl)

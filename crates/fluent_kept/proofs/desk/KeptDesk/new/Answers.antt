@@ -1,7 +1,9 @@
 use Rattle.std.proofs.Common.{ap, ◌∙◌}
 use Rattle.std.specs.Prelude.{option_map, vec_items}
 use Rattle.fluent_numerals.specs.Views.{locale_view}
+use Rattle.fluent_run.proofs.ResourceIds.{all_by_id-read}
 use Rattle.fluent_run.specs.DeskView.{ids_added}
+use Rattle.fluent_run.specs.ResourceIds.{all_by_id}
 use Rattle.fluent_kept.proofs.Environments.{environment-same}
 use Rattle.fluent_kept.proofs.desk.KeptDesk.new.Goals as goal
 
@@ -13,10 +15,12 @@ returns c =
     record {
       of_catalog = λ catalog is. record {
         sources = is.sources;
-        environment = environment-same (record { sources = read.sources; desk = c.in_ok-desk.desk }) catalog (vec_items read.list) is.entries
+        environment = environment-same (record { sources = read.sources; desk = c.in_ok-desk.desk; functions = c.in_ok-functions.functions }) catalog (vec_items read.list) is.entries
             (made.ids ∙ ap (ids_added c.settings.result.overriding) c.deref.ensures.value ∙ ap (λ s. ids_added s.overriding (vec_items read.list)) settings ∙ ap (λ k. ids_added k.settings.overriding (vec_items read.list)) is.sources)
             (made.plurals ∙ ap (λ k. k.plurals) is.sources)
             (made.isolating ∙ ap (λ s. s.isolating) settings ∙ ap (λ k. k.settings.isolating) is.sources)
             (ap (option_map locale_view) made.numerals ∙ ap (λ s. s.numerals) settings ∙ ap (λ k. k.settings.numerals) is.sources);
+        entries = ap (λ rs. all_by_id rs) (made.resources ∙ c.deref.ensures.value) ∙ all_by_id-read (vec_items read.list) catalog.sources is.entries;
+        calling = c.in_ok-functions.ensures catalog is;
       };
     }

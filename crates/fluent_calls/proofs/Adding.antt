@@ -1,0 +1,46 @@
+-- The ids of resources that are added one after the other, and of functions after them.
+use Rattle.std.proofs.Common.{◌≡◌, ℕ, zero, suc, ◌+◌, ◌<◌, false, Bool, List, [], ◌∷◌, ◌++◌, String, Global, length, get_or, take, map, string_bytes, refl, sym, ap, ◌∙◌, arith, append-nil}
+use Rattle.std.proofs.lemmas.List.{take_more, map-append}
+use Rattle.std.proofs.lemmas.Grind.{flat_map-append}
+use Rattle.std.specs.List.{flat_map}
+use Rattle.fluent_grammar.specs.Words.{Text}
+use Rattle.fluent_meaning.specs.Ids.{Ids, function, with_id, with_ids}
+use Rattle.fluent_meaning.proofs.InTurn.{with_ids-++}
+use Rattle.fluent_resource.specs.declared.resource.FluentResource.{FluentResource}
+use Rattle.fluent_calls.specs.DeskView.{by_id}
+use Rattle.fluent_calls.specs.Functions.{placed, with_functions}
+
+-- one resource more
+pub ids-next : (overriding : Bool) (start : Ids ℕ) (rs : List FluentResource) (k : ℕ) (r : FluentResource) → k < length rs → r ≡ get_or rs k r →
+    with_ids overriding start (flat_map by_id (take (k + 1) rs)) ≡ with_ids overriding (with_ids overriding start (flat_map by_id (take k rs))) (by_id r)
+ids-next overriding start rs k r inside is =
+    ap (with_ids overriding start)
+    (ap (flat_map by_id) (take_more rs k r inside)
+    ∙ flat_map-append by_id (take k rs) (get_or rs k r ∷ [])
+    ∙ ap (λ x. flat_map by_id (take k rs) ++ x) (append-nil (by_id (get_or rs k r)) ∙ ap by_id (sym is)))
+    ∙ with_ids-++ overriding start (flat_map by_id (take k rs)) (by_id r)
+
+-- one name more
+placed-more : (place : ℕ) (names : List Text) (name : Text) → placed place (names ++ name ∷ []) ≡ placed place names ++ (name, function (place + length names)) ∷ []
+placed-more place [] name = ap (λ p. (name, function p) ∷ []) (omega arith)
+placed-more place (n ∷ names) name =
+    ap (λ ps. (n, function place) ∷ ps) (placed-more (suc place) names name ∙ ap (λ p. placed (suc place) names ++ (name, function p) ∷ []) (omega arith))
+
+length-take : (names : List (String Global)) (k : ℕ) → k < length names → length (map string_bytes (take k names)) ≡ k
+length-take [] k inside = absurd omega arith
+length-take (n ∷ names) zero inside = refl
+length-take (n ∷ names) (suc k) inside = ap suc (length-take names k (omega arith))
+
+map-more : (names : List (String Global)) (k : ℕ) (name : String Global) → k < length names → map string_bytes (take (k + 1) names) ≡ map string_bytes (take k names) ++ string_bytes (get_or names k name) ∷ []
+map-more names k name inside = ap (map string_bytes) (take_more names k name inside) ∙ map-append string_bytes (take k names) (get_or names k name ∷ [])
+
+-- one function more
+pub functions-next : (ids : Ids ℕ) (names : List (String Global)) (k : ℕ) (name : String Global) → k < length names → name ≡ get_or names k name →
+    with_functions (map string_bytes (take (k + 1) names)) ids ≡ with_id false (with_functions (map string_bytes (take k names)) ids) (string_bytes name, function k)
+functions-next ids names k name inside is =
+    let before = map string_bytes (take k names) in
+    let counted : length before ≡ k = length-take names k inside in
+    let at : 0 + length before ≡ k = omega arith in
+    ap (λ ns. with_ids false ids (placed 0 ns)) (map-more names k name inside ∙ ap (λ n. before ++ string_bytes n ∷ []) (sym is))
+    ∙ ap (with_ids false ids) (placed-more 0 before (string_bytes name) ∙ ap (λ p. placed 0 before ++ (string_bytes name, function p) ∷ []) at)
+    ∙ with_ids-++ false ids (placed 0 before) ((string_bytes name, function k) ∷ [])

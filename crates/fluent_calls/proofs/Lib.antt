@@ -1,0 +1,4 @@
+mod Texts
+mod Rows
+mod Adding
+mod Resolved

@@ -1,0 +1,18 @@
+//! Messages that call functions of a program, without a call back into the program.
+//!
+//! A [`FunctionDesk`] formats a message with answers to calls, by the calls' texts. If it meets a call that has no answer
+//! yet, that call is its outcome: the program answers it and asks again, until the outcome is a text. So a function is
+//! called once for each different call of an answer, in the order in which the answer meets them, and only if the answer
+//! meets it.
+#![tactic(auto)]
+
+mod call;
+mod calls;
+mod catalog;
+mod desk;
+mod otherwise;
+mod outcome;
+
+pub use desk::{DeskSettings, FunctionDesk};
+pub use otherwise::{Otherwise, Unanswered};
+pub use outcome::{Outcome, Written};
