@@ -1,5 +1,6 @@
 """The playground over HTTP: what it answers, whom it refuses, and whether its page can be read and used by anyone."""
 
+import functools
 import http.client
 import json
 import os
@@ -247,7 +248,10 @@ class LookedAtTest(unittest.TestCase):
         line = next(each for each in guide.split("\n") if each.startswith("    python3 -m kozhvadi.playground"))
         words = [sys.executable, *line.split()[1:], "--port", "0"]
         environment = {**os.environ, "PYTHONPATH": str(FOLDER)}
-        served = subprocess.Popen(words, cwd=ROOT, env=environment, stdout=subprocess.PIPE, stderr=subprocess.PIPE, text=True)
+        # A shell has what it runs in the background ignore the signal of Ctrl-C.
+        heard = functools.partial(signal.signal, signal.SIGINT, signal.SIG_DFL)
+        pipes = {"stdout": subprocess.PIPE, "stderr": subprocess.PIPE}
+        served = subprocess.Popen(words, cwd=ROOT, env=environment, text=True, preexec_fn=heard, **pipes)
         address = served.stdout.readline().split()[0]
         with urllib.request.urlopen(f"{address}start", timeout=30) as answer:
             start = json.loads(answer.read())
