@@ -79,6 +79,11 @@ abbrev pub CallsNoPattern : FluentBundle → Text → Text → List FluentArgume
 CallsNoPattern bundle id attribute answers = IsSome (message_by (calling_in bundle answers) (catalog_environment bundle.catalog) id)
     × IsNone (pattern_by (calling_in bundle answers) (catalog_environment bundle.catalog) id (attribute_in attribute))
 
+-- there are functions, and the value or the attribute that is asked for
+abbrev pub MayCall : FluentBundle → Text → Text → List FluentArgument → Type 0
+MayCall bundle id attribute answers = IsSome (calling_in bundle answers)
+    × IsSome (pattern_by (calling_in bundle answers) (catalog_environment bundle.catalog) id (attribute_in attribute))
+
 -- a text is that of a call that has no answer
 pub record HoldsMissing (answers : List FluentArgument) (made : FluentText) : Type 0 where
   pub call : Text
@@ -100,6 +105,7 @@ pub record Calls (bundle : FluentBundle) (id attribute : Text) (arguments answer
   pub no_pattern : status ≡ FLUENT_NO_PATTERN → CallsNoPattern bundle id attribute answers
   pub bad_argument : status ≡ FLUENT_BAD_ARGUMENT → HoldsBad arguments ⊎ HoldsBad answers
   pub no_bundle : status ≡ FLUENT_NO_BUNDLE → KeepsNone bundle
+  pub call : status ≡ FLUENT_CALL → MayCall bundle id attribute answers
   pub names : status ≢ FLUENT_NOT_UTF8 → AreNames id attribute
   pub taken : IsOneOf status (FLUENT_READ ∷ FLUENT_NO_MESSAGE ∷ FLUENT_NO_PATTERN ∷ FLUENT_NO_BUNDLE ∷ FLUENT_CALL ∷ []) → AreTaken arguments × AreTaken answers
   pub held : IsOneOf status (FLUENT_READ ∷ FLUENT_NO_MESSAGE ∷ FLUENT_NO_PATTERN ∷ FLUENT_CALL ∷ []) → bundle.held ≡ true
