@@ -50,11 +50,11 @@ CALLED = '''
     fluent_serve fluent_run fluent_desk fluent_kept fluent_c
 '''.split()
 INNER = {
-    'fluent_parsed': ['Collected', 'Dedented', 'Gathered'],
+    'fluent_parsed': ['Collected', 'DedentedElements', 'IndentedElements'],
     'fluent_json_write': ['Object'],
     'fluent_run': ['Desk'],
     'fluent_text': ['Texts', 'Slices', 'StackBudget'],
-    'fluent_kept': ['Bundle', 'Loose', 'Question', 'Answer', 'Sources'],
+    'fluent_kept': ['Bundle', 'RawBox', 'Question', 'Answer', 'Sources'],
 }
 # What the pages on proofs count: what is counted, in which sources, and how a page says the number.
 COUNTED = [

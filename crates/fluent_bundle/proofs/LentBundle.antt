@@ -10,7 +10,7 @@ use Rattle.fluent_meaning.specs.Ids.{find}
 use Rattle.fluent_meaning.specs.Steps.{Done}
 use Rattle.fluent_meaning.proofs.Refusals.{begins-all}
 use Rattle.fluent_progress.specs.LentView.{lent_view}
-use Rattle.fluent_progress.specs.declared.lent.Lent.{Lent}
+use Rattle.fluent_progress.specs.declared.lent.BorrowedSettings.{BorrowedSettings}
 use Rattle.fluent_value.specs.Value.{Value, text}
 use Rattle.fluent_value.specs.declared.args.FluentArgs.{FluentArgs}
 use Rattle.fluent_value.specs.declared.custom.FluentType.{Ghosts as Custom}
@@ -33,7 +33,7 @@ formatted-is f m n None p e h v = λ i. formatted_by f (e i) (h i) v
 formatted-is f m n (Some x) p e h v = λ i. formatted_by f (e i) (h i) v
 
 module _ {M C F G T S : Type 0} {m : PluralSource M} {c : Custom C S} {f : Function F C S} {g : Formatter G C M S}
-    (t : T → Text → Text) (bundle : FluentBundle M C F G T S m c f g) (lent : Lent M G T) (h : IsLent (bundle_of bundle) lent) where
+    (t : T → Text → Text) (bundle : FluentBundle M C F G T S m c f g) (lent : BorrowedSettings M G T) (h : IsLent (bundle_of bundle) lent) where
   -- what patterns are resolved in, with the bundle's messages and terms
   abbrev pub env_lent : Environment S F
   env_lent = let env = lent_view {F = F} c.text f.gives g.formats m.category_of m.stringified t lent in record {

@@ -17,7 +17,7 @@ use Rattle.fluent_meaning.specs.Substitution as s
 use Rattle.fluent_meaning.specs.Told.{Finds, State, Writes, after, capped, in_byte}
 use Rattle.fluent_progress.specs.Views as v
 use Rattle.fluent_progress.specs.Views.{args_or_none, given_args, state}
-use Rattle.fluent_progress.specs.declared.lent.Lent.{Lent}
+use Rattle.fluent_progress.specs.declared.lent.BorrowedSettings.{BorrowedSettings}
 use Rattle.fluent_progress.specs.declared.progress.Progress.{Progress}
 use Rattle.fluent_bundle.proofs.LentBundle.{env_lent, lent-is}
 use Rattle.fluent_bundle.specs.BundleView.{IsLent, bundle_of, environment_of}
@@ -81,7 +81,7 @@ module _ {M C F G T S : Type 0} {m : PluralSource M} {c : Custom C S} {f : Funct
 
 module _ {M C F G T S : Type 0} {m : PluralSource M} {c : Custom C S} {f : Function F C S} {g : Formatter G C M S}
     (t : T → Text → Text) (old mid end : Scope M C F G T S m c f g) (kept : Keeps old mid)
-    (lent : Lent M G T) (is_lent : IsLent (bundle_of mid.bundle.now) lent)
+    (lent : BorrowedSettings M G T) (is_lent : IsLent (bundle_of mid.bundle.now) lent)
     (p q : Progress) (walked : v.path_of p ≡ path_of old) (taken : state p ≡ state_of old)
     (put : is_some mid.errors ≡ is_some q.errors → state_of end ≡ state q) where
   abbrev env_here : Environment S F
@@ -90,7 +90,7 @@ module _ {M C F G T S : Type 0} {m : PluralSource M} {c : Custom C S} {f : Funct
   abbrev env_scope : Environment S F
   env_scope = environment_of t old.bundle.now
 
-  abbrev here : s.Place S
+  abbrev here : s.Surroundings S
   here = record { arguments = args_or_none c.meaning (given_args c.meaning mid.arguments); locals = None; path = v.path_of p }
 
   envs : env_here ≡ env_scope
@@ -99,16 +99,16 @@ module _ {M C F G T S : Type 0} {m : PluralSource M} {c : Custom C S} {f : Funct
   places : here ≡ place_of old
   places = λ i. record { arguments = args_or_none c.meaning (given_args c.meaning (kept.arguments i)); locals = None; path = walked i }
 
-  step-is : {A : Type 0} (step : Environment S F → s.Place S → Budget → Done A) → step env_here here ≡ step env_scope (place_of old)
+  step-is : {A : Type 0} (step : Environment S F → s.Surroundings S → Budget → Done A) → step env_here here ≡ step env_scope (place_of old)
   step-is step = λ i. step (envs i) (places i)
 
-  pub put-writes : (step : Environment S F → s.Place S → Budget → Done Text) {x y : Text} → Writes x y (state p) (state q) (step env_here here) → Writes x y (state_of old) (state_of end) (step env_scope (place_of old))
+  pub put-writes : (step : Environment S F → s.Surroundings S → Budget → Done Text) {x y : Text} → Writes x y (state p) (state q) (step env_here here) → Writes x y (state_of old) (state_of end) (step env_scope (place_of old))
   put-writes step w = writes-same taken (put (still-listed old mid p q kept taken (wrote-listed (step env_here here) w))) (step-is step) w
 
-  pub put-finds : {A : Type 0} (step : Environment S F → s.Place S → Budget → Done A) {a : A} → Finds a (state p) (state q) (step env_here here) → Finds a (state_of old) (state_of end) (step env_scope (place_of old))
+  pub put-finds : {A : Type 0} (step : Environment S F → s.Surroundings S → Budget → Done A) {a : A} → Finds a (state p) (state q) (step env_here here) → Finds a (state_of old) (state_of end) (step env_scope (place_of old))
   put-finds step w = finds-same taken (put (still-listed old mid p q kept taken (found-listed (step env_here here) w))) (step-is step) w
 
-  pub put-tells : {A : Type 0} (step : Environment S F → s.Place S → Budget → Done A) → TellsSome (state p) (state q) (step env_here here (state p).budget) → TellsSome (state_of old) (state_of end) (step env_scope (place_of old) (state_of old).budget)
+  pub put-tells : {A : Type 0} (step : Environment S F → s.Surroundings S → Budget → Done A) → TellsSome (state p) (state q) (step env_here here (state p).budget) → TellsSome (state_of old) (state_of end) (step env_scope (place_of old) (state_of old).budget)
   put-tells step w = tells-same {f = step env_here here} {g = step env_scope (place_of old)} taken (put (still-listed old mid p q kept taken (told-listed (step env_here here (state p).budget) w))) (step-is step) w
 
 -- what an expression refers to is told where it refers to anything

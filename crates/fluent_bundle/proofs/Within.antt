@@ -68,7 +68,7 @@ module _ {M C F G T S : Type 0} {m : PluralSource M} {c : Custom C S} {f : Funct
     abbrev env : Environment S F
     env = environment_in t old
 
-    abbrev here : s.Place S
+    abbrev here : s.Surroundings S
     here = place_of old
 
     abbrev budget : Budget

@@ -17,7 +17,7 @@ use Rattle.fluent_meaning.specs.Steps.{Done}
 use Rattle.fluent_ids.specs.IdsView.{ids_view}
 use Rattle.fluent_ids.specs.Settings.{formatted_by, transformed_by}
 use Rattle.fluent_resolver.specs.Asked.{asked, handed}
-use Rattle.fluent_progress.specs.declared.lent.Lent.{Lent}
+use Rattle.fluent_progress.specs.declared.lent.BorrowedSettings.{BorrowedSettings}
 use Rattle.fluent_bundle.specs.Contents.{Contents}
 use Rattle.fluent_bundle.specs.declared.bundle.FluentBundle.{FluentBundle}
 
@@ -68,7 +68,7 @@ module _ {M C F T S : Type 0} {m : PluralSource M} {c : Custom C S} {f : Functio
   }
 
 -- what a bundle holds is lent
-pub record IsLent {M F G T : Type 0} (held : Contents M F G T) (lent : Lent M G T) : Type 0 where
+pub record IsLent {M F G T : Type 0} (held : Contents M F G T) (lent : BorrowedSettings M G T) : Type 0 where
   pub plurals : lent.plurals.now ≡ held.plurals
   pub isolating : lent.isolating ≡ held.isolating
   pub transform : option_copied lent.transform ≡ held.transform

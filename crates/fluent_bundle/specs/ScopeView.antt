@@ -35,7 +35,7 @@ module _ {M C F G T S : Type 0} {m : PluralSource M} {c : Custom C S} {f : Funct
   }
 
   -- where resolving is: outside of terms
-  abbrev pub place_of : Scope M C F G T S m c f g → s.Place S
+  abbrev pub place_of : Scope M C F G T S m c f g → s.Surroundings S
   place_of scope = record {
     arguments = args_or_none c.meaning (given_args c.meaning scope.arguments);
     locals = None;

@@ -5,22 +5,22 @@ ghost use Rattle.fluent_c.specs.Made.{Holds, HoldsBuffers, HoldsBytes, HoldsSame
 
 use crate::buffers::Buffers;
 use crate::text::FluentText;
-use fluent_kept::Loose;
+use fluent_kept::RawBox;
 use std::alloc::{AllocError, Global};
 
 /// The text of this many bytes, after which the last is the byte 0, in a box that held others, whose memory is spare then.
-fn refilled(owner: Loose<Buffers, Global>, bytes: Vec<u8>, len: usize) -> FluentText
+fn refilled(owner: RawBox<Buffers, Global>, bytes: Vec<u8>, len: usize) -> FluentText
     requires { vec_len bytes ≡ suc len }
     ensures { HoldsBytes result (vec_items bytes) }
 {
     let first = bytes.as_ptr();
     let mut owner = owner.into_box();
     owner.spare = std::mem::replace(&mut owner.bytes, bytes);
-    FluentText::holding(first, len, Loose::of(owner))
+    FluentText::holding(first, len, RawBox::of(owner))
 }
 
 /// The text of a box again, and its spare memory.
-fn without_spare(owner: Loose<Buffers, Global>, alloc: Global) -> (FluentText, Vec<u8>)
+fn without_spare(owner: RawBox<Buffers, Global>, alloc: Global) -> (FluentText, Vec<u8>)
     requires { 0 < vec_len owner.value.bytes }
     ensures { HoldsBuffers result.0 owner.value }
 {
@@ -28,7 +28,7 @@ fn without_spare(owner: Loose<Buffers, Global>, alloc: Global) -> (FluentText, V
     let spare = std::mem::replace(&mut owner.spare, Vec::new(alloc));
     let first = owner.bytes.as_ptr();
     let len = owner.bytes.len() - 1;
-    (FluentText::holding(first, len, Loose::of(owner)), spare)
+    (FluentText::holding(first, len, RawBox::of(owner)), spare)
 }
 
 /// An empty text, in memory that held something.

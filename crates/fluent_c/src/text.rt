@@ -6,7 +6,7 @@ ghost use Rattle.std.specs.Option.{MatchOption};
 ghost use Rattle.fluent_c.specs.Texts.{HeldBy, text_owns, with_nul};
 
 use crate::buffers::Buffers;
-use fluent_kept::Loose;
+use fluent_kept::RawBox;
 use std::alloc::{AllocError, Global};
 use std::marker::Model;
 
@@ -50,11 +50,15 @@ impl FluentText {
     }
 
     /// The text of buffers in a box, whose first byte this is. After this many the last is the byte 0.
-    pub(crate) fn holding(bytes: *const u8, len: usize, owner: Loose<Buffers, Global>) -> FluentText
+    pub(crate) fn holding(
+        bytes: *const u8,
+        len: usize,
+        owner: RawBox<Buffers, Global>,
+    ) -> FluentText
         requires { (vec_ptr owner.value.bytes ≡ bytes) × (vec_len owner.value.bytes ≡ suc len) }
         ensures { HeldBy result.held result.bytes result.len result.text owner.value }
     {
-        let Loose { at, alloc: _ } = owner;
+        let RawBox { at, alloc: _ } = owner;
         FluentText {
             held: true,
             bytes,
@@ -64,7 +68,7 @@ impl FluentText {
     }
 
     /// The buffers' box, if there is a text.
-    pub(crate) fn take(self, alloc: Global) -> Option<Loose<Buffers, Global>>
+    pub(crate) fn take(self, alloc: Global) -> Option<RawBox<Buffers, Global>>
         ensures { MatchOption result (self.held ≡ false)
             (λ owner. HeldBy self.held self.bytes self.len self.text owner.value) }
     {
@@ -75,7 +79,7 @@ impl FluentText {
             owner,
         } = self;
         if held {
-            Some(Loose {
+            Some(RawBox {
                 at: owner as *mut Buffers,
                 alloc,
             })
@@ -107,7 +111,7 @@ impl FluentText {
         let first = bytes.as_ptr();
         let spare = Vec::new(alloc);
         let owner = Box::new(alloc, Buffers { bytes, spare })?;
-        Ok(FluentText::holding(first, len, Loose::of(owner)))
+        Ok(FluentText::holding(first, len, RawBox::of(owner)))
     }
 
     /// The bytes with the byte 0 after them, if there is a text.

@@ -15,7 +15,7 @@ use crate::{
 use fluent_syntax::parser::{Error, ParserError, parse_within};
 use fluent_text::stack::StackBudget;
 use fluent_tidy::{TidyError, tidy, with_line_feeds, without_mark};
-use lint_finding::Place;
+use lint_finding::SourcePosition;
 use simdutf8::basic::from_utf8;
 use std::alloc::{AllocError, Global};
 
@@ -37,7 +37,7 @@ fn first_place(source: &str, errors: &[ParserError]) -> Option<FluentPlace>
         → option_map place_told result ≡ first_place source.now es }
 {
     let error = errors.first()?;
-    let place = Place::start().moved_to(source, error.pos.start);
+    let place = SourcePosition::start().moved_to(source, error.pos.start);
     Some(FluentPlace {
         line: place.line(),
         column: place.column(),

@@ -5,7 +5,7 @@ use Rattle.fluent_grammar.specs.Tree.{Elements}
 use Rattle.fluent_grammar.specs.Words.{Text}
 use Rattle.fluent_meaning.specs.Environment.{Environment}
 use Rattle.fluent_meaning.specs.Steps.{Done, entering, may_open}
-use Rattle.fluent_meaning.specs.Substitution.{Place, pattern_written, most_placeables}
+use Rattle.fluent_meaning.specs.Substitution.{Surroundings, pattern_written, most_placeables}
 use Rattle.fluent_meaning.specs.Told.{State, Writes, after, budget_of}
 
 -- nothing was told, opened or entered yet
@@ -23,7 +23,7 @@ written a held now s t errors nothing start text state listed =
     (text ∙ ap (λ h. h ++ a.value) nothing, listed (map unresolved a.errors) (ap (λ x. x.errors) state ∙ ap (λ x. (after x a).errors) start))
 
 -- the same for a pattern
-pub resolved : {S F : Type 0} (env : Environment S F) (first : Place S) (es : Elements) (place : Place S) (held now : Text) (s t : State) (errors : List Reported) →
+pub resolved : {S F : Type 0} (env : Environment S F) (first : Surroundings S) (es : Elements) (place : Surroundings S) (held now : Text) (s t : State) (errors : List Reported) →
     place ≡ first → held ≡ [] → s ≡ unstarted → Writes held now s t (pattern_written env es place) →
     ((list : List Reported) → t.errors ≡ Some list → errors ≡ list) → IsAll (entering (pattern_written env es first (may_open most_placeables))) now errors
 resolved env first es place held now s t errors at_first nothing start wrote listed =

@@ -22,7 +22,7 @@ use fluent_errors::FluentError;
 use fluent_ids::laws::attributes_agree;
 use fluent_ids::{FluentIds, FluentMessage};
 use fluent_numerals::LocaleNumerals;
-use fluent_progress::{Context, Place, Progress};
+use fluent_progress::{Context, Progress, Surroundings};
 use fluent_resolver::pattern::write_pattern;
 use fluent_resource::FluentResource;
 use fluent_text::stack::StackBudget;
@@ -160,7 +160,7 @@ impl<'b, 'r, 's, M: MemoizerKind> FunctionDesk<'b, 'r, 's, M> {
             otherwise: PhantomData,
         };
         let locals: Option<&'x FluentArgs<'s, NoCustom>> = None;
-        let place = Place {
+        let place = Surroundings {
             ids: &self.ids,
             context: &calls,
             arguments: Some(arguments),
@@ -195,7 +195,7 @@ fn missing_call(
 /// # Errors
 /// [`AllocError`] if memory runs out, the budget does, or the context ends resolving; nothing is kept.
 fn resolve<'b, 'r, 's, 'a, C: FluentType + Drop, F, E: Context<C, F>>(
-    place: &Place<'b, 'r, 's, 'a, C, F, E>,
+    place: &Surroundings<'b, 'r, 's, 'a, C, F, E>,
     pattern: &'r Pattern<&'s str>,
     mut text: String,
     stack: StackBudget,

@@ -1,4 +1,4 @@
--- How a `Shelf` is made of its fields and of what it owns, and how an `Option` is told apart.
+-- How a `KeptSources` is made of its fields and of what it owns, and how an `Option` is told apart.
 use Rattle.fluent_kept.proofs.Steps.{◌≡◌, List, [], ◌∷◌, ◌++◌, move, refl, subst, Val, vnil, live, ‵, Item, Goal, Seq, Step, step, ◌$◌, drop, fsplit, fjoin, fpick, feq_l, Is, ptr_val, owned, RattleType, Good}
 use seplogic.Ra.Ura.{Ura}
 use package.mir.Val.{of_list}
@@ -8,8 +8,8 @@ use denote.Struct.Struct.{Struct, Struct-Makes, Struct-Lawful}
 use denote.Struct.Owning.{shape, to}
 use Rattle.core.specs.declared.option.Option.TheVariants.{None, Some}
 use Rattle.core.specs.contracts.option.Option as OP
-use Rattle.fluent_kept.specs.contracts.shelf.Shelf.{the_type, the_row, the_heap}
-use Rattle.fluent_kept.proofs.shelf.Shelf.TheLaws.{lowered, mir}
+use Rattle.fluent_kept.specs.contracts.shelf.KeptSources.{the_type, the_row, the_heap}
+use Rattle.fluent_kept.proofs.shelf.KeptSources.TheLaws.{lowered, mir}
 
 -- the proof that a value is one of its fields
 abbrev pub parts_are : (d : the_row.Denot) → Is (Struct (shape the_type)) (to the_type d) (lowered d ∷ [])

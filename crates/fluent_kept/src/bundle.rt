@@ -8,10 +8,10 @@ ghost use Rattle.fluent_kept.specs.Catalogs.{Catalog, catalog_of};
 ghost use Rattle.fluent_kept.specs.Kept.{bundle_owns};
 
 use crate::desk::{KeptDesk, asked, discard_desk, lay_out};
-use crate::loose::Loose;
+use crate::loose::RawBox;
 use crate::question::{Answer, Question};
 use crate::resources::Resources;
-use crate::shelf::Shelf;
+use crate::shelf::KeptSources;
 use crate::sources::Sources;
 use std::alloc::{AllocError, Global};
 use std::marker::Model;
@@ -32,21 +32,21 @@ unsafe impl Send for Bundle {}
 
 impl Bundle {
     /// Lays out what was read, and keeps all. If memory runs out, the shelf comes back.
-    fn tie(alloc: Global, shelf: Shelf) -> Result<Bundle, Shelf>
+    fn tie(alloc: Global, shelf: KeptSources) -> Result<Bundle, KeptSources>
         ensures { MatchResult result (λ bundle. bundle.catalog ≡ shelf.catalog)
             (λ back. back.catalog ≡ shelf.catalog) }
     {
-        let Shelf { sources, read } = shelf;
+        let KeptSources { sources, read } = shelf;
         match lay_out(alloc, unsafe { &*(read as *const Resources<'_>) }) {
             Some(desk) => {
-                let Loose { at: desk, alloc: _ } = desk;
+                let RawBox { at: desk, alloc: _ } = desk;
                 Ok(Bundle {
                     sources,
                     read,
                     desk: desk as *mut u8,
                 })
             }
-            None => Err(Shelf { sources, read }),
+            None => Err(KeptSources { sources, read }),
         }
     }
 
@@ -60,7 +60,7 @@ impl Bundle {
     }
 
     /// The shelf again.
-    fn untie(self, alloc: Global) -> Shelf
+    fn untie(self, alloc: Global) -> KeptSources
         ensures { result.catalog ≡ self.catalog }
     {
         let Bundle {
@@ -68,11 +68,11 @@ impl Bundle {
             read,
             desk,
         } = self;
-        discard_desk(Loose {
+        discard_desk(RawBox {
             at: desk as *mut KeptDesk<'_, '_>,
             alloc,
         });
-        Shelf { sources, read }
+        KeptSources { sources, read }
     }
 
     /// Reads sources, and keeps them.
@@ -82,8 +82,8 @@ impl Bundle {
     pub fn new(alloc: Global, sources: Sources) -> Result<Bundle, AllocError>
         ensures { IfOk result (λ bundle. bundle.catalog ≡ catalog_of sources) }
     {
-        let sources = Loose::of(Box::new(alloc, sources)?);
-        match Shelf::tie(alloc, sources) {
+        let sources = RawBox::of(Box::new(alloc, sources)?);
+        match KeptSources::tie(alloc, sources) {
             Ok(shelf) => Bundle::of(alloc, shelf),
             Err(sources) => {
                 let _freed = sources.into_box();
@@ -96,7 +96,7 @@ impl Bundle {
     ///
     /// # Errors
     /// [`AllocError`] if memory runs out; nothing is kept.
-    fn of(alloc: Global, shelf: Shelf) -> Result<Bundle, AllocError>
+    fn of(alloc: Global, shelf: KeptSources) -> Result<Bundle, AllocError>
         ensures { IfOk result (λ bundle. bundle.catalog ≡ shelf.catalog) }
     {
         match Bundle::tie(alloc, shelf) {

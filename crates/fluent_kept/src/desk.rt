@@ -5,7 +5,7 @@ ghost use Rattle.fluent_check.specs.Report.{report_text};
 ghost use Rattle.fluent_kept.specs.Catalogs.{CallsFor, IsDeskFor, catalog_of, desk_entries, desk_environment};
 ghost use Rattle.fluent_kept.specs.Answers.{AnswersAsIts, AreAttributes, AreMessages, IsAnswerOf, IsCallOf, IsCalledTo, IsFound, IsMissing, IsReplyTo};
 
-use crate::loose::Loose;
+use crate::loose::RawBox;
 use crate::question::{Answer, Question};
 use crate::resources::Resources;
 use crate::sources::{Sources, borrow_texts};
@@ -244,11 +244,11 @@ fn try_lay<'r, 's>(
 pub(crate) fn lay_out<'r, 's>(
     alloc: Global,
     read: &'r Resources<'s>,
-) -> Option<Loose<KeptDesk<'r, 's>, Global>>
+) -> Option<RawBox<KeptDesk<'r, 's>, Global>>
     ensures { IfSome result (λ desk. IsDeskFor read.now desk.value) }
 {
     match try_lay(alloc, read) {
-        Ok(desk) => Some(Loose::of(desk)),
+        Ok(desk) => Some(RawBox::of(desk)),
         Err(_) => None,
     }
 }
@@ -265,6 +265,6 @@ pub(crate) fn asked<'r, 's>(
 }
 
 /// Frees a desk.
-pub(crate) fn discard_desk<'r, 's>(desk: Loose<KeptDesk<'r, 's>, Global>) {
+pub(crate) fn discard_desk<'r, 's>(desk: RawBox<KeptDesk<'r, 's>, Global>) {
     let _ = desk.into_box();
 }

@@ -15,7 +15,7 @@ mod threads;
 
 pub use bundle::Bundle;
 pub use handle::FluentBundle;
-pub use loose::Loose;
+pub use loose::RawBox;
 pub use question::{Answer, Question};
 pub use sources::Sources;
 pub use threads::bundles_are_send;

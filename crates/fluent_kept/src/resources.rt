@@ -5,7 +5,7 @@ ghost use Rattle.fluent_grammar.specs.Tiling.{runtime_tree};
 ghost use Rattle.fluent_resource.specs.ResourceView.{entries_view};
 ghost use Rattle.fluent_kept.specs.Catalogs.{IsReadOf, catalog_of};
 
-use crate::loose::Loose;
+use crate::loose::RawBox;
 use crate::sources::{Sources, borrow_texts};
 use fluent_resource::{FluentResource, parse_sources};
 use std::alloc::{AllocError, Global};
@@ -47,16 +47,16 @@ fn try_read<'s>(alloc: Global, sources: &'s Sources) -> Result<Box<Resources<'s>
 pub(crate) fn read_out<'s>(
     alloc: Global,
     sources: &'s Sources,
-) -> Option<Loose<Resources<'s>, Global>>
+) -> Option<RawBox<Resources<'s>, Global>>
     ensures { IfSome result (λ read. IsReadOf read.value (catalog_of sources.now)) }
 {
     match try_read(alloc, sources) {
-        Ok(read) => Some(Loose::of(read)),
+        Ok(read) => Some(RawBox::of(read)),
         Err(_) => None,
     }
 }
 
 /// Frees what was read.
-pub(crate) fn discard_resources<'s>(read: Loose<Resources<'s>, Global>) {
+pub(crate) fn discard_resources<'s>(read: RawBox<Resources<'s>, Global>) {
     let _ = read.into_box();
 }

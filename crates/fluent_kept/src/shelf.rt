@@ -6,54 +6,54 @@ ghost use Rattle.std.specs.Result.{MatchResult};
 ghost use Rattle.fluent_kept.specs.Catalogs.{Catalog, catalog_of};
 ghost use Rattle.fluent_kept.specs.Kept.{shelf_owns};
 
-use crate::loose::Loose;
+use crate::loose::RawBox;
 use crate::resources::{Resources, discard_resources, read_out};
 use crate::sources::Sources;
 use std::alloc::Global;
 use std::marker::Model;
 
-/// Sources, and what is read of them. It isn't `Drop`: [`Shelf::untie`] takes it apart.
-pub(crate) struct Shelf {
+/// Sources, and what is read of them. It isn't `Drop`: [`KeptSources::untie`] takes it apart.
+pub(crate) struct KeptSources {
     pub(crate) sources: *mut Sources,
     pub(crate) read: *mut u8,
     pub(crate) ghost catalog: { Catalog },
 }
 
-impl Model for Shelf {
+impl Model for KeptSources {
     ghost also_owns = { λ s. fex ℕ (shelf_owns s.sources s.read s.catalog) };
 }
 
-impl Shelf {
+impl KeptSources {
     /// Reads sources, and keeps both. If memory runs out, the sources come back.
     pub(crate) fn tie(
         alloc: Global,
-        sources: Loose<Sources, Global>,
-    ) -> Result<Shelf, Loose<Sources, Global>>
+        sources: RawBox<Sources, Global>,
+    ) -> Result<KeptSources, RawBox<Sources, Global>>
         ensures { MatchResult result (λ shelf. shelf.catalog ≡ catalog_of sources.value)
             (λ back. catalog_of back.value ≡ catalog_of sources.value) }
     {
-        let Loose { at, alloc: handle } = sources;
+        let RawBox { at, alloc: handle } = sources;
         match read_out(alloc, unsafe { &*at }) {
             Some(read) => {
-                let Loose { at: read, alloc: _ } = read;
-                Ok(Shelf {
+                let RawBox { at: read, alloc: _ } = read;
+                Ok(KeptSources {
                     sources: at,
                     read: read as *mut u8,
                 })
             }
-            None => Err(Loose { at, alloc: handle }),
+            None => Err(RawBox { at, alloc: handle }),
         }
     }
 
     /// The sources again.
-    pub(crate) fn untie(self, alloc: Global) -> Loose<Sources, Global>
+    pub(crate) fn untie(self, alloc: Global) -> RawBox<Sources, Global>
         ensures { catalog_of result.value ≡ self.catalog }
     {
-        let Shelf { sources, read } = self;
-        discard_resources(Loose {
+        let KeptSources { sources, read } = self;
+        discard_resources(RawBox {
             at: read as *mut Resources<'_>,
             alloc,
         });
-        Loose { at: sources, alloc }
+        RawBox { at: sources, alloc }
     }
 }

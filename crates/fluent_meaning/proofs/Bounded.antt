@@ -22,7 +22,7 @@ use Rattle.fluent_meaning.specs.Ids.{Ids, Meaning, number_function, function, me
 use Rattle.fluent_meaning.specs.ReachLaws.{over}
 use Rattle.fluent_meaning.specs.Steps.{Budget, may_open, shut, left, is_shut, Done, done, and_then, mapped, entering}
 use Rattle.fluent_meaning.specs.Substitution as s
-use Rattle.fluent_meaning.specs.Substitution.{Place, Called, Target, there, missing, there_or, is_on_path, deeper, Writer, outset}
+use Rattle.fluent_meaning.specs.Substitution.{Surroundings, Called, Target, there, missing, there_or, is_on_path, deeper, Writer, outset}
 use Rattle.fluent_meaning.specs.Work.{expression_references, inline_references, maybe_references, arguments_references, inlines_references, nameds_references, most_references, most_in_variants, most_of_variants, most_in_inline, most_in_maybe, most_in_arguments, most_in_inlines, most_in_nameds, value_most, attributes_most, meaning_most, ids_most}
 use Rattle.fluent_meaning.specs.WorkLaws.{most_with_pattern, most_with_expression, most_with_arguments, EntersWithinBound}
 
@@ -162,11 +162,11 @@ one_more_times : (k n : ℕ) → suc k * n ≡ n + k * n
 one_more_times k n = suc-mul k n ∙ swap (k * n) n
 
 module _ {S F : Type 0} (env : Environment S F) (n : ℕ) where
-  pub variable_written-within : (id : Text) (o : Option (Value S)) (place : Place S) (b : Budget) → Within n 0 b (s.variable_written env id o place b)
+  pub variable_written-within : (id : Text) (o : Option (Value S)) (place : Surroundings S) (b : Budget) → Within n 0 b (s.variable_written env id o place b)
   variable_written-within id (Some v) place b = within-done n b
   variable_written-within id None place b = within-if n (is_some place.locals) (within-done n b) (within-done n b)
 
-  pub variable_found-within : (id : Text) (o : Option (Value S)) (place : Place S) (b : Budget) → Within n 0 b (s.variable_found env id o place b)
+  pub variable_found-within : (id : Text) (o : Option (Value S)) (place : Surroundings S) (b : Budget) → Within n 0 b (s.variable_found env id o place b)
   variable_found-within id (Some v) place b = within-done n b
   variable_found-within id None place b = within-if n (is_some place.locals) (within-done n b) (within-done n b)
 
@@ -203,35 +203,35 @@ module _ {S F : Type 0} (env : Environment S F) (n : ℕ) where
 
 -- where no pattern of what ids stand for has more in one placeable
 module _ {S F : Type 0} (env : Environment S F) (n : ℕ) (finds : (id : Text) → found_most (env.find id) ≤ n) where
-  module _ (enter : Writer env Elements) (enters : (es : Elements) (place : Place S) (b : Budget) → most_references es ≤ n → Within n 0 b (enter es place b)) where
-    pub referred-within : (i : Inline) (es : Elements) (place : Place S) (b : Budget) → most_references es ≤ n → Within n 1 b (s.referred env enter i es place b)
+  module _ (enter : Writer env Elements) (enters : (es : Elements) (place : Surroundings S) (b : Budget) → most_references es ≤ n → Within n 0 b (enter es place b)) where
+    pub referred-within : (i : Inline) (es : Elements) (place : Surroundings S) (b : Budget) → most_references es ≤ n → Within n 1 b (s.referred env enter i es place b)
     referred-within i es place b h = within-if n (is_on_path es place.path) (within-more n 1 at_most_one (within-done n b)) (within-entering n (enters es (deeper es place) b h))
 
-    pub target-within : (i : Inline) (o : Target) (place : Place S) (b : Budget) → target_most o ≤ n → Within n 1 b (s.target_written env enter i o place b)
+    pub target-within : (i : Inline) (o : Target) (place : Surroundings S) (b : Budget) → target_most o ≤ n → Within n 1 b (s.target_written env enter i o place b)
     target-within i (there es) place b h = referred-within i es place b h
     target-within i (missing e) place b h = within-more n 1 at_most_one (within-done n b)
 
-    pub variant-within : (o : Option Elements) (place : Place S) (b : Budget) → value_most o ≤ n → Within n 1 b (s.variant_written env enter o place b)
+    pub variant-within : (o : Option Elements) (place : Surroundings S) (b : Budget) → value_most o ≤ n → Within n 1 b (s.variant_written env enter o place b)
     variant-within None place b h = within-more n 1 at_most_one (within-done n b)
     variant-within (Some es) place b h = within-entering n (enters es place b h)
 
-    pub message-within : (i : Inline) (id : Text) (attr : Option Text) (place : Place S) (b : Budget) → Within n 1 b (s.target_written env enter i (s.message_target id attr (env.find id)) place b)
+    pub message-within : (i : Inline) (id : Text) (attr : Option Text) (place : Surroundings S) (b : Budget) → Within n 1 b (s.target_written env enter i (s.message_target id attr (env.find id)) place b)
     message-within i id attr place b = target-within i (s.message_target id attr (env.find id)) place b (message-most n id attr (env.find id) (finds id))
 
-    pub term-within : (i : Inline) (id : Text) (attr : Option Text) (place : Place S) (b : Budget) → Within n 1 b (s.target_written env enter i (s.term_target id attr (env.find id)) place b)
+    pub term-within : (i : Inline) (id : Text) (attr : Option Text) (place : Surroundings S) (b : Budget) → Within n 1 b (s.target_written env enter i (s.term_target id attr (env.find id)) place b)
     term-within i id attr place b = target-within i (s.term_target id attr (env.find id)) place b (term-most n id attr (env.find id) (finds id))
 
     mutual
       unfolding s.expression_with s.inline_with s.value_with s.maybe_arguments_with s.arguments_with s.positional_with s.named_with
 
-      pub expression-within : (e : Expression) (place : Place S) (b : Budget) → most_in_variants e ≤ n → Within n (expression_references e) b (s.expression_with env enter e place b)
+      pub expression-within : (e : Expression) (place : Surroundings S) (b : Budget) → most_in_variants e ≤ n → Within n (expression_references e) b (s.expression_with env enter e place b)
       expression-within (inline i) place b h = inline-within i place b h
       expression-within (select i vs) place b h =
           within-more n (suc (inline_references i)) (plus_one (inline_references i))
           (within-then n (λ v c. s.variant_written env enter (chosen env.plurals v vs) place c) (value-within i place b (max_first (most_in_inline i) (most_of_variants vs) n h))
           (λ v c. variant-within (chosen env.plurals v vs) place c (chosen-most n env.plurals v vs (max_second (most_in_inline i) (most_of_variants vs) n h))))
 
-      pub inline-within : (i : Inline) (place : Place S) (b : Budget) → most_in_inline i ≤ n → Within n (inline_references i) b (s.inline_with env enter i place b)
+      pub inline-within : (i : Inline) (place : Surroundings S) (b : Budget) → most_in_inline i ≤ n → Within n (inline_references i) b (s.inline_with env enter i place b)
       inline-within (t.string_literal x) place b h = within-done n b
       inline-within (t.number_literal x) place b h = within-done n b
       inline-within (t.function_reference id args) place b h =
@@ -245,7 +245,7 @@ module _ {S F : Type 0} (env : Environment S F) (n : ℕ) (finds : (id : Text) �
       inline-within (t.variable_reference id) place b h = variable_written-within env n id (s.variable env id place) place b
       inline-within (t.nested e) place b h = expression-within e place b h
 
-      pub value-within : (i : Inline) (place : Place S) (b : Budget) → most_in_inline i ≤ n → Within n (inline_references i) b (s.value_with env enter i place b)
+      pub value-within : (i : Inline) (place : Surroundings S) (b : Budget) → most_in_inline i ≤ n → Within n (inline_references i) b (s.value_with env enter i place b)
       value-within (t.string_literal x) place b h = within-done n b
       value-within (t.number_literal x) place b h = within-done n b
       value-within (t.function_reference id args) place b h =
@@ -259,29 +259,29 @@ module _ {S F : Type 0} (env : Environment S F) (n : ℕ) (finds : (id : Text) �
       value-within (t.variable_reference id) place b h = variable_found-within env n id (s.variable env id place) place b
       value-within (t.nested e) place b h = within-mapped n v.text (expression-within e place b h)
 
-      pub maybe_arguments-within : (args : MaybeArguments) (place : Place S) (b : Budget) → most_in_maybe args ≤ n → Within n (maybe_references args) b (s.maybe_arguments_with env enter args place b)
+      pub maybe_arguments-within : (args : MaybeArguments) (place : Surroundings S) (b : Budget) → most_in_maybe args ≤ n → Within n (maybe_references args) b (s.maybe_arguments_with env enter args place b)
       maybe_arguments-within no_arguments place b h = within-done n b
       maybe_arguments-within (with_arguments args) place b h = arguments-within args place b h
 
-      pub arguments-within : (args : Arguments) (place : Place S) (b : Budget) → most_in_arguments args ≤ n → Within n (arguments_references args) b (s.arguments_with env enter args place b)
+      pub arguments-within : (args : Arguments) (place : Surroundings S) (b : Budget) → most_in_arguments args ≤ n → Within n (arguments_references args) b (s.arguments_with env enter args place b)
       arguments-within (arguments ps ns) place b h =
           within-then n (λ vs c. mapped (s.both vs) (s.named_with env enter ns place c)) (positional-within ps place b (max_first (most_in_inlines ps) (most_in_nameds ns) n h))
           (λ vs c. within-mapped n (s.both vs) (named-within ns place c (max_second (most_in_inlines ps) (most_in_nameds ns) n h)))
 
-      pub positional-within : (ps : Inlines) (place : Place S) (b : Budget) → most_in_inlines ps ≤ n → Within n (inlines_references ps) b (s.positional_with env enter ps place b)
+      pub positional-within : (ps : Inlines) (place : Surroundings S) (b : Budget) → most_in_inlines ps ≤ n → Within n (inlines_references ps) b (s.positional_with env enter ps place b)
       positional-within no_inlines place b h = within-done n b
       positional-within (positional e ps) place b h =
           within-then n (λ v c. mapped (λ vs. v ∷ vs) (s.positional_with env enter ps place c)) (value-within e place b (max_first (most_in_inline e) (most_in_inlines ps) n h))
           (λ v c. within-mapped n (λ vs. v ∷ vs) (positional-within ps place c (max_second (most_in_inline e) (most_in_inlines ps) n h)))
 
-      pub named-within : (ns : Nameds) (place : Place S) (b : Budget) → most_in_nameds ns ≤ n → Within n (nameds_references ns) b (s.named_with env enter ns place b)
+      pub named-within : (ns : Nameds) (place : Surroundings S) (b : Budget) → most_in_nameds ns ≤ n → Within n (nameds_references ns) b (s.named_with env enter ns place b)
       named-within no_nameds place b h = within-done n b
       named-within (named x e ns) place b h =
           within-then n (λ v c. mapped (λ pairs. (x, v) ∷ pairs) (s.named_with env enter ns place c)) (value-within e place b (max_first (most_in_inline e) (most_in_nameds ns) n h))
           (λ v c. within-mapped n (λ pairs. (x, v) ∷ pairs) (named-within ns place c (max_second (most_in_inline e) (most_in_nameds ns) n h)))
 
-  module _ (write : Writer env Expression) (writes : (e : Expression) (place : Place S) (b : Budget) → most_in_variants e ≤ n → Within n (expression_references e) b (write e place b)) where
-    pub placeable-within : (whole : Elements) (e : Expression) (place : Place S) (b : Budget) → expression_references e ≤ n → most_in_variants e ≤ n → Within n 0 b (s.placeable_with env write whole e place b)
+  module _ (write : Writer env Expression) (writes : (e : Expression) (place : Surroundings S) (b : Budget) → most_in_variants e ≤ n → Within n (expression_references e) b (write e place b)) where
+    pub placeable-within : (whole : Elements) (e : Expression) (place : Surroundings S) (b : Budget) → expression_references e ≤ n → most_in_variants e ≤ n → Within n 0 b (s.placeable_with env write whole e place b)
     placeable-within whole e place shut h k = within-done n shut
     placeable-within whole e place (may_open zero) h k = record { le = le_refl (0 + 0 * n) }
     placeable-within whole e place (may_open (suc j)) h k =
@@ -289,7 +289,7 @@ module _ {S F : Type 0} (env : Environment S F) (n : ℕ) (finds : (id : Text) �
         let p = surrounded-within env n (env.isolating && (s.several whole && not (s.stands_bare e))) (closed-within env n e (writes e (s.rooted whole place) (may_open j) k)) in
         record { le = paid_within a.entered (left a.budget * n) (expression_references e) n (j * n) (suc j * n) h (one_more_times j n) p.le }
 
-    pub elements-within : (whole es : Elements) (place : Place S) (b : Budget) → most_references es ≤ n → Within n 0 b (s.elements_with env write whole es place b)
+    pub elements-within : (whole es : Elements) (place : Surroundings S) (b : Budget) → most_references es ≤ n → Within n 0 b (s.elements_with env write whole es place b)
     unfolding s.elements_with
     elements-within whole no_elements place b h = within-done n b
     elements-within whole (t.text x es) place b h = within-then n (λ r c. mapped (λ q. r ++ q) (s.elements_with env write whole es place c)) (text-within env n x b) (λ r c. within-mapped n (λ q. r ++ q) (elements-within whole es place c h))
@@ -299,12 +299,12 @@ module _ {S F : Type 0} (env : Environment S F) (n : ℕ) (finds : (id : Text) �
         (placeable-within whole e place b (max_first (expression_references e) (max (most_in_variants e) (most_references es)) n h) (max_first (most_in_variants e) (most_references es) n k))
         (λ r c. within-mapped n (λ q. r ++ q) (elements-within whole es place c (max_second (most_in_variants e) (most_references es) n k)))
 
-  pub pattern_at-within : (d : ℕ) (es : Elements) (place : Place S) (b : Budget) → most_references es ≤ n → Within n 0 b (s.pattern_at env d es place b)
+  pub pattern_at-within : (d : ℕ) (es : Elements) (place : Surroundings S) (b : Budget) → most_references es ≤ n → Within n 0 b (s.pattern_at env d es place b)
   unfolding s.pattern_at
   pattern_at-within zero es place b h = elements-within (λ e p c. done [] c) (λ e p c _. within-more n (expression_references e) (nothing_most (expression_references e)) (within-done n c)) es es place b h
   pattern_at-within (suc d) es place b h = elements-within (s.expression_with env (s.pattern_at env d)) (expression-within (s.pattern_at env d) (pattern_at-within d)) es es place b h
 
-  pub pattern-within : (es : Elements) (place : Place S) (b : Budget) → most_references es ≤ n → Within n 0 b (s.pattern_written env es place b)
+  pub pattern-within : (es : Elements) (place : Surroundings S) (b : Budget) → most_references es ≤ n → Within n 0 b (s.pattern_written env es place b)
   unfolding s.pattern_written
   pattern-within es place b h = pattern_at-within (left b) es place b h
 

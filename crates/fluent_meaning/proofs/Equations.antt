@@ -9,9 +9,9 @@ use Rattle.fluent_meaning.specs.Choice.{chosen}
 use Rattle.fluent_meaning.specs.Environment.{Environment, value_text}
 use Rattle.fluent_meaning.specs.Steps.{Budget, done, and_then, mapped, beside}
 use Rattle.fluent_meaning.specs.Substitution as s
-use Rattle.fluent_meaning.specs.Substitution.{Place, Target, message_target, term_target, in_term, both}
+use Rattle.fluent_meaning.specs.Substitution.{Surroundings, Target, message_target, term_target, in_term, both}
 
-module _ {S F : Type 0} (env : Environment S F) (place : Place S) (b : Budget) where
+module _ {S F : Type 0} (env : Environment S F) (place : Surroundings S) (b : Budget) where
   -- what a message reference means, and what a term reference means
   abbrev pub message_at : Text → Option Text → Target
   message_at id attr = message_target id attr (env.find id)

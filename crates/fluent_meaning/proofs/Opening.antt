@@ -13,7 +13,7 @@ use Rattle.fluent_meaning.specs.Environment.{Environment}
 use Rattle.fluent_meaning.specs.Fallback.{braced, fallback}
 use Rattle.fluent_meaning.specs.Steps.{Budget, may_open, shut, left, is_shut, Done, done, and_then, mapped, beside, opening, opens}
 use Rattle.fluent_meaning.specs.Substitution as s
-use Rattle.fluent_meaning.specs.Substitution.{Place, Writer, several, rooted, rooted_path}
+use Rattle.fluent_meaning.specs.Substitution.{Surroundings, Writer, several, rooted, rooted_path}
 use Rattle.fluent_meaning.specs.Told.{State, Writes, Finds, after, budget_of}
 use Rattle.fluent_meaning.specs.Weight.{elements_weight, expression_weight}
 use Rattle.fluent_meaning.proofs.Falls.{Falls}
@@ -43,7 +43,7 @@ up-to view xs i x h e =
     let next : suc i ≡ i + 1 = omega arith in
     ap elements_of (ap (λ y. map view (take i xs) ++ view y ∷ []) e ∙ sym (map-append view (take i xs) (get_or xs i x ∷ [])) ∙ ap (map view) (sym (take-suc xs i x h) ∙ ap (λ n. take n xs) next))
 
-module _ {S F : Type 0} (env : Environment S F) (write : Writer env Expression) (whole : Elements) (place : Place S) where
+module _ {S F : Type 0} (env : Environment S F) (write : Writer env Expression) (whole : Elements) (place : Surroundings S) where
   one-text : (x : Text) (b : Budget) → s.elements_with env write whole (elements_of (text x ∷ [])) place b ≡ s.text_written env x b
   unfolding s.elements_with
   one-text x b = beside-nothing (s.text_written env x b)
@@ -142,7 +142,7 @@ same-after true false front back behind r a = refl
 same-after false true front back behind r a = refl
 same-after false false front back behind r a = refl
 
-module _ {S F : Type 0} (env : Environment S F) (write : Writer env Expression) (whole : Elements) (e : Expression) (place : Place S) where
+module _ {S F : Type 0} (env : Environment S F) (write : Writer env Expression) (whole : Elements) (e : Expression) (place : Surroundings S) where
   abbrev isolates : Bool
   isolates = s.is_isolated env whole e
 

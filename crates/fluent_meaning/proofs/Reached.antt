@@ -19,7 +19,7 @@ use Rattle.fluent_meaning.specs.Reach.{elements_ids, expression_ids, variants_id
 use Rattle.fluent_meaning.specs.ReachLaws.{AgreeOnReach, over, PatternReachSame, ReachSame}
 use Rattle.fluent_meaning.specs.Steps.{Budget, may_open, shut, done, mapped, opening, entering}
 use Rattle.fluent_meaning.specs.Substitution as s
-use Rattle.fluent_meaning.specs.Substitution.{Place, Called, Target, there, missing, there_or, is_on_path, deeper, Writer}
+use Rattle.fluent_meaning.specs.Substitution.{Surroundings, Called, Target, there, missing, there_or, is_on_path, deeper, Writer}
 use Rattle.fluent_meaning.proofs.Fixpoint.{then-same, mapped-same, if-same}
 
 in_front : {id : Text} {xs : List Text} (ys : List Text) → IsIn id xs → IsIn id (xs ++ ys)
@@ -106,35 +106,35 @@ module _ (P : Text → Type 0) where
 
 -- Two ways to look up, and a fact of ids: where it holds of an id, both find the same, and it holds of each id named there.
 module _ {S F : Type 0} (env : Environment S F) (other : Text → Option (Meaning F)) (P : Text → Type 0) (same : (id : Text) → P id → env.find id ≡ other id) (next : (id : Text) → P id → Each P (found_ids P (env.find id))) where
-  module _ (enter enter' : Writer env Elements) (agree : (es : Elements) (place : Place S) (b : Budget) → Each P (elements_ids es) → enter es place b ≡ enter' es place b) where
-    target-reached : (i : Inline) (o o' : Target) (place : Place S) (b : Budget) → o ≡ o' → Each P (target_ids P o) → s.target_written env enter i o place b ≡ s.target_written (over other env) enter' i o' place b
+  module _ (enter enter' : Writer env Elements) (agree : (es : Elements) (place : Surroundings S) (b : Budget) → Each P (elements_ids es) → enter es place b ≡ enter' es place b) where
+    target-reached : (i : Inline) (o o' : Target) (place : Surroundings S) (b : Budget) → o ≡ o' → Each P (target_ids P o) → s.target_written env enter i o place b ≡ s.target_written (over other env) enter' i o' place b
     target-reached i o o' place b p h = at o h ∙ ap (λ o. s.target_written env enter' i o place b) p
       where
         at : (o : Target) → Each P (target_ids P o) → s.target_written env enter i o place b ≡ s.target_written env enter' i o place b
         at (there es) h = if-same (is_on_path es place.path) refl (ap entering (agree es (deeper es place) b h))
         at (missing e) h = refl
 
-    message-reached : (i : Inline) (id : Text) (attr : Option Text) (place : Place S) (b : Budget) → P id → s.target_written env enter i (s.message_target id attr (env.find id)) place b ≡ s.target_written (over other env) enter' i (s.message_target id attr (other id)) place b
+    message-reached : (i : Inline) (id : Text) (attr : Option Text) (place : Surroundings S) (b : Budget) → P id → s.target_written env enter i (s.message_target id attr (env.find id)) place b ≡ s.target_written (over other env) enter' i (s.message_target id attr (other id)) place b
     message-reached i id attr place b h = target-reached i (s.message_target id attr (env.find id)) (s.message_target id attr (other id)) place b (ap (s.message_target id attr) (same id h)) (message-each P id attr (env.find id) (next id h))
 
-    term-reached : (i : Inline) (id : Text) (attr : Option Text) (place : Place S) (b : Budget) → P id → s.target_written env enter i (s.term_target id attr (env.find id)) place b ≡ s.target_written (over other env) enter' i (s.term_target id attr (other id)) place b
+    term-reached : (i : Inline) (id : Text) (attr : Option Text) (place : Surroundings S) (b : Budget) → P id → s.target_written env enter i (s.term_target id attr (env.find id)) place b ≡ s.target_written (over other env) enter' i (s.term_target id attr (other id)) place b
     term-reached i id attr place b h = target-reached i (s.term_target id attr (env.find id)) (s.term_target id attr (other id)) place b (ap (s.term_target id attr) (same id h)) (term-each P id attr (env.find id) (next id h))
 
-    variant-reached : (o : Option Elements) (place : Place S) (b : Budget) → Each P (value_ids o) → s.variant_written env enter o place b ≡ s.variant_written (over other env) enter' o place b
+    variant-reached : (o : Option Elements) (place : Surroundings S) (b : Budget) → Each P (value_ids o) → s.variant_written env enter o place b ≡ s.variant_written (over other env) enter' o place b
     variant-reached None place b h = refl
     variant-reached (Some es) place b h = ap entering (agree es place b h)
 
     mutual
       unfolding s.expression_with s.inline_with s.value_with s.maybe_arguments_with s.arguments_with s.positional_with s.named_with
 
-      expression-reached : (e : Expression) (place : Place S) (b : Budget) → Each P (expression_ids e) → s.expression_with env enter e place b ≡ s.expression_with (over other env) enter' e place b
+      expression-reached : (e : Expression) (place : Surroundings S) (b : Budget) → Each P (expression_ids e) → s.expression_with env enter e place b ≡ s.expression_with (over other env) enter' e place b
       expression-reached (inline i) place b h = inline-reached i place b h
       expression-reached (select i vs) place b h =
           let x = s.value_with env enter i place b in
           then-same (λ v c. s.variant_written env enter (chosen env.plurals v vs) place c) (λ v c. s.variant_written env enter' (chosen env.plurals v vs) place c) (value-reached i place b (each-front (inline_ids i) (variants_ids vs) h))
           (variant-reached (chosen env.plurals x.value vs) place x.budget (chosen-each P env.plurals x.value vs (each-behind (inline_ids i) (variants_ids vs) h)))
 
-      inline-reached : (i : Inline) (place : Place S) (b : Budget) → Each P (inline_ids i) → s.inline_with env enter i place b ≡ s.inline_with (over other env) enter' i place b
+      inline-reached : (i : Inline) (place : Surroundings S) (b : Budget) → Each P (inline_ids i) → s.inline_with env enter i place b ≡ s.inline_with (over other env) enter' i place b
       inline-reached (t.string_literal x) place b h = refl
       inline-reached (t.number_literal x) place b h = refl
       inline-reached (t.function_reference id args) place b h =
@@ -150,7 +150,7 @@ module _ {S F : Type 0} (env : Environment S F) (other : Text → Option (Meanin
       inline-reached (t.variable_reference id) place b h = refl
       inline-reached (t.nested e) place b h = expression-reached e place b h
 
-      value-reached : (i : Inline) (place : Place S) (b : Budget) → Each P (inline_ids i) → s.value_with env enter i place b ≡ s.value_with (over other env) enter' i place b
+      value-reached : (i : Inline) (place : Surroundings S) (b : Budget) → Each P (inline_ids i) → s.value_with env enter i place b ≡ s.value_with (over other env) enter' i place b
       value-reached (t.string_literal x) place b h = refl
       value-reached (t.number_literal x) place b h = refl
       value-reached (t.function_reference id args) place b h =
@@ -166,32 +166,32 @@ module _ {S F : Type 0} (env : Environment S F) (other : Text → Option (Meanin
       value-reached (t.variable_reference id) place b h = refl
       value-reached (t.nested e) place b h = mapped-same v.text (expression-reached e place b h)
 
-      maybe_arguments-reached : (args : MaybeArguments) (place : Place S) (b : Budget) → Each P (maybe_ids args) → s.maybe_arguments_with env enter args place b ≡ s.maybe_arguments_with (over other env) enter' args place b
+      maybe_arguments-reached : (args : MaybeArguments) (place : Surroundings S) (b : Budget) → Each P (maybe_ids args) → s.maybe_arguments_with env enter args place b ≡ s.maybe_arguments_with (over other env) enter' args place b
       maybe_arguments-reached no_arguments place b h = refl
       maybe_arguments-reached (with_arguments args) place b h = arguments-reached args place b h
 
-      arguments-reached : (args : Arguments) (place : Place S) (b : Budget) → Each P (arguments_ids args) → s.arguments_with env enter args place b ≡ s.arguments_with (over other env) enter' args place b
+      arguments-reached : (args : Arguments) (place : Surroundings S) (b : Budget) → Each P (arguments_ids args) → s.arguments_with env enter args place b ≡ s.arguments_with (over other env) enter' args place b
       arguments-reached (arguments ps ns) place b h =
           let x = s.positional_with env enter ps place b in
           then-same (λ vs c. mapped (s.both vs) (s.named_with env enter ns place c)) (λ vs c. mapped (s.both vs) (s.named_with (over other env) enter' ns place c)) (positional-reached ps place b (each-front (inlines_ids ps) (nameds_ids ns) h))
           (mapped-same (s.both x.value) (named-reached ns place x.budget (each-behind (inlines_ids ps) (nameds_ids ns) h)))
 
-      positional-reached : (ps : Inlines) (place : Place S) (b : Budget) → Each P (inlines_ids ps) → s.positional_with env enter ps place b ≡ s.positional_with (over other env) enter' ps place b
+      positional-reached : (ps : Inlines) (place : Surroundings S) (b : Budget) → Each P (inlines_ids ps) → s.positional_with env enter ps place b ≡ s.positional_with (over other env) enter' ps place b
       positional-reached no_inlines place b h = refl
       positional-reached (positional e ps) place b h =
           let x = s.value_with env enter e place b in
           then-same (λ v c. mapped (λ vs. v ∷ vs) (s.positional_with env enter ps place c)) (λ v c. mapped (λ vs. v ∷ vs) (s.positional_with (over other env) enter' ps place c)) (value-reached e place b (each-front (inline_ids e) (inlines_ids ps) h))
           (mapped-same (λ vs. x.value ∷ vs) (positional-reached ps place x.budget (each-behind (inline_ids e) (inlines_ids ps) h)))
 
-      named-reached : (ns : Nameds) (place : Place S) (b : Budget) → Each P (nameds_ids ns) → s.named_with env enter ns place b ≡ s.named_with (over other env) enter' ns place b
+      named-reached : (ns : Nameds) (place : Surroundings S) (b : Budget) → Each P (nameds_ids ns) → s.named_with env enter ns place b ≡ s.named_with (over other env) enter' ns place b
       named-reached no_nameds place b h = refl
       named-reached (named y e ns) place b h =
           let x = s.value_with env enter e place b in
           then-same (λ v c. mapped (λ pairs. (y, v) ∷ pairs) (s.named_with env enter ns place c)) (λ v c. mapped (λ pairs. (y, v) ∷ pairs) (s.named_with (over other env) enter' ns place c)) (value-reached e place b (each-front (inline_ids e) (nameds_ids ns) h))
           (mapped-same (λ pairs. (y, x.value) ∷ pairs) (named-reached ns place x.budget (each-behind (inline_ids e) (nameds_ids ns) h)))
 
-  module _ (write write' : Writer env Expression) (agree : (e : Expression) (place : Place S) (b : Budget) → Each P (expression_ids e) → write e place b ≡ write' e place b) where
-    placeable-reached : (whole : Elements) (e : Expression) (place : Place S) (b : Budget) → Each P (expression_ids e) → s.placeable_with env write whole e place b ≡ s.placeable_with (over other env) write' whole e place b
+  module _ (write write' : Writer env Expression) (agree : (e : Expression) (place : Surroundings S) (b : Budget) → Each P (expression_ids e) → write e place b ≡ write' e place b) where
+    placeable-reached : (whole : Elements) (e : Expression) (place : Surroundings S) (b : Budget) → Each P (expression_ids e) → s.placeable_with env write whole e place b ≡ s.placeable_with (over other env) write' whole e place b
     placeable-reached whole e place shut h = refl
     placeable-reached whole e place (may_open zero) h = refl
     placeable-reached whole e place (may_open (suc k)) h = ap (λ a. opening (s.surrounded env (s.is_isolated env whole e) (s.closed env e a))) (agree e (s.rooted whole place) (may_open k) h)
@@ -200,7 +200,7 @@ module _ {S F : Type 0} (env : Environment S F) (other : Text → Option (Meanin
     text-reached x (may_open k) = refl
     text-reached x shut = refl
 
-    elements-reached : (whole es : Elements) (place : Place S) (b : Budget) → Each P (elements_ids es) → s.elements_with env write whole es place b ≡ s.elements_with (over other env) write' whole es place b
+    elements-reached : (whole es : Elements) (place : Surroundings S) (b : Budget) → Each P (elements_ids es) → s.elements_with env write whole es place b ≡ s.elements_with (over other env) write' whole es place b
     unfolding s.elements_with
     elements-reached whole no_elements place b h = refl
     elements-reached whole (t.text x es) place b h =
@@ -212,7 +212,7 @@ module _ {S F : Type 0} (env : Environment S F) (other : Text → Option (Meanin
         then-same (λ q c. mapped (λ r. q ++ r) (s.elements_with env write whole es place c)) (λ q c. mapped (λ r. q ++ r) (s.elements_with (over other env) write' whole es place c)) (placeable-reached whole e place b (each-front (expression_ids e) (elements_ids es) h))
         (mapped-same (λ r. y.value ++ r) (elements-reached whole es place y.budget (each-behind (expression_ids e) (elements_ids es) h)))
 
-  pattern_at-reached : (d : ℕ) (es : Elements) (place : Place S) (b : Budget) → Each P (elements_ids es) → s.pattern_at env d es place b ≡ s.pattern_at (over other env) d es place b
+  pattern_at-reached : (d : ℕ) (es : Elements) (place : Surroundings S) (b : Budget) → Each P (elements_ids es) → s.pattern_at env d es place b ≡ s.pattern_at (over other env) d es place b
   unfolding s.pattern_at
   pattern_at-reached zero es place b h = elements-reached (λ e p c. done [] c) (λ e p c. done [] c) (λ e p c _. refl) es es place b h
   pattern_at-reached (suc d) es place b h = elements-reached (s.expression_with env (s.pattern_at env d)) (s.expression_with (over other env) (s.pattern_at (over other env) d)) (expression-reached (s.pattern_at env d) (s.pattern_at (over other env) d) (pattern_at-reached d)) es es place b h

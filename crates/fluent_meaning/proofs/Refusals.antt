@@ -10,7 +10,7 @@ use Rattle.fluent_meaning.specs.Fallback.{braced, fallback}
 use Rattle.fluent_meaning.specs.Refused.{Begins, CountsSome, TellsSome, WritesSome}
 use Rattle.fluent_meaning.specs.Steps.{Budget, may_open, shut, is_shut, Done, done, and_then, mapped, beside, opening, entering, opens}
 use Rattle.fluent_meaning.specs.Substitution as s
-use Rattle.fluent_meaning.specs.Substitution.{Place, Writer, rooted}
+use Rattle.fluent_meaning.specs.Substitution.{Surroundings, Writer, rooted}
 use Rattle.fluent_meaning.specs.Told.{State, Writes, Finds, after, capped, in_byte}
 use Rattle.fluent_meaning.specs.Work.{placeables_of, times_too_many}
 use Rattle.fluent_meaning.proofs.ToldOnce.{times-append}
@@ -248,7 +248,7 @@ opened-takes v b true false front back behind f = record { errors = refl; opened
 opened-takes v b false true front back behind f = record { errors = refl; opened = omega arith; entered = omega arith }
 opened-takes v b false false front back behind f = record { errors = refl; opened = omega arith; entered = omega arith }
 
-module _ {S F : Type 0} (env : Environment S F) (write : Writer env Expression) (whole : Elements) (e : Expression) (place : Place S) where
+module _ {S F : Type 0} (env : Environment S F) (write : Writer env Expression) (whole : Elements) (e : Expression) (place : Surroundings S) where
   abbrev isolates : Bool
   isolates = s.is_isolated env whole e
 

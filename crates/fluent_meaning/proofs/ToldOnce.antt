@@ -13,7 +13,7 @@ use Rattle.fluent_meaning.specs.Fallback.{braced, fallback}
 use Rattle.fluent_meaning.specs.Ids.{Meaning, number_function, function, message, term, attribute_named}
 use Rattle.fluent_meaning.specs.Steps.{Budget, may_open, shut, left, is_shut, Done, done, and_then, mapped, entering}
 use Rattle.fluent_meaning.specs.Substitution as s
-use Rattle.fluent_meaning.specs.Substitution.{Place, Called, Target, there, missing, there_or, is_on_path, deeper, Writer, outset}
+use Rattle.fluent_meaning.specs.Substitution.{Surroundings, Called, Target, there, missing, there_or, is_on_path, deeper, Writer, outset}
 use Rattle.fluent_meaning.specs.Work.{times_too_many}
 use Rattle.fluent_meaning.specs.WorkLaws.{times_shut, Opens, OpensWithinBudget}
 use Rattle.fluent_meaning.proofs.Falls.{Falls, closed-falls, referred-falls, expression-falls, maybe_arguments-falls, pattern-falls}
@@ -89,11 +89,11 @@ term-times id None (Some (term m)) = refl
 term-times id (Some a) (Some (term m)) = there_or-times (unknown (to_term id (Some a))) (attribute_named a m.attributes) refl
 
 module _ {S F : Type 0} (env : Environment S F) where
-  pub variable_written-tells : (id : Text) (o : Option (Value S)) (place : Place S) (b : Budget) → Tells b (s.variable_written env id o place b)
+  pub variable_written-tells : (id : Text) (o : Option (Value S)) (place : Surroundings S) (b : Budget) → Tells b (s.variable_written env id o place b)
   variable_written-tells id (Some v) place b = tells-done b
   variable_written-tells id None place b = tells-if (is_some place.locals) (tells-done b) (tells-error _ b refl)
 
-  pub variable_found-tells : (id : Text) (o : Option (Value S)) (place : Place S) (b : Budget) → Tells b (s.variable_found env id o place b)
+  pub variable_found-tells : (id : Text) (o : Option (Value S)) (place : Surroundings S) (b : Budget) → Tells b (s.variable_found env id o place b)
   variable_found-tells id (Some v) place b = tells-done b
   variable_found-tells id None place b = tells-if (is_some place.locals) (tells-done b) (tells-error _ b refl)
 
@@ -128,29 +128,29 @@ module _ {S F : Type 0} (env : Environment S F) where
   text-tells x (may_open k) = tells-done (may_open k)
   text-tells x shut = tells-done shut
 
-  module _ (enter : Writer env Elements) (enters : (es : Elements) (place : Place S) (b : Budget) → Tells b (enter es place b)) where
-    pub target-tells : (i : Inline) (o : Target) (place : Place S) (b : Budget) → target_times o ≡ 0 → Tells b (s.target_written env enter i o place b)
+  module _ (enter : Writer env Elements) (enters : (es : Elements) (place : Surroundings S) (b : Budget) → Tells b (enter es place b)) where
+    pub target-tells : (i : Inline) (o : Target) (place : Surroundings S) (b : Budget) → target_times o ≡ 0 → Tells b (s.target_written env enter i o place b)
     target-tells i (there es) place b h = tells-if (is_on_path es place.path) (tells-error _ b refl) (tells-entering (enters es (deeper es place) b))
     target-tells i (missing e) place b h = tells-error e b h
 
-    pub variant-tells : (o : Option Elements) (place : Place S) (b : Budget) → Tells b (s.variant_written env enter o place b)
+    pub variant-tells : (o : Option Elements) (place : Surroundings S) (b : Budget) → Tells b (s.variant_written env enter o place b)
     variant-tells None place b = tells-error _ b refl
     variant-tells (Some es) place b = tells-entering (enters es place b)
 
-    pub message-tells : (i : Inline) (id : Text) (attr : Option Text) (place : Place S) (b : Budget) → Tells b (s.target_written env enter i (s.message_target id attr (env.find id)) place b)
+    pub message-tells : (i : Inline) (id : Text) (attr : Option Text) (place : Surroundings S) (b : Budget) → Tells b (s.target_written env enter i (s.message_target id attr (env.find id)) place b)
     message-tells i id attr place b = target-tells i (s.message_target id attr (env.find id)) place b (message-times id attr (env.find id))
 
-    pub term-tells : (i : Inline) (id : Text) (attr : Option Text) (place : Place S) (b : Budget) → Tells b (s.target_written env enter i (s.term_target id attr (env.find id)) place b)
+    pub term-tells : (i : Inline) (id : Text) (attr : Option Text) (place : Surroundings S) (b : Budget) → Tells b (s.target_written env enter i (s.term_target id attr (env.find id)) place b)
     term-tells i id attr place b = target-tells i (s.term_target id attr (env.find id)) place b (term-times id attr (env.find id))
 
     mutual
       unfolding s.expression_with s.inline_with s.value_with s.maybe_arguments_with s.arguments_with s.positional_with s.named_with
 
-      pub expression-tells : (e : Expression) (place : Place S) (b : Budget) → Tells b (s.expression_with env enter e place b)
+      pub expression-tells : (e : Expression) (place : Surroundings S) (b : Budget) → Tells b (s.expression_with env enter e place b)
       expression-tells (inline i) place b = inline-tells i place b
       expression-tells (select i vs) place b = tells-then (λ v c. s.variant_written env enter (chosen env.plurals v vs) place c) (value-tells i place b) (λ v c. variant-tells (chosen env.plurals v vs) place c)
 
-      pub inline-tells : (i : Inline) (place : Place S) (b : Budget) → Tells b (s.inline_with env enter i place b)
+      pub inline-tells : (i : Inline) (place : Surroundings S) (b : Budget) → Tells b (s.inline_with env enter i place b)
       inline-tells (t.string_literal x) place b = tells-done b
       inline-tells (t.number_literal x) place b = tells-done b
       inline-tells (t.function_reference id args) place b = tells-then (λ called c. s.call_written env (t.function_reference id args) id (env.find id) called c) (arguments-tells args place b) (call_written-tells (t.function_reference id args) id (env.find id))
@@ -161,7 +161,7 @@ module _ {S F : Type 0} (env : Environment S F) where
       inline-tells (t.variable_reference id) place b = variable_written-tells id (s.variable env id place) place b
       inline-tells (t.nested e) place b = expression-tells e place b
 
-      pub value-tells : (i : Inline) (place : Place S) (b : Budget) → Tells b (s.value_with env enter i place b)
+      pub value-tells : (i : Inline) (place : Surroundings S) (b : Budget) → Tells b (s.value_with env enter i place b)
       value-tells (t.string_literal x) place b = tells-done b
       value-tells (t.number_literal x) place b = tells-done b
       value-tells (t.function_reference id args) place b = tells-then (λ called c. s.call_found env (env.find id) called c) (arguments-tells args place b) (call_found-tells (env.find id))
@@ -172,40 +172,40 @@ module _ {S F : Type 0} (env : Environment S F) where
       value-tells (t.variable_reference id) place b = variable_found-tells id (s.variable env id place) place b
       value-tells (t.nested e) place b = tells-mapped v.text (expression-tells e place b)
 
-      pub maybe_arguments-tells : (args : MaybeArguments) (place : Place S) (b : Budget) → Tells b (s.maybe_arguments_with env enter args place b)
+      pub maybe_arguments-tells : (args : MaybeArguments) (place : Surroundings S) (b : Budget) → Tells b (s.maybe_arguments_with env enter args place b)
       maybe_arguments-tells no_arguments place b = tells-done b
       maybe_arguments-tells (with_arguments args) place b = arguments-tells args place b
 
-      pub arguments-tells : (args : Arguments) (place : Place S) (b : Budget) → Tells b (s.arguments_with env enter args place b)
+      pub arguments-tells : (args : Arguments) (place : Surroundings S) (b : Budget) → Tells b (s.arguments_with env enter args place b)
       arguments-tells (arguments ps ns) place b = tells-then (λ vs c. mapped (s.both vs) (s.named_with env enter ns place c)) (positional-tells ps place b) (λ vs c. tells-mapped (s.both vs) (named-tells ns place c))
 
-      pub positional-tells : (ps : Inlines) (place : Place S) (b : Budget) → Tells b (s.positional_with env enter ps place b)
+      pub positional-tells : (ps : Inlines) (place : Surroundings S) (b : Budget) → Tells b (s.positional_with env enter ps place b)
       positional-tells no_inlines place b = tells-done b
       positional-tells (positional e ps) place b = tells-then (λ v c. mapped (λ vs. v ∷ vs) (s.positional_with env enter ps place c)) (value-tells e place b) (λ v c. tells-mapped (λ vs. v ∷ vs) (positional-tells ps place c))
 
-      pub named-tells : (ns : Nameds) (place : Place S) (b : Budget) → Tells b (s.named_with env enter ns place b)
+      pub named-tells : (ns : Nameds) (place : Surroundings S) (b : Budget) → Tells b (s.named_with env enter ns place b)
       named-tells no_nameds place b = tells-done b
       named-tells (named x e ns) place b = tells-then (λ v c. mapped (λ pairs. (x, v) ∷ pairs) (s.named_with env enter ns place c)) (value-tells e place b) (λ v c. tells-mapped (λ pairs. (x, v) ∷ pairs) (named-tells ns place c))
 
-  module _ (write : Writer env Expression) (writes : (e : Expression) (place : Place S) (b : Budget) → Tells b (write e place b)) where
-    pub placeable-tells : (whole : Elements) (e : Expression) (place : Place S) (b : Budget) → Tells b (s.placeable_with env write whole e place b)
+  module _ (write : Writer env Expression) (writes : (e : Expression) (place : Surroundings S) (b : Budget) → Tells b (write e place b)) where
+    pub placeable-tells : (whole : Elements) (e : Expression) (place : Surroundings S) (b : Budget) → Tells b (s.placeable_with env write whole e place b)
     placeable-tells whole e place shut = tells-done shut
     placeable-tells whole e place (may_open zero) = record { same = refl }
     placeable-tells whole e place (may_open (suc k)) =
         let p = surrounded-tells (env.isolating && (s.several whole && not (s.stands_bare e))) (closed-tells e (writes e (s.rooted whole place) (may_open k))) in record { same = p.same }
 
-    pub elements-tells : (whole es : Elements) (place : Place S) (b : Budget) → Tells b (s.elements_with env write whole es place b)
+    pub elements-tells : (whole es : Elements) (place : Surroundings S) (b : Budget) → Tells b (s.elements_with env write whole es place b)
     unfolding s.elements_with
     elements-tells whole no_elements place b = tells-done b
     elements-tells whole (t.text x es) place b = tells-then (λ r c. mapped (λ q. r ++ q) (s.elements_with env write whole es place c)) (text-tells x b) (λ r c. tells-mapped (λ q. r ++ q) (elements-tells whole es place c))
     elements-tells whole (t.placeable e es) place b = tells-then (λ r c. mapped (λ q. r ++ q) (s.elements_with env write whole es place c)) (placeable-tells whole e place b) (λ r c. tells-mapped (λ q. r ++ q) (elements-tells whole es place c))
 
-  pub pattern_at-tells : (d : ℕ) (es : Elements) (place : Place S) (b : Budget) → Tells b (s.pattern_at env d es place b)
+  pub pattern_at-tells : (d : ℕ) (es : Elements) (place : Surroundings S) (b : Budget) → Tells b (s.pattern_at env d es place b)
   unfolding s.pattern_at
   pattern_at-tells zero es place b = elements-tells (λ e p c. done [] c) (λ e p c. tells-done c) es es place b
   pattern_at-tells (suc d) es place b = elements-tells (s.expression_with env (s.pattern_at env d)) (expression-tells (s.pattern_at env d) (pattern_at-tells d)) es es place b
 
-  pub pattern-tells : (es : Elements) (place : Place S) (b : Budget) → Tells b (s.pattern_written env es place b)
+  pub pattern-tells : (es : Elements) (place : Surroundings S) (b : Budget) → Tells b (s.pattern_written env es place b)
   unfolding s.pattern_written
   pattern-tells es place b = pattern_at-tells (left b) es place b
 

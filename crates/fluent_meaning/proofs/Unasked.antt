@@ -13,7 +13,7 @@ use Rattle.fluent_meaning.specs.Environment.{Environment}
 use Rattle.fluent_meaning.specs.Steps.{Budget, may_open, shut, is_shut, Done, done, and_then, mapped, opening, entering}
 use Rattle.fluent_meaning.specs.Substitution as s
 use Rattle.fluent_meaning.specs.Fallback.{braced, fallback}
-use Rattle.fluent_meaning.specs.Substitution.{Place, Called, Target, there, missing, is_on_path, rooted_path, Writer}
+use Rattle.fluent_meaning.specs.Substitution.{Surroundings, Called, Target, there, missing, is_on_path, rooted_path, Writer}
 use Rattle.fluent_meaning.proofs.Fixpoint.{then-same}
 
 front-none : {A : Type 0} (xs ys : List A) → xs ++ ys ≡ [] → xs ≡ []
@@ -51,10 +51,10 @@ module _ {S F : Type 0} (env : Environment S F) (args : List (Text × Value S)) 
   Locals = Option (List (Text × Value S))
 
   -- the same place without arguments, and with them
-  abbrev bare : Locals → List Elements → Place S
+  abbrev bare : Locals → List Elements → Surroundings S
   bare locals path = record { arguments = []; locals = locals; path = path }
 
-  abbrev given : Locals → List Elements → Place S
+  abbrev given : Locals → List Elements → Surroundings S
   given locals path = record { arguments = args; locals = locals; path = path }
 
   -- a way to write that follows whatever arguments come

@@ -13,7 +13,7 @@ use Rattle.fluent_meaning.specs.Environment.{Environment}
 use Rattle.fluent_meaning.specs.Fallback.{braced, fallback}
 use Rattle.fluent_meaning.specs.Steps.{Budget, may_open, shut, left, is_shut, Done, and_then, mapped, entering}
 use Rattle.fluent_meaning.specs.Substitution as s
-use Rattle.fluent_meaning.specs.Substitution.{Place, Called, Target, there, missing, is_on_path, deeper, rooted}
+use Rattle.fluent_meaning.specs.Substitution.{Surroundings, Called, Target, there, missing, is_on_path, deeper, rooted}
 use Rattle.fluent_meaning.specs.Unlimited as u
 use Rattle.fluent_meaning.specs.Unlimited.{Gives, Writes, WritesInline, Refers, Finds, MayCall, Calls, FindsAll, FindsNamed}
 use Rattle.fluent_meaning.specs.UnlimitedLaws.{Comes, Counted, OpenIsUnlimited, UnlimitedIsOne}
@@ -83,10 +83,10 @@ reads-then P Q {b = b} {x = x} f t h g = record { reads = λ j k e o. at j k e o
     at j k e o shut p = absurd (never_shut (times_too_many (f x.value x.budget).errors) (times_shut x.budget) (times_shut (f x.value x.budget).budget) (t x.value x.budget).same (ap times_shut p) (ap times_shut o))
 
 -- where a placeable is opened, one more than its expression opens
-data OpensTo {S F : Type 0} (env : Environment S F) (whole : Elements) (e : Expression) (place : Place S) : Text → List Unresolved → ℕ → Type 0 where
+data OpensTo {S F : Type 0} (env : Environment S F) (whole : Elements) (e : Expression) (place : Surroundings S) : Text → List Unresolved → ℕ → Type 0 where
   it_opens : {q : Text} {xs : List Unresolved} {m : ℕ} → Writes env e (rooted whole place) q xs m → OpensTo env whole e place (u.marked env whole e q) xs (suc m)
 
-gives_both : {S F : Type 0} {env : Environment S F} {whole : Elements} {e : Expression} {es : Elements} {place : Place S} {q r : Text} {xs ys : List Unresolved} {m n : ℕ} → OpensTo env whole e place q xs m → Gives env whole es place r ys n → Gives env whole (t.placeable e es) place (q ++ r) (xs ++ ys) (m + n)
+gives_both : {S F : Type 0} {env : Environment S F} {whole : Elements} {e : Expression} {es : Elements} {place : Surroundings S} {q r : Text} {xs ys : List Unresolved} {m n : ℕ} → OpensTo env whole e place q xs m → Gives env whole es place r ys n → Gives env whole (t.placeable e es) place (q ++ r) (xs ++ ys) (m + n)
 gives_both (it_opens p) h = u.a_placeable p h
 
 module _ {S F : Type 0} (env : Environment S F) where
@@ -104,20 +104,20 @@ module _ {S F : Type 0} (env : Environment S F) where
   surrounded-reads true g h = reads-map (λ q. encode_utf8 0x2068 ++ (q ++ encode_utf8 0x2069)) g h
   surrounded-reads false g h = reads-as g h
 
-  called-reads : (id : Text) (args : Arguments) (place : Place S) (called : Called S) (xs : List Unresolved) (m : ℕ) → Calls env args place called xs m → (b : Budget) → Reads (λ w ys n. WritesInline env (t.function_reference id args) place w (xs ++ ys) (m + n)) b (s.call_written env (t.function_reference id args) id (env.find id) called b)
+  called-reads : (id : Text) (args : Arguments) (place : Surroundings S) (called : Called S) (xs : List Unresolved) (m : ℕ) → Calls env args place called xs m → (b : Budget) → Reads (λ w ys n. WritesInline env (t.function_reference id args) place w (xs ++ ys) (m + n)) b (s.call_written env (t.function_reference id args) id (env.find id) called b)
   called-reads id args place called xs m p b =
       reads-comes (s.call_written env (t.function_reference id args) id (env.find id) called) (call_written-comes env (t.function_reference id args) id (env.find id) called)
       (subst (λ n. WritesInline env (t.function_reference id args) place (s.call_written env (t.function_reference id args) id (env.find id) called shut).value (xs ++ (s.call_written env (t.function_reference id args) id (env.find id) called shut).errors) n) (no_more m) (u.of_call p)) b
 
-  call_value-reads : (id : Text) (args : Arguments) (place : Place S) (called : Called S) (xs : List Unresolved) (m : ℕ) → Calls env args place called xs m → (b : Budget) → Reads (λ w ys n. Finds env (t.function_reference id args) place w (xs ++ ys) (m + n)) b (s.call_found env (env.find id) called b)
+  call_value-reads : (id : Text) (args : Arguments) (place : Surroundings S) (called : Called S) (xs : List Unresolved) (m : ℕ) → Calls env args place called xs m → (b : Budget) → Reads (λ w ys n. Finds env (t.function_reference id args) place w (xs ++ ys) (m + n)) b (s.call_found env (env.find id) called b)
   call_value-reads id args place called xs m p b =
       reads-comes (s.call_found env (env.find id) called) (call_found-comes env (env.find id) called)
       (subst (λ ys. Finds env (t.function_reference id args) place (s.call_found env (env.find id) called shut).value ys (m + 0)) (sym (append-nil xs))
       (subst (λ n. Finds env (t.function_reference id args) place (s.call_found env (env.find id) called shut).value xs n) (no_more m) (u.call_value p))) b
 
   -- patterns up to a budget
-  module _ (n : ℕ) (enters : (es : Elements) (place : Place S) (b : Budget) → left b ≤ n → Reads (Gives env es es place) b (s.pattern_written env es place b)) where
-    refers-reads : (i : Inline) (o : Target) (place : Place S) (b : Budget) → left b ≤ n → Reads (Refers env i o place) b (s.target_written env (s.pattern_written env) i o place b)
+  module _ (n : ℕ) (enters : (es : Elements) (place : Surroundings S) (b : Budget) → left b ≤ n → Reads (Gives env es es place) b (s.pattern_written env es place b)) where
+    refers-reads : (i : Inline) (o : Target) (place : Surroundings S) (b : Budget) → left b ≤ n → Reads (Refers env i o place) b (s.target_written env (s.pattern_written env) i o place b)
     refers-reads i (missing e) place b h = reads-none b u.to_nothing
     refers-reads i (there es) place b h = at (is_on_path es place.path) refl
       where
@@ -125,14 +125,14 @@ module _ {S F : Type 0} (env : Environment S F) where
         at true e = reads-none b (u.to_itself e)
         at false e = reads-entering (reads-as (λ v ys n q. u.to_pattern e q) (enters es (deeper es place) b h))
 
-    variant-reads : (i : Inline) (vs : Variants) (place : Place S) (v : Value S) (xs : List Unresolved) (m : ℕ) → Finds env i place v xs m → (o : Option Elements) → chosen env.plurals v vs ≡ o → (b : Budget) → left b ≤ n → Reads (λ w ys n. Writes env (select i vs) place w (xs ++ ys) (m + n)) b (s.variant_written env (s.pattern_written env) o place b)
+    variant-reads : (i : Inline) (vs : Variants) (place : Surroundings S) (v : Value S) (xs : List Unresolved) (m : ℕ) → Finds env i place v xs m → (o : Option Elements) → chosen env.plurals v vs ≡ o → (b : Budget) → left b ≤ n → Reads (λ w ys n. Writes env (select i vs) place w (xs ++ ys) (m + n)) b (s.variant_written env (s.pattern_written env) o place b)
     variant-reads i vs place v xs m p None e b h = reads-none b (subst (λ n. Writes env (select i vs) place [] (xs ++ missing_default ∷ []) n) (no_more m) (u.no_variant p e))
     variant-reads i vs place v xs m p (Some es) e b h = reads-entering (reads-as (λ w ys n q. u.a_variant p e q) (enters es place b h))
 
-    message-reads : (id : Text) (attr : Option Text) (place : Place S) (b : Budget) → left b ≤ n → Reads (WritesInline env (t.message_reference id attr) place) b (s.target_written env (s.pattern_written env) (t.message_reference id attr) (s.message_target id attr (env.find id)) place b)
+    message-reads : (id : Text) (attr : Option Text) (place : Surroundings S) (b : Budget) → left b ≤ n → Reads (WritesInline env (t.message_reference id attr) place) b (s.target_written env (s.pattern_written env) (t.message_reference id attr) (s.message_target id attr (env.find id)) place b)
     message-reads id attr place b h = reads-as (λ w ys n q. u.of_message q) (refers-reads (t.message_reference id attr) (s.message_target id attr (env.find id)) place b h)
 
-    term-reads : (id : Text) (attr : Option Text) (args : MaybeArguments) (place : Place S) (b : Budget) → left b ≤ n → Reads (MayCall env args place) b (s.maybe_arguments_with env (s.pattern_written env) args place b)
+    term-reads : (id : Text) (attr : Option Text) (args : MaybeArguments) (place : Surroundings S) (b : Budget) → left b ≤ n → Reads (MayCall env args place) b (s.maybe_arguments_with env (s.pattern_written env) args place b)
         → Reads (WritesInline env (t.term_reference id attr args) place) b (and_then (s.maybe_arguments_with env (s.pattern_written env) args place b) (λ called c. s.target_written env (s.pattern_written env) (t.term_reference id attr args) (s.term_target id attr (env.find id)) (s.in_term called.named place) c))
     term-reads id attr args place b h first =
         let x = s.maybe_arguments_with env (s.pattern_written env) args place b in
@@ -143,7 +143,7 @@ module _ {S F : Type 0} (env : Environment S F) where
     mutual
       unfolding s.expression_with s.inline_with s.value_with s.maybe_arguments_with s.arguments_with s.positional_with s.named_with
 
-      expression-reads : (e : Expression) (place : Place S) (b : Budget) → left b ≤ n → Reads (Writes env e place) b (s.expression_written env e place b)
+      expression-reads : (e : Expression) (place : Surroundings S) (b : Budget) → left b ≤ n → Reads (Writes env e place) b (s.expression_written env e place b)
       expression-reads (inline i) place b h = reads-as (λ w ys n q. u.of_inline q) (inline-reads i place b h)
       expression-reads (select i vs) place b h =
           let x = s.value_found env i place b in
@@ -151,7 +151,7 @@ module _ {S F : Type 0} (env : Environment S F) where
           (λ v c. variant-tells env (s.pattern_written env) (pattern-tells env) (chosen env.plurals v vs) place c) (value-reads i place b h)
           (λ m p. variant-reads i vs place x.value x.errors m p (chosen env.plurals x.value vs) refl x.budget (le_trans (value-falls env (s.pattern_written env) (pattern-falls env) i place b).le h))
 
-      inline-reads : (i : Inline) (place : Place S) (b : Budget) → left b ≤ n → Reads (WritesInline env i place) b (s.inline_written env i place b)
+      inline-reads : (i : Inline) (place : Surroundings S) (b : Budget) → left b ≤ n → Reads (WritesInline env i place) b (s.inline_written env i place b)
       inline-reads (t.string_literal x) place b h = reads-none b u.of_string
       inline-reads (t.number_literal x) place b h = reads-none b u.of_number
       inline-reads (t.function_reference id args) place b h =
@@ -164,7 +164,7 @@ module _ {S F : Type 0} (env : Environment S F) where
       inline-reads (t.variable_reference id) place b h = reads-comes (s.variable_written env id (s.variable env id place) place) (variable_written-comes env id (s.variable env id place) place) u.of_variable b
       inline-reads (t.nested e) place b h = reads-as (λ w ys n q. u.of_nested q) (expression-reads e place b h)
 
-      value-reads : (i : Inline) (place : Place S) (b : Budget) → left b ≤ n → Reads (Finds env i place) b (s.value_found env i place b)
+      value-reads : (i : Inline) (place : Surroundings S) (b : Budget) → left b ≤ n → Reads (Finds env i place) b (s.value_found env i place b)
       value-reads (t.string_literal x) place b h = reads-none b u.string_value
       value-reads (t.number_literal x) place b h = reads-none b u.number_value
       value-reads (t.function_reference id args) place b h =
@@ -177,18 +177,18 @@ module _ {S F : Type 0} (env : Environment S F) where
       value-reads (t.variable_reference id) place b h = reads-comes (s.variable_found env id (s.variable env id place) place) (variable_found-comes env id (s.variable env id place) place) u.variable_value b
       value-reads (t.nested e) place b h = reads-map v.text (λ w ys n q. u.nested_value q) (expression-reads e place b h)
 
-      maybe_arguments-reads : (args : MaybeArguments) (place : Place S) (b : Budget) → left b ≤ n → Reads (MayCall env args place) b (s.maybe_arguments_with env (s.pattern_written env) args place b)
+      maybe_arguments-reads : (args : MaybeArguments) (place : Surroundings S) (b : Budget) → left b ≤ n → Reads (MayCall env args place) b (s.maybe_arguments_with env (s.pattern_written env) args place b)
       maybe_arguments-reads no_arguments place b h = reads-none b u.without
       maybe_arguments-reads (with_arguments args) place b h = reads-as (λ w ys n q. u.with_some q) (arguments-reads args place b h)
 
-      arguments-reads : (args : Arguments) (place : Place S) (b : Budget) → left b ≤ n → Reads (Calls env args place) b (s.arguments_with env (s.pattern_written env) args place b)
+      arguments-reads : (args : Arguments) (place : Surroundings S) (b : Budget) → left b ≤ n → Reads (Calls env args place) b (s.arguments_with env (s.pattern_written env) args place b)
       arguments-reads (arguments ps ns) place b h =
           let x = s.positional_with env (s.pattern_written env) ps place b in
           reads-then (FindsAll env ps place) (Calls env (arguments ps ns) place) (λ vs c. mapped (s.both vs) (s.named_with env (s.pattern_written env) ns place c))
           (λ vs c. tells-mapped (s.both vs) (named-tells env (s.pattern_written env) (pattern-tells env) ns place c)) (positional-reads ps place b h)
           (λ m p. reads-map (s.both x.value) (λ pairs ys n q. u.arguments_found p q) (named-reads ns place x.budget (le_trans (positional-falls env (s.pattern_written env) (pattern-falls env) ps place b).le h)))
 
-      positional-reads : (ps : Inlines) (place : Place S) (b : Budget) → left b ≤ n → Reads (FindsAll env ps place) b (s.positional_with env (s.pattern_written env) ps place b)
+      positional-reads : (ps : Inlines) (place : Surroundings S) (b : Budget) → left b ≤ n → Reads (FindsAll env ps place) b (s.positional_with env (s.pattern_written env) ps place b)
       positional-reads no_inlines place b h = reads-none b u.no_more
       positional-reads (positional e ps) place b h =
           let x = s.value_found env e place b in
@@ -196,7 +196,7 @@ module _ {S F : Type 0} (env : Environment S F) where
           (λ v c. tells-mapped (λ vs. v ∷ vs) (positional-tells env (s.pattern_written env) (pattern-tells env) ps place c)) (value-reads e place b h)
           (λ m p. reads-map (λ vs. x.value ∷ vs) (λ vs ys n q. u.one_more p q) (positional-reads ps place x.budget (le_trans (value-falls env (s.pattern_written env) (pattern-falls env) e place b).le h)))
 
-      named-reads : (ns : Nameds) (place : Place S) (b : Budget) → left b ≤ n → Reads (FindsNamed env ns place) b (s.named_with env (s.pattern_written env) ns place b)
+      named-reads : (ns : Nameds) (place : Surroundings S) (b : Budget) → left b ≤ n → Reads (FindsNamed env ns place) b (s.named_with env (s.pattern_written env) ns place b)
       named-reads no_nameds place b h = reads-none b u.no_more_named
       named-reads (named y e ns) place b h =
           let x = s.value_found env e place b in
@@ -205,8 +205,8 @@ module _ {S F : Type 0} (env : Environment S F) where
           (λ m p. reads-map (λ pairs. (y, x.value) ∷ pairs) (λ pairs ys n q. u.one_more_named p q) (named-reads ns place x.budget (le_trans (value-falls env (s.pattern_written env) (pattern-falls env) e place b).le h)))
 
   -- expressions below a budget
-  module _ (n : ℕ) (writes : (e : Expression) (place : Place S) (b : Budget) → left b < n → Reads (Writes env e place) b (s.expression_written env e place b)) where
-    placeable-reads : (whole : Elements) (e : Expression) (place : Place S) (b : Budget) → left b ≤ n → Reads (OpensTo env whole e place) b (s.placeable_with env (s.expression_written env) whole e place b)
+  module _ (n : ℕ) (writes : (e : Expression) (place : Surroundings S) (b : Budget) → left b < n → Reads (Writes env e place) b (s.expression_written env e place b)) where
+    placeable-reads : (whole : Elements) (e : Expression) (place : Surroundings S) (b : Budget) → left b ≤ n → Reads (OpensTo env whole e place) b (s.placeable_with env (s.expression_written env) whole e place b)
     placeable-reads whole e place shut h = record { reads = λ j k f o. absurd (not_open k f) }
     placeable-reads whole e place (may_open zero) h = record { reads = λ j k f o. absurd (not_open j o) }
     placeable-reads whole e place (may_open (suc i)) h = record {
@@ -219,7 +219,7 @@ module _ {S F : Type 0} (env : Environment S F) where
         one_more : (m j i k : ℕ) → m + j ≡ i → suc i ≡ k → suc m + j ≡ k
         one_more m j i k h l = omega (arith, h, l)
 
-    elements-reads : (whole es : Elements) (place : Place S) (b : Budget) → left b ≤ n → Reads (Gives env whole es place) b (s.elements_written env whole es place b)
+    elements-reads : (whole es : Elements) (place : Surroundings S) (b : Budget) → left b ≤ n → Reads (Gives env whole es place) b (s.elements_written env whole es place b)
     unfolding s.elements_with
     elements-reads whole no_elements place b h = reads-none b u.nothing
     elements-reads whole (t.text x es) place shut h = record { reads = λ j k e o. absurd (not_open k e) }
@@ -230,7 +230,7 @@ module _ {S F : Type 0} (env : Environment S F) where
         (λ r c. tells-mapped (λ q. r ++ q) (elements-tells env (s.expression_written env) (expression-tells env (s.pattern_written env) (pattern-tells env)) whole es place c)) (placeable-reads whole e place b h)
         (λ m p. reads-map (λ q. x.value ++ q) (λ r ys n q. gives_both p q) (elements-reads whole es place x.budget (le_trans (placeable-falls env (s.expression_written env) (expression-falls env (s.pattern_written env) (pattern-falls env)) whole e place b).le h)))
 
-  pattern-reads : (n : ℕ) (es : Elements) (place : Place S) (b : Budget) → left b ≤ n → Reads (Gives env es es place) b (s.pattern_written env es place b)
+  pattern-reads : (n : ℕ) (es : Elements) (place : Surroundings S) (b : Budget) → left b ≤ n → Reads (Gives env es es place) b (s.pattern_written env es place b)
   pattern-reads zero es place b h = reads-by (s.elements_written env es es place b) (s.pattern_written env es place b) (pattern-is env es place b) (elements-reads zero (λ e p c lt. absurd (nothing_below lt)) es es place b h)
     where
       nothing_below : {m : ℕ} → m < 0 → ⊥

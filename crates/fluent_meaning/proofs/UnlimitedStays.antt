@@ -13,7 +13,7 @@ use Rattle.fluent_meaning.specs.Fallback.{braced, fallback}
 use Rattle.fluent_meaning.specs.Ids.{Meaning, number_function, function, message, term}
 use Rattle.fluent_meaning.specs.Steps.{Budget, may_open, shut, is_shut, Done, done, faulty, and_then, mapped, opening, entering}
 use Rattle.fluent_meaning.specs.Substitution as s
-use Rattle.fluent_meaning.specs.Substitution.{Place, Called, Target, there, missing, is_on_path, deeper, Writer, outset}
+use Rattle.fluent_meaning.specs.Substitution.{Surroundings, Called, Target, there, missing, is_on_path, deeper, Writer, outset}
 use Rattle.fluent_meaning.specs.Unlimited as u
 use Rattle.fluent_meaning.specs.Unlimited.{Gives, Writes, WritesInline, Refers, Finds, MayCall, Calls, FindsAll, FindsNamed}
 use Rattle.fluent_meaning.specs.UnlimitedLaws.{Comes, LimitStays}
@@ -66,11 +66,11 @@ rest_left : (n k : ℕ) → n ≤ k → n + (k - n) ≡ k
 rest_left n k h = omega (arith, h)
 
 module _ {S F : Type 0} (env : Environment S F) where
-  pub variable_written-comes : (id : Text) (o : Option (Value S)) (place : Place S) (k : ℕ) → Comes (s.variable_written env id o place shut).value (s.variable_written env id o place shut).errors (may_open k) (s.variable_written env id o place (may_open k))
+  pub variable_written-comes : (id : Text) (o : Option (Value S)) (place : Surroundings S) (k : ℕ) → Comes (s.variable_written env id o place shut).value (s.variable_written env id o place shut).errors (may_open k) (s.variable_written env id o place (may_open k))
   variable_written-comes id (Some v) place k = comes-done
   variable_written-comes id None place k = either-comes (is_some place.locals) (braced (dollar ∷ id)) (unknown (to_variable id)) k
 
-  pub variable_found-comes : (id : Text) (o : Option (Value S)) (place : Place S) (k : ℕ) → Comes (s.variable_found env id o place shut).value (s.variable_found env id o place shut).errors (may_open k) (s.variable_found env id o place (may_open k))
+  pub variable_found-comes : (id : Text) (o : Option (Value S)) (place : Surroundings S) (k : ℕ) → Comes (s.variable_found env id o place shut).value (s.variable_found env id o place shut).errors (may_open k) (s.variable_found env id o place (may_open k))
   variable_found-comes id (Some v) place k = comes-done
   variable_found-comes id None place k = either-comes (is_some place.locals) v.error (unknown (to_variable id)) k
 
@@ -107,13 +107,13 @@ module _ {S F : Type 0} (env : Environment S F) where
   surrounded-comes false p = p
 
   -- a pattern, by its elements
-  pub entered-comes : {r : Text} {xs : List Unresolved} {c : Budget} (es : Elements) (place : Place S) (b : Budget) → Comes r xs c (s.elements_written env es es place b) → Comes r xs c (s.pattern_written env es place b)
+  pub entered-comes : {r : Text} {xs : List Unresolved} {c : Budget} (es : Elements) (place : Surroundings S) (b : Budget) → Comes r xs c (s.elements_written env es es place b) → Comes r xs c (s.pattern_written env es place b)
   entered-comes es place b p = comes-by (s.elements_written env es es place b) (s.pattern_written env es place b) (pattern-is env es place b) p
 
   mutual
     unfolding s.expression_with s.inline_with s.value_with s.maybe_arguments_with s.arguments_with s.positional_with s.named_with s.elements_with
 
-    pub gives-comes : {whole es : Elements} {place : Place S} {r : Text} {xs : List Unresolved} {n : ℕ} → Gives env whole es place r xs n → (k : ℕ) → Comes r xs (may_open k) (s.elements_written env whole es place (may_open (n + k)))
+    pub gives-comes : {whole es : Elements} {place : Surroundings S} {r : Text} {xs : List Unresolved} {n : ℕ} → Gives env whole es place r xs n → (k : ℕ) → Comes r xs (may_open k) (s.elements_written env whole es place (may_open (n + k)))
     gives-comes (u.nothing {whole = whole} {place = place}) k = comes-at k (0 + k) (s.elements_written env whole no_elements place) (none_used k) comes-done
     gives-comes (u.a_text {whole = whole} {x = x} {es = es} {place = place} p) k = comes-then {xs = []} (λ q c. mapped (λ r. q ++ r) (s.elements_written env whole es place c)) comes-done (comes-mapped (λ r. env.transformed x ++ r) (gives-comes p k))
     gives-comes (u.a_placeable {whole = whole} {e = e} {es = es} {place = place} {q = q} {m = m} {n = n} p h) k =
@@ -122,7 +122,7 @@ module _ {S F : Type 0} (env : Environment S F) where
         (comes-opening (surrounded-comes (s.is_isolated env whole e) (closed-comes e (writes-comes p (n + k)))))
         (comes-mapped (λ r. u.marked env whole e q ++ r) (gives-comes h k)))
 
-    pub writes-comes : {e : Expression} {place : Place S} {r : Text} {xs : List Unresolved} {n : ℕ} → Writes env e place r xs n → (k : ℕ) → Comes r xs (may_open k) (s.expression_written env e place (may_open (n + k)))
+    pub writes-comes : {e : Expression} {place : Surroundings S} {r : Text} {xs : List Unresolved} {n : ℕ} → Writes env e place r xs n → (k : ℕ) → Comes r xs (may_open k) (s.expression_written env e place (may_open (n + k)))
     writes-comes (u.of_inline p) k = inline-comes p k
     writes-comes (u.no_variant {i = i} {vs = vs} {place = place} {v = v} {n = n} p e) k =
         comes-then (λ v c. s.variant_written env (s.pattern_written env) (chosen env.plurals v vs) place c) (finds-comes p k)
@@ -133,7 +133,7 @@ module _ {S F : Type 0} (env : Environment S F) where
         (comes-by (s.variant_written env (s.pattern_written env) (Some es) place (may_open (n + k))) (s.variant_written env (s.pattern_written env) (chosen env.plurals v vs) place (may_open (n + k))) (ap (λ o. s.variant_written env (s.pattern_written env) o place (may_open (n + k))) e)
         (comes-entering (entered-comes es place (may_open (n + k)) (gives-comes h k)))))
 
-    pub inline-comes : {i : Inline} {place : Place S} {r : Text} {xs : List Unresolved} {n : ℕ} → WritesInline env i place r xs n → (k : ℕ) → Comes r xs (may_open k) (s.inline_written env i place (may_open (n + k)))
+    pub inline-comes : {i : Inline} {place : Surroundings S} {r : Text} {xs : List Unresolved} {n : ℕ} → WritesInline env i place r xs n → (k : ℕ) → Comes r xs (may_open k) (s.inline_written env i place (may_open (n + k)))
     inline-comes (u.of_string {x = x} {place = place}) k = comes-at k (0 + k) (s.inline_written env (t.string_literal x) place) (none_used k) comes-done
     inline-comes (u.of_number {x = x} {place = place}) k = comes-at k (0 + k) (s.inline_written env (t.number_literal x) place) (none_used k) comes-done
     inline-comes (u.of_variable {id = id} {place = place}) k = comes-at k (0 + k) (s.inline_written env (t.variable_reference id) place) (none_used k) (variable_written-comes id (s.variable env id place) place k)
@@ -144,7 +144,7 @@ module _ {S F : Type 0} (env : Environment S F) where
         (comes-then (λ called c. s.target_written env (s.pattern_written env) (t.term_reference id attr args) (s.term_target id attr (env.find id)) (s.in_term called.named place) c) (may_call-comes p (n + k)) (refers-comes h k))
     inline-comes (u.of_nested p) k = writes-comes p k
 
-    pub refers-comes : {i : Inline} {o : Target} {place : Place S} {r : Text} {xs : List Unresolved} {n : ℕ} → Refers env i o place r xs n → (k : ℕ) → Comes r xs (may_open k) (s.target_written env (s.pattern_written env) i o place (may_open (n + k)))
+    pub refers-comes : {i : Inline} {o : Target} {place : Surroundings S} {r : Text} {xs : List Unresolved} {n : ℕ} → Refers env i o place r xs n → (k : ℕ) → Comes r xs (may_open k) (s.target_written env (s.pattern_written env) i o place (may_open (n + k)))
     refers-comes (u.to_nothing {i = i} {e = e} {place = place}) k = comes-at k (0 + k) (s.target_written env (s.pattern_written env) i (missing e) place) (none_used k) comes-done
     refers-comes (u.to_itself {i = i} {es = es} {place = place} h) k =
         comes-at k (0 + k) (s.target_written env (s.pattern_written env) i (there es) place) (none_used k)
@@ -153,7 +153,7 @@ module _ {S F : Type 0} (env : Environment S F) where
         comes-by _ _ (ap (λ c. cond c (s.fallen_back env i cyclic (may_open (n + k))) (entering (s.pattern_written env es (deeper es place) (may_open (n + k))))) h)
         (comes-entering (entered-comes es (deeper es place) (may_open (n + k)) (gives-comes p k)))
 
-    pub finds-comes : {i : Inline} {place : Place S} {v : Value S} {xs : List Unresolved} {n : ℕ} → Finds env i place v xs n → (k : ℕ) → Comes v xs (may_open k) (s.value_found env i place (may_open (n + k)))
+    pub finds-comes : {i : Inline} {place : Surroundings S} {v : Value S} {xs : List Unresolved} {n : ℕ} → Finds env i place v xs n → (k : ℕ) → Comes v xs (may_open k) (s.value_found env i place (may_open (n + k)))
     finds-comes (u.string_value {x = x} {place = place}) k = comes-at k (0 + k) (s.value_found env (t.string_literal x) place) (none_used k) comes-done
     finds-comes (u.number_value {x = x} {place = place}) k = comes-at k (0 + k) (s.value_found env (t.number_literal x) place) (none_used k) comes-done
     finds-comes (u.variable_value {id = id} {place = place}) k = comes-at k (0 + k) (s.value_found env (t.variable_reference id) place) (none_used k) (variable_found-comes id (s.variable env id place) place k)
@@ -162,22 +162,22 @@ module _ {S F : Type 0} (env : Environment S F) where
     finds-comes (u.term_value p) k = comes-mapped v.text (inline-comes p k)
     finds-comes (u.nested_value p) k = comes-mapped v.text (writes-comes p k)
 
-    pub may_call-comes : {args : MaybeArguments} {place : Place S} {called : Called S} {xs : List Unresolved} {n : ℕ} → MayCall env args place called xs n → (k : ℕ) → Comes called xs (may_open k) (s.maybe_arguments_with env (s.pattern_written env) args place (may_open (n + k)))
+    pub may_call-comes : {args : MaybeArguments} {place : Surroundings S} {called : Called S} {xs : List Unresolved} {n : ℕ} → MayCall env args place called xs n → (k : ℕ) → Comes called xs (may_open k) (s.maybe_arguments_with env (s.pattern_written env) args place (may_open (n + k)))
     may_call-comes (u.without {place = place}) k = comes-at k (0 + k) (s.maybe_arguments_with env (s.pattern_written env) no_arguments place) (none_used k) comes-done
     may_call-comes (u.with_some p) k = calls-comes p k
 
-    pub calls-comes : {args : Arguments} {place : Place S} {called : Called S} {xs : List Unresolved} {n : ℕ} → Calls env args place called xs n → (k : ℕ) → Comes called xs (may_open k) (s.arguments_with env (s.pattern_written env) args place (may_open (n + k)))
+    pub calls-comes : {args : Arguments} {place : Surroundings S} {called : Called S} {xs : List Unresolved} {n : ℕ} → Calls env args place called xs n → (k : ℕ) → Comes called xs (may_open k) (s.arguments_with env (s.pattern_written env) args place (may_open (n + k)))
     calls-comes (u.arguments_found {ps = ps} {ns = ns} {place = place} {vs = vs} {m = m} {n = n} p h) k =
         comes-at (m + (n + k)) ((m + n) + k) (s.arguments_with env (s.pattern_written env) (arguments ps ns) place) (used_then m n k)
         (comes-then (λ vs c. mapped (s.both vs) (s.named_with env (s.pattern_written env) ns place c)) (all-comes p (n + k)) (comes-mapped (s.both vs) (named-comes h k)))
 
-    pub all-comes : {ps : Inlines} {place : Place S} {vs : List (Value S)} {xs : List Unresolved} {n : ℕ} → FindsAll env ps place vs xs n → (k : ℕ) → Comes vs xs (may_open k) (s.positional_with env (s.pattern_written env) ps place (may_open (n + k)))
+    pub all-comes : {ps : Inlines} {place : Surroundings S} {vs : List (Value S)} {xs : List Unresolved} {n : ℕ} → FindsAll env ps place vs xs n → (k : ℕ) → Comes vs xs (may_open k) (s.positional_with env (s.pattern_written env) ps place (may_open (n + k)))
     all-comes (u.no_more {place = place}) k = comes-at k (0 + k) (s.positional_with env (s.pattern_written env) no_inlines place) (none_used k) comes-done
     all-comes (u.one_more {e = e} {ps = ps} {place = place} {v = v} {m = m} {n = n} p h) k =
         comes-at (m + (n + k)) ((m + n) + k) (s.positional_with env (s.pattern_written env) (positional e ps) place) (used_then m n k)
         (comes-then (λ v c. mapped (λ vs. v ∷ vs) (s.positional_with env (s.pattern_written env) ps place c)) (finds-comes p (n + k)) (comes-mapped (λ vs. v ∷ vs) (all-comes h k)))
 
-    pub named-comes : {ns : Nameds} {place : Place S} {pairs : List (Text × Value S)} {xs : List Unresolved} {n : ℕ} → FindsNamed env ns place pairs xs n → (k : ℕ) → Comes pairs xs (may_open k) (s.named_with env (s.pattern_written env) ns place (may_open (n + k)))
+    pub named-comes : {ns : Nameds} {place : Surroundings S} {pairs : List (Text × Value S)} {xs : List Unresolved} {n : ℕ} → FindsNamed env ns place pairs xs n → (k : ℕ) → Comes pairs xs (may_open k) (s.named_with env (s.pattern_written env) ns place (may_open (n + k)))
     named-comes (u.no_more_named {place = place}) k = comes-at k (0 + k) (s.named_with env (s.pattern_written env) no_nameds place) (none_used k) comes-done
     named-comes (u.one_more_named {x = x} {e = e} {ns = ns} {place = place} {v = v} {m = m} {n = n} p h) k =
         comes-at (m + (n + k)) ((m + n) + k) (s.named_with env (s.pattern_written env) (named x e ns) place) (used_then m n k)

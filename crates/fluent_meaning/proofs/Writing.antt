@@ -9,7 +9,7 @@ use Rattle.fluent_ast.specs.View.{Element, text, placeable, elements_of}
 use Rattle.fluent_meaning.specs.Environment.{Environment}
 use Rattle.fluent_meaning.specs.Steps.{Budget, shut, Done, done, and_then, mapped, beside}
 use Rattle.fluent_meaning.specs.Substitution as s
-use Rattle.fluent_meaning.specs.Substitution.{Place, Writer}
+use Rattle.fluent_meaning.specs.Substitution.{Surroundings, Writer}
 use Rattle.fluent_meaning.specs.Told.{State, Writes, after, capped, in_byte}
 use Rattle.fluent_meaning.specs.Work.{times_too_many}
 use Rattle.fluent_meaning.proofs.ToldOnce.{times-append}
@@ -66,7 +66,7 @@ beside-done b g = λ i. record { value = (g b).value; errors = (g b).errors; bud
     zero_plus : (n : ℕ) → 0 + n ≡ n
     zero_plus n = omega arith
 
-module _ {S F : Type 0} (env : Environment S F) (write : Writer env Expression) (whole : Elements) (place : Place S) where
+module _ {S F : Type 0} (env : Environment S F) (write : Writer env Expression) (whole : Elements) (place : Surroundings S) where
   -- the elements after others
   pub elements-append : (xs ys : List Element) (b : Budget) → s.elements_with env write whole (elements_of (xs ++ ys)) place b ≡ beside (s.elements_with env write whole (elements_of xs) place b) (λ c. s.elements_with env write whole (elements_of ys) place c)
   unfolding s.elements_with

@@ -22,13 +22,13 @@ abbrev pub most_placeables : ℕ
 most_placeables = 100
 
 -- What is passed down: the request's arguments, a term's own in their place, and the patterns entered.
-pub record Place (S : Type 0) : Type 0 where
+pub record Surroundings (S : Type 0) : Type 0 where
   pub arguments : List (Text × Value S)
   pub locals : Option (List (Text × Value S))
   pub path : List Elements
 
 -- a request's own place
-abbrev pub outset : {S : Type 0} → List (Text × Value S) → Place S
+abbrev pub outset : {S : Type 0} → List (Text × Value S) → Surroundings S
 outset args = record { arguments = args; locals = None; path = [] }
 
 -- whether a pattern of this content is being written
@@ -36,7 +36,7 @@ abbrev pub is_on_path : Elements → List Elements → Bool
 is_on_path es path = list_any (same_elements es) path
 
 -- with a pattern more on the path
-abbrev pub deeper : {S : Type 0} → Elements → Place S → Place S
+abbrev pub deeper : {S : Type 0} → Elements → Surroundings S → Surroundings S
 deeper es place = record { arguments = place.arguments; locals = place.locals; path = place.path ++ es ∷ [] }
 
 -- the first pattern in which a placeable opens goes on the path
@@ -44,11 +44,11 @@ abbrev pub rooted_path : Elements → List Elements → List Elements
 rooted_path whole [] = whole ∷ []
 rooted_path whole (es ∷ path) = es ∷ path
 
-abbrev pub rooted : {S : Type 0} → Elements → Place S → Place S
+abbrev pub rooted : {S : Type 0} → Elements → Surroundings S → Surroundings S
 rooted whole place = record { arguments = place.arguments; locals = place.locals; path = rooted_path whole place.path }
 
 -- inside a term that was given these arguments
-abbrev pub in_term : {S : Type 0} → List (Text × Value S) → Place S → Place S
+abbrev pub in_term : {S : Type 0} → List (Text × Value S) → Surroundings S → Surroundings S
 in_term given place = record { arguments = place.arguments; locals = Some given; path = place.path }
 
 -- the arguments that count: a term's own, if there is one around
@@ -116,7 +116,7 @@ both vs pairs = record { positional = vs; named = all_set [] pairs }
 module _ {S F : Type 0} (env : Environment S F) where
   -- how something is written or found at a place, with a budget
   abbrev pub Writer : Type 0 → Type 0
-  Writer A = A → Place S → Budget → Done Text
+  Writer A = A → Surroundings S → Budget → Done Text
 
   -- the fallback in braces
   abbrev pub fallen_back : Inline → Unresolved → Budget → Done Text
@@ -131,29 +131,29 @@ module _ {S F : Type 0} (env : Environment S F) where
   missed_written i b = missed i (reference_of i) b
 
   -- a reference to a pattern, by the expression that refers to it
-  abbrev pub referred : Writer Elements → Inline → Elements → Place S → Budget → Done Text
+  abbrev pub referred : Writer Elements → Inline → Elements → Surroundings S → Budget → Done Text
   referred enter i es place b =
       if is_on_path es place.path then fallen_back i cyclic b
       else entering (enter es (deeper es place) b)
 
   -- what a reference leads to: the pattern that it enters, or its fallback
-  abbrev pub target_written : Writer Elements → Inline → Target → Place S → Budget → Done Text
+  abbrev pub target_written : Writer Elements → Inline → Target → Surroundings S → Budget → Done Text
   target_written enter i (there es) place b = referred enter i es place b
   target_written enter i (missing e) place b = fallen_back i e b
 
   -- the value of a variable: inside a term one of its arguments, otherwise one of the request's
-  abbrev pub variable : Text → Place S → Option (Value S)
+  abbrev pub variable : Text → Surroundings S → Option (Value S)
   variable id place = argument id (locals_or place.arguments place.locals)
 
   -- a missing variable is reported only outside terms
-  abbrev pub missing_variable : {A : Type 0} → A → Text → Place S → Budget → Done A
+  abbrev pub missing_variable : {A : Type 0} → A → Text → Surroundings S → Budget → Done A
   missing_variable v id place b = if is_some place.locals then done v b else faulty v (unknown (to_variable id)) b
 
-  abbrev pub variable_written : Text → Option (Value S) → Place S → Budget → Done Text
+  abbrev pub variable_written : Text → Option (Value S) → Surroundings S → Budget → Done Text
   variable_written id (Some v) place b = done (value_text env v) b
   variable_written id None place b = missing_variable (braced (dollar ∷ id)) id place b
 
-  abbrev pub variable_found : Text → Option (Value S) → Place S → Budget → Done (Value S)
+  abbrev pub variable_found : Text → Option (Value S) → Surroundings S → Budget → Done (Value S)
   variable_found id (Some v) place b = done v b
   variable_found id None place b = missing_variable v.error id place b
 
@@ -181,7 +181,7 @@ module _ {S F : Type 0} (env : Environment S F) where
   call_found (Some (term m)) args b = done v.error b
 
   -- the variant of a select
-  abbrev pub variant_written : Writer Elements → Option Elements → Place S → Budget → Done Text
+  abbrev pub variant_written : Writer Elements → Option Elements → Surroundings S → Budget → Done Text
   variant_written enter None place b = faulty [] missing_default b
   variant_written enter (Some es) place b = entering (enter es place b)
 
@@ -189,11 +189,11 @@ module _ {S F : Type 0} (env : Environment S F) where
   module _ (enter : Writer Elements) where
     unfoldable mutual
       -- an expression, written
-      pub expression_with : Expression → Place S → Budget → Done Text
+      pub expression_with : Expression → Surroundings S → Budget → Done Text
       expression_with (inline i) place b = inline_with i place b
       expression_with (select i vs) place b = and_then (value_with i place b) (λ v c. variant_written enter (chosen env.plurals v vs) place c)
 
-      pub inline_with : Inline → Place S → Budget → Done Text
+      pub inline_with : Inline → Surroundings S → Budget → Done Text
       inline_with (t.string_literal s) place b = done (unescaped s) b
       inline_with (t.number_literal s) place b = done (value_text env (number_or_text s)) b
       inline_with (t.function_reference id args) place b = and_then (arguments_with args place b) (λ called c. call_written (t.function_reference id args) id (env.find id) called c)
@@ -203,7 +203,7 @@ module _ {S F : Type 0} (env : Environment S F) where
       inline_with (t.nested e) place b = expression_with e place b
 
       -- an expression's value, as a selector or an argument
-      pub value_with : Inline → Place S → Budget → Done (Value S)
+      pub value_with : Inline → Surroundings S → Budget → Done (Value S)
       value_with (t.string_literal s) place b = done (v.text (unescaped s)) b
       value_with (t.number_literal s) place b = done (number_or_text s) b
       value_with (t.function_reference id args) place b = and_then (arguments_with args place b) (λ called c. call_found (env.find id) called c)
@@ -212,19 +212,19 @@ module _ {S F : Type 0} (env : Environment S F) where
       value_with (t.variable_reference id) place b = variable_found id (variable id place) place b
       value_with (t.nested e) place b = mapped v.text (expression_with e place b)
 
-      pub maybe_arguments_with : MaybeArguments → Place S → Budget → Done (Called S)
+      pub maybe_arguments_with : MaybeArguments → Surroundings S → Budget → Done (Called S)
       maybe_arguments_with no_arguments place b = done (record { positional = []; named = [] }) b
       maybe_arguments_with (with_arguments args) place b = arguments_with args place b
 
       -- positional arguments before named ones; the last of a name counts
-      pub arguments_with : Arguments → Place S → Budget → Done (Called S)
+      pub arguments_with : Arguments → Surroundings S → Budget → Done (Called S)
       arguments_with (arguments ps ns) place b = and_then (positional_with ps place b) (λ vs c. mapped (both vs) (named_with ns place c))
 
-      pub positional_with : Inlines → Place S → Budget → Done (List (Value S))
+      pub positional_with : Inlines → Surroundings S → Budget → Done (List (Value S))
       positional_with no_inlines place b = done [] b
       positional_with (positional e ps) place b = and_then (value_with e place b) (λ v c. mapped (λ vs. v ∷ vs) (positional_with ps place c))
 
-      pub named_with : Nameds → Place S → Budget → Done (List (Text × Value S))
+      pub named_with : Nameds → Surroundings S → Budget → Done (List (Text × Value S))
       named_with no_nameds place b = done [] b
       named_with (named x e ns) place b = and_then (value_with e place b) (λ v c. mapped (λ pairs. (x, v) ∷ pairs) (named_with ns place c))
 
@@ -256,7 +256,7 @@ module _ {S F : Type 0} (env : Environment S F) where
   text_written s shut = done [] shut
 
   -- the elements of a pattern that are left, by how an expression is written
-  unfoldable pub elements_with : Writer Expression → Elements → Elements → Place S → Budget → Done Text
+  unfoldable pub elements_with : Writer Expression → Elements → Elements → Surroundings S → Budget → Done Text
   elements_with write whole no_elements place b = done [] b
   elements_with write whole (text s es) place b = beside (text_written s b) (λ c. elements_with write whole es place c)
   elements_with write whole (placeable e es) place b = beside (placeable_with write whole e place b) (λ c. elements_with write whole es place c)
@@ -277,17 +277,17 @@ module _ {S F : Type 0} (env : Environment S F) where
   abbrev pub inline_written : Writer Inline
   inline_written = inline_with pattern_written
 
-  abbrev pub value_found : Inline → Place S → Budget → Done (Value S)
+  abbrev pub value_found : Inline → Surroundings S → Budget → Done (Value S)
   value_found = value_with pattern_written
 
   -- call arguments, if there are any; positional ones, and named ones
-  abbrev pub arguments_found : MaybeArguments → Place S → Budget → Done (Called S)
+  abbrev pub arguments_found : MaybeArguments → Surroundings S → Budget → Done (Called S)
   arguments_found = maybe_arguments_with pattern_written
 
-  abbrev pub positional_found : Inlines → Place S → Budget → Done (List (Value S))
+  abbrev pub positional_found : Inlines → Surroundings S → Budget → Done (List (Value S))
   positional_found = positional_with pattern_written
 
-  abbrev pub named_found : Nameds → Place S → Budget → Done (List (Text × Value S))
+  abbrev pub named_found : Nameds → Surroundings S → Budget → Done (List (Text × Value S))
   named_found = named_with pattern_written
 
   -- a reference to a pattern, by this expression

@@ -8,7 +8,7 @@ use Rattle.fluent_meaning.specs.Ids.{Ids, find}
 use Rattle.fluent_meaning.specs.ReachLaws.{over}
 use Rattle.fluent_meaning.specs.Steps.{Budget, may_open, shut, left, Done}
 use Rattle.fluent_meaning.specs.Substitution as s
-use Rattle.fluent_meaning.specs.Substitution.{Place}
+use Rattle.fluent_meaning.specs.Substitution.{Surroundings}
 use Rattle.fluent_meaning.specs.Work.{times_too_many, most_references, maybe_references, most_in_maybe, ids_most, most_entered}
 
 -- the most references in one placeable: of a map of ids with a pattern, with an expression as one placeable, and with arguments
@@ -25,10 +25,10 @@ most_with_arguments ids args = max (max (maybe_references args) (most_in_maybe a
 -- reference 1 + k * R; for an expression, for a placeable that was opened before, and for arguments (k + 1) * R.
 pub record EntersAtMost (S : Type 0) (F : Type 0) (env : Environment S F) (ids : Ids F) : Type 0 where
   pub requests : (k : ℕ) (args : List (Text × Value S)) (es : Elements) → (s.formatted (over (find ids) env) k args es).entered ≤ most_entered ids es k
-  pub references : (i : Inline) (es : Elements) (place : Place S) (b : Budget) → (s.reference_written (over (find ids) env) i es place b).entered ≤ most_entered ids es (left b)
-  pub expressions : (e : Expression) (place : Place S) (b : Budget) → (s.expression_written (over (find ids) env) e place b).entered ≤ suc (left b) * most_with_expression ids e
-  pub unmarked : (whole : Elements) (e : Expression) (place : Place S) (b : Budget) → (s.unmarked_written (over (find ids) env) whole e place b).entered ≤ suc (left b) * most_with_expression ids e
-  pub arguments : (args : MaybeArguments) (place : Place S) (b : Budget) → (s.arguments_found (over (find ids) env) args place b).entered ≤ suc (left b) * most_with_arguments ids args
+  pub references : (i : Inline) (es : Elements) (place : Surroundings S) (b : Budget) → (s.reference_written (over (find ids) env) i es place b).entered ≤ most_entered ids es (left b)
+  pub expressions : (e : Expression) (place : Surroundings S) (b : Budget) → (s.expression_written (over (find ids) env) e place b).entered ≤ suc (left b) * most_with_expression ids e
+  pub unmarked : (whole : Elements) (e : Expression) (place : Surroundings S) (b : Budget) → (s.unmarked_written (over (find ids) env) whole e place b).entered ≤ suc (left b) * most_with_expression ids e
+  pub arguments : (args : MaybeArguments) (place : Surroundings S) (b : Budget) → (s.arguments_found (over (find ids) env) args place b).entered ≤ suc (left b) * most_with_arguments ids args
 
 abbrev pub EntersWithinBound : Type 0 → Type 0 → Type 0
 EntersWithinBound S F = (env : Environment S F) (ids : Ids F) → EntersAtMost S F env ids
@@ -46,11 +46,11 @@ pub record Opens {A : Type 0} (b : Budget) (a : Done A) : Type 0 where
 -- So with each pattern, reference, expression, opened placeable and list of arguments. A request with k to open opens at most k, and
 -- too many are reported of it at most once, exactly if it ends shut.
 pub record OpensAtMost (S : Type 0) (F : Type 0) (env : Environment S F) : Type 0 where
-  pub patterns : (es : Elements) (place : Place S) (b : Budget) → Opens b (s.pattern_written env es place b)
-  pub references : (i : Inline) (es : Elements) (place : Place S) (b : Budget) → Opens b (s.reference_written env i es place b)
-  pub expressions : (e : Expression) (place : Place S) (b : Budget) → Opens b (s.expression_written env e place b)
-  pub unmarked : (whole : Elements) (e : Expression) (place : Place S) (b : Budget) → Opens b (s.unmarked_written env whole e place b)
-  pub arguments : (args : MaybeArguments) (place : Place S) (b : Budget) → Opens b (s.arguments_found env args place b)
+  pub patterns : (es : Elements) (place : Surroundings S) (b : Budget) → Opens b (s.pattern_written env es place b)
+  pub references : (i : Inline) (es : Elements) (place : Surroundings S) (b : Budget) → Opens b (s.reference_written env i es place b)
+  pub expressions : (e : Expression) (place : Surroundings S) (b : Budget) → Opens b (s.expression_written env e place b)
+  pub unmarked : (whole : Elements) (e : Expression) (place : Surroundings S) (b : Budget) → Opens b (s.unmarked_written env whole e place b)
+  pub arguments : (args : MaybeArguments) (place : Surroundings S) (b : Budget) → Opens b (s.arguments_found env args place b)
   pub requests : (k : ℕ) (args : List (Text × Value S)) (es : Elements) → Opens (may_open k) (s.formatted env k args es)
   pub opened_at_most : (k : ℕ) (args : List (Text × Value S)) (es : Elements) → (s.formatted env k args es).opened ≤ k
   pub told_once : (k : ℕ) (args : List (Text × Value S)) (es : Elements) → times_too_many (s.formatted env k args es).errors ≤ 1

@@ -6,7 +6,7 @@ use Rattle.fluent_grammar.specs.Tree as t
 use Rattle.fluent_grammar.specs.Lines.{ends_line, is_blank_text, value_of}
 use Rattle.fluent_ast.specs.View.{Element, text, placeable, element_view, elements_of}
 use Rattle.fluent_ast.specs.declared.PatternElement.{PatternElement}
-use Rattle.fluent_parsed.specs.declared.gathered.Gathered.{Gathered}
+use Rattle.fluent_parsed.specs.declared.gathered.IndentedElements.{IndentedElements}
 
 -- how much of an indent is cut off
 abbrev pub cut_len : Option ℕ → ℕ → ℕ
@@ -73,5 +73,5 @@ module _ (S : Type 0) (text_of : S → Text) where
   AreDedented line common old new = plain_elements new ≡ dedented_from line common (plain_elements old)
 
   -- what the gathered elements give
-  abbrev pub gathered_value : Gathered S → Option t.Elements
+  abbrev pub gathered_value : IndentedElements S → Option t.Elements
   gathered_value g = value_by g.begins_line g.common_indent (plain_elements g.elements.items)

@@ -9,31 +9,31 @@ use Rattle.fluent_parsed.specs.declared.errors.ErrorKind.TheVariants as kind
 use Rattle.fluent_parsed.specs.declared.errors.ParserError.{ParserError}
 
 -- what an `ErrorKind` says: its variant, and the bytes of its text
-pub data Told : Type 0 where
-  expected_token : ℕ → Told
-  expected_char_range : List ℕ → Told
-  expected_message_field : List ℕ → Told
-  expected_term_field : List ℕ → Told
-  forbidden_callee : Told
-  missing_default_variant : Told
-  missing_value : Told
-  multiple_default_variants : Told
-  message_reference_as_selector : Told
-  term_reference_as_selector : Told
-  message_attribute_as_selector : Told
-  term_attribute_as_placeable : Told
-  unterminated_string_literal : Told
-  positional_argument_follows_named : Told
-  duplicated_named_argument : List ℕ → Told
-  unknown_escape_sequence : List ℕ → Told
-  invalid_unicode_escape_sequence : List ℕ → Told
-  unbalanced_closing_brace : Told
-  expected_inline_expression : Told
-  expected_simple_expression_as_selector : Told
-  expected_literal : Told
+pub data KindView : Type 0 where
+  expected_token : ℕ → KindView
+  expected_char_range : List ℕ → KindView
+  expected_message_field : List ℕ → KindView
+  expected_term_field : List ℕ → KindView
+  forbidden_callee : KindView
+  missing_default_variant : KindView
+  missing_value : KindView
+  multiple_default_variants : KindView
+  message_reference_as_selector : KindView
+  term_reference_as_selector : KindView
+  message_attribute_as_selector : KindView
+  term_attribute_as_placeable : KindView
+  unterminated_string_literal : KindView
+  positional_argument_follows_named : KindView
+  duplicated_named_argument : List ℕ → KindView
+  unknown_escape_sequence : List ℕ → KindView
+  invalid_unicode_escape_sequence : List ℕ → KindView
+  unbalanced_closing_brace : KindView
+  expected_inline_expression : KindView
+  expected_simple_expression_as_selector : KindView
+  expected_literal : KindView
 
 -- what an `ErrorKind` says
-abbrev pub kind_view : ErrorKind → Told
+abbrev pub kind_view : ErrorKind → KindView
 kind_view (kind.ExpectedToken c) = expected_token c
 kind_view (kind.ExpectedCharRange s) = expected_char_range (string_bytes s)
 kind_view (kind.ExpectedMessageField s) = expected_message_field (string_bytes s)
@@ -57,7 +57,7 @@ kind_view kind.ExpectedSimpleExpressionAsSelector = expected_simple_expression_a
 kind_view kind.ExpectedLiteral = expected_literal
 
 -- the name of the variant, which is the text that it shows
-abbrev pub kind_name : Told → List ℕ
+abbrev pub kind_name : KindView → List ℕ
 kind_name (expected_token s) = codes "ExpectedToken"
 kind_name (expected_char_range s) = codes "ExpectedCharRange"
 kind_name (expected_message_field s) = codes "ExpectedMessageField"
@@ -85,7 +85,7 @@ abbrev pub line_end_range : List ℕ
 line_end_range = line_feed ∷ space ∷ 124 ∷ space ∷ carriage_return ∷ line_feed ∷ []
 
 -- what reports a refusal
-abbrev pub told : r.Kind → Told
+abbrev pub told : r.Kind → KindView
 told (r.expected_token c) = expected_token c
 told r.expected_letter = expected_char_range (codes "a-zA-Z")
 told r.expected_digit = expected_char_range (codes "0-9")
@@ -118,7 +118,7 @@ pub record Span : Type 0 where
 pub record ErrorView : Type 0 where
   pub pos : Span
   pub slice : Option Span
-  pub kind : Told
+  pub kind : KindView
 
 -- a `Range`
 abbrev pub span : Range ℕ → Span

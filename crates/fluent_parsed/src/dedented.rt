@@ -16,7 +16,7 @@ use std::alloc::{AllocError, Global};
 /// The elements of a pattern that were read so far, whose common indent was told beforehand. A text that begins a line has
 /// lost it already, so that no text is cut twice.
 #[derive(Drop)]
-pub struct Dedented<S> {
+pub struct DedentedElements<S> {
     pub elements: Vec<PatternElement<S>>,
     /// The common indent that was told, in bytes.
     pub told: usize,
@@ -24,7 +24,7 @@ pub struct Dedented<S> {
     pub common_indent: Option<usize>,
 }
 
-impl<S: Drop> Dedented<S> {
+impl<S: Drop> DedentedElements<S> {
     /// None yet, with room for so many.
     ///
     /// # Errors
@@ -35,7 +35,7 @@ impl<S: Drop> Dedented<S> {
         ensures common_indent { IfOk result (λ none. none.common_indent ≡ None) }
     {
         let elements = Vec::with_capacity(alloc, room)?;
-        Ok(Dedented {
+        Ok(DedentedElements {
             elements,
             told,
             common_indent: None,
@@ -75,7 +75,7 @@ impl<S: Drop> Dedented<S> {
         ensures value { IfSome result (λ p. Some (pattern_view S T.text p)
             ≡ dedented_value (plain_elements S T.text self.elements.items)) }
     {
-        let Dedented {
+        let DedentedElements {
             mut elements,
             told,
             common_indent,

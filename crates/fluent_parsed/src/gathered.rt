@@ -18,7 +18,7 @@ const TYPICAL: usize = 3;
 
 /// The elements of a pattern that were read so far. A text that begins a line still has its indent.
 #[derive(Drop)]
-pub struct Gathered<S> {
+pub struct IndentedElements<S> {
     pub elements: Vec<PatternElement<S>>,
     /// Whether the first element begins a line.
     pub begins_line: bool,
@@ -26,14 +26,14 @@ pub struct Gathered<S> {
     pub common_indent: Option<usize>,
 }
 
-impl<S: Drop> Gathered<S> {
+impl<S: Drop> IndentedElements<S> {
     /// None yet. `begins_line` says whether the first one will begin a line.
     pub fn new(alloc: Global, begins_line: bool) -> Self
         ensures elements { result.elements.items ≡ [] }
         ensures begins_line { result.begins_line ≡ begins_line }
         ensures common_indent { result.common_indent ≡ None }
     {
-        Gathered {
+        IndentedElements {
             elements: Vec::new(alloc),
             begins_line,
             common_indent: None,
@@ -71,7 +71,7 @@ impl<S: Drop> Gathered<S> {
         ensures { IfOk result (λ p. option_map (pattern_view S T.text) p
             ≡ gathered_value S T.text self) }
     {
-        let Gathered {
+        let IndentedElements {
             mut elements,
             begins_line,
             common_indent,

@@ -7,7 +7,7 @@ use Rattle.fluent_grammar.specs.Lines as l
 use Rattle.fluent_grammar.specs.Lines.{Piece}
 use Rattle.fluent_grammar.specs.Reading as g
 use Rattle.fluent_ast.specs.View.{element_view}
-use Rattle.fluent_parsed.specs.declared.gathered.Gathered.{Gathered}
+use Rattle.fluent_parsed.specs.declared.gathered.IndentedElements.{IndentedElements}
 use Rattle.fluent_parsed.specs.Elements.{value_by}
 use Rattle.fluent_parsed.specs.Pieces.{undented, IsLined, Fits, line_behind_all}
 use Rattle.fluent_parsed.proofs.Gathering.{common_more, lined_more, behind_more, gathered_value}
@@ -20,7 +20,7 @@ use Rattle.fluent_parser.proofs.FittingPieces.{piece_stands}
 
 module _ (S : Type 0) (text_of : S → List ℕ) where
   -- What was gathered of the pattern that begins with u are some pieces, and what is left of it are the pieces read from here on.
-  pub record Gathers (gathered : Gathered S) (line : Bool) (rest u : Text) : Type 0 where
+  pub record Gathers (gathered : IndentedElements S) (line : Bool) (rest u : Text) : Type 0 where
     pub pieces : List Piece
     pub elements : map (element_view S text_of) gathered.elements.items ≡ map undented pieces
     pub common : gathered.common_indent ≡ l.common_indent pieces
@@ -28,7 +28,7 @@ module _ (S : Type 0) (text_of : S → List ℕ) where
     pub line_is : line ≡ line_behind_all gathered.begins_line pieces
     pub same : mapped (λ more. pieces ++ more) (pieces_by line rest) ≡ g.first_pieces_at whole u (after_line_end u)
 
-  pub gathers_none : (gathered : Gathered S) (line : Bool) (rest u : Text) → gathered.elements.items ≡ [] → gathered.begins_line ≡ line → gathered.common_indent ≡ None →
+  pub gathers_none : (gathered : IndentedElements S) (line : Bool) (rest u : Text) → gathered.elements.items ≡ [] → gathered.begins_line ≡ line → gathered.common_indent ≡ None →
       (line, rest) ≡ first_place u (after_line_end u) → Gathers gathered line rest u
   gathers_none gathered line rest u e b c p = record {
     pieces = [];
@@ -39,7 +39,7 @@ module _ (S : Type 0) (text_of : S → List ℕ) where
     same = pieces_start (λ (q : Piece). q) [] line u rest (after_line_end u) refl p;
   }
 
-  pub gathers_more : (old new : Gathered S) (line next : Bool) (s rest u : Text) → Gathers old line s u → PutsRead S text_of old new rest next (kept_piece_by line s) → Gathers new next rest u
+  pub gathers_more : (old new : IndentedElements S) (line next : Bool) (s rest u : Text) → Gathers old line s u → PutsRead S text_of old new rest next (kept_piece_by line s) → Gathers new next rest u
   gathers_more old new line next s rest u h r =
       let p = r.piece in
       let taken = kept_some line s rest (p, next) r.read_is in
@@ -53,7 +53,7 @@ module _ (S : Type 0) (text_of : S → List ℕ) where
         same = piece_read h.pieces line next s rest p (g.first_pieces_at whole u (after_line_end u)) h.same taken;
       }
 
-  pub gathers_all : (gathered : Gathered S) (line : Bool) (s rest u : Text) → Gathers gathered line s u → kept_piece_by line s ≡ got None rest →
+  pub gathers_all : (gathered : IndentedElements S) (line : Bool) (s rest u : Text) → Gathers gathered line s u → kept_piece_by line s ≡ got None rest →
       pattern_behind u ≡ got (value_by gathered.begins_line gathered.common_indent (map (element_view S text_of) gathered.elements.items)) rest
   gathers_all gathered line s rest u h k =
       kept_end s u rest line h.pieces h.same k

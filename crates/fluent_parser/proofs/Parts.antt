@@ -12,7 +12,7 @@ use Rattle.fluent_grammar.specs.Tiling.{Piece, errors_of, is_field_kind, error_o
 use Rattle.fluent_grammar.proofs.Within.{end-le, end-cons}
 use Rattle.fluent_grammar.proofs.TilesJunk.{junk-end}
 use Rattle.fluent_grammar.proofs.LawsOfDepth.{entry-took}
-use Rattle.fluent_parsed.specs.ErrorView.{Told, told, ErrorView, error_told, kind_view}
+use Rattle.fluent_parsed.specs.ErrorView.{KindView, told, ErrorView, error_told, kind_view}
 use Rattle.fluent_parser.specs.Places.{shows_entry, shown_span, error_by}
 use Rattle.fluent_tokens.specs.Counted.{Cuts}
 use Rattle.fluent_parser.specs.Reads.{Refuses}
@@ -51,7 +51,7 @@ error_same_by true k at p end = refl
 error_same_by false k at p end = refl
 
 -- the error of a refused entry
-pub error_same : (at : ℕ) (s : Text) (fault : Refusal) (kind : Told) (p end : ℕ) → kind ≡ told fault.kind → p ≡ at + (length s - length fault.at) → end ≡ at + (length s - length (behind_junk s fault.at))
+pub error_same : (at : ℕ) (s : Text) (fault : Refusal) (kind : KindView) (p end : ℕ) → kind ≡ told fault.kind → p ≡ at + (length s - length fault.at) → end ≡ at + (length s - length (behind_junk s fault.at))
     → error_by kind at p end ≡ error_told (error_of at s fault)
 error_same at s fault kind p end e f g =
     rw (e, f, g) (ap (λ (b : Bool). (let v : ErrorView = record { pos = shown_span b at (at + (length s - length fault.at)); slice = Some (record { start = at; end = at + (length s - length (behind_junk s fault.at)) }); kind = told fault.kind } in v)) (same_kinds fault.kind)

@@ -12,7 +12,7 @@ use Rattle.fluent_tokens.specs.Counted.{Cuts}
 use Rattle.fluent_tokens.proofs.Counted.{cut_none}
 use Rattle.fluent_ast.specs.declared.Pattern.{Pattern}
 use Rattle.fluent_ast.specs.View.{text, element_view}
-use Rattle.fluent_parsed.specs.declared.dedented.Dedented.{Dedented}
+use Rattle.fluent_parsed.specs.declared.dedented.DedentedElements.{DedentedElements}
 use Rattle.fluent_parsed.specs.Elements.{dedented_value, plain_elements}
 use Rattle.fluent_parsed.specs.Pieces.{undented, dedented_piece}
 use Rattle.fluent_parsed.proofs.Dedenting.{cut_among_spaces}
@@ -73,13 +73,13 @@ dedented_text s x line n k m told e f h =
 
 module _ (S : Type 0) (text_of : S → List ℕ) where
   -- What was put of the pattern that begins with u are some pieces, and what is left of it are the pieces read from here on.
-  pub record GathersPlain (dedented : Dedented S) (line : Bool) (rest u : Text) : Type 0 where
+  pub record GathersPlain (dedented : DedentedElements S) (line : Bool) (rest u : Text) : Type 0 where
     pub pieces : List Piece
     pub elements : map (element_view S text_of) dedented.elements.items ≡ map (dedented_piece (Some dedented.told)) pieces
     pub common : dedented.common_indent ≡ l.common_indent pieces
     pub same : mapped (λ more. pieces ++ more) (pieces_by line rest) ≡ g.first_pieces_at whole u (after_line_end u)
 
-  pub plain_none : (dedented : Dedented S) (line : Bool) (rest u : Text) → dedented.elements.items ≡ [] → dedented.common_indent ≡ None →
+  pub plain_none : (dedented : DedentedElements S) (line : Bool) (rest u : Text) → dedented.elements.items ≡ [] → dedented.common_indent ≡ None →
       (line, rest) ≡ first_place u (after_line_end u) → GathersPlain dedented line rest u
   plain_none dedented line rest u e c p = record {
     pieces = [];
@@ -88,7 +88,7 @@ module _ (S : Type 0) (text_of : S → List ℕ) where
     same = pieces_start (λ (q : Piece). q) [] line u rest (after_line_end u) refl p;
   }
 
-  pub plain_more : (old new : Dedented S) (line next : Bool) (s rest u : Text) → GathersPlain old line s u → PutsPiece S text_of line s rest old new next → GathersPlain new next rest u
+  pub plain_more : (old new : DedentedElements S) (line next : Bool) (s rest u : Text) → GathersPlain old line s u → PutsPiece S text_of line s rest old new next → GathersPlain new next rest u
   plain_more old new line next s rest u h r =
       let p = r.piece in
       record {
@@ -99,20 +99,20 @@ module _ (S : Type 0) (text_of : S → List ℕ) where
         same = piece_read h.pieces line next s rest p (g.first_pieces_at whole u (after_line_end u)) h.same (kept_some line s rest (p, next) r.read_is);
       }
 
-  plain_all : (dedented : Dedented S) (line : Bool) (s rest u : Text) → GathersPlain dedented line s u → dedented.common_indent ≡ Some dedented.told → kept_piece_by line s ≡ got None rest →
+  plain_all : (dedented : DedentedElements S) (line : Bool) (s rest u : Text) → GathersPlain dedented line s u → dedented.common_indent ≡ Some dedented.told → kept_piece_by line s ≡ got None rest →
       pattern_behind u ≡ got (dedented_value (plain_elements S text_of dedented.elements.items)) rest
   plain_all dedented line s rest u h e k =
       kept_end s u rest line h.pieces h.same k
       ∙ ap (λ z. got z rest) (sym (ap dedented_value (h.elements ∙ ap (λ (o : Option ℕ). map (dedented_piece o) h.pieces) (sym e ∙ h.common)) ∙ dedented_pieces h.pieces))
 
   -- what reading a plain line said
-  pub piece_put : (old new : Dedented S) (line : Bool) (s rest : Text) (found : Option Bool) (ends : Bool) → found ≡ Some ends → PutsPlain S text_of line s rest old new found → PutsPiece S text_of line s rest old new ends
+  pub piece_put : (old new : DedentedElements S) (line : Bool) (s rest : Text) (found : Option Bool) (ends : Bool) → found ≡ Some ends → PutsPlain S text_of line s rest old new found → PutsPiece S text_of line s rest old new ends
   piece_put old new line s rest found ends e h = subst (λ o. PutsPlain S text_of line s rest old new o) e h
 
-  no_piece : (old new : Dedented S) (line : Bool) (s rest : Text) (found : Option Bool) → found ≡ None → PutsPlain S text_of line s rest old new found → (rest ≡ s) × (new ≡ old)
+  no_piece : (old new : DedentedElements S) (line : Bool) (s rest : Text) (found : Option Bool) → found ≡ None → PutsPlain S text_of line s rest old new found → (rest ≡ s) × (new ≡ old)
   no_piece old new line s rest found e h = subst (λ o. PutsPlain S text_of line s rest old new o) e h
 
-  pub plain_end : (old new : Dedented S) (line : Bool) (s at rest u : Text) (found : Option Bool) (value : t.Elements) → GathersPlain old line s u → found ≡ None → PutsPlain S text_of line s at old new found →
+  pub plain_end : (old new : DedentedElements S) (line : Bool) (s at rest u : Text) (found : Option Bool) (value : t.Elements) → GathersPlain old line s u → found ≡ None → PutsPlain S text_of line s at old new found →
       new.common_indent ≡ Some new.told → kept_piece_by line at ≡ got None rest → Some value ≡ dedented_value (plain_elements S text_of new.elements.items) → pattern_behind u ≡ got (Some value) rest
   plain_end old new line s at rest u found value h e p i k v =
       let end = no_piece old new line s at found e p in

@@ -5,7 +5,7 @@ use Rattle.fluent_grammar.specs.Refusal.{got}
 use Rattle.fluent_grammar.specs.Lines.{Piece, indent_of, lesser}
 use Rattle.fluent_ast.specs.declared.Pattern.{Pattern}
 use Rattle.fluent_ast.specs.View.{element_view, pattern_view}
-use Rattle.fluent_parsed.specs.declared.dedented.Dedented.{Dedented}
+use Rattle.fluent_parsed.specs.declared.dedented.DedentedElements.{DedentedElements}
 use Rattle.fluent_parsed.specs.Pieces.{dedented_piece}
 use Rattle.fluent_parser.specs.Reads.{Fails}
 use Rattle.fluent_tokens.specs.IndentedTexts.{IsTextOf}
@@ -30,7 +30,7 @@ EndsPattern false at_line_start s rest = Unit {0}
 
 module _ (S : Type 0) (text_of : S → Text) where
   -- The next piece of a pattern was put, without the indent that was told, and it ends its line or not.
-  pub record PutsPiece (at_line_start : Bool) (s rest : Text) (old new : Dedented S) (ends_line : Bool) : Type 0 where
+  pub record PutsPiece (at_line_start : Bool) (s rest : Text) (old new : DedentedElements S) (ends_line : Bool) : Type 0 where
     pub piece : Piece
     pub read_is : kept_piece_by at_line_start s ≡ got (Some (piece, ends_line)) rest
     pub elements : map (element_view S text_of) new.elements.items ≡ map (element_view S text_of) old.elements.items ++ dedented_piece (Some old.told) piece ∷ []
@@ -38,7 +38,7 @@ module _ (S : Type 0) (text_of : S → Text) where
     pub common_indent : new.common_indent ≡ lesser old.common_indent (indent_of piece)
 
   -- the same, if there was one
-  abbrev pub PutsPlain : Bool → Text → Text → Dedented S → Dedented S → Option Bool → Type 0
+  abbrev pub PutsPlain : Bool → Text → Text → DedentedElements S → DedentedElements S → Option Bool → Type 0
   PutsPlain at_line_start s rest old new None = (rest ≡ s) × (new ≡ old)
   PutsPlain at_line_start s rest old new (Some ends_line) = PutsPiece at_line_start s rest old new ends_line
 

@@ -7,7 +7,7 @@ use Rattle.fluent_grammar.specs.Words.{Text, begins_with, dot, skip_spaces}
 use Rattle.fluent_grammar.specs.Refusal.{Reading, got, refused}
 use Rattle.fluent_grammar.specs.Refusal as grammar
 use Rattle.fluent_grammar.specs.Reading.{attribute_at, entry_at}
-use Rattle.fluent_parsed.specs.ErrorView.{Told, kind_view, told}
+use Rattle.fluent_parsed.specs.ErrorView.{KindView, kind_view, told}
 use Rattle.fluent_parser.specs.declared.refusals.Refusal.{Refusal}
 
 -- the refusal of a reading, if it is refused
@@ -28,7 +28,7 @@ pub record RefusalView : Type 0 where
   pub start : ℕ
   pub place : ℕ
   pub at : Text
-  pub kind : Told
+  pub kind : KindView
 
 -- of this source
 abbrev pub refusal_view : Text → Refusal → RefusalView

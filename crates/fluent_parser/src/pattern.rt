@@ -15,7 +15,7 @@ use crate::expression::discard;
 use crate::fault::Fault;
 use crate::parser::Parser;
 use fluent_ast::{InlineExpression, Pattern, PatternElement, Variant};
-use fluent_parsed::{ErrorKind, Gathered, is_blank_text};
+use fluent_parsed::{ErrorKind, IndentedElements, is_blank_text};
 use fluent_text::Texts;
 use fluent_tokens as words;
 
@@ -92,7 +92,7 @@ impl<'p, S: Drop, T: Texts<S>> Parser<'p, S, T> {
             return Ok(Some(pattern));
         }
         let mut at_line_start = self.skip_to_line();
-        let mut gathered = Gathered::new(self.alloc, at_line_start);
+        let mut gathered = IndentedElements::new(self.alloc, at_line_start);
         while let Some(ends_line) = self.get_piece(at_line_start, &mut gathered)? {
             at_line_start = ends_line;
         }
@@ -121,7 +121,7 @@ impl<'p, S: Drop, T: Texts<S>> Parser<'p, S, T> {
     fn get_piece(
         &mut self,
         at_line_start: bool,
-        gathered: &mut Gathered<S>,
+        gathered: &mut IndentedElements<S>,
     ) -> Result<Option<bool>, Fault>
         requires { StartsLine at_line_start self.old.text.now self.old.rest.now }
         ensures gives { ReadsPiece T.text gathered.old gathered.new self.old self.new result
@@ -152,7 +152,7 @@ impl<'p, S: Drop, T: Texts<S>> Parser<'p, S, T> {
         &mut self,
         at_line_start: bool,
         indent: usize,
-        gathered: &mut Gathered<S>,
+        gathered: &mut IndentedElements<S>,
     ) -> Result<Option<bool>, Fault>
         requires indent { indent ≡ indent_at at_line_start self.old.rest.now }
         ensures gives { ReadsPiece T.text gathered.old gathered.new self.old self.new result
@@ -186,7 +186,7 @@ impl<'p, S: Drop, T: Texts<S>> Parser<'p, S, T> {
     fn get_placeable_piece(
         &mut self,
         column_zero: bool,
-        gathered: &mut Gathered<S>,
+        gathered: &mut IndentedElements<S>,
     ) -> Result<Option<bool>, Fault>
         requires brace { w.begins_with w.open_brace self.old.rest.now ≡ true }
         ensures gives { ReadsPiece T.text gathered.old gathered.new self.old self.new result
@@ -213,7 +213,7 @@ impl<'p, S: Drop, T: Texts<S>> Parser<'p, S, T> {
         selector: InlineExpression<S>,
         variants: Option<Vec<Variant<S>>>,
         column_zero: bool,
-        gathered: &mut Gathered<S>,
+        gathered: &mut IndentedElements<S>,
     ) -> Result<Option<bool>, Fault>
         ensures gives { ReadsPiece T.text gathered.old gathered.new self.old self.new result
             (piece_end_by S T.text column_zero selector variants) }
@@ -234,7 +234,7 @@ impl<'p, S: Drop, T: Texts<S>> Parser<'p, S, T> {
         &mut self,
         at_line_start: bool,
         indent: usize,
-        gathered: &mut Gathered<S>,
+        gathered: &mut IndentedElements<S>,
     ) -> Result<Option<bool>, Fault>
         requires indent { indent ≡ indent_at at_line_start self.old.rest.now }
         requires some { IsTextStart (drop indent self.old.rest.now) }

@@ -9,7 +9,7 @@ ghost use Rattle.fluent_parser.specs.PlainLines.{IsNextText, GivesPlain, EndsPat
 use crate::fault::Fault;
 use crate::parser::Parser;
 use fluent_ast::{Pattern, PatternElement};
-use fluent_parsed::{Dedented, is_blank_text};
+use fluent_parsed::{DedentedElements, is_blank_text};
 use fluent_text::Texts;
 use fluent_tokens as words;
 use fluent_tokens::{PlainLine, PlainLines};
@@ -52,7 +52,7 @@ impl<'p, S: Drop, T: Texts<S>> Parser<'p, S, T> {
     {
         let before = self.rest();
         let mut at_line_start = self.skip_to_line();
-        let mut dedented = Dedented::new(self.alloc, told.count, told.common_indent)?;
+        let mut dedented = DedentedElements::new(self.alloc, told.count, told.common_indent)?;
         while let Some(ends_line) = self.get_plain_line(at_line_start, &mut dedented)? {
             at_line_start = ends_line;
         }
@@ -70,7 +70,7 @@ impl<'p, S: Drop, T: Texts<S>> Parser<'p, S, T> {
     fn get_plain_line(
         &mut self,
         at_line_start: bool,
-        dedented: &mut Dedented<S>,
+        dedented: &mut DedentedElements<S>,
     ) -> Result<Option<bool>, AllocError>
         requires { StartsLine at_line_start self.old.text.now self.old.rest.now }
         ensures gives { IfOk result (PutsPlain S T.text at_line_start self.old.rest.now

@@ -10,7 +10,7 @@ use Rattle.fluent_meaning.specs.Environment.{Environment}
 use Rattle.fluent_meaning.specs.Fallback.{braced}
 use Rattle.fluent_meaning.specs.Refused.{TellsSome}
 use Rattle.fluent_meaning.specs.Steps.{Budget, Done, done, faulty}
-use Rattle.fluent_meaning.specs.Substitution.{Place, missing_variable, variable_written}
+use Rattle.fluent_meaning.specs.Substitution.{Surroundings, missing_variable, variable_written}
 use Rattle.fluent_meaning.specs.Told.{State, after, capped, in_byte}
 use Rattle.fluent_meaning.specs.Work.{times_too_many}
 use Rattle.fluent_value.specs.Value.{Value}
@@ -60,7 +60,7 @@ pub tells-alike : {A B : Type 0} {s t : State} (a : Done A) (b : Done B) → tak
 tells-alike a b e h = tells-like a e (tells-all b h)
 
 -- a missing variable is told the same and takes the same, whatever stands for it
-pub missing-taken : {S F A : Type 0} (env : Environment S F) (v : A) (id : Text) (place : Place S) (b : Budget) → taken (missing_variable env true id place b) ≡ taken (missing_variable env v id place b)
+pub missing-taken : {S F A : Type 0} (env : Environment S F) (v : A) (id : Text) (place : Surroundings S) (b : Budget) → taken (missing_variable env true id place b) ≡ taken (missing_variable env v id place b)
 missing-taken env v id place b = missing-by (is_some place.locals) v (unknown (to_variable id)) b
   where
     missing-by : {A : Type 0} (c : Bool) (v : A) (e : Unresolved) (b : Budget) → taken (cond c (done true b) (faulty true e b)) ≡ taken (cond c (done v b) (faulty v e b))
@@ -68,7 +68,7 @@ missing-taken env v id place b = missing-by (is_some place.locals) v (unknown (t
     missing-by false v e b = refl
 
 -- a variable that is missing was told, and its name refused
-pub missed-tells : {S F : Type 0} {s t : State} (env : Environment S F) (id : Text) (o : Option (Value S)) (place : Place S) → o ≡ None → t ≡ after s (missing_variable env true id place s.budget) → TellsSome s t (variable_written env id o place s.budget)
+pub missed-tells : {S F : Type 0} {s t : State} (env : Environment S F) (id : Text) (o : Option (Value S)) (place : Surroundings S) → o ≡ None → t ≡ after s (missing_variable env true id place s.budget) → TellsSome s t (variable_written env id o place s.budget)
 missed-tells {s = s} env id None place e h = tells-alike (variable_written env id None place s.budget) (missing_variable env true id place s.budget) (missing-taken env (braced (dollar ∷ id)) id place s.budget) h
 missed-tells env id (Some v) place e h = absurd (some-none v e)
   where

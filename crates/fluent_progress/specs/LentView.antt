@@ -3,7 +3,7 @@ use Rattle.std.specs.Prelude.{List, Option, None}
 use Rattle.fluent_ids.specs.Settings.{formatted_by, transformed_by}
 use Rattle.fluent_grammar.specs.Words.{Text}
 use Rattle.fluent_meaning.specs.Environment.{Environment}
-use Rattle.fluent_progress.specs.declared.lent.Lent.{Lent}
+use Rattle.fluent_progress.specs.declared.lent.BorrowedSettings.{BorrowedSettings}
 use Rattle.fluent_value.specs.Matching.{Plurals}
 use Rattle.fluent_value.specs.Value.{Value}
 
@@ -13,7 +13,7 @@ use Rattle.fluent_value.specs.Value.{Value}
 abbrev pub lent_view : {S M F G T : Type 0}
     (shown : S → Text) (gives : F → List (Value S) → List (Text × Value S) → Value S) (formats : G → M → Value S → Option Text)
     (category_of : M → Plurals) (stringified : M → (X : Type 0) → (X → Text) → X → Text) (transformed : T → Text → Text)
-    → Lent M G T → Environment S F
+    → BorrowedSettings M G T → Environment S F
 lent_view {S} shown gives formats category_of stringified transformed lent = record {
   find = λ id. None;
   call = gives;

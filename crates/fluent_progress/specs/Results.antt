@@ -15,7 +15,7 @@ use Rattle.fluent_meaning.specs.Steps.{Budget, is_shut, may_open}
 use Rattle.fluent_meaning.specs.Substitution as s
 use Rattle.fluent_progress.specs.Views.{resolved_in}
 use Rattle.fluent_progress.specs.declared.context.Context.{Ghosts as Context}
-use Rattle.fluent_progress.specs.declared.place.Place.{Place}
+use Rattle.fluent_progress.specs.declared.place.Surroundings.{Surroundings}
 use Rattle.fluent_value.specs.ArgsView.{args_view}
 use Rattle.fluent_value.specs.Builtins.{number_called}
 use Rattle.fluent_value.specs.Matching.{Plurals}
@@ -57,11 +57,11 @@ module _ {C S F : Type 0} (meaning : C → S) where
 
 module _ {C F E S : Type 0} {c : Custom C S} {e : Context E C F S} {v : Scope E C S} where
   -- on Ok this is what the function of an id gives for these arguments, if the id stands for one
-  abbrev pub GivesCall : {X : Type 0} → Result (Option (FluentValue C)) X → Place C F E S c e v → Text → List (FluentValue C) → FluentArgs C → Type 0
+  abbrev pub GivesCall : {X : Type 0} → Result (Option (FluentValue C)) X → Surroundings C F E S c e v → Text → List (FluentValue C) → FluentArgs C → Type 0
   GivesCall result place id positional named =
       IfOk result (λ value. option_map (value_view c.meaning) value ≡ function_result (resolved_in place) (find (ids_view F place.ids.now) id) (map (value_view c.meaning) positional) (args_view c.meaning named))
 
-module _ {C F E S : Type 0} {c : Custom C S} {e : Context E C F S} {v : Scope E C S} (place : Place C F E S c e v) (id : Identifier (Bor Text)) (attribute : Option (Identifier (Bor Text))) where
+module _ {C F E S : Type 0} {c : Custom C S} {e : Context E C F S} {v : Scope E C S} (place : Surroundings C F E S c e v) (id : Identifier (Bor Text)) (attribute : Option (Identifier (Bor Text))) where
   -- what a message reference means
   abbrev pub message_meant : s.Target
   message_meant = s.message_target (name_of id) (option_map name_of attribute) (find (ids_view F place.ids.now) (name_of id))

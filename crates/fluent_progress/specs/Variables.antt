@@ -11,7 +11,7 @@ use Rattle.fluent_progress.specs.Resolves.{FindsOnOk}
 use Rattle.fluent_progress.specs.Results.{given_text}
 use Rattle.fluent_progress.specs.Views.{args_or_none, given_args, place_view, resolved_in, state}
 use Rattle.fluent_progress.specs.declared.context.Context.{Ghosts as Context}
-use Rattle.fluent_progress.specs.declared.place.Place.{Place}
+use Rattle.fluent_progress.specs.declared.place.Surroundings.{Surroundings}
 use Rattle.fluent_progress.specs.declared.progress.Progress.{Progress}
 use Rattle.fluent_value.specs.Args.{argument}
 use Rattle.fluent_value.specs.ArgsView.{args_view}
@@ -23,7 +23,7 @@ use Rattle.fluent_value.specs.declared.scope.ValueScope.{Ghosts as Scope}
 use Rattle.fluent_value.specs.declared.value.FluentValue.{FluentValue}
 use denote.Ref.{Bor}
 
-module _ {S F : Type 0} (env : Environment S F) (id : Text) (place : s.Place S) where
+module _ {S F : Type 0} (env : Environment S F) (id : Text) (place : s.Surroundings S) where
   -- a variable, looked up and written
   abbrev pub written_variable : Budget → Done Text
   written_variable = s.variable_written env id (s.variable env id place) place
@@ -47,26 +47,26 @@ module _ {C S : Type 0} (meaning : C → S) where
 
 module _ {C F E S : Type 0} {c : Custom C S} {e : Context E C F S} {v : Scope E C S} where
   -- the value of the variable of this name: inside a term one of the term's arguments, else one of the request's
-  abbrev pub variable_of : Place C F E S c e v → Text → Option (Value S)
+  abbrev pub variable_of : Surroundings C F E S c e v → Text → Option (Value S)
   variable_of place id = argument id (s.locals_or (args_or_none c.meaning (given_args c.meaning place.arguments)) (given_args c.meaning place.locals))
 
   -- its text, or nothing if there is no such variable
-  abbrev pub variable_text : Place C F E S c e v → Text → Text
+  abbrev pub variable_text : Surroundings C F E S c e v → Text → Text
   variable_text place id = given_text (value_text (e.environment place.context.now)) (variable_of place id)
 
   -- on Ok a missing variable was reported, if it was missed outside a term
-  abbrev pub ReportsMissing : {T X : Type 0} → Result T X → Place C F E S c e v → Progress → Progress → Text → Type 0
+  abbrev pub ReportsMissing : {T X : Type 0} → Result T X → Surroundings C F E S c e v → Progress → Progress → Text → Type 0
   ReportsMissing result place old new id =
       OnOk result (state new ≡ after (state old) (s.missing_variable (resolved_in place) true id (place_view place old) (state old).budget))
 
   -- a variable of the place is written
-  abbrev pub variable_step : Place C F E S c e v → Identifier (Bor Text) → Progress → Budget → Done Text
+  abbrev pub variable_step : Surroundings C F E S c e v → Identifier (Bor Text) → Progress → Budget → Done Text
   variable_step place id progress = written_variable (resolved_in place) (name_of id) (place_view place progress)
 
   -- the value of a variable of the place is found
-  abbrev pub variable_value_step : Place C F E S c e v → Identifier (Bor Text) → Progress → Budget → Done (Value S)
+  abbrev pub variable_value_step : Surroundings C F E S c e v → Identifier (Bor Text) → Progress → Budget → Done (Value S)
   variable_value_step place id progress = found_variable (resolved_in place) (name_of id) (place_view place progress)
 
   -- a call found the value of a variable
-  abbrev pub FindsVariable : {X : Type 0} → Result (FluentValue C) X → Place C F E S c e v → Progress → Progress → Identifier (Bor Text) → Type 0
+  abbrev pub FindsVariable : {X : Type 0} → Result (FluentValue C) X → Surroundings C F E S c e v → Progress → Progress → Identifier (Bor Text) → Type 0
   FindsVariable result place old new id = FindsOnOk (value_view c.meaning) result old new (variable_value_step place id)

@@ -14,7 +14,7 @@ use Rattle.fluent_meaning.specs.Substitution as s
 use Rattle.fluent_meaning.specs.Told.{State, budget_of, capped, in_byte}
 use Rattle.fluent_progress.specs.declared.context.Context.{Ghosts as Context}
 use Rattle.fluent_progress.specs.declared.path.Path.{Path}
-use Rattle.fluent_progress.specs.declared.place.Place.{Place}
+use Rattle.fluent_progress.specs.declared.place.Surroundings.{Surroundings}
 use Rattle.fluent_progress.specs.declared.progress.Progress.{Progress}
 use Rattle.fluent_progress.specs.declared.target.Target.{Target}
 use Rattle.fluent_progress.specs.declared.target.Target.TheVariants as target
@@ -71,7 +71,7 @@ module _ {C S : Type 0} (meaning : C → S) where
 
 module _ {C F E S : Type 0} {c : Custom C S} {e : Context E C F S} {v : Scope E C S} where
   -- what is handed down
-  abbrev pub place_view : Place C F E S c e v → Progress → s.Place S
+  abbrev pub place_view : Surroundings C F E S c e v → Progress → s.Surroundings S
   place_view place progress = record {
     arguments = args_or_none c.meaning (given_args c.meaning place.arguments);
     locals = given_args c.meaning place.locals;
@@ -79,7 +79,7 @@ module _ {C F E S : Type 0} {c : Custom C S} {e : Context E C F S} {v : Scope E 
   }
 
   -- the same, while no pattern is being written
-  abbrev pub start_of : Place C F E S c e v → s.Place S
+  abbrev pub start_of : Surroundings C F E S c e v → s.Surroundings S
   start_of place = record {
     arguments = args_or_none c.meaning (given_args c.meaning place.arguments);
     locals = given_args c.meaning place.locals;
@@ -87,7 +87,7 @@ module _ {C F E S : Type 0} {c : Custom C S} {e : Context E C F S} {v : Scope E 
   }
 
   -- what patterns are resolved in, with the messages and terms that are handed down
-  abbrev pub resolved_in : Place C F E S c e v → Environment S F
+  abbrev pub resolved_in : Surroundings C F E S c e v → Environment S F
   resolved_in place = let env = e.environment place.context.now in record {
     find = find (ids_view _ place.ids.now);
     call = env.call;

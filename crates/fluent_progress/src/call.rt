@@ -3,12 +3,12 @@
 ghost use Rattle.fluent_progress.specs.Results.{GivesCall};
 
 use crate::context::Context;
-use crate::place::Place;
+use crate::place::Surroundings;
 use fluent_ids::{Entry, FunctionRef};
 use fluent_value::{FluentArgs, FluentType, FluentValue};
 use std::alloc::AllocError;
 
-impl<'b, 'r, 's, 'a, C: FluentType, F, E: Context<C, F>> Place<'b, 'r, 's, 'a, C, F, E> {
+impl<'b, 'r, 's, 'a, C: FluentType, F, E: Context<C, F>> Surroundings<'b, 'r, 's, 'a, C, F, E> {
     /// What the function of an id gives for these values, if the id stands for one.
     ///
     /// # Errors

@@ -19,7 +19,7 @@ use std::borrow::CowStr;
 /// What patterns are resolved in but for their messages and terms, lent by whoever has it: a bundle, say. `M` is the plural
 /// source, `G` the type of the formatter and `T` that of the transform.
 #[derive(Drop)]
-pub struct Lent<'b, M, G, T> {
+pub struct BorrowedSettings<'b, M, G, T> {
     /// The plural source.
     pub plurals: &'b M,
     /// Whether placeables stand between isolation marks.
@@ -32,7 +32,7 @@ pub struct Lent<'b, M, G, T> {
     pub alloc: Global,
 }
 
-impl<'b, M, C, G, T> ValueScope<C> for Lent<'b, M, G, T>
+impl<'b, M, C, G, T> ValueScope<C> for BorrowedSettings<'b, M, G, T>
 where
     M: MemoizerKind,
     C: FluentType,
@@ -67,7 +67,7 @@ where
     }
 }
 
-impl<'b, M, C, F, G, T> Context<C, F> for Lent<'b, M, G, T>
+impl<'b, M, C, F, G, T> Context<C, F> for BorrowedSettings<'b, M, G, T>
 where
     M: MemoizerKind,
     C: FluentType + Drop,

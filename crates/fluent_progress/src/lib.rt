@@ -3,9 +3,9 @@
 //! The resolver's state, and its steps that don't enter a pattern.
 //!
 //! [`Progress`] is that state: it starts with [`Progress::within`], and returns the errors that it was given and those reported
-//! since. A [`Place`] lends the rest for as long as a pattern is resolved: the messages and terms, the
+//! since. A [`Surroundings`] lends the rest for as long as a pattern is resolved: the messages and terms, the
 //! arguments of the request, and a [`Context`], which says what functions give and how texts and values are shown. Whoever has
-//! a plural source and settings lends them as a [`Lent`], which is such a context. The modules have the steps that work on all
+//! a plural source and settings lends them as a [`BorrowedSettings`], which is such a context. The modules have the steps that work on all
 //! this: counting, the path, fallbacks, values, variables, targets of references and choices among variants.
 //!
 //! A value of a term's own arguments is borrowed from the sources of the messages and terms. A value of the request's arguments
@@ -30,8 +30,8 @@ pub mod variant;
 
 pub use context::Context;
 pub use frames::Frames;
-pub use lent::Lent;
+pub use lent::BorrowedSettings;
 pub use path::Path;
-pub use place::Place;
+pub use place::Surroundings;
 pub use progress::Progress;
 pub use target::Target;

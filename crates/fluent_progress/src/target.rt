@@ -9,7 +9,7 @@ ghost use Rattle.fluent_progress.specs.Results.{found_elements, message_meant, t
 ghost use Rattle.fluent_progress.specs.Views.{target_view};
 
 use crate::context::Context;
-use crate::place::Place;
+use crate::place::Surroundings;
 use fluent_ast::{Attribute, Identifier, Pattern};
 use fluent_errors::ReferenceKind;
 use fluent_ids::Entry;
@@ -84,7 +84,7 @@ fn unknown_term(
     })
 }
 
-impl<'b, 'r, 's, 'a, C: FluentType, F, E: Context<C, F>> Place<'b, 'r, 's, 'a, C, F, E> {
+impl<'b, 'r, 's, 'a, C: FluentType, F, E: Context<C, F>> Surroundings<'b, 'r, 's, 'a, C, F, E> {
     /// What a message reference means.
     ///
     /// # Errors

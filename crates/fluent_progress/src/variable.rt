@@ -8,7 +8,7 @@ ghost use Rattle.fluent_progress.specs.Variables.{Copies, FindsVariable, Reports
 ghost use Rattle.fluent_progress.specs.Views.{state};
 
 use crate::context::Context;
-use crate::place::Place;
+use crate::place::Surroundings;
 use crate::progress::Progress;
 use crate::value::write_value;
 use fluent_ast::Identifier;
@@ -73,7 +73,7 @@ fn owned<'v, C: FluentType>(
     }
 }
 
-impl<'b, 'r, 's, 'a, C: FluentType, F, E: Context<C, F>> Place<'b, 'r, 's, 'a, C, F, E> {
+impl<'b, 'r, 's, 'a, C: FluentType, F, E: Context<C, F>> Surroundings<'b, 'r, 's, 'a, C, F, E> {
     /// Writes the value of a variable if it has one, inside a term that of one of its arguments, else that of one of the
     /// request's, and answers whether it has one.
     fn write_given(&self, out: &mut String, id: &str) -> Result<bool, AllocError>

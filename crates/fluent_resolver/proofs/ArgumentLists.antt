@@ -11,7 +11,7 @@ use Rattle.fluent_meaning.specs.Environment.{Environment}
 use Rattle.fluent_meaning.specs.Refused.{TellsSome}
 use Rattle.fluent_meaning.specs.Steps.{mapped}
 use Rattle.fluent_meaning.specs.Substitution as s
-use Rattle.fluent_meaning.specs.Substitution.{Place}
+use Rattle.fluent_meaning.specs.Substitution.{Surroundings}
 use Rattle.fluent_meaning.specs.Told.{Finds, State}
 use Rattle.fluent_meaning.specs.Weight.{arguments_weight, inlines_weight, nameds_weight}
 use Rattle.fluent_value.specs.Args.{all_set}
@@ -33,11 +33,11 @@ pub weight-in : (a : CallArguments (Bor Text)) → arguments_weight (arguments_o
 weight-in a = ap arguments_weight (arguments-in a) ∙ weight-arguments (positional_in a) (nameds_in a)
 
 -- positional arguments were resolved, and then those with a name at a place that is the same
-module _ {S F : Type 0} (env : Environment S F) (place : Place S) (a : CallArguments (Bor Text)) where
+module _ {S F : Type 0} (env : Environment S F) (place : Surroundings S) (a : CallArguments (Bor Text)) where
   pub given-first : {r u : State} → TellsSome r u (s.positional_found env (positional_in a) place r.budget) → TellsSome r u (s.arguments_found env (t.with_arguments (arguments_of a)) place r.budget)
   given-first {r = r} h = tells-as (ap (λ x. s.arguments_found env (t.with_arguments x) place r.budget) (sym (arguments-in a))) (args-first env place (positional_in a) (nameds_in a) h)
 
-  module _ {vs : List (Value S)} {r u : State} (first : Finds vs r u (s.positional_found env (positional_in a) place)) {at : Place S} (same : at ≡ place) where
+  module _ {vs : List (Value S)} {r u : State} (first : Finds vs r u (s.positional_found env (positional_in a) place)) {at : Surroundings S} (same : at ≡ place) where
     pub given-second : {w : State} → TellsSome u w (mapped (all_set []) (s.named_found env (nameds_in a) at u.budget)) → TellsSome r w (s.arguments_found env (t.with_arguments (arguments_of a)) place r.budget)
     given-second {w = w} h =
         let second = subst (λ p. TellsSome u w (mapped (all_set []) (s.named_found env (nameds_in a) p u.budget))) same h in

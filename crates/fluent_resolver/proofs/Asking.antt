@@ -15,7 +15,7 @@ use Rattle.fluent_meaning.specs.Environment.{Environment}
 use Rattle.fluent_meaning.specs.Refused.{Begins, TellsSome}
 use Rattle.fluent_meaning.specs.Steps.{may_open, Done}
 use Rattle.fluent_meaning.specs.Substitution as s
-use Rattle.fluent_meaning.specs.Substitution.{Place, outset, answer_written}
+use Rattle.fluent_meaning.specs.Substitution.{Surroundings, outset, answer_written}
 use Rattle.fluent_meaning.specs.Told.{State, Writes}
 use Rattle.fluent_progress.specs.Telling.{fresh}
 use Rattle.fluent_value.specs.Value.{Value}
@@ -33,9 +33,9 @@ none-some e = false≢true (ap is_some e)
 
 -- ---- from the start
 
-module _ {S F : Type 0} (env : Environment S F) (args : List (Text × Value S)) (es : Elements) (o : Option (List Reported)) (place : Place S) (start : State) (at : place ≡ outset args) (new : start ≡ fresh o) where
+module _ {S F : Type 0} (env : Environment S F) (args : List (Text × Value S)) (es : Elements) (o : Option (List Reported)) (place : Surroundings S) (start : State) (at : place ≡ outset args) (new : start ≡ fresh o) where
   same : s.pattern_written env es place start.budget ≡ s.pattern_written env es (outset args) (may_open 100)
-  same = ap (λ (p : Place S). s.pattern_written env es p start.budget) at ∙ ap (λ (x : State). s.pattern_written env es (outset args) x.budget) new
+  same = ap (λ (p : Surroundings S). s.pattern_written env es p start.budget) at ∙ ap (λ (x : State). s.pattern_written env es (outset args) x.budget) new
 
   module _ {x y : Text} {end : State} (p : Writes x y start end (s.pattern_written env es place)) where
     pub asked-text : y ≡ x ++ (answer_written env args es).value
@@ -56,7 +56,7 @@ module _ {S F : Type 0} (env : Environment S F) (args : List (Text × Value S)) 
 
 -- ---- a pattern of one text
 
-module _ {S F : Type 0} (env : Environment S F) (place : Place S) (k : ℕ) where
+module _ {S F : Type 0} (env : Environment S F) (place : Surroundings S) (k : ℕ) where
   lone-step : (x : Text) → s.elements_written env (t.text x t.no_elements) (t.text x t.no_elements) place (may_open k) ≡ record { value = env.transformed x ++ []; errors = []; budget = may_open k; opened = 0 + 0; entered = 0 + 0 }
   unfolding s.elements_with
   lone-step x = refl

@@ -9,7 +9,7 @@ use Rattle.fluent_meaning.specs.Substitution as s
 use Rattle.fluent_meaning.specs.Weight.{expression_weight, inline_weight}
 use Rattle.fluent_progress.specs.Braces.{innermost, unbraced}
 
-module _ {S F : Type 0} (env : Environment S F) (place : s.Place S) (b : Budget) where
+module _ {S F : Type 0} (env : Environment S F) (place : s.Surroundings S) (b : Budget) where
   mutual
     pub innermost-written : (e : t.Expression) → s.expression_written env (innermost e) place b ≡ s.expression_written env e place b
     innermost-written (t.select i vs) = refl

@@ -13,7 +13,7 @@ use Rattle.fluent_meaning.specs.Environment.{Environment}
 use Rattle.fluent_meaning.specs.Refused.{TellsSome}
 use Rattle.fluent_meaning.specs.Steps.{Budget, may_open, Done, done, and_then, mapped}
 use Rattle.fluent_meaning.specs.Substitution as s
-use Rattle.fluent_meaning.specs.Substitution.{Called, Place, both}
+use Rattle.fluent_meaning.specs.Substitution.{Called, Surroundings, both}
 use Rattle.fluent_meaning.specs.Ids.{Meaning, number_function, function, message, term}
 use Rattle.fluent_errors.specs.Errors.{unknown, to_function}
 use Rattle.fluent_progress.specs.Results.{function_result}
@@ -43,7 +43,7 @@ then-more pair a f g = λ i. record {
   entered = plus_assoc a.entered (f a.budget).entered (g (f a.budget).budget).entered i;
 }
 
-module _ {S F : Type 0} (env : Environment S F) (place : Place S) where
+module _ {S F : Type 0} (env : Environment S F) (place : Surroundings S) where
   pub positional-append : (xs ys : List t.Inline) (b : Budget) → s.positional_found env (inlines_of (xs ++ ys)) place b ≡ and_then (s.positional_found env (inlines_of xs) place b) (λ vs c. mapped (λ ws. vs ++ ws) (s.positional_found env (inlines_of ys) place c))
   unfolding s.positional_with
   positional-append [] ys b = sym (then-none b (s.positional_found env (inlines_of ys) place))
@@ -135,7 +135,7 @@ map-up-to view xs i x h e =
     ap (λ y. map view (take i xs) ++ view y ∷ []) e ∙ sym (map-append view (take i xs) (get_or xs i x ∷ [])) ∙ ap (map view) (sym (take-suc xs i x h) ∙ ap (λ n. take n xs) next)
 
 -- positional values, and then named ones
-module _ {S F : Type 0} (env : Environment S F) (place : Place S) (ps : t.Inlines) (ns : t.Nameds) where
+module _ {S F : Type 0} (env : Environment S F) (place : Surroundings S) (ps : t.Inlines) (ns : t.Nameds) where
   pub args-found : {vs : List (Value S)} {named : List (Text × Value S)} {r u w : State} → Finds vs r u (s.positional_found env ps place) → Finds named u w (λ b. mapped (all_set []) (s.named_found env ns place b)) → Finds (record { positional = vs; named = named }) r w (s.arguments_found env (t.with_arguments (t.arguments ps ns)) place)
   args-found {vs = vs} {named = named} {r = r} {u = u} {w = w} p q =
       let next : Finds (record { positional = vs; named = named }) u w (λ c. mapped (both vs) (s.named_found env ns place c)) = record { value = ap (λ n. record { positional = vs; named = n }) q.value; state = q.state } in

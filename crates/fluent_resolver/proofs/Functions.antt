@@ -12,7 +12,7 @@ use Rattle.fluent_meaning.specs.Fallback.{braced, inline_fallback}
 use Rattle.fluent_meaning.specs.Refused.{TellsSome}
 use Rattle.fluent_meaning.specs.Steps.{Budget, Done, and_then, faulty, mapped, may_open}
 use Rattle.fluent_meaning.specs.Substitution as s
-use Rattle.fluent_meaning.specs.Substitution.{Called, Place}
+use Rattle.fluent_meaning.specs.Substitution.{Called, Surroundings}
 use Rattle.fluent_meaning.specs.Told.{Finds, State, Writes}
 use Rattle.fluent_progress.specs.Results.{function_result}
 use Rattle.fluent_value.specs.Value as v
@@ -20,7 +20,7 @@ use Rattle.fluent_value.specs.Value.{Value}
 use Rattle.fluent_resolver.proofs.Calls.{call-known, call-unknown, found-known, found-unknown, result-done}
 use Rattle.fluent_resolver.proofs.Parts.{found-tells, tells-as}
 
-module _ {S F : Type 0} (env : Environment S F) (place : Place S) {i : t.Inline} {id : Text} {given : t.Arguments} (is : i ≡ t.function_reference id given) where
+module _ {S F : Type 0} (env : Environment S F) (place : Surroundings S) {i : t.Inline} {id : Text} {given : t.Arguments} (is : i ≡ t.function_reference id given) where
   abbrev arguments : Budget → Done (Called S)
   arguments = s.arguments_found env (t.with_arguments given) place
 

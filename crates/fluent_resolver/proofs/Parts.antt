@@ -14,7 +14,7 @@ use Rattle.fluent_meaning.specs.Fallback.{braced, fallback}
 use Rattle.fluent_meaning.specs.Refused.{TellsSome}
 use Rattle.fluent_meaning.specs.Steps.{Budget, may_open, shut, left, is_shut, Done, done, and_then, mapped, opening, entering, opens}
 use Rattle.fluent_meaning.specs.Substitution as s
-use Rattle.fluent_meaning.specs.Substitution.{Place, Writer, rooted, is_on_path, deeper}
+use Rattle.fluent_meaning.specs.Substitution.{Surroundings, Writer, rooted, is_on_path, deeper}
 use Rattle.fluent_meaning.specs.Told.{State, Writes, Finds, after}
 use Rattle.fluent_meaning.specs.Weight.{arguments_weight, expression_weight, inline_weight, inlines_weight, maybe_arguments_weight, nameds_weight}
 use Rattle.std.proofs.Math.Nat.{mul-le-mul_right}
@@ -57,7 +57,7 @@ module _ {s u t : State} (counted : u ≡ after s (entering (done true s.budget)
   entered-tells f h = tells-fewer (entering (f s.budget)) (entered-takes true s.budget f) (tells-then (entering (done true s.budget)) (λ v c. f c) counted (tells-as (ap f (same_budget s u counted)) h))
 
 -- elements that are written before others
-module _ {S F : Type 0} (env : Environment S F) (write : Writer env Expression) (whole : Elements) (place : Place S) (xs : List Element) {held now : Text} {r u : State} (p : Writes held now r u (λ b. s.elements_with env write whole (elements_of xs) place b)) where
+module _ {S F : Type 0} (env : Environment S F) (write : Writer env Expression) (whole : Elements) (place : Surroundings S) (xs : List Element) {held now : Text} {r u : State} (p : Writes held now r u (λ b. s.elements_with env write whole (elements_of xs) place b)) where
   before-tells : {v : State} (ys : List Element) → TellsSome u v (s.elements_with env write whole (elements_of ys) place u.budget) → TellsSome r v (s.elements_with env write whole (elements_of (xs ++ ys)) place r.budget)
   before-tells {v = v} ys h =
       let a = s.elements_with env write whole (elements_of xs) place r.budget in
@@ -75,7 +75,7 @@ module _ {S F : Type 0} (env : Environment S F) (write : Writer env Expression) 
   unfolding s.elements_with
   placeable-refused e ys h = before-tells (placeable e ∷ ys) (tells-first (λ x c. mapped (λ q. x ++ q) (s.elements_with env write whole (elements_of ys) place c)) h)
 
-module _ {S F : Type 0} (env : Environment S F) (write : Writer env Expression) (whole : Elements) (e : Expression) (place : Place S) where
+module _ {S F : Type 0} (env : Environment S F) (write : Writer env Expression) (whole : Elements) (e : Expression) (place : Surroundings S) where
   abbrev isolates : Bool
   isolates = s.is_isolated env whole e
 
@@ -143,7 +143,7 @@ module _ {S F : Type 0} (env : Environment S F) (write : Writer env Expression) 
       tells-like (s.unmarked_with env write whole e place r.budget) (closed-taken (is_shut a.budget) a) h
 
 -- references
-module _ {S F : Type 0} (env : Environment S F) (enter : Writer env Elements) (i : Inline) (es : Elements) (place : Place S) (b : Budget) where
+module _ {S F : Type 0} (env : Environment S F) (enter : Writer env Elements) (i : Inline) (es : Elements) (place : Surroundings S) (b : Budget) where
   pub referred-again : is_on_path es place.path ≡ true → s.fallen_back env i cyclic b ≡ s.referred env enter i es place b
   referred-again h = ap (λ c. cond c (s.fallen_back env i cyclic b) (entering (enter es (deeper es place) b))) (sym h)
 

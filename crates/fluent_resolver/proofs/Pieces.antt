@@ -9,7 +9,7 @@ use Rattle.fluent_meaning.specs.Environment.{Environment}
 use Rattle.fluent_meaning.specs.Refused.{TellsSome, WritesSome}
 use Rattle.fluent_meaning.specs.Steps.{Budget, Done}
 use Rattle.fluent_meaning.specs.Substitution as s
-use Rattle.fluent_meaning.specs.Substitution.{Place, Writer}
+use Rattle.fluent_meaning.specs.Substitution.{Surroundings, Writer}
 use Rattle.fluent_meaning.specs.Told.{State, Writes}
 
 -- a piece that was made was written
@@ -24,7 +24,7 @@ piece-refused {x = x} {s = s} f p h = record { written = []; first = begins-none
 pub piece-missing : {x : Text} {s t : State} (f : Budget → Done Text) → TellsSome s t (f s.budget) → WritesSome x x s t f
 piece-missing {x = x} {s = s} f h = record { written = []; first = begins-none (f s.budget).value; text = sym (append-nil x); tells = h }
 
-module _ {S F : Type 0} (env : Environment S F) (write : Writer env Expression) (whole : Elements) (place : Place S) (xs : List Element) {held now : Text} {r u : State} (p : Writes held now r u (λ b. s.elements_with env write whole (elements_of xs) place b)) where
+module _ {S F : Type 0} (env : Environment S F) (write : Writer env Expression) (whole : Elements) (place : Surroundings S) (xs : List Element) {held now : Text} {r u : State} (p : Writes held now r u (λ b. s.elements_with env write whole (elements_of xs) place b)) where
   -- what was refused after other elements
   before-refused : {next : Text} {v : State} (ys : List Element) → WritesSome now next u v (λ b. s.elements_with env write whole (elements_of ys) place b) → WritesSome held next r v (λ b. s.elements_with env write whole (elements_of (xs ++ ys)) place b)
   before-refused ys h =

@@ -7,7 +7,7 @@ use Rattle.fluent_meaning.specs.Substitution as s
 use Rattle.fluent_progress.specs.Views.{patterns_on, start_of}
 use Rattle.fluent_progress.specs.declared.context.Context.{Ghosts as Context}
 use Rattle.fluent_progress.specs.declared.path.Path.{Path}
-use Rattle.fluent_progress.specs.declared.place.Place.{Place}
+use Rattle.fluent_progress.specs.declared.place.Surroundings.{Surroundings}
 use Rattle.fluent_value.specs.declared.custom.FluentType.{Ghosts as Custom}
 use Rattle.fluent_value.specs.declared.scope.ValueScope.{Ghosts as Scope}
 
@@ -15,9 +15,9 @@ use Rattle.fluent_value.specs.declared.scope.ValueScope.{Ghosts as Scope}
 abbrev pub entered : Bor (Pattern (Bor (List ℕ))) → Elements
 entered x = pattern_view (Bor (List ℕ)) (λ s. s.now) x.now
 
-module _ {C F E S : Type 0} {c : Custom C S} {e : Context E C F S} {v : Scope E C S} (place : Place C F E S c e v) where
+module _ {C F E S : Type 0} {c : Custom C S} {e : Context E C F S} {v : Scope E C S} (place : Surroundings C F E S c e v) where
   -- with these patterns on the path
-  abbrev pub place_on : List Elements → s.Place S
+  abbrev pub place_on : List Elements → s.Surroundings S
   place_on path = let start = start_of place in record { arguments = start.arguments; locals = start.locals; path = path }
 
   pub place-on : {ps qs : List Elements} → ps ≡ qs → place_on ps ≡ place_on qs

@@ -13,13 +13,13 @@ use Rattle.fluent_meaning.specs.Environment.{Environment}
 use Rattle.fluent_meaning.specs.Refused.{TellsSome}
 use Rattle.fluent_meaning.specs.Steps.{Budget, Done, and_then, done, entering, mapped}
 use Rattle.fluent_meaning.specs.Substitution as s
-use Rattle.fluent_meaning.specs.Substitution.{Place}
+use Rattle.fluent_meaning.specs.Substitution.{Surroundings}
 use Rattle.fluent_meaning.specs.Told.{Finds, State, Writes, after}
 use Rattle.fluent_progress.proofs.Telling.{told-after}
 use Rattle.fluent_progress.specs.Telling.{with_error}
 use Rattle.fluent_resolver.proofs.Parts.{entered-tells, entered-writes, found-tells, tells-as}
 
-module _ {S F : Type 0} (env : Environment S F) (place : Place S) (i : t.Inline) (vs : t.Variants) where
+module _ {S F : Type 0} (env : Environment S F) (place : Surroundings S) (i : t.Inline) (vs : t.Variants) where
   -- the pattern of the variant that is chosen
   abbrev pub chooses : Budget → Done (Option Elements)
   chooses b = mapped (λ x. chosen env.plurals x vs) (s.value_found env i place b)
@@ -45,7 +45,7 @@ module _ {S F : Type 0} (env : Environment S F) (place : Place S) (i : t.Inline)
     none-tells h = select-first (subst (λ z. TellsSome r z (chooses r.budget)) (sym h) (found-tells chooses p))
 
     -- it was entered
-    module _ {es : Elements} {q z : State} {at : Place S} (some : o ≡ Some es) (counted : q ≡ after u (entering (done true u.budget))) (same : at ≡ place) where
+    module _ {es : Elements} {q z : State} {at : Surroundings S} (some : o ≡ Some es) (counted : q ≡ after u (entering (done true u.budget))) (same : at ≡ place) where
       pub variant-writes : {x y : Text} → Writes x y q z (s.pattern_written env es at) → Writes x y r z (s.expression_written env (t.select i vs) place)
       variant-writes {x = x} {y = y} h =
           let entered = entered-writes counted (s.pattern_written env es place) (subst (λ p. Writes x y q z (s.pattern_written env es p)) same h) in

@@ -10,12 +10,12 @@ use Rattle.fluent_meaning.specs.Environment.{Environment}
 use Rattle.fluent_meaning.specs.Refused.{TellsSome}
 use Rattle.fluent_meaning.specs.Steps.{Budget, Done, and_then, mapped}
 use Rattle.fluent_meaning.specs.Substitution as s
-use Rattle.fluent_meaning.specs.Substitution.{Place}
+use Rattle.fluent_meaning.specs.Substitution.{Surroundings}
 use Rattle.fluent_meaning.specs.Told.{Finds, State, Writes}
 use Rattle.fluent_value.specs.Value.{Value}
 use Rattle.fluent_resolver.proofs.Parts.{found-tells, tells-as}
 
-module _ {S F : Type 0} (env : Environment S F) (place : Place S) {i : t.Inline} {id : Text} {attr : Option Text} {given : t.MaybeArguments} (is : i ≡ t.term_reference id attr given) where
+module _ {S F : Type 0} (env : Environment S F) (place : Surroundings S) {i : t.Inline} {id : Text} {attr : Option Text} {given : t.MaybeArguments} (is : i ≡ t.term_reference id attr given) where
   -- the term's own arguments
   abbrev pub owns : Budget → Done (List (Text × Value S))
   owns b = mapped (λ called. called.named) (s.arguments_found env given place b)
@@ -36,7 +36,7 @@ module _ {S F : Type 0} (env : Environment S F) (place : Place S) {i : t.Inline}
     term-tells = term-first (found-tells owns p)
 
     -- what it means was written with them
-    module _ {target : s.Target} {inner : Place S} (meant : target ≡ s.term_target id attr (env.find id)) (at : inner ≡ s.in_term own place) where
+    module _ {target : s.Target} {inner : Surroundings S} (meant : target ≡ s.term_target id attr (env.find id)) (at : inner ≡ s.in_term own place) where
       same : s.target_written env (s.pattern_written env) i target inner u.budget ≡ written own u.budget
       same =
           ap (λ x. s.target_written env (s.pattern_written env) x target inner u.budget) is

@@ -6,7 +6,7 @@ use Rattle.fluent_grammar.specs.Words.{Text}
 use Rattle.fluent_meaning.specs.Substitution as s
 use Rattle.fluent_progress.specs.Resolves.{FindsOnOk}
 use Rattle.fluent_progress.specs.declared.context.Context.{Ghosts as Context}
-use Rattle.fluent_progress.specs.declared.place.Place.{Place}
+use Rattle.fluent_progress.specs.declared.place.Surroundings.{Surroundings}
 use Rattle.fluent_progress.specs.declared.progress.Progress.{Progress}
 use Rattle.fluent_resolver.specs.Steps.{arguments_step}
 use Rattle.fluent_value.specs.ArgsView.{args_view}
@@ -27,5 +27,5 @@ no_arguments = record { positional = []; named = [] }
 
 module _ {C F E S : Type 0} {c : Custom C S} {e : Context E C F S} {v : Scope E C S} where
   -- a call found the values of arguments
-  abbrev pub FindsArguments : {X : Type 0} → Result (Vec (FluentValue C) × FluentArgs C) X → Place C F E S c e v → Progress → Progress → CallArguments (Bor Text) → Type 0
+  abbrev pub FindsArguments : {X : Type 0} → Result (Vec (FluentValue C) × FluentArgs C) X → Surroundings C F E S c e v → Progress → Progress → CallArguments (Bor Text) → Type 0
   FindsArguments result place old new arguments = FindsOnOk (called_of c.meaning) result old new (arguments_step place arguments)

@@ -14,14 +14,14 @@ use Rattle.fluent_meaning.specs.Substitution.{rooted_path, there}
 use Rattle.fluent_progress.specs.Nesting.{TakesArguments, TakesCall, TakesExpression, TakesInline, TakesInlines, TakesMaybe, TakesNameds, TakesPattern, TakesTarget, TakesText, TakesValue}
 use Rattle.fluent_progress.specs.Views.{path_of, resolved_in, target_view}
 use Rattle.fluent_progress.specs.declared.context.Context.{Ghosts as Context}
-use Rattle.fluent_progress.specs.declared.place.Place.{Place}
+use Rattle.fluent_progress.specs.declared.place.Surroundings.{Surroundings}
 use Rattle.fluent_progress.specs.declared.progress.Progress.{Progress}
 use Rattle.fluent_progress.specs.declared.target.Target.{Target}
 use Rattle.fluent_value.specs.declared.custom.FluentType.{Ghosts as Custom}
 use Rattle.fluent_value.specs.declared.scope.ValueScope.{Ghosts as Scope}
 use denote.Ref.{Bor}
 
-module _ {C F E S : Type 0} {c : Custom C S} {e : Context E C F S} {v : Scope E C S} (place : Place C F E S c e v) where
+module _ {C F E S : Type 0} {c : Custom C S} {e : Context E C F S} {v : Scope E C S} (place : Surroundings C F E S c e v) where
   -- a pattern, a placeable of it, and what a reference means
   abbrev pub pattern_takes : Pattern (Bor Text) → Progress → ℕ → Type 0
   pattern_takes pattern progress = TakesPattern (resolved_in place).find (path_of progress) (elements_of pattern)

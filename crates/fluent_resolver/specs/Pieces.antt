@@ -8,7 +8,7 @@ use Rattle.fluent_meaning.specs.Steps.{Budget, Done}
 use Rattle.fluent_meaning.specs.Told as told
 use Rattle.fluent_progress.specs.Views.{state}
 use Rattle.fluent_progress.specs.declared.context.Context.{Ghosts as Context}
-use Rattle.fluent_progress.specs.declared.place.Place.{Place}
+use Rattle.fluent_progress.specs.declared.place.Surroundings.{Surroundings}
 use Rattle.fluent_progress.specs.declared.progress.Progress.{Progress}
 use Rattle.fluent_resolver.specs.Steps.{placeable}
 use Rattle.fluent_value.specs.declared.custom.FluentType.{Ghosts as Custom}
@@ -25,7 +25,7 @@ module _ {W T E : Type 0} (text : W → Text) (result : Result T E) (held now : 
   WritesSome = OnErr result (refused.WritesSome (text held) (text now) (state old) (state new) (step old))
 
 module _ {C F E S : Type 0} {c : Custom C S} {e : Context E C F S} {v : Scope E C S} {W T X : Type 0} (text : W → Text) (result : Result T X) (held now : W) (old new : Progress)
-    (place : Place C F E S c e v) (whole : Pattern (Bor Text)) (expression : Expression (Bor Text)) where
+    (place : Surroundings C F E S c e v) (whole : Pattern (Bor Text)) (expression : Expression (Bor Text)) where
   -- on Ok a placeable of a pattern was written after what the writer held
   abbrev pub WritesPiece : Type 0
   WritesPiece = Writes text result held now old new (placeable place whole expression)

@@ -17,7 +17,7 @@ use Rattle.fluent_meaning.specs.Substitution as s
 use Rattle.fluent_progress.specs.Results.{function_result}
 use Rattle.fluent_progress.specs.Views.{place_view, resolved_in, start_of, target_view}
 use Rattle.fluent_progress.specs.declared.context.Context.{Ghosts as Context}
-use Rattle.fluent_progress.specs.declared.place.Place.{Place}
+use Rattle.fluent_progress.specs.declared.place.Surroundings.{Surroundings}
 use Rattle.fluent_progress.specs.declared.progress.Progress.{Progress}
 use Rattle.fluent_progress.specs.declared.target.Target.{Target}
 use Rattle.fluent_value.specs.Args.{all_set}
@@ -35,7 +35,7 @@ call_of id arguments = t.function_reference (name_of id) (arguments_of arguments
 abbrev pub term_reference_of : Identifier (Bor Text) → Option (Identifier (Bor Text)) → Option (CallArguments (Bor Text)) → t.Inline
 term_reference_of id attribute arguments = t.term_reference (name_of id) (option_map name_of attribute) (maybe_arguments_of arguments)
 
-module _ {C F E S : Type 0} {c : Custom C S} {e : Context E C F S} {v : Scope E C S} (place : Place C F E S c e v) where
+module _ {C F E S : Type 0} {c : Custom C S} {e : Context E C F S} {v : Scope E C S} (place : Surroundings C F E S c e v) where
   -- what a pattern gives, if nothing was resolved before
   abbrev pub answer : Pattern (Bor Text) → Done Text
   answer pattern = entering (s.pattern_written (resolved_in place) (elements_of pattern) (start_of place) (may_open s.most_placeables))

@@ -15,7 +15,7 @@ use crate::pattern::write_pattern;
 use crate::written::write_pieces;
 use fluent_ast::{Pattern, PatternElement};
 use fluent_errors::FluentError;
-use fluent_progress::{Context, Place, Progress};
+use fluent_progress::{Context, Progress, Surroundings};
 use fluent_text::stack::StackBudget;
 use fluent_text::{TextWrite, WriteError};
 use fluent_value::{FluentType, FluentValue, ValueScope};
@@ -32,7 +32,7 @@ const ROOM: usize = 64;
 /// [`AllocError`] if memory runs out, or values nest past the budget of the stack; the first of the pattern's errors are
 /// reported.
 pub fn answer<'b, 'r, 's, 'a, C: FluentType + Drop, F, E: Context<C, F>>(
-    place: &Place<'b, 'r, 's, 'a, C, F, E>,
+    place: &Surroundings<'b, 'r, 's, 'a, C, F, E>,
     pattern: &'r Pattern<&'s str>,
     errors: &mut Vec<FluentError>,
 ) -> Result<CowStr<'s>, AllocError>
@@ -54,7 +54,7 @@ pub fn answer<'b, 'r, 's, 'a, C: FluentType + Drop, F, E: Context<C, F>>(
 /// [`Memory`](Fault::Memory) if memory runs out, [`TooDeep`](Fault::TooDeep) only if the pattern takes more bytes at some
 /// place than the budget has; the first of the pattern's errors are reported.
 pub fn answer_within<'b, 'r, 's, 'a, C: FluentType + Drop, F, E: Context<C, F>>(
-    place: &Place<'b, 'r, 's, 'a, C, F, E>,
+    place: &Surroundings<'b, 'r, 's, 'a, C, F, E>,
     pattern: &'r Pattern<&'s str>,
     errors: &mut Vec<FluentError>,
     budget: StackBudget,
@@ -86,7 +86,7 @@ pub fn lone_text<'s>(pattern: &Pattern<&'s str>) -> Option<&'s str>
 /// What a pattern writes. If memory runs out, or values nest past the budget, the first of the pattern's errors are
 /// reported.
 fn resolved<'b, 'r, 's, 'a, C: FluentType + Drop, F, E: Context<C, F>>(
-    place: &Place<'b, 'r, 's, 'a, C, F, E>,
+    place: &Surroundings<'b, 'r, 's, 'a, C, F, E>,
     pattern: &'r Pattern<&'s str>,
     errors: &mut Vec<FluentError>,
     budget: StackBudget,
@@ -118,7 +118,7 @@ fn resolved<'b, 'r, 's, 'a, C: FluentType + Drop, F, E: Context<C, F>>(
 /// reported.
 pub fn write_answer<'b, 'r, 's, 'a, W, C, F, E>(
     w: &mut W,
-    place: &Place<'b, 'r, 's, 'a, C, F, E>,
+    place: &Surroundings<'b, 'r, 's, 'a, C, F, E>,
     pattern: &'r Pattern<&'s str>,
     errors: &mut Vec<FluentError>,
 ) -> Result<(), WriteError>

@@ -10,7 +10,7 @@ ghost use Rattle.fluent_resolver.specs.Nested.{arguments_take, call_takes, named
 
 use crate::value::value_of;
 use fluent_ast::{CallArguments, Identifier, InlineExpression, NamedArgument};
-use fluent_progress::{Context, Place, Progress};
+use fluent_progress::{Context, Progress, Surroundings};
 use fluent_text::stack::resolving;
 use fluent_value::{FluentArgs, FluentType, FluentValue};
 use std::alloc::AllocError;
@@ -19,7 +19,7 @@ use std::borrow::CowStr;
 /// What the function of an id gives for these arguments, if it is known. Arguments are resolved in all cases.
 #[cycle(resolving)]
 pub(crate) fn call_result<'b, 'r, 's, 'a, C: FluentType + Drop, F, E: Context<C, F>>(
-    place: &Place<'b, 'r, 's, 'a, C, F, E>,
+    place: &Surroundings<'b, 'r, 's, 'a, C, F, E>,
     progress: &mut Progress<'r, 's>,
     id: &'r Identifier<&'s str>,
     arguments: &'r CallArguments<&'s str>,
@@ -38,7 +38,7 @@ pub(crate) fn call_result<'b, 'r, 's, 'a, C: FluentType + Drop, F, E: Context<C,
 /// The same as [`call_result`], of a call that is a value: what calls in calls take of the machine's stack is counted.
 #[cycle(resolving)]
 pub(crate) fn nested_call<'b, 'r, 's, 'a, C: FluentType + Drop, F, E: Context<C, F>>(
-    place: &Place<'b, 'r, 's, 'a, C, F, E>,
+    place: &Surroundings<'b, 'r, 's, 'a, C, F, E>,
     progress: &mut Progress<'r, 's>,
     id: &'r Identifier<&'s str>,
     arguments: &'r CallArguments<&'s str>,
@@ -58,7 +58,7 @@ pub(crate) fn nested_call<'b, 'r, 's, 'a, C: FluentType + Drop, F, E: Context<C,
 /// The named arguments of a term reference. Its positional ones are resolved and dropped.
 #[cycle(resolving)]
 pub(crate) fn own_arguments<'b, 'r, 's, 'a, C: FluentType + Drop, F, E: Context<C, F>>(
-    place: &Place<'b, 'r, 's, 'a, C, F, E>,
+    place: &Surroundings<'b, 'r, 's, 'a, C, F, E>,
     progress: &mut Progress<'r, 's>,
     arguments: &'r Option<CallArguments<&'s str>>,
 ) -> Result<FluentArgs<'s, C>, AllocError>
@@ -83,7 +83,7 @@ pub(crate) fn own_arguments<'b, 'r, 's, 'a, C: FluentType + Drop, F, E: Context<
 /// [`AllocError`] if memory runs out; the first of the errors are reported.
 #[cycle(resolving)]
 pub fn positional_values<'b, 'r, 's, 'a, C: FluentType + Drop, F, E: Context<C, F>>(
-    place: &Place<'b, 'r, 's, 'a, C, F, E>,
+    place: &Surroundings<'b, 'r, 's, 'a, C, F, E>,
     progress: &mut Progress<'r, 's>,
     arguments: &'r Vec<InlineExpression<&'s str>>,
 ) -> Result<Vec<FluentValue<'s, C>>, AllocError>
@@ -106,7 +106,7 @@ pub fn positional_values<'b, 'r, 's, 'a, C: FluentType + Drop, F, E: Context<C, 
 /// [`AllocError`] if memory runs out; the first of the errors are reported.
 #[cycle(resolving)]
 pub fn named_values<'b, 'r, 's, 'a, C: FluentType + Drop, F, E: Context<C, F>>(
-    place: &Place<'b, 'r, 's, 'a, C, F, E>,
+    place: &Surroundings<'b, 'r, 's, 'a, C, F, E>,
     progress: &mut Progress<'r, 's>,
     arguments: &'r Vec<NamedArgument<&'s str>>,
 ) -> Result<FluentArgs<'s, C>, AllocError>

@@ -19,7 +19,7 @@ use fluent_progress::fallback::fall_back;
 use fluent_progress::text::write_literal;
 use fluent_progress::value::{write_number, write_result};
 use fluent_progress::variant::chosen;
-use fluent_progress::{Context, Place, Progress};
+use fluent_progress::{Context, Progress, Surroundings};
 use fluent_value::FluentType;
 use std::alloc::AllocError;
 
@@ -30,7 +30,7 @@ use std::alloc::AllocError;
 #[cycle(resolving)]
 pub fn write_expression<'b, 'r, 's, 'a, C: FluentType + Drop, F, E: Context<C, F>>(
     out: &mut String,
-    place: &Place<'b, 'r, 's, 'a, C, F, E>,
+    place: &Surroundings<'b, 'r, 's, 'a, C, F, E>,
     progress: &mut Progress<'r, 's>,
     expression: &'r Expression<&'s str>,
 ) -> Result<(), AllocError>
@@ -52,7 +52,7 @@ pub fn write_expression<'b, 'r, 's, 'a, C: FluentType + Drop, F, E: Context<C, F
 #[cycle(resolving)]
 fn write_select<'b, 'r, 's, 'a, C: FluentType + Drop, F, E: Context<C, F>>(
     out: &mut String,
-    place: &Place<'b, 'r, 's, 'a, C, F, E>,
+    place: &Surroundings<'b, 'r, 's, 'a, C, F, E>,
     progress: &mut Progress<'r, 's>,
     selector: &'r InlineExpression<&'s str>,
     variants: &'r Vec<Variant<&'s str>>,
@@ -76,7 +76,7 @@ fn write_select<'b, 'r, 's, 'a, C: FluentType + Drop, F, E: Context<C, F>>(
 /// The variant of a select that is chosen.
 #[cycle(resolving)]
 fn choose<'b, 'r, 's, 'a, C: FluentType + Drop, F, E: Context<C, F>>(
-    place: &Place<'b, 'r, 's, 'a, C, F, E>,
+    place: &Surroundings<'b, 'r, 's, 'a, C, F, E>,
     progress: &mut Progress<'r, 's>,
     selector: &'r InlineExpression<&'s str>,
     variants: &'r Vec<Variant<&'s str>>,
@@ -98,7 +98,7 @@ fn choose<'b, 'r, 's, 'a, C: FluentType + Drop, F, E: Context<C, F>>(
 #[cycle(resolving)]
 pub fn write_inline<'b, 'r, 's, 'a, C: FluentType + Drop, F, E: Context<C, F>>(
     out: &mut String,
-    place: &Place<'b, 'r, 's, 'a, C, F, E>,
+    place: &Surroundings<'b, 'r, 's, 'a, C, F, E>,
     progress: &mut Progress<'r, 's>,
     inline: &'r InlineExpression<&'s str>,
 ) -> Result<(), AllocError>
@@ -134,7 +134,7 @@ pub fn write_inline<'b, 'r, 's, 'a, C: FluentType + Drop, F, E: Context<C, F>>(
 #[cycle(resolving)]
 fn write_call<'b, 'r, 's, 'a, C: FluentType + Drop, F, E: Context<C, F>>(
     out: &mut String,
-    place: &Place<'b, 'r, 's, 'a, C, F, E>,
+    place: &Surroundings<'b, 'r, 's, 'a, C, F, E>,
     progress: &mut Progress<'r, 's>,
     inline: &'r InlineExpression<&'s str>,
     id: &'r Identifier<&'s str>,
@@ -161,7 +161,7 @@ fn write_call<'b, 'r, 's, 'a, C: FluentType + Drop, F, E: Context<C, F>>(
 #[cycle(resolving)]
 fn write_term<'b, 'r, 's, 'a, C: FluentType + Drop, F, E: Context<C, F>>(
     out: &mut String,
-    place: &Place<'b, 'r, 's, 'a, C, F, E>,
+    place: &Surroundings<'b, 'r, 's, 'a, C, F, E>,
     progress: &mut Progress<'r, 's>,
     inline: &'r InlineExpression<&'s str>,
     id: &'r Identifier<&'s str>,
@@ -177,7 +177,7 @@ fn write_term<'b, 'r, 's, 'a, C: FluentType + Drop, F, E: Context<C, F>>(
 {
     let own = own_arguments(place, progress, arguments)?;
     let target = place.term_target(id, attribute)?;
-    let term = Place {
+    let term = Surroundings {
         ids: place.ids,
         context: place.context,
         arguments: place.arguments,

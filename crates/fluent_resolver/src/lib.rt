@@ -5,7 +5,7 @@
 //! for programs that open placeables themselves.
 //!
 //! Below them stand the functions that call each other: [`pattern::write_pattern`] writes a pattern to a text, with the
-//! budget, the path and the errors that its [`Progress`] holds. A [`Place`] lends what it is resolved in for the call alone:
+//! budget, the path and the errors that its [`Progress`] holds. A [`Surroundings`] lends what it is resolved in for the call alone:
 //! ids, settings and the arguments of the request may be the caller's own local values. Texts of patterns live as long as
 //! their sources, and so do the values that expressions give: what comes from the request's arguments is copied first. What
 //! enters no pattern is in `fluent_progress`. Contracts state what each function writes or finds by the definitions of
@@ -15,7 +15,7 @@
 //! [`answer::answer_within`] tells apart. A function that returns `Ok` leaves as much of the stack open as before, so values
 //! side by side take none.
 //!
-//! [`Place`]: fluent_progress::Place
+//! [`Surroundings`]: fluent_progress::Surroundings
 //! [`Progress`]: fluent_progress::Progress
 #![tactic(auto)]
 

@@ -13,7 +13,7 @@ use fluent_errors::ResolverError;
 use fluent_progress::fallback::fall_back;
 use fluent_progress::marks::{close, is_isolated, write_back, write_front};
 use fluent_progress::text::write_text;
-use fluent_progress::{Context, Place, Progress, Target};
+use fluent_progress::{Context, Progress, Surroundings, Target};
 use fluent_value::FluentType;
 use std::alloc::AllocError;
 
@@ -24,7 +24,7 @@ use std::alloc::AllocError;
 #[cycle(resolving)]
 pub fn write_pattern<'b, 'r, 's, 'a, C: FluentType + Drop, F, E: Context<C, F>>(
     out: &mut String,
-    place: &Place<'b, 'r, 's, 'a, C, F, E>,
+    place: &Surroundings<'b, 'r, 's, 'a, C, F, E>,
     progress: &mut Progress<'r, 's>,
     pattern: &'r Pattern<&'s str>,
 ) -> Result<(), AllocError>
@@ -55,7 +55,7 @@ pub fn write_pattern<'b, 'r, 's, 'a, C: FluentType + Drop, F, E: Context<C, F>>(
 #[cycle(resolving)]
 pub fn write_placeable<'b, 'r, 's, 'a, C: FluentType + Drop, F, E: Context<C, F>>(
     out: &mut String,
-    place: &Place<'b, 'r, 's, 'a, C, F, E>,
+    place: &Surroundings<'b, 'r, 's, 'a, C, F, E>,
     progress: &mut Progress<'r, 's>,
     whole: &'r Pattern<&'s str>,
     expression: &'r Expression<&'s str>,
@@ -85,7 +85,7 @@ pub fn write_placeable<'b, 'r, 's, 'a, C: FluentType + Drop, F, E: Context<C, F>
 #[cycle(resolving)]
 pub fn write_opened<'b, 'r, 's, 'a, C: FluentType + Drop, F, E: Context<C, F>>(
     out: &mut String,
-    place: &Place<'b, 'r, 's, 'a, C, F, E>,
+    place: &Surroundings<'b, 'r, 's, 'a, C, F, E>,
     progress: &mut Progress<'r, 's>,
     whole: &'r Pattern<&'s str>,
     expression: &'r Expression<&'s str>,
@@ -107,7 +107,7 @@ pub fn write_opened<'b, 'r, 's, 'a, C: FluentType + Drop, F, E: Context<C, F>>(
 #[cycle(resolving)]
 pub(crate) fn write_target<'b, 'r, 's, 'a, C: FluentType + Drop, F, E: Context<C, F>>(
     out: &mut String,
-    place: &Place<'b, 'r, 's, 'a, C, F, E>,
+    place: &Surroundings<'b, 'r, 's, 'a, C, F, E>,
     progress: &mut Progress<'r, 's>,
     inline: &'r InlineExpression<&'s str>,
     target: Target<'r, 's>,
@@ -135,7 +135,7 @@ pub(crate) fn write_target<'b, 'r, 's, 'a, C: FluentType + Drop, F, E: Context<C
 #[cycle(resolving)]
 pub fn write_referred<'b, 'r, 's, 'a, C: FluentType + Drop, F, E: Context<C, F>>(
     out: &mut String,
-    place: &Place<'b, 'r, 's, 'a, C, F, E>,
+    place: &Surroundings<'b, 'r, 's, 'a, C, F, E>,
     progress: &mut Progress<'r, 's>,
     inline: &'r InlineExpression<&'s str>,
     pattern: &'r Pattern<&'s str>,

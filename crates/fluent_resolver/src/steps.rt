@@ -9,7 +9,7 @@ ghost use Rattle.fluent_progress.specs.Depth.{open_in};
 use crate::arguments::{named_values, positional_values};
 use crate::pattern::{write_opened, write_referred};
 use fluent_ast::{CallArguments, Expression, InlineExpression, Pattern};
-use fluent_progress::{Context, Place, Progress};
+use fluent_progress::{Context, Progress, Surroundings};
 use fluent_value::{FluentArgs, FluentType, FluentValue};
 use std::alloc::{AllocError, Global};
 
@@ -19,7 +19,7 @@ use std::alloc::{AllocError, Global};
 /// [`AllocError`] if memory runs out; `out` may hold a part of the text, and the first of the errors are reported.
 pub fn opened<'b, 'r, 's, 'a, C: FluentType + Drop, F, E: Context<C, F>>(
     out: &mut String,
-    place: &Place<'b, 'r, 's, 'a, C, F, E>,
+    place: &Surroundings<'b, 'r, 's, 'a, C, F, E>,
     progress: &mut Progress<'r, 's>,
     pattern: &'r Pattern<&'s str>,
     expression: &'r Expression<&'s str>,
@@ -38,7 +38,7 @@ pub fn opened<'b, 'r, 's, 'a, C: FluentType + Drop, F, E: Context<C, F>>(
 /// [`AllocError`] if memory runs out; `out` may hold a part of the text, and the first of the errors are reported.
 pub fn referred<'b, 'r, 's, 'a, C: FluentType + Drop, F, E: Context<C, F>>(
     out: &mut String,
-    place: &Place<'b, 'r, 's, 'a, C, F, E>,
+    place: &Surroundings<'b, 'r, 's, 'a, C, F, E>,
     progress: &mut Progress<'r, 's>,
     inline: &'r InlineExpression<&'s str>,
     pattern: &'r Pattern<&'s str>,
@@ -56,7 +56,7 @@ pub fn referred<'b, 'r, 's, 'a, C: FluentType + Drop, F, E: Context<C, F>>(
 /// # Errors
 /// [`AllocError`] if memory runs out; the first of the errors are reported.
 pub fn values<'b, 'r, 's, 'a, C: FluentType + Drop, F, E: Context<C, F>>(
-    place: &Place<'b, 'r, 's, 'a, C, F, E>,
+    place: &Surroundings<'b, 'r, 's, 'a, C, F, E>,
     progress: &mut Progress<'r, 's>,
     arguments: &'r CallArguments<&'s str>,
 ) -> Result<(Vec<FluentValue<'s, C>>, FluentArgs<'s, C>), AllocError>

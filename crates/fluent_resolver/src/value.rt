@@ -12,7 +12,7 @@ use crate::arguments::nested_call;
 use crate::expression::write_inline;
 use fluent_ast::InlineExpression;
 use fluent_progress::text::literal_value;
-use fluent_progress::{Context, Place, Progress};
+use fluent_progress::{Context, Progress, Surroundings};
 use fluent_text::stack::resolving;
 use fluent_value::{FluentType, FluentValue};
 use std::alloc::AllocError;
@@ -24,7 +24,7 @@ use std::borrow::CowStr;
 /// [`AllocError`] if memory runs out; the first of the errors are reported.
 #[cycle(resolving)]
 pub fn value_of<'b, 'r, 's, 'a, C: FluentType + Drop, F, E: Context<C, F>>(
-    place: &Place<'b, 'r, 's, 'a, C, F, E>,
+    place: &Surroundings<'b, 'r, 's, 'a, C, F, E>,
     progress: &mut Progress<'r, 's>,
     inline: &'r InlineExpression<&'s str>,
 ) -> Result<FluentValue<'s, C>, AllocError>
@@ -61,7 +61,7 @@ pub fn value_of<'b, 'r, 's, 'a, C: FluentType + Drop, F, E: Context<C, F>>(
 /// counted.
 #[cycle(resolving)]
 fn text_value<'b, 'r, 's, 'a, C: FluentType + Drop, F, E: Context<C, F>>(
-    place: &Place<'b, 'r, 's, 'a, C, F, E>,
+    place: &Surroundings<'b, 'r, 's, 'a, C, F, E>,
     progress: &mut Progress<'r, 's>,
     inline: &'r InlineExpression<&'s str>,
 ) -> Result<FluentValue<'s, C>, AllocError>

@@ -9,7 +9,7 @@ ghost use Rattle.fluent_resolver.specs.Nested.{pattern_takes, placeable_takes};
 
 use crate::pattern::write_placeable;
 use fluent_ast::{Expression, Pattern, PatternElement};
-use fluent_progress::{Context, Place, Progress};
+use fluent_progress::{Context, Progress, Surroundings};
 use fluent_text::{TextWrite, WriteError};
 use fluent_value::FluentType;
 
@@ -20,7 +20,7 @@ use fluent_value::FluentType;
 /// took the pieces before.
 pub fn write_pieces<'b, 'r, 's, 'a, W, C, F, E>(
     w: &mut W,
-    place: &Place<'b, 'r, 's, 'a, C, F, E>,
+    place: &Surroundings<'b, 'r, 's, 'a, C, F, E>,
     progress: &mut Progress<'r, 's>,
     pattern: &'r Pattern<&'s str>,
 ) -> Result<(), WriteError>
@@ -64,7 +64,7 @@ fn write_text<W: TextWrite, C: FluentType, F, E: Context<C, F>>(
 /// Writes a placeable of a pattern, or nothing of it.
 fn write_piece<'b, 'r, 's, 'a, W, C, F, E>(
     w: &mut W,
-    place: &Place<'b, 'r, 's, 'a, C, F, E>,
+    place: &Surroundings<'b, 'r, 's, 'a, C, F, E>,
     progress: &mut Progress<'r, 's>,
     whole: &'r Pattern<&'s str>,
     expression: &'r Expression<&'s str>,

@@ -9,7 +9,7 @@ use Rattle.fluent_errors.specs.View.{bundle_view}
 use Rattle.fluent_errors.specs.declared.bundle.FluentError.{FluentError}
 use Rattle.fluent_grammar.specs.Words.{Text}
 use Rattle.fluent_progress.specs.declared.context.Context.{Ghosts as Context}
-use Rattle.fluent_progress.specs.declared.place.Place.{Place}
+use Rattle.fluent_progress.specs.declared.place.Surroundings.{Surroundings}
 use Rattle.fluent_serve.specs.Frames as frames
 use Rattle.fluent_resolver.specs.Steps.{answer}
 use Rattle.fluent_run.specs.declared.reply.ErrorLine.{ErrorLine}
@@ -40,5 +40,5 @@ abbrev pub reply_view : Reply → frames.Reply
 reply_view r = reply_of (string_bytes r.text) r.errors.items
 
 -- what the code's pattern gives at a place, in what its context means
-abbrev pub resolved_reply : {C F E S : Type 0} {c : Custom C S} {e : Context E C F S} {v : Scope E C S} → Place C F E S c e v → Pattern (Bor Text) → frames.Reply
+abbrev pub resolved_reply : {C F E S : Type 0} {c : Custom C S} {e : Context E C F S} {v : Scope E C S} → Surroundings C F E S c e v → Pattern (Bor Text) → frames.Reply
 resolved_reply place pattern = told (answer place pattern)

@@ -20,7 +20,7 @@ use fluent_ast::Pattern;
 use fluent_ids::laws::attributes_agree;
 use fluent_ids::{FluentIds, FluentMessage};
 use fluent_numerals::LocaleNumerals;
-use fluent_progress::{Lent, Place};
+use fluent_progress::{BorrowedSettings, Surroundings};
 use fluent_resolver::answer::lone_text;
 use fluent_resource::FluentResource;
 use fluent_serve::answer::Answer;
@@ -180,7 +180,7 @@ impl<'b, 'r, 's, M: MemoizerKind> Desk<'b, 'r, 's, M> {
         ensures { IfOk result (λ reply. reply_view reply
             ≡ reply_to M.MemoizerKind self.now arguments.now pattern.now) }
     {
-        let context: Lent<'_, M, LocaleNumerals, NoTransform> = Lent {
+        let context: BorrowedSettings<'_, M, LocaleNumerals, NoTransform> = BorrowedSettings {
             plurals: self.plurals,
             isolating: self.isolating,
             transform: None,
@@ -188,7 +188,7 @@ impl<'b, 'r, 's, M: MemoizerKind> Desk<'b, 'r, 's, M> {
             alloc,
         };
         let locals: Option<&'x FluentArgs<'s, NoCustom>> = None;
-        let place = Place {
+        let place = Surroundings {
             ids: &self.ids,
             context: &context,
             arguments: Some(arguments),

@@ -12,7 +12,7 @@ ghost use Rattle.fluent_serve.specs.Exchange.{IsFrontOf};
 
 use fluent_ast::Pattern;
 use fluent_errors::FluentError;
-use fluent_progress::{Context, Place, Progress};
+use fluent_progress::{Context, Progress, Surroundings};
 use fluent_resolver::pattern::write_pattern;
 use fluent_serve::answer::{Answer, push_framed};
 use fluent_text::stack::StackBudget;
@@ -59,7 +59,7 @@ impl fmt::Display for ErrorLine<'_> {
 /// # Errors
 /// [`AllocError`] if memory runs out, or the budget does; nothing is kept.
 pub(crate) fn resolve<'b, 'r, 's, 'a, C: FluentType + Drop, F, E: Context<C, F>>(
-    place: &Place<'b, 'r, 's, 'a, C, F, E>,
+    place: &Surroundings<'b, 'r, 's, 'a, C, F, E>,
     pattern: &'r Pattern<&'s str>,
     mut text: String,
     stack: StackBudget,

@@ -42,5 +42,5 @@ pub use patterns::{pattern_ends, text_len};
 pub use plain::{PlainLine, PlainLines};
 pub use row::{Row, begins_entry};
 pub use strings::{StringEnd, string_end};
-pub use sweep::{FrontLine, Told, measure_line};
+pub use sweep::{FrontLine, LineMasks, measure_line};
 pub use table::line_table;

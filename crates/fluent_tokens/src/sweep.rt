@@ -12,7 +12,7 @@ use std::simd::prelude::*;
 
 /// Which of the first bytes of a text are line feeds, and which are braces: bit `k` is that of byte `k`.
 #[derive(Clone, Copy)]
-pub struct Told {
+pub struct LineMasks {
     /// How many bytes were read: at most 64.
     count: usize,
     feeds: u64,
@@ -29,15 +29,15 @@ pub struct FrontLine {
     /// Where the next line begins. None after the last one.
     pub next: Option<usize>,
     /// What is known of the next line.
-    pub told: Told,
+    pub told: LineMasks,
 }
 
-impl Told {
+impl LineMasks {
     /// Of no bytes.
     pub fn nothing() -> Self
         ensures { (text : List ℕ) → Tells result text }
     {
-        Told {
+        LineMasks {
             count: 0,
             feeds: 0,
             braces: 0,
@@ -52,7 +52,7 @@ impl Told {
         ensures count { result.count ≡ 64 }
     {
         let bytes = u8x64::from_slice(text);
-        Told {
+        LineMasks {
             count: LINE_LANES,
             feeds: line_feeds(bytes),
             braces: braces(bytes),
@@ -66,7 +66,7 @@ impl Told {
         requires short { self.now.count ≤ 64 }
         ensures { (text : List ℕ) → Tells self.now text → Tells result (drop (place + 1) text) }
     {
-        Told {
+        LineMasks {
             count: self.count - place - 1,
             feeds: (self.feeds >> place) >> 1,
             braces: (self.braces >> place) >> 1,
@@ -76,7 +76,7 @@ impl Told {
 
 /// The line at the front of a text, of which this much is known.
 #[inline(always)]
-pub fn measure_line(text: &[u8], told: Told) -> FrontLine
+pub fn measure_line(text: &[u8], told: LineMasks) -> FrontLine
     requires { Tells told text.now }
     ensures line { IsLine text.now result.len }
     ensures cuts { Cuts text.now result.len }
@@ -93,7 +93,7 @@ pub fn measure_line(text: &[u8], told: Told) -> FrontLine
         if behind.len() < LINE_LANES {
             return measure_last_line(text);
         }
-        told = Told::of(behind);
+        told = LineMasks::of(behind);
     }
     let feed = told.feeds.trailing_zeros() as usize;
     let brace = told.braces.trailing_zeros() as usize;
@@ -123,6 +123,6 @@ fn measure_last_line(text: &[u8]) -> FrontLine
         len,
         is_plain,
         next,
-        told: Told::nothing(),
+        told: LineMasks::nothing(),
     }
 }

@@ -4,7 +4,7 @@
 ghost use Rattle.std.specs.Prelude.{◌≡◌, IfOk, map};
 ghost use Rattle.fluent_tokens.specs.Table.{row_view, lines};
 
-use crate::{Row, Told, from, measure_line};
+use crate::{LineMasks, Row, from, measure_line};
 use std::alloc::{AllocError, Global};
 
 /// How many bytes a short line has, about. Room to spare, which a table for longer lines has, is never touched; one for still
@@ -23,7 +23,7 @@ pub fn line_table(alloc: Global, text: &[u8]) -> Result<Vec<Row>, AllocError>
 {
     let mut rows = Vec::with_capacity(alloc, text.len() / SHORT + 1)?;
     let mut start = 0;
-    let mut told = Told::nothing();
+    let mut told = LineMasks::nothing();
     'lines: loop {
         let line = from(text, start);
         let front = measure_line(line, told);

@@ -5,7 +5,7 @@ ghost use Rattle.std.specs.Prelude.{◌-◌, IfOk, IfSome, OnErr, drop, string_b
 ghost use Rattle.ftl_files.specs.Depth.{IsDeepAt, IsDeepOn, IsDepthReport, NestsTooDeep};
 
 use fluent_parser::{StackBudget, TooDeep, parse_unless_too_deep};
-use lint_finding::Place;
+use lint_finding::SourcePosition;
 use std::alloc::{AllocError, Global};
 
 /// How many braces and parentheses never nest too deep: each takes 2,900 bytes of the machine's stack at most.
@@ -59,7 +59,7 @@ fn deep_line(alloc: Global, source: &str) -> Option<usize>
     ensures { IfSome result (IsDeepOn source.now) }
 {
     let start = deep_start(alloc, source)?;
-    Some(Place::start().moved_to(source, start).line())
+    Some(SourcePosition::start().moved_to(source, start).line())
 }
 
 /// Where the first part of a source begins that nests too deep by itself. A part goes from a line that begins as messages

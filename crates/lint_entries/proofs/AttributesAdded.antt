@@ -12,7 +12,7 @@ use Rattle.lint_entries.specs.AttributePlaces.{attribute_value, AreAttributesAt,
 use Rattle.lint_entries.specs.AttributesFound.{taken_found, place_of_attribute, label_with, attributes_found}
 use Rattle.lint_entries.specs.FoundAt.{pattern_found}
 use Rattle.lint_entries.specs.declared.catalog.Catalog.{Catalog}
-use Rattle.lint_entries.specs.declared.finding.Place.{Place}
+use Rattle.lint_entries.specs.declared.finding.EntryPoint.{EntryPoint}
 use Rattle.lint_entries.proofs.SameRests.{rest_is}
 
 -- the value of the attribute on the line at the front
@@ -27,9 +27,9 @@ or_false : (b : Bool) (f : Finding) → (if b then f ∷ [] else []) ≡ (if b |
 or_false true f = refl
 or_false false f = refl
 
-module _ (catalog : Catalog) (entry : Place) where
+module _ (catalog : Catalog) (entry : EntryPoint) where
   -- The findings of an attribute are added, and then those of the others.
-  pub one_added : (a : t.Attribute) (as' : List t.Attribute) (before : List Text) (s u v : Text) (name at : Bor Text) (place : Place) (x y z : List Finding) →
+  pub one_added : (a : t.Attribute) (as' : List t.Attribute) (before : List Text) (s u v : Text) (name at : Bor Text) (place : EntryPoint) (x y z : List Finding) →
       name.now ≡ a.id → at.now ≡ skip_spaces s → place ≡ place_of_attribute entry name at → v ≡ attribute_value s → pattern_read (attribute_value s) ≡ got a.value u →
       y ≡ x ++ taken_found before name.now place → z ≡ y ++ pattern_found catalog place v a.value →
       z ++ attributes_found catalog entry (a.id ∷ before) as' u ≡ x ++ attributes_found catalog entry before (a ∷ as') s

@@ -12,16 +12,16 @@ use Rattle.lint_entries.specs.AttributesFound.{attributes_found}
 use Rattle.lint_entries.specs.EntryParts.{LeaveRest, Parts, maybe_value_at, parts_found, value_at}
 use Rattle.lint_entries.specs.FoundAt.{value_found}
 use Rattle.lint_entries.specs.declared.catalog.Catalog.{Catalog}
-use Rattle.lint_entries.specs.declared.finding.Place.{Place}
+use Rattle.lint_entries.specs.declared.finding.EntryPoint.{EntryPoint}
 use Rattle.lint_entries.proofs.BodiesAreRead.{message_parts, term_parts}
 use Rattle.lint_entries.proofs.SameRests.{same_rest, attributes_after}
 
 -- the place of an entry
-abbrev pub place_of_entry : Bor Text → Bor Text → Bor Text → Bor Text → Place
+abbrev pub place_of_entry : Bor Text → Bor Text → Bor Text → Bor Text → EntryPoint
 place_of_entry source at sign id = record { source = source; at = at; label = record { sign = sign; id = id; attribute = None } }
 
 module _ (catalog : Catalog) (source at sign id : Bor Text) where
-  abbrev here : Place
+  abbrev here : EntryPoint
   here = place_of_entry source at sign id
 
   -- the place of the attributes after a value that leaves this

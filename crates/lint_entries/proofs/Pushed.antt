@@ -7,7 +7,7 @@ use Rattle.lint_finding.specs.View.{finding_view}
 use Rattle.lint_finding.specs.declared.records.Finding.{Finding}
 use Rattle.fluent_number.specs.declared.plural.PluralCategory.{PluralCategory}
 use Rattle.lint_entries.specs.FoundAt.{category_finding}
-use Rattle.lint_entries.specs.declared.finding.Place.{Place}
+use Rattle.lint_entries.specs.declared.finding.EntryPoint.{EntryPoint}
 use Rattle.lint_flaws.specs.FlawView.{flaw_view}
 use Rattle.lint_flaws.specs.declared.flaw.Flaw.{Flaw}
 
@@ -39,7 +39,7 @@ pub four_added : (a k l m n : List f.Finding) {b c d e : List f.Finding} → b �
 four_added a k l m n {b = b} p q r s = two_added a k (l ++ (m ++ n)) p (three_added b l m n q r s)
 
 -- the finding of the next missing category is added
-pub category_added : (place : Place) (items : List PluralCategory) (i : ℕ) (default category : PluralCategory) (old new : List Finding) (one : Finding) → i < length items → category ≡ get_or items i default →
+pub category_added : (place : EntryPoint) (items : List PluralCategory) (i : ℕ) (default category : PluralCategory) (old new : List Finding) (one : Finding) → i < length items → category ≡ get_or items i default →
     new ≡ old ++ (one ∷ []) → finding_view one ≡ category_finding place category → map finding_view new ++ map (category_finding place) (drop (i + 1) items) ≡ map finding_view old ++ map (category_finding place) (drop i items)
 category_added place items i default category old new one inside is added viewed =
     first_added (map finding_view old) (category_finding place category ∷ []) (map (category_finding place) (drop (i + 1) items)) (pushed old new one (category_finding place category) added viewed)

@@ -23,7 +23,7 @@ use Rattle.lint_entries.specs.FirstEndless.{first_entered}
 use Rattle.lint_entries.specs.FoundAt.{endless_found, flaw_findings, node_found, nodes_of, occurrences_found, option_findings, pattern_found, value_found}
 use Rattle.lint_entries.specs.Made.{Adds}
 use Rattle.lint_entries.specs.declared.catalog.Catalog.{Catalog}
-use Rattle.lint_entries.specs.declared.finding.Place.{Place}
+use Rattle.lint_entries.specs.declared.finding.EntryPoint.{EntryPoint}
 use Rattle.lint_entries.specs.declared.label.Label.{Label}
 
 -- a pattern is read at the front of a text, and leaves this rest
@@ -31,27 +31,27 @@ abbrev pub LeavesAfter : Elements → Text → Text → Type 0
 LeavesAfter es s rest = pattern_read s ≡ got es rest
 
 -- the findings of a pattern with a name at this place, in the source from its first byte on
-abbrev pub AddsPattern : Catalog → Place → Text → Pattern (Bor Text) → Vec Finding Global → Vec Finding Global → Type 0
+abbrev pub AddsPattern : Catalog → EntryPoint → Text → Pattern (Bor Text) → Vec Finding Global → Vec Finding Global → Type 0
 AddsPattern catalog name s pattern old new = Adds old new (pattern_found catalog name s (elements_of pattern))
 
 -- those of a value, which may be none
-abbrev pub AddsValue : Catalog → Place → Text → Option Elements → Vec Finding Global → Vec Finding Global → Type 0
+abbrev pub AddsValue : Catalog → EntryPoint → Text → Option Elements → Vec Finding Global → Vec Finding Global → Type 0
 AddsValue catalog name s value old new = Adds old new (value_found catalog name s value)
 
 -- those of the attributes of an entry at this place, in the source from the line of the first one on
-abbrev pub AddsAttributes : Catalog → Place → List (Attribute (Bor Text)) → Text → Vec Finding Global → Vec Finding Global → Type 0
+abbrev pub AddsAttributes : Catalog → EntryPoint → List (Attribute (Bor Text)) → Text → Vec Finding Global → Vec Finding Global → Type 0
 AddsAttributes catalog entry attributes s old new = Adds old new (attributes_found catalog entry [] (attributes_of attributes) s)
 
 -- the finding of a pattern with these occurrences and a name at this place, if its references never end
-abbrev pub endless_among : Ids (Unit {0}) → Place → List Occurrence → List f.Finding
+abbrev pub endless_among : Ids (Unit {0}) → EntryPoint → List Occurrence → List f.Finding
 endless_among ids name occurrences = endless_found name (first_entered ids (nodes_of occurrences))
 
 -- those of a node at a place, in a pattern with these elements
-abbrev pub AddsNode : Catalog → Elements → Place → Node → Vec Finding Global → Vec Finding Global → Type 0
+abbrev pub AddsNode : Catalog → Elements → EntryPoint → Node → Vec Finding Global → Vec Finding Global → Type 0
 AddsNode catalog es place node old new = Adds old new (node_found catalog es place (node_view node))
 
 -- those of the options of a node at a place
-abbrev pub AddsOptions : Place → Node → Vec Finding Global → Vec Finding Global → Type 0
+abbrev pub AddsOptions : EntryPoint → Node → Vec Finding Global → Vec Finding Global → Type 0
 AddsOptions place node old new = Adds old new (option_findings place (node_view node))
 
 -- If all went well: those of occurrences in a source, whatever pattern they are in.
@@ -60,6 +60,6 @@ AddsOccurrences result catalog source label occurrences old new =
     (es : Elements) → OnOk result (Adds old new (occurrences_found catalog source label es (map occurrence_view occurrences)))
 
 -- If all went well: those of the flaws of a node at a place, whatever pattern it is in.
-abbrev pub AddsFlaws : {A E : Type 0} → Result A E → FluentIds (Unit {0}) → Place → Node → Vec Finding Global → Vec Finding Global → Type 0
+abbrev pub AddsFlaws : {A E : Type 0} → Result A E → FluentIds (Unit {0}) → EntryPoint → Node → Vec Finding Global → Vec Finding Global → Type 0
 AddsFlaws result ids place node old new =
     (plurals : Option LanguagePlurals) (es : Elements) → OnOk result (Adds old new (flaw_findings ids plurals es place (node_view node)))

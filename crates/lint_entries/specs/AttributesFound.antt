@@ -12,20 +12,20 @@ use Rattle.lint_entries.specs.EntryParts.{attributes_at}
 use Rattle.lint_entries.specs.HasNames.{HasNames}
 use Rattle.lint_entries.specs.Made.{Adds, made_of}
 use Rattle.lint_entries.specs.declared.catalog.Catalog.{Catalog}
-use Rattle.lint_entries.specs.declared.finding.Place.{Place}
+use Rattle.lint_entries.specs.declared.finding.EntryPoint.{EntryPoint}
 use Rattle.lint_entries.specs.declared.names.Names.{Names}
 use Rattle.lint_entries.specs.declared.problem.Problem.TheVariants as problem
 
 -- an attribute whose name is one of these
-abbrev pub taken_found : List Text → Text → Place → List Finding
+abbrev pub taken_found : List Text → Text → EntryPoint → List Finding
 taken_found before name place = if is_among name before then made_of place problem.DuplicateAttribute ∷ [] else []
 
 -- the finding of an attribute is added, if its name is one of those of a set
-abbrev pub AddsIfTaken : Names → Text → Place → Vec code.Finding Global → Vec code.Finding Global → Type 0
+abbrev pub AddsIfTaken : Names → Text → EntryPoint → Vec code.Finding Global → Vec code.Finding Global → Type 0
 AddsIfTaken names name place old new = (before : List Text) → HasNames names before → Adds old new (taken_found before name place)
 
 -- the place of an attribute of an entry
-abbrev pub place_of_attribute : Place → Bor Text → Bor Text → Place
+abbrev pub place_of_attribute : EntryPoint → Bor Text → Bor Text → EntryPoint
 place_of_attribute entry name at = record {
   source = entry.source;
   at = at;
@@ -33,10 +33,10 @@ place_of_attribute entry name at = record {
 }
 
 -- a label of an entry, with the name of an attribute
-abbrev pub label_with : Place → Text → Text
+abbrev pub label_with : EntryPoint → Text → Text
 label_with entry name = with_attribute (entry.label.sign.now ++ entry.label.id.now) (Some name)
 
 -- the findings of attributes of an entry, after those with these names, from the line of the first one on
-abbrev pub attributes_found : Catalog → Place → List Text → List t.Attribute → Text → List Finding
+abbrev pub attributes_found : Catalog → EntryPoint → List Text → List t.Attribute → Text → List Finding
 attributes_found catalog entry before as' s =
     attributes_at (ids_in catalog) catalog.plurals entry.source.now (entry.label.sign.now ++ entry.label.id.now) before as' s

@@ -21,7 +21,7 @@ use Rattle.lint_entries.specs.Labels.{label_text}
 use Rattle.lint_entries.specs.Made.{made_of}
 use Rattle.lint_entries.specs.declared.problem.Problem.TheVariants as problem
 use Rattle.lint_entries.specs.declared.catalog.Catalog.{Catalog}
-use Rattle.lint_entries.specs.declared.finding.Place.{Place}
+use Rattle.lint_entries.specs.declared.finding.EntryPoint.{EntryPoint}
 use Rattle.lint_entries.specs.declared.label.Label.{Label}
 
 -- the nodes of occurrences
@@ -29,19 +29,19 @@ abbrev pub nodes_of : List Occurrence → List n.Node
 nodes_of os = map (λ (x : Occurrence). node_view x.node) os
 
 -- of the flaws of a node at a place, in a pattern with these elements
-abbrev pub flaw_findings : FluentIds (Unit {0}) → Option LanguagePlurals → Elements → Place → n.Node → List Finding
+abbrev pub flaw_findings : FluentIds (Unit {0}) → Option LanguagePlurals → Elements → EntryPoint → n.Node → List Finding
 flaw_findings ids plurals es place node =
     map (e.flaw_finding (ids_view (Unit {0}) ids) plurals place.source.now es (label_text place.label) place.at.now) (e.node_flaws (ids_view (Unit {0}) ids) node)
 
 -- the finding at a place that a category is missing
-abbrev pub category_finding : Place → PluralCategory → Finding
+abbrev pub category_finding : EntryPoint → PluralCategory → Finding
 category_finding place category = made_of place (problem.MissingCategory category)
 
-abbrev pub category_findings : Option LanguagePlurals → Place → n.Node → List Finding
+abbrev pub category_findings : Option LanguagePlurals → EntryPoint → n.Node → List Finding
 category_findings plurals place node = map (category_finding place) (e.node_categories plurals node)
 
 -- the finding at a place that an escape stands for no character
-abbrev pub escape_finding : Place → Text → Finding
+abbrev pub escape_finding : EntryPoint → Text → Finding
 escape_finding place escape = record {
   offset = length place.source.now - length place.at.now;
   code = codes "invalid-escape";
@@ -51,11 +51,11 @@ escape_finding place escape = record {
   hint = None;
 }
 
-abbrev pub escape_findings : Place → n.Node → List Finding
+abbrev pub escape_findings : EntryPoint → n.Node → List Finding
 escape_findings place node = map (escape_finding place) (e.node_escapes node)
 
 -- the finding at a place that `NUMBER` makes nothing of an argument
-abbrev pub option_finding : Place → Misuse → Finding
+abbrev pub option_finding : EntryPoint → Misuse → Finding
 option_finding place misuse = record {
   offset = length place.source.now - length place.at.now;
   code = codes "unknown-option";
@@ -65,16 +65,16 @@ option_finding place misuse = record {
   hint = None;
 }
 
-abbrev pub option_findings : Place → n.Node → List Finding
+abbrev pub option_findings : EntryPoint → n.Node → List Finding
 option_findings place node = map (option_finding place) (e.node_misuses node)
 
 -- the finding at a place that references never end, and go on at one that is written so, if there is one
-abbrev pub endless_found : Place → Option Text → List Finding
+abbrev pub endless_found : EntryPoint → Option Text → List Finding
 endless_found place first = endless_at place.source.now (label_text place.label) place.at.now first
 
 module _ (catalog : Catalog) where
   -- of a node at a place, in a pattern with these elements
-  abbrev pub node_found : Elements → Place → n.Node → List Finding
+  abbrev pub node_found : Elements → EntryPoint → n.Node → List Finding
   node_found es place node =
       e.node_findings (ids_in catalog) catalog.plurals place.source.now es (label_text place.label) place.at.now node
 
@@ -84,12 +84,12 @@ module _ (catalog : Catalog) where
       flat_map (λ (x : o.Occurrence). e.node_findings (ids_in catalog) catalog.plurals source es (label_text label) x.at x.node) os
 
   -- of a pattern with a name at this place, in the source from its first byte on
-  abbrev pub pattern_found : Place → Text → Elements → List Finding
+  abbrev pub pattern_found : EntryPoint → Text → Elements → List Finding
   pattern_found name pattern_at es =
       e.pattern_findings (ids_in catalog) catalog.plurals name.source.now (label_text name.label)
       (record { attribute = None; name_at = name.at.now; pattern_at = pattern_at }) es
 
   -- of the value of a message with a name at this place, if it has one
-  abbrev pub value_found : Place → Text → Option Elements → List Finding
+  abbrev pub value_found : EntryPoint → Text → Option Elements → List Finding
   value_found name value_at None = []
   value_found name value_at (Some es) = pattern_found name value_at es

@@ -11,16 +11,16 @@ use Rattle.lint_finding.specs.View.{finding_view}
 use Rattle.lint_finding.specs.declared.records.Finding.{Finding}
 use Rattle.lint_entries.specs.Labels.{label_text}
 use Rattle.lint_entries.specs.Problems.{problem_code, problem_severity, problem_text, problem_hint}
-use Rattle.lint_entries.specs.declared.finding.Place.{Place}
+use Rattle.lint_entries.specs.declared.finding.EntryPoint.{EntryPoint}
 use Rattle.lint_entries.specs.declared.problem.Problem.{Problem}
 
 -- a finding stands for that of a flaw of a node, whatever pattern the node is in
-abbrev pub IsFlawFinding : Ids (Unit {0}) → Place → Flaw → Finding → Type 0
+abbrev pub IsFlawFinding : Ids (Unit {0}) → EntryPoint → Flaw → Finding → Type 0
 IsFlawFinding ids place flaw made = (plurals : Option LanguagePlurals) (es : Elements) →
     finding_view made ≡ e.flaw_finding ids plurals place.source.now es (label_text place.label) place.at.now flaw
 
 -- the finding of a problem at a place
-abbrev pub made_of : Place → Problem → f.Finding
+abbrev pub made_of : EntryPoint → Problem → f.Finding
 made_of place problem = record {
   offset = length place.source.now - length place.at.now;
   code = problem_code problem;

@@ -13,7 +13,7 @@ ghost use Rattle.lint_nodes.specs.OccurrenceView.{IsPatternAt};
 
 use crate::catalog::Catalog;
 use crate::entry_parts::EntryParts;
-use crate::finding::{Place, problem_finding};
+use crate::finding::{EntryPoint, problem_finding};
 use crate::label::Label;
 use crate::names::Names;
 use crate::pattern::push_pattern;
@@ -56,7 +56,7 @@ fn parts_findings<'s>(
     requires { AreReadAt parts.now text.now }
     ensures { IfOk result (AreFoundOf catalog.now source.now parts.now text.now) }
 {
-    let entry = Place {
+    let entry = EntryPoint {
         source,
         at: text,
         label: Label {
@@ -85,7 +85,7 @@ fn parts_findings<'s>(
 fn push_value<'s, 't>(
     alloc: Global,
     catalog: &Catalog<'_, '_, 's>,
-    entry: &Place<'_, '_, 's>,
+    entry: &EntryPoint<'_, '_, 's>,
     value: Option<&Pattern<&'s str>>,
     text: &'t [u8],
     findings: &mut Vec<Finding>,
@@ -105,7 +105,7 @@ fn push_value<'s, 't>(
 fn push_attributes<'s>(
     alloc: Global,
     catalog: &Catalog<'_, '_, 's>,
-    entry: &Place<'_, '_, 's>,
+    entry: &EntryPoint<'_, '_, 's>,
     attributes: &[Attribute<&'s str>],
     text: &[u8],
     findings: &mut Vec<Finding>,
@@ -128,13 +128,13 @@ fn push_attributes<'s>(
 
 /// The place of an attribute of an entry.
 fn attribute_place<'p, 't, 's>(
-    entry: &Place<'p, '_, 's>,
+    entry: &EntryPoint<'p, '_, 's>,
     name: &'s str,
     at: &'t [u8],
-) -> Place<'p, 't, 's>
+) -> EntryPoint<'p, 't, 's>
     ensures { result ≡ place_of_attribute entry.now name.entry at.entry }
 {
-    Place {
+    EntryPoint {
         source: entry.source,
         at,
         label: Label {
@@ -148,7 +148,7 @@ fn attribute_place<'p, 't, 's>(
 /// Adds the finding that the name of an attribute is that of an earlier one, if it is.
 fn push_if_taken<'s>(
     alloc: Global,
-    place: &Place<'_, '_, 's>,
+    place: &EntryPoint<'_, '_, 's>,
     name: &'s str,
     names: &mut Names<'s>,
     findings: &mut Vec<Finding>,

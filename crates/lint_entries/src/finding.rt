@@ -17,13 +17,13 @@ use std::alloc::{AllocError, Global};
 
 /// A place in an entry or in one of its attributes: the source from there on.
 #[derive(Clone, Copy)]
-pub struct Place<'p, 't, 's> {
+pub struct EntryPoint<'p, 't, 's> {
     pub source: &'p str,
     pub at: &'t [u8],
     pub label: Label<'s>,
 }
 
-impl Place<'_, '_, '_> {
+impl EntryPoint<'_, '_, '_> {
     /// How many bytes of the source stand before the place.
     fn offset(&self) -> usize
         ensures { result ≡ length self.now.source.now - length self.now.at.now }
@@ -39,7 +39,7 @@ impl Place<'_, '_, '_> {
 pub fn flaw_finding<'s>(
     alloc: Global,
     ids: &CatalogIds<'_, 's>,
-    place: &Place<'_, '_, 's>,
+    place: &EntryPoint<'_, '_, 's>,
     flaw: Flaw<'_, 's>,
 ) -> Result<Finding, AllocError>
     ensures { IfOk result (IsFlawFinding (ids_view _ ids.now) place.now (flaw_view flaw.entry)) }
@@ -72,7 +72,7 @@ fn hint_of(alloc: Global, hint: Option<Hint<'_>>) -> Result<Option<String>, Allo
 /// [`AllocError`] if memory runs out; nothing is kept.
 pub fn problem_finding(
     alloc: Global,
-    place: &Place<'_, '_, '_>,
+    place: &EntryPoint<'_, '_, '_>,
     problem: Problem<'_>,
 ) -> Result<Finding, AllocError>
     ensures { IfOk result (λ made. finding_view made ≡ made_of place.now problem.entry) }

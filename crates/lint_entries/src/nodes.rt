@@ -10,7 +10,7 @@ ghost use Rattle.lint_flaws.specs.Common.{AreCommonBy};
 ghost use Rattle.lint_nodes.specs.NodeView.{node_view};
 
 use crate::catalog::Catalog;
-use crate::finding::{Place, flaw_finding, problem_finding};
+use crate::finding::{EntryPoint, flaw_finding, problem_finding};
 use crate::label::Label;
 use crate::problem::Problem;
 use fluent_plurals::LanguagePlurals;
@@ -35,7 +35,7 @@ pub fn push_occurrences<'s>(
         findings.old findings.new }
 {
     for occurrence in occurrences {
-        let place = Place {
+        let place = EntryPoint {
             source,
             at: occurrence.at,
             label,
@@ -50,7 +50,7 @@ pub fn push_occurrences<'s>(
 fn push_node<'s>(
     alloc: Global,
     catalog: &Catalog<'_, '_, 's>,
-    place: &Place<'_, '_, 's>,
+    place: &EntryPoint<'_, '_, 's>,
     node: Node<'_, 's>,
     findings: &mut Vec<Finding>,
 ) -> Result<(), AllocError>
@@ -73,7 +73,7 @@ fn push_node<'s>(
 fn push_flaw<'s>(
     alloc: Global,
     ids: &CatalogIds<'_, 's>,
-    place: &Place<'_, '_, 's>,
+    place: &EntryPoint<'_, '_, 's>,
     node: Node<'_, 's>,
     findings: &mut Vec<Finding>,
 ) -> Result<(), AllocError>
@@ -89,7 +89,7 @@ fn push_categories(
     alloc: Global,
     plurals: Option<LanguagePlurals>,
     common: &CommonCategories,
-    place: &Place<'_, '_, '_>,
+    place: &EntryPoint<'_, '_, '_>,
     node: Node<'_, '_>,
     findings: &mut Vec<Finding>,
 ) -> Result<(), AllocError>
@@ -105,7 +105,7 @@ fn push_categories(
 
 fn push_escapes(
     alloc: Global,
-    place: &Place<'_, '_, '_>,
+    place: &EntryPoint<'_, '_, '_>,
     node: Node<'_, '_>,
     findings: &mut Vec<Finding>,
 ) -> Result<(), AllocError>
@@ -120,7 +120,7 @@ fn push_escapes(
 
 fn push_options(
     alloc: Global,
-    place: &Place<'_, '_, '_>,
+    place: &EntryPoint<'_, '_, '_>,
     node: Node<'_, '_>,
     findings: &mut Vec<Finding>,
 ) -> Result<(), AllocError>

@@ -10,7 +10,7 @@ ghost use Rattle.lint_nodes.specs.OccurrenceView.{IsPatternAt};
 
 use crate::catalog::Catalog;
 use crate::endless::first_entered;
-use crate::finding::{Place, problem_finding};
+use crate::finding::{EntryPoint, problem_finding};
 use crate::nodes::push_occurrences;
 use crate::problem::Problem;
 use fluent_ast::Pattern;
@@ -26,7 +26,7 @@ use std::alloc::{AllocError, Global};
 pub fn push_pattern<'s, 't>(
     alloc: Global,
     catalog: &Catalog<'_, '_, 's>,
-    name: &Place<'_, '_, 's>,
+    name: &EntryPoint<'_, '_, 's>,
     pattern: &Pattern<&'s str>,
     text: &'t [u8],
     findings: &mut Vec<Finding>,
@@ -53,7 +53,7 @@ pub fn push_pattern<'s, 't>(
 fn push_endless<'s>(
     alloc: Global,
     catalog: &Catalog<'_, '_, 's>,
-    name: &Place<'_, '_, 's>,
+    name: &EntryPoint<'_, '_, 's>,
     occurrences: &[Occurrence<'_, 's, '_>],
     findings: &mut Vec<Finding>,
 ) -> Result<(), AllocError>

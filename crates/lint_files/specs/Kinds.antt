@@ -3,11 +3,11 @@ use Rattle.std.specs.Prelude.{if◌then◌else◌, codes}
 use Rattle.std.specs.Str.{bytes_eq}
 use Rattle.fluent_grammar.specs.Words.{Text}
 use Rattle.fluent_grammar.specs.Refusal as r
-use Rattle.fluent_parsed.specs.ErrorView.{Told, kind_view, expected_token, expected_char_range, expected_message_field, expected_term_field, forbidden_callee, missing_default_variant, missing_value, multiple_default_variants, message_reference_as_selector, term_reference_as_selector, message_attribute_as_selector, term_attribute_as_placeable, unterminated_string_literal, positional_argument_follows_named, duplicated_named_argument, unknown_escape_sequence, invalid_unicode_escape_sequence, unbalanced_closing_brace, expected_inline_expression, expected_simple_expression_as_selector, expected_literal}
+use Rattle.fluent_parsed.specs.ErrorView.{KindView, kind_view, expected_token, expected_char_range, expected_message_field, expected_term_field, forbidden_callee, missing_default_variant, missing_value, multiple_default_variants, message_reference_as_selector, term_reference_as_selector, message_attribute_as_selector, term_attribute_as_placeable, unterminated_string_literal, positional_argument_follows_named, duplicated_named_argument, unknown_escape_sequence, invalid_unicode_escape_sequence, unbalanced_closing_brace, expected_inline_expression, expected_simple_expression_as_selector, expected_literal}
 use Rattle.fluent_parsed.specs.declared.errors.ErrorKind.{ErrorKind}
 
 -- The kind of refusal that is told so. No source has the error of a message's attribute as a selector.
-abbrev pub kind_of : Told → r.Kind
+abbrev pub kind_of : KindView → r.Kind
 kind_of (expected_token c) = r.expected_token c
 kind_of (expected_char_range range) =
     if bytes_eq range (codes "a-zA-Z") then r.expected_letter

@@ -4,7 +4,7 @@ use Rattle.std.specs.Global.{Global}
 use Rattle.std.specs.Vec.Iter.{into_iter_items}
 use Rattle.lint_files.specs.PartFindings.{declared_by, declared_by_parts, entry_findings_at, findings_of_parts, offset_in}
 use Rattle.lint_files.specs.declared.cursor.Cursor.{Cursor}
-use Rattle.lint_files.specs.declared.entry.Placed.{Placed}
+use Rattle.lint_files.specs.declared.entry.PlacedEntry.{PlacedEntry}
 use Rattle.lint_entries.specs.First.{AreFirst}
 use Rattle.lint_entries.specs.declared.declarations.Declarations.{Declarations}
 use Rattle.lint_entries.specs.AttributePlaces.{IsEntryAt, bare_entry}
@@ -27,49 +27,49 @@ use Rattle.lint_entries.specs.declared.tile.Tile.{Tile}
 -- ---- an entry
 
 -- The entry is read at its place.
-pub record IsPlaced (placed : Placed) : Type 0 where
+pub record IsPlaced (placed : PlacedEntry) : Type 0 where
   pub place : IsPlaceIn placed.file.source.now placed.place
   pub offset : placed.place.offset ≡ length placed.file.source.now - length placed.text.now
   pub read : IsEntryAt (bare_entry placed.entry.now) placed.text.now
 
 -- as a part of its source
-abbrev pub placed_part : Placed → Part
+abbrev pub placed_part : PlacedEntry → Part
 placed_part placed = entry_part placed.text.now (bare_entry placed.entry.now)
 
 -- The declarations of a part come after those that are known.
 abbrev pub Declares : Declarations → Declarations → File → Part → Type 0
 Declares old new file part = (before : List Declaration) → AreFirst old before → AreFirst new (before ++ declared_by (file_view file) part)
 
-abbrev pub DeclaresPlaced : Declarations → Declarations → Placed → Type 0
+abbrev pub DeclaresPlaced : Declarations → Declarations → PlacedEntry → Type 0
 DeclaresPlaced old new placed = Declares old new placed.file (placed_part placed)
 
 -- The findings of an entry are added, after the declarations that are known.
-abbrev pub AddsPlaced : Rules → Placed → Declarations → Vec Finding Global → Vec Finding Global → Type 0
+abbrev pub AddsPlaced : Rules → PlacedEntry → Declarations → Vec Finding Global → Vec Finding Global → Type 0
 AddsPlaced rules placed known old new = (before : List Declaration) → AreFirst known before →
     Adds old new (entry_findings_at rules (file_view placed.file) before placed.text.now (bare_entry placed.entry.now))
 
-abbrev pub own_findings : Rules → Placed → List f.Finding
+abbrev pub own_findings : Rules → PlacedEntry → List f.Finding
 own_findings rules placed =
     entry_findings rules.ids rules.plurals placed.file.source.now (bare_entry placed.entry.now) placed.text.now
 
-abbrev pub compared_findings : Rules → Placed → List f.Finding
+abbrev pub compared_findings : Rules → PlacedEntry → List f.Finding
 compared_findings rules placed = rules.compare placed.file.source.now (bare_entry placed.entry.now) placed.text.now
 
-abbrev pub AddsOwn : Rules → Placed → Vec Finding Global → Vec Finding Global → Type 0
+abbrev pub AddsOwn : Rules → PlacedEntry → Vec Finding Global → Vec Finding Global → Type 0
 AddsOwn rules placed old new = Adds old new (own_findings rules placed)
 
 -- whether it is a term that nothing refers to
-abbrev pub unused_of : Rules → Placed → List f.Finding
+abbrev pub unused_of : Rules → PlacedEntry → List f.Finding
 unused_of rules placed =
     unused_findings rules.is_referred (bare_entry placed.entry.now) (offset_in (file_view placed.file) placed.text.now)
 
-abbrev pub AddsUnused : Rules → Placed → Vec Finding Global → Vec Finding Global → Type 0
+abbrev pub AddsUnused : Rules → PlacedEntry → Vec Finding Global → Vec Finding Global → Type 0
 AddsUnused rules placed old new = Adds old new (unused_of rules placed)
 
-abbrev pub AddsComparison : Rules → Placed → Vec Finding Global → Vec Finding Global → Type 0
+abbrev pub AddsComparison : Rules → PlacedEntry → Vec Finding Global → Vec Finding Global → Type 0
 AddsComparison rules placed old new = Adds old new (compared_findings rules placed)
 
-abbrev pub AddsIfFirst : Rules → Placed → Bool → Vec Finding Global → Vec Finding Global → Type 0
+abbrev pub AddsIfFirst : Rules → PlacedEntry → Bool → Vec Finding Global → Vec Finding Global → Type 0
 AddsIfFirst rules placed is_new old new =
     Adds old new (if is_new then unused_of rules placed ++ compared_findings rules placed else [])
 

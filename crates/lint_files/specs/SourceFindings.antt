@@ -4,7 +4,7 @@ use Rattle.std.specs.List.{filter_map}
 use Rattle.fluent_grammar.specs.Words.{Text}
 use Rattle.fluent_grammar.specs.Refusal as r
 use Rattle.fluent_grammar.specs.Tiling.{is_field_kind}
-use Rattle.fluent_parsed.specs.ErrorView.{ErrorView, Span, Told}
+use Rattle.fluent_parsed.specs.ErrorView.{ErrorView, Span, KindView}
 use Rattle.fluent_parser.specs.Refusals.{RefusalView, refusal_view}
 use Rattle.fluent_parser.specs.declared.refusals.Refusal.{Refusal}
 use Rattle.lint_findings.specs.Finding.{Finding, error}
@@ -21,7 +21,7 @@ abbrev pub reported : RefusalView → r.Refusal
 reported v = record { kind = kind_of v.kind; at = v.at }
 
 -- where its finding is: an entry with nothing to hold is reported at its start
-abbrev pub offset_of : ℕ → ℕ → Told → ℕ
+abbrev pub offset_of : ℕ → ℕ → KindView → ℕ
 offset_of start place kind = if is_field_kind (kind_of kind) then start else place
 
 -- the finding of a refusal of a source

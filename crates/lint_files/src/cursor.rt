@@ -6,10 +6,10 @@ ghost use Rattle.lint_files.specs.Pushes.{AddsSyntax, AddsTile, AddsTiles, Decla
 ghost use Rattle.lint_files.specs.RulesView.{rules_view};
 ghost use Rattle.lint_entries.specs.TileView.{IsReadPart, tile_view};
 
-use crate::entry::{Placed, push_entry};
+use crate::entry::{PlacedEntry, push_entry};
 use crate::rules::Rules;
 use lint_entries::{Declarations, Tile};
-use lint_finding::{File, Finding, Place};
+use lint_finding::{File, Finding, SourcePosition};
 use std::alloc::{AllocError, Global};
 use std::vec;
 
@@ -34,7 +34,7 @@ pub fn file_findings<'s>(
     let mut findings = Vec::new(alloc);
     let cursor = Cursor {
         file,
-        place: Place::start(),
+        place: SourcePosition::start(),
         syntax: syntax.into_iter(),
     };
     push_tiles(alloc, rules, cursor, tiles, declarations, &mut findings)?;
@@ -45,7 +45,7 @@ pub fn file_findings<'s>(
 #[derive(Drop)]
 struct Cursor<'s> {
     file: File<'s>,
-    place: Place,
+    place: SourcePosition,
     syntax: vec::IntoIter<Finding>,
 }
 
@@ -94,7 +94,7 @@ impl<'s> Cursor<'s> {
         match tile {
             Tile::Entry(entry, text) => {
                 self.move_to(text);
-                let placed = Placed {
+                let placed = PlacedEntry {
                     file: self.file,
                     place: self.place,
                     entry,

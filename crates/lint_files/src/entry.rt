@@ -8,15 +8,15 @@ ghost use Rattle.lint_files.specs.RulesView.{rules_view};
 use crate::rules::Rules;
 use fluent_ast::Entry;
 use lint_entries::{Declarations, Location, entry_findings, push_found};
-use lint_finding::{File, Finding, Place};
+use lint_finding::{File, Finding, SourcePosition};
 use lint_nodes::declared_id;
 use std::alloc::{AllocError, Global};
 
 /// A message or a term, where it is in a file, and the source from there on.
 #[derive(Drop)]
-pub struct Placed<'r, 's> {
+pub struct PlacedEntry<'r, 's> {
     pub file: File<'s>,
-    pub place: Place,
+    pub place: SourcePosition,
     pub entry: &'r Entry<&'s str>,
     pub text: &'s [u8],
 }
@@ -29,7 +29,7 @@ pub struct Placed<'r, 's> {
 pub fn push_entry<'s>(
     alloc: Global,
     rules: &Rules<'_, '_, 's>,
-    placed: &Placed<'_, 's>,
+    placed: &PlacedEntry<'_, 's>,
     declarations: &mut Declarations<'s>,
     findings: &mut Vec<Finding>,
 ) -> Result<(), AllocError>
@@ -54,7 +54,7 @@ pub fn push_entry<'s>(
 fn push_own<'s>(
     alloc: Global,
     rules: &Rules<'_, '_, 's>,
-    placed: &Placed<'_, 's>,
+    placed: &PlacedEntry<'_, 's>,
     findings: &mut Vec<Finding>,
 ) -> Result<(), AllocError>
     requires placed { IsPlaced placed.now }
@@ -74,7 +74,7 @@ fn push_own<'s>(
 fn push_if_first<'s>(
     alloc: Global,
     rules: &Rules<'_, '_, 's>,
-    placed: &Placed<'_, 's>,
+    placed: &PlacedEntry<'_, 's>,
     is_new: bool,
     findings: &mut Vec<Finding>,
 ) -> Result<(), AllocError>
@@ -92,7 +92,7 @@ fn push_if_first<'s>(
 /// Adds that an entry is a term to which the catalog doesn't refer, if it is one.
 fn push_unused<'s>(
     rules: &Rules<'_, '_, 's>,
-    placed: &Placed<'_, 's>,
+    placed: &PlacedEntry<'_, 's>,
     findings: &mut Vec<Finding>,
 ) -> Result<(), AllocError>
     requires { IsPlaced placed.now }
@@ -106,7 +106,7 @@ fn push_unused<'s>(
 fn push_comparison<'s>(
     alloc: Global,
     rules: &Rules<'_, '_, 's>,
-    placed: &Placed<'_, 's>,
+    placed: &PlacedEntry<'_, 's>,
     findings: &mut Vec<Finding>,
 ) -> Result<(), AllocError>
     requires { IsPlaced placed.now }

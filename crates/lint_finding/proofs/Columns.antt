@@ -11,7 +11,7 @@ use lib.Utf8.{scalar, scalar_cases}
 use Rattle.fluent_grammar.specs.Words.{Text}
 use Rattle.fluent_grammar.specs.Escapes.{is_continuation}
 use Rattle.lint_findings.specs.Position.{position_after}
-use Rattle.lint_finding.specs.declared.places.Place.{Place}
+use Rattle.lint_finding.specs.declared.places.SourcePosition.{SourcePosition}
 use Rattle.lint_finding.specs.PlaceView.{IsPlaceIn}
 use Rattle.lint_finding.proofs.Steps.{after_cons}
 use Rattle.lint_finding.proofs.Moves.{step_other, after_continuation}
@@ -82,7 +82,7 @@ past_text l k s utf8 other =
 
 -- ---- within a character
 
-pub past_character : (source : Text) (p : Place) → IsPlaceIn source p → ¬ (IsCharBoundary source p.offset) →
+pub past_character : (source : Text) (p : SourcePosition) → IsPlaceIn source p → ¬ (IsCharBoundary source p.offset) →
     IsPlaceIn source (record { offset = p.offset + 1; line_start = p.line_start; line = p.line; column = p.column })
 past_character source p is within =
     let end : p.offset ≤ length source = is.within in

@@ -5,7 +5,7 @@ use Rattle.std.proofs.lemmas.List.{take_min}
 use Rattle.fluent_grammar.specs.Words.{Text}
 use Rattle.fluent_grammar.specs.Escapes.{is_continuation}
 use Rattle.lint_findings.specs.Position.{Position, position_after, first_position, position_of, line_from}
-use Rattle.lint_finding.specs.declared.places.Place.{Place}
+use Rattle.lint_finding.specs.declared.places.SourcePosition.{SourcePosition}
 use Rattle.lint_finding.specs.PlaceView.{IsPlaceIn, BeginsLine, place_position}
 use Rattle.lint_finding.proofs.Steps.{step, position_step, position_bound, line_zero, line_step}
 
@@ -35,7 +35,7 @@ line_begins source (suc n) within begins =
 
 -- ---- after one byte
 
-module _ (source : Text) (p : Place) (is : IsPlaceIn source p) (more : p.offset < length source) where
+module _ (source : Text) (p : SourcePosition) (is : IsPlaceIn source p) (more : p.offset < length source) where
   moved : position_of source (p.offset + 1) ≡ step (place_position p) (get_or source p.offset 0)
   moved = rw add-one (position_step source p.offset more ∙ ap (λ q. step q (get_or source p.offset 0)) is.position)
 
@@ -86,7 +86,7 @@ module _ (source : Text) (p : Place) (is : IsPlaceIn source p) (more : p.offset 
 
 -- ---- back to the start of the line, and above it
 
-pub at_start : (source : Text) (p : Place) → IsPlaceIn source p →
+pub at_start : (source : Text) (p : SourcePosition) → IsPlaceIn source p →
     IsPlaceIn source (record { offset = p.line_start; line_start = p.line_start; line = p.line; column = 1 })
 at_start source p is =
     let within : p.offset ≤ length source = is.within in
@@ -110,7 +110,7 @@ line_goes_on source (suc n) some within other =
     rw less (sym (ap (λ (q : Position). q.line) (position_step source n (omega arith)) ∙ step_line (position_of source n) (get_or source n 0) other'))
 
 -- the line of a place, by that of the line feed before it
-pub line_ended : (source : Text) (p : Place) → IsPlaceIn source p → 0 < p.line_start →
+pub line_ended : (source : Text) (p : SourcePosition) → IsPlaceIn source p → 0 < p.line_start →
     p.line ≡ suc (position_of source (p.line_start - 1)).line
 line_ended source p is some =
     let within : p.offset ≤ length source = is.within in
@@ -127,7 +127,7 @@ made q l c line column =
     let second : record { line = l; column = q.column } ≡ record { line = l; column = c } = ap (λ n. record { line = l; column = n }) column in
     first ∙ second
 
-pub above : (source : Text) (p : Place) (start : ℕ) → IsPlaceIn source p → 0 < p.line_start → start < p.line_start →
+pub above : (source : Text) (p : SourcePosition) (start : ℕ) → IsPlaceIn source p → 0 < p.line_start → start < p.line_start →
     BeginsLine source start → (position_of source start).line ≡ (position_of source (p.line_start - 1)).line →
     IsPlaceIn source (record { offset = start; line_start = start; line = p.line - 1; column = 1 })
 above source p start is some earlier begins same =
@@ -147,13 +147,13 @@ above source p start is some earlier begins same =
     }
 
 -- the position of an offset, by that of a place
-pub position_at : (source : Text) (p : Place) (n : ℕ) → IsPlaceIn source p → p.offset ≡ min n (length source) →
+pub position_at : (source : Text) (p : SourcePosition) (n : ℕ) → IsPlaceIn source p → p.offset ≡ min n (length source) →
     position_of source n ≡ place_position p
 position_at source p n is e =
     ap (position_after first_position) (sym (take_min n source)) ∙ ap (position_of source) (sym e) ∙ is.position
 
 -- a place's numbers are at most the bytes before it, and one
-pub numbers_bound : (source : Text) (p : Place) → IsPlaceIn source p → (p.line ≤ p.offset + 1) × (p.column ≤ p.offset + 1)
+pub numbers_bound : (source : Text) (p : SourcePosition) → IsPlaceIn source p → (p.line ≤ p.offset + 1) × (p.column ≤ p.offset + 1)
 numbers_bound source p is =
     let bound = position_bound source p.offset is.within in
     let line : (position_of source p.offset).line ≡ p.line = ap (λ (q : Position). q.line) is.position in

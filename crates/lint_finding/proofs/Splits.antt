@@ -8,7 +8,7 @@ use Rattle.std.proofs.lemmas.List.{drop-drop, drop-take, drop_more, get_or-drop,
 use Rattle.std.proofs.lemmas.Str.{chars-append, chars-nil, IsUtf8-between, IsCharBoundary-start, IsCharBoundary-after_ascii, IsCharBoundary-before_ascii}
 use Rattle.fluent_grammar.specs.Words.{Text, carriage_return, line_feed}
 use Rattle.lint_findings.specs.Position.{Position, position_after, first_position, to_line_end}
-use Rattle.lint_finding.specs.declared.places.Place.{Place}
+use Rattle.lint_finding.specs.declared.places.SourcePosition.{SourcePosition}
 use Rattle.lint_finding.specs.PlaceView.{IsAfter, IsPlaceIn, end_of_front}
 use Rattle.lint_finding.proofs.Steps.{after_append}
 use Rattle.lint_finding.proofs.Within.{no_feed}
@@ -51,7 +51,7 @@ front_ends source n = by (cuts_line_end source n) refl
     by true e = let cut = cuts_is source n e in let some = cut.some in inr (omega arith, cut)
     by false e = inl (refl, cuts_not source n e)
 
-module _ (source : Text) (utf8 : IsUtf8 source) (p : Place) (is : IsPlaceIn source p) (between : IsCharBoundary source p.offset) where
+module _ (source : Text) (utf8 : IsUtf8 source) (p : SourcePosition) (is : IsPlaceIn source p) (between : IsCharBoundary source p.offset) where
   pub starts_between : IsCharBoundary source p.line_start
   starts_between = starts p.line_start refl
     where

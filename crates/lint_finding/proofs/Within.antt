@@ -4,7 +4,7 @@ use Rattle.std.proofs.lemmas.Bool.{ne_eqb, cases_lt}
 use Rattle.fluent_grammar.specs.Words.{Text, line_feed}
 use Rattle.fluent_grammar.specs.Escapes.{is_continuation}
 use Rattle.lint_findings.specs.Position.{Position, position_of, line_from}
-use Rattle.lint_finding.specs.declared.places.Place.{Place}
+use Rattle.lint_finding.specs.declared.places.SourcePosition.{SourcePosition}
 use Rattle.lint_finding.specs.PlaceView.{IsPlaceIn, place_position}
 use Rattle.lint_finding.proofs.Steps.{position_step, line_step}
 use Rattle.lint_finding.proofs.Moves.{step_other, made}
@@ -34,7 +34,7 @@ feed_ends line (c ∷ cs) (suc n) (suc j) before within feed =
       | false ↦ (let h = feed_ends line cs n j before' within' feed in omega (arith, h))
     ]
 
-pub no_feed : (source : Text) (p : Place) → IsPlaceIn source p → (j : ℕ) → p.line_start ≤ j → j < p.offset → get_or source j 0 ≡ 10 → ⊥
+pub no_feed : (source : Text) (p : SourcePosition) → IsPlaceIn source p → (j : ℕ) → p.line_start ≤ j → j < p.offset → get_or source j 0 ≡ 10 → ⊥
 no_feed source p is j after before feed =
     let within : p.offset ≤ length source = is.within in
     let bound = feed_ends source source p.offset j before within feed in
@@ -43,7 +43,7 @@ no_feed source p is j after before feed =
 
 -- ---- one byte back
 
-module _ (source : Text) (p : Place) (is : IsPlaceIn source p) (m : ℕ) (here : suc m ≡ p.offset) (inside : p.line_start ≤ m) where
+module _ (source : Text) (p : SourcePosition) (is : IsPlaceIn source p) (m : ℕ) (here : suc m ≡ p.offset) (inside : p.line_start ≤ m) where
   other : get_or source m 0 ≡ 10 → ⊥
   other feed = no_feed source p is m inside (omega arith) feed
 
@@ -118,6 +118,6 @@ line_min source n =
     ]
 
 -- the line of an offset, by that of a place
-pub line_at_place : (source : Text) (p : Place) (n : ℕ) → IsPlaceIn source p → p.offset ≡ min n (length source) →
+pub line_at_place : (source : Text) (p : SourcePosition) (n : ℕ) → IsPlaceIn source p → p.offset ≡ min n (length source) →
     line_from source n source ≡ drop p.line_start source
 line_at_place source p n is e = line_min source n ∙ ap (λ k. line_from source k source) (sym e) ∙ is.line

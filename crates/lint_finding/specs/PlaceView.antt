@@ -3,13 +3,13 @@ use Rattle.std.specs.Prelude.{◌≡◌, ℕ, ◌-◌, ◌<◌, ◌≤◌, ◌==
 use Rattle.std.specs.Str.{chars}
 use Rattle.fluent_grammar.specs.Words.{Text, carriage_return, line_feed}
 use Rattle.lint_findings.specs.Position.{Position, position_of, line_from, to_line_end}
-use Rattle.lint_finding.specs.declared.places.Place.{Place}
+use Rattle.lint_finding.specs.declared.places.SourcePosition.{SourcePosition}
 
-abbrev pub place_position : Place → Position
+abbrev pub place_position : SourcePosition → Position
 place_position p = record { line = p.line; column = p.column }
 
 -- `LINE:COLUMN`
-abbrev pub place_text : Place → Text
+abbrev pub place_text : SourcePosition → Text
 place_text p = decimal p.line ++ (codes ":" ++ decimal p.column)
 
 -- a line begins at this offset
@@ -18,7 +18,7 @@ BeginsLine source at = 0 < at → slice_index source (at - 1) ≡ line_feed
 
 -- Whether this is a place of the source: its line and column are those of its offset, and its line begins where it
 -- says.
-pub record IsPlaceIn (source : Text) (p : Place) : Type 0 where
+pub record IsPlaceIn (source : Text) (p : SourcePosition) : Type 0 where
   pub within : p.offset ≤ length source
   pub before : p.line_start ≤ p.offset
   pub begins : BeginsLine source p.line_start

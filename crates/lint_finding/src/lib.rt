@@ -1,6 +1,6 @@
 //! Findings: what is wrong in the files of a catalog, and where.
 //!
-//! A [`Finding`] stands in a [`File`]; [`FileFindings`] are those of one file. A [`Place`] is the line and the column of an
+//! A [`Finding`] stands in a [`File`]; [`FileFindings`] are those of one file. A [`SourcePosition`] is the line and the column of an
 //! offset. A [`Difference`] is how a message differs from that of the reference with the same id, in words.
 //! [`CatalogIds`] are what the ids of a catalog stand for.
 //!
@@ -15,5 +15,5 @@ mod records;
 
 pub use difference::Difference;
 pub use ids::CatalogIds;
-pub use places::Place;
+pub use places::SourcePosition;
 pub use records::{File, FileFindings, Finding, Severity};

@@ -10,19 +10,19 @@ use std::fmt;
 
 /// An offset of a source, with its line and column. Its text is `LINE:COLUMN`.
 #[derive(Clone, Copy, Debug, PartialEq, Eq)]
-pub struct Place {
+pub struct SourcePosition {
     offset: usize,
     line_start: usize,
     line: usize,
     column: usize,
 }
 
-impl Place {
+impl SourcePosition {
     /// The start of any source.
-    pub fn start() -> Place
+    pub fn start() -> SourcePosition
         ensures { (source : List ℕ) → IsPlaceIn source result }
     {
-        Place {
+        SourcePosition {
             offset: 0,
             line_start: 0,
             line: 1,
@@ -61,7 +61,7 @@ impl Place {
     /// The place of an offset in the same source, or the source's end if the offset is after it. Each byte between this
     /// place and that one is read, so the places of a source take one walk in all if they are in order. If that one is
     /// on a line above, its line is read from the start.
-    pub fn moved_to(self, source: &str, offset: usize) -> Place
+    pub fn moved_to(self, source: &str, offset: usize) -> SourcePosition
         requires { IsPlaceIn source.now self }
         ensures place { IsPlaceIn source.now result }
         ensures offset { result.offset ≡ min offset (length source.now) }
@@ -96,7 +96,7 @@ impl Place {
     }
 
     /// The place after the character that this one is within, or else this one.
-    fn after_character(self, source: &str) -> Place
+    fn after_character(self, source: &str) -> SourcePosition
         requires { IsPlaceIn source.now self }
         ensures place { IsPlaceIn source.now result }
         ensures boundary { IsCharBoundary source.now result.offset }
@@ -111,7 +111,7 @@ impl Place {
     }
 
     /// The place before the byte in front of this one, on the same line.
-    fn before_byte(self, source: &[u8]) -> Place
+    fn before_byte(self, source: &[u8]) -> SourcePosition
         requires place { IsPlaceIn source.now self }
         requires not_first { self.line_start < self.offset }
         ensures place { IsPlaceIn source.now result }
@@ -120,9 +120,9 @@ impl Place {
     {
         let offset = self.offset - 1;
         if is_continuation(source[offset]) {
-            Place { offset, ..self }
+            SourcePosition { offset, ..self }
         } else {
-            Place {
+            SourcePosition {
                 offset,
                 column: self.column - 1,
                 ..self
@@ -131,7 +131,7 @@ impl Place {
     }
 
     /// The place after the byte at this one.
-    fn after_byte(self, source: &[u8]) -> Place
+    fn after_byte(self, source: &[u8]) -> SourcePosition
         requires place { IsPlaceIn source.now self }
         requires before_end { self.offset < length source.now }
         ensures place { IsPlaceIn source.now result }
@@ -140,7 +140,7 @@ impl Place {
         let byte = source[self.offset];
         let offset = self.offset + 1;
         if byte == b'\n' {
-            return Place {
+            return SourcePosition {
                 offset,
                 line_start: offset,
                 line: self.line + 1,
@@ -148,9 +148,9 @@ impl Place {
             };
         }
         if is_continuation(byte) {
-            return Place { offset, ..self };
+            return SourcePosition { offset, ..self };
         }
-        Place {
+        SourcePosition {
             offset,
             column: self.column + 1,
             ..self
@@ -158,7 +158,7 @@ impl Place {
     }
 
     /// The start of the line above this place's.
-    fn line_above(self, source: &[u8]) -> Place
+    fn line_above(self, source: &[u8]) -> SourcePosition
         requires place { IsPlaceIn source.now self }
         requires not_first { 0 < self.line_start }
         ensures place { IsPlaceIn source.now result }
@@ -168,7 +168,7 @@ impl Place {
         while start > 0 && source[start - 1] != b'\n' {
             start -= 1;
         }
-        Place {
+        SourcePosition {
             offset: start,
             line_start: start,
             line: self.line - 1,
@@ -196,7 +196,7 @@ fn is_continuation(byte: u8) -> bool
     matches!(byte, 0x80..=0xBF)
 }
 
-impl fmt::Display for Place {
+impl fmt::Display for SourcePosition {
     ghost output = { λ place. Some (place_text place) };
 
     fn fmt<W: fmt::Write>(&self, f: &mut fmt::Formatter<W>) -> fmt::Result {

@@ -17,7 +17,7 @@ use Rattle.fluent_meaning.specs.Fallback.{braced, fallback}
 use Rattle.fluent_meaning.specs.Ids.{Meaning, number_function, function, message, term}
 use Rattle.fluent_meaning.specs.Steps.{Budget, may_open, shut, is_shut, Done, done, faulty, and_then, mapped, entering}
 use Rattle.fluent_meaning.specs.Substitution as s
-use Rattle.fluent_meaning.specs.Substitution.{Place, Called, Target, there, missing, is_on_path, deeper, rooted_path, Writer, outset}
+use Rattle.fluent_meaning.specs.Substitution.{Surroundings, Called, Target, there, missing, is_on_path, deeper, rooted_path, Writer, outset}
 use Rattle.fluent_meaning.proofs.OnPath.{on-path-decides}
 use Rattle.lint_findings.specs.References.{elements_references, expression_references, variants_references, inline_references, maybe_references, arguments_references, inlines_references, nameds_references, reference_error, function_error, target_error, reference_patterns, target_patterns}
 use Rattle.lint_findings.specs.Flaws.{elements_selects, expression_selects, variants_selects, inline_selects, maybe_selects, arguments_selects, inlines_selects, nameds_selects}
@@ -122,12 +122,12 @@ module _ {S : Type 0} (asked : List (Text × Value S)) where
     Above r path = All (λ p. r ≤ R p) path
 
     -- within a pattern of this rank: those on the path are not below it
-    record Inside (r : ℕ) (place : Place S) : Type 0 where
+    record Inside (r : ℕ) (place : Surroundings S) : Type 0 where
       above : Above r place.path
       there_is : place.path ≡ [] → ⊥
       same : place.arguments ≡ asked
 
-    record Ready (r : ℕ) (whole : Elements) (place : Place S) : Type 0 where
+    record Ready (r : ℕ) (whole : Elements) (place : Surroundings S) : Type 0 where
       above : Above r place.path
       first : place.path ≡ [] → r ≤ R whole
       same : place.arguments ≡ asked
@@ -140,13 +140,13 @@ module _ {S : Type 0} (asked : List (Text × Value S)) where
     root-there whole [] e = absurd cc
     root-there whole (p ∷ ps) e = absurd cc
 
-    root-inside : (r : ℕ) (whole : Elements) (place : Place S) → Ready r whole place → Inside r (s.rooted whole place)
+    root-inside : (r : ℕ) (whole : Elements) (place : Surroundings S) → Ready r whole place → Inside r (s.rooted whole place)
     root-inside r whole place h = record { above = root-above r whole place.path h.above h.first; there_is = root-there whole place.path; same = h.same }
 
-    variant-ready : (r : ℕ) (es : Elements) (place : Place S) → Inside r place → Ready r es place
+    variant-ready : (r : ℕ) (es : Elements) (place : Surroundings S) → Inside r place → Ready r es place
     variant-ready r es place h = record { above = h.above; first = λ e. absurd (h.there_is e); same = h.same }
 
-    deeper-ready : (r : ℕ) (es : Elements) (place : Place S) → R es < r → Inside r place → Ready (R es) es (deeper es place)
+    deeper-ready : (r : ℕ) (es : Elements) (place : Surroundings S) → R es < r → Inside r place → Ready (R es) es (deeper es place)
     deeper-ready r es place below h = record {
       above = All-append (λ p. R es ≤ R p) place.path (es ∷ []) (All-weaker (λ p. r ≤ R p) (λ p. R es ≤ R p) (λ p k. rank-weaker (R es) r (R p) below k) place.path h.above) (All-cons (λ p. R es ≤ R p) es [] (rank-same (R es)) (All-nil (λ p. R es ≤ R p)));
       first = λ e. rank-same (R es);
@@ -161,14 +161,14 @@ module _ {S : Type 0} (asked : List (Text × Value S)) where
     missing-fine v id None b e = fine-one (unknown (to_variable id)) b e
     missing-fine v id (Some locals) b e = fine-done b
 
-    is-missing : (id : Text) (place : Place S) → place.arguments ≡ asked → s.variable env id place ≡ None → argument id (s.locals_or asked place.locals) ≡ None
+    is-missing : (id : Text) (place : Surroundings S) → place.arguments ≡ asked → s.variable env id place ≡ None → argument id (s.locals_or asked place.locals) ≡ None
     is-missing id place same e = ap (λ xs. argument id (s.locals_or xs place.locals)) (sym same) ∙ e
 
-    variable_written-fine : (id : Text) (place : Place S) (b : Budget) → place.arguments ≡ asked → (o : Option (Value S)) → s.variable env id place ≡ o → Fine (s.variable_written env id o place b)
+    variable_written-fine : (id : Text) (place : Surroundings S) (b : Budget) → place.arguments ≡ asked → (o : Option (Value S)) → s.variable env id place ≡ o → Fine (s.variable_written env id o place b)
     variable_written-fine id place b same (Some v) e = fine-done b
     variable_written-fine id place b same None e = missing-fine (braced (dollar ∷ id)) id place.locals b (is-missing id place same e)
 
-    variable_found-fine : (id : Text) (place : Place S) (b : Budget) → place.arguments ≡ asked → (o : Option (Value S)) → s.variable env id place ≡ o → Fine (s.variable_found env id o place b)
+    variable_found-fine : (id : Text) (place : Surroundings S) (b : Budget) → place.arguments ≡ asked → (o : Option (Value S)) → s.variable env id place ≡ o → Fine (s.variable_found env id o place b)
     variable_found-fine id place b same (Some v) e = fine-done b
     variable_found-fine id place b same None e = missing-fine v.error id place.locals b (is-missing id place same e)
 
@@ -207,28 +207,28 @@ module _ {S : Type 0} (asked : List (Text × Value S)) where
     module _ (message_fits : (id : Text) (attr : Option Text) (es : Elements) → s.message_target id attr (env.find id) ≡ there es → PatternFits (R es) es)
         (term_fits : (id : Text) (attr : Option Text) (es : Elements) → s.term_target id attr (env.find id) ≡ there es → PatternFits (R es) es) where
       abbrev Enters : Writer env Elements → Type 0
-      Enters enter = (r : ℕ) (es : Elements) (place : Place S) (b : Budget) → PatternFits r es → Ready r es place → Fine (enter es place b)
+      Enters enter = (r : ℕ) (es : Elements) (place : Surroundings S) (b : Budget) → PatternFits r es → Ready r es place → Fine (enter es place b)
 
       module _ (enter : Writer env Elements) (enters : Enters enter) where
-        target-step : (r : ℕ) (i : Inline) (es : Elements) (place : Place S) (b : Budget) → R es < r → PatternFits (R es) es → Inside r place → (on : Bool) → is_on_path es place.path ≡ on → Fine (s.referred env enter i es place b)
+        target-step : (r : ℕ) (i : Inline) (es : Elements) (place : Surroundings S) (b : Budget) → R es < r → PatternFits (R es) es → Inside r place → (on : Bool) → is_on_path es place.path ≡ on → Fine (s.referred env enter i es place b)
         target-step r i es place b below fits inside true e = absurd (rank-falls r (R es) below (All-contains (λ p. r ≤ R p) place.path es inside.above ((on-path-decides es place.path).0 e)))
         target-step r i es place b below fits inside false e = rw e (fine-entering (enters (R es) es (deeper es place) b fits (deeper-ready r es place below inside)))
 
-        target-fine : (r : ℕ) (i : Inline) (o : Target) (place : Place S) (b : Budget) → Inside r place → target_error o ≡ None → All (λ es. R es < r) (target_patterns o) → ((es : Elements) → o ≡ there es → PatternFits (R es) es) → Fine (s.target_written env enter i o place b)
+        target-fine : (r : ℕ) (i : Inline) (o : Target) (place : Surroundings S) (b : Budget) → Inside r place → target_error o ≡ None → All (λ es. R es < r) (target_patterns o) → ((es : Elements) → o ≡ there es → PatternFits (R es) es) → Fine (s.target_written env enter i o place b)
         target-fine r i (missing e) place b inside h below fits = absurd cc
         target-fine r i (there es) place b inside h below fits = target-step r i es place b (All-head (λ p. R p < r) es [] below) (fits es refl) inside (is_on_path es place.path) refl
 
-        variant-fine : (r : ℕ) (o : Option Elements) (place : Place S) (b : Budget) → Inside r place → SomeFits r o → Fine (s.variant_written env enter o place b)
+        variant-fine : (r : ℕ) (o : Option Elements) (place : Surroundings S) (b : Budget) → Inside r place → SomeFits r o → Fine (s.variant_written env enter o place b)
         variant-fine r None place b inside h = absurd h
         variant-fine r (Some es) place b inside h = fine-entering (enters r es place b h (variant-ready r es place inside))
 
-        message-fine : (r : ℕ) (i : Inline) (id : Text) (attr : Option Text) (place : Place S) (b : Budget) → Inside r place → Fit r (t.message_reference id attr) → Fine (s.target_written env enter i (s.message_target id attr (env.find id)) place b)
+        message-fine : (r : ℕ) (i : Inline) (id : Text) (attr : Option Text) (place : Surroundings S) (b : Budget) → Inside r place → Fit r (t.message_reference id attr) → Fine (s.target_written env enter i (s.message_target id attr (env.find id)) place b)
         message-fine r i id attr place b inside h = target-fine r i (s.message_target id attr (env.find id)) place b inside h.0 h.1 (message_fits id attr)
 
-        term-inside : (r : ℕ) (given : List (Text × Value S)) (place : Place S) → Inside r place → Inside r (s.in_term given place)
+        term-inside : (r : ℕ) (given : List (Text × Value S)) (place : Surroundings S) → Inside r place → Inside r (s.in_term given place)
         term-inside r given place h = record { above = h.above; there_is = h.there_is; same = h.same }
 
-        term-fine : (r : ℕ) (i : Inline) (id : Text) (attr : Option Text) (args : MaybeArguments) (place : Place S) (b : Budget) → Inside r place → Fit r (t.term_reference id attr args) → Fine (s.target_written env enter i (s.term_target id attr (env.find id)) place b)
+        term-fine : (r : ℕ) (i : Inline) (id : Text) (attr : Option Text) (args : MaybeArguments) (place : Surroundings S) (b : Budget) → Inside r place → Fit r (t.term_reference id attr args) → Fine (s.target_written env enter i (s.term_target id attr (env.find id)) place b)
         term-fine r i id attr args place b inside h = target-fine r i (s.term_target id attr (env.find id)) place b inside h.0 h.1 (term_fits id attr)
 
         -- the first of some references, and the others
@@ -241,14 +241,14 @@ module _ {S : Type 0} (asked : List (Text × Value S)) where
         mutual
           unfolding s.expression_with s.inline_with s.value_with s.maybe_arguments_with s.arguments_with s.positional_with s.named_with
 
-          expression-fine : (r : ℕ) (e : Expression) (place : Place S) (b : Budget) → Fits r (expression_references e) (expression_selects e) → Inside r place → Fine (s.expression_with env enter e place b)
+          expression-fine : (r : ℕ) (e : Expression) (place : Surroundings S) (b : Budget) → Fits r (expression_references e) (expression_selects e) → Inside r place → Fine (s.expression_with env enter e place b)
           expression-fine r (inline i) place b h k = inline-fine r i place b h k
           expression-fine r (select i vs) place b h k =
               let others : Fits r (variants_references vs) (vs ∷ variants_selects vs) = fits-right r (inline_references i) (variants_references vs) (inline_selects i) (vs ∷ variants_selects vs) h in
               fine-then (λ v c. s.variant_written env enter (chosen env.plurals v vs) place c) (value-fine r i place b (fits-left r (inline_references i) (variants_references vs) (inline_selects i) (vs ∷ variants_selects vs) h) k)
               (λ v c. variant-fine r (chosen env.plurals v vs) place c k (chosen-fits r v vs (others.0, All-tail HasDefault vs (variants_selects vs) others.1) (All-head HasDefault vs (variants_selects vs) others.1)))
 
-          inline-fine : (r : ℕ) (i : Inline) (place : Place S) (b : Budget) → Fits r (inline_references i) (inline_selects i) → Inside r place → Fine (s.inline_with env enter i place b)
+          inline-fine : (r : ℕ) (i : Inline) (place : Surroundings S) (b : Budget) → Fits r (inline_references i) (inline_selects i) → Inside r place → Fine (s.inline_with env enter i place b)
           inline-fine r (t.string_literal x) place b h k = fine-done b
           inline-fine r (t.number_literal x) place b h k = fine-done b
           inline-fine r (t.function_reference id args) place b h k =
@@ -261,7 +261,7 @@ module _ {S : Type 0} (asked : List (Text × Value S)) where
           inline-fine r (t.variable_reference id) place b h k = variable_written-fine id place b k.same (s.variable env id place) refl
           inline-fine r (t.nested e) place b h k = expression-fine r e place b h k
 
-          value-fine : (r : ℕ) (i : Inline) (place : Place S) (b : Budget) → Fits r (inline_references i) (inline_selects i) → Inside r place → Fine (s.value_with env enter i place b)
+          value-fine : (r : ℕ) (i : Inline) (place : Surroundings S) (b : Budget) → Fits r (inline_references i) (inline_selects i) → Inside r place → Fine (s.value_with env enter i place b)
           value-fine r (t.string_literal x) place b h k = fine-done b
           value-fine r (t.number_literal x) place b h k = fine-done b
           value-fine r (t.function_reference id args) place b h k =
@@ -273,35 +273,35 @@ module _ {S : Type 0} (asked : List (Text × Value S)) where
           value-fine r (t.variable_reference id) place b h k = variable_found-fine id place b k.same (s.variable env id place) refl
           value-fine r (t.nested e) place b h k = fine-mapped v.text (expression-fine r e place b h k)
 
-          maybe_arguments-fine : (r : ℕ) (args : MaybeArguments) (place : Place S) (b : Budget) → Fits r (maybe_references args) (maybe_selects args) → Inside r place → Fine (s.maybe_arguments_with env enter args place b)
+          maybe_arguments-fine : (r : ℕ) (args : MaybeArguments) (place : Surroundings S) (b : Budget) → Fits r (maybe_references args) (maybe_selects args) → Inside r place → Fine (s.maybe_arguments_with env enter args place b)
           maybe_arguments-fine r no_arguments place b h k = fine-done b
           maybe_arguments-fine r (with_arguments args) place b h k = arguments-fine r args place b h k
 
-          arguments-fine : (r : ℕ) (args : Arguments) (place : Place S) (b : Budget) → Fits r (arguments_references args) (arguments_selects args) → Inside r place → Fine (s.arguments_with env enter args place b)
+          arguments-fine : (r : ℕ) (args : Arguments) (place : Surroundings S) (b : Budget) → Fits r (arguments_references args) (arguments_selects args) → Inside r place → Fine (s.arguments_with env enter args place b)
           arguments-fine r (arguments ps ns) place b h k =
               fine-then (λ vs c. mapped (s.both vs) (s.named_with env enter ns place c)) (positional-fine r ps place b (fits-left r (inlines_references ps) (nameds_references ns) (inlines_selects ps) (nameds_selects ns) h) k)
               (λ vs c. fine-mapped (s.both vs) (named-fine r ns place c (fits-right r (inlines_references ps) (nameds_references ns) (inlines_selects ps) (nameds_selects ns) h) k))
 
-          positional-fine : (r : ℕ) (ps : Inlines) (place : Place S) (b : Budget) → Fits r (inlines_references ps) (inlines_selects ps) → Inside r place → Fine (s.positional_with env enter ps place b)
+          positional-fine : (r : ℕ) (ps : Inlines) (place : Surroundings S) (b : Budget) → Fits r (inlines_references ps) (inlines_selects ps) → Inside r place → Fine (s.positional_with env enter ps place b)
           positional-fine r no_inlines place b h k = fine-done b
           positional-fine r (positional e ps) place b h k =
               fine-then (λ v c. mapped (λ vs. v ∷ vs) (s.positional_with env enter ps place c)) (value-fine r e place b (fits-left r (inline_references e) (inlines_references ps) (inline_selects e) (inlines_selects ps) h) k)
               (λ v c. fine-mapped (λ vs. v ∷ vs) (positional-fine r ps place c (fits-right r (inline_references e) (inlines_references ps) (inline_selects e) (inlines_selects ps) h) k))
 
-          named-fine : (r : ℕ) (ns : Nameds) (place : Place S) (b : Budget) → Fits r (nameds_references ns) (nameds_selects ns) → Inside r place → Fine (s.named_with env enter ns place b)
+          named-fine : (r : ℕ) (ns : Nameds) (place : Surroundings S) (b : Budget) → Fits r (nameds_references ns) (nameds_selects ns) → Inside r place → Fine (s.named_with env enter ns place b)
           named-fine r no_nameds place b h k = fine-done b
           named-fine r (named x e ns) place b h k =
               fine-then (λ v c. mapped (λ pairs. (x, v) ∷ pairs) (s.named_with env enter ns place c)) (value-fine r e place b (fits-left r (inline_references e) (nameds_references ns) (inline_selects e) (nameds_selects ns) h) k)
               (λ v c. fine-mapped (λ pairs. (x, v) ∷ pairs) (named-fine r ns place c (fits-right r (inline_references e) (nameds_references ns) (inline_selects e) (nameds_selects ns) h) k))
 
-      module _ (write : Writer env Expression) (writes : (r : ℕ) (e : Expression) (place : Place S) (b : Budget) → Fits r (expression_references e) (expression_selects e) → Inside r place → Fine (write e place b)) where
-        placeable-fine : (r : ℕ) (whole : Elements) (e : Expression) (place : Place S) (b : Budget) → Fits r (expression_references e) (expression_selects e) → Ready r whole place → Fine (s.placeable_with env write whole e place b)
+      module _ (write : Writer env Expression) (writes : (r : ℕ) (e : Expression) (place : Surroundings S) (b : Budget) → Fits r (expression_references e) (expression_selects e) → Inside r place → Fine (write e place b)) where
+        placeable-fine : (r : ℕ) (whole : Elements) (e : Expression) (place : Surroundings S) (b : Budget) → Fits r (expression_references e) (expression_selects e) → Ready r whole place → Fine (s.placeable_with env write whole e place b)
         placeable-fine r whole e place shut h k = fine-done shut
         placeable-fine r whole e place (may_open zero) h k = fine-one too_many_placeables shut tt
         placeable-fine r whole e place (may_open (suc n)) h k =
             let p = surrounded-fine (env.isolating && (s.several whole && not (s.stands_bare e))) (closed-fine e (writes r e (s.rooted whole place) (may_open n) h (root-inside r whole place k))) in record { all = p.all }
 
-        elements-fine : (r : ℕ) (whole es : Elements) (place : Place S) (b : Budget) → PatternFits r es → Ready r whole place → Fine (s.elements_with env write whole es place b)
+        elements-fine : (r : ℕ) (whole es : Elements) (place : Surroundings S) (b : Budget) → PatternFits r es → Ready r whole place → Fine (s.elements_with env write whole es place b)
         unfolding s.elements_with
         elements-fine r whole no_elements place b h k = fine-done b
         elements-fine r whole (t.text x es) place b h k = fine-then (λ q c. mapped (λ z. q ++ z) (s.elements_with env write whole es place c)) (text-fine x b) (λ q c. fine-mapped (λ z. q ++ z) (elements-fine r whole es place c h k))

@@ -15,7 +15,7 @@ use Rattle.lint_finding.specs.View.{file_view, finding_view}
 use Rattle.lint_finding.specs.declared.records.Finding.{Finding}
 use Rattle.lint_finding.specs.declared.records.File.{File}
 use Rattle.lint_finding.specs.PlaceView.{IsAfter}
-use Rattle.lint_finding.specs.declared.places.Place.{Place}
+use Rattle.lint_finding.specs.declared.places.SourcePosition.{SourcePosition}
 use Rattle.lint_report.specs.Excerpts.{IsWindow}
 use Rattle.lint_report.specs.declared.excerpts.Excerpt.{Excerpt}
 use Rattle.lint_report.specs.declared.excerpts.Window.{Window}
@@ -94,7 +94,7 @@ window_characters w =
     ap (λ t. dots_if w.before.is_cut ++ (t ++ dots_if w.after.is_cut)) (map-append masked_character (chars w.before.text.now) (chars w.after.text.now))
     ∙ simp append_assoc
 
-pub shown_line_is : (caret : Text) (file : File) (f : Finding) (place : Place) (front rest : Text) (w : Window) (number digits : ℕ) →
+pub shown_line_is : (caret : Text) (file : File) (f : Finding) (place : SourcePosition) (front rest : Text) (w : Window) (number digits : ℕ) →
     IsAt file f place → IsOnLine file f place → to_line_end (drop place.line_start file.source.now) ≡ front ++ to_line_end rest →
     IsAfter front rest (place.column - 1) → IsWindow front rest w → number ≡ place.line → digits ≡ length (decimal number) →
     shown_line_by shown_width caret (file_view file) (finding_view f)

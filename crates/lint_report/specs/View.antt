@@ -10,18 +10,18 @@ use Rattle.lint_finding.specs.View.{file_view, finding_view}
 use Rattle.lint_finding.specs.declared.records.Finding.{Finding}
 use Rattle.lint_finding.specs.declared.records.File.{File}
 use Rattle.lint_finding.specs.PlaceView.{IsPlaceIn, place_position}
-use Rattle.lint_finding.specs.declared.places.Place.{Place}
+use Rattle.lint_finding.specs.declared.places.SourcePosition.{SourcePosition}
 
 -- a finding with its file
 abbrev pub in_file : File → Finding → FileFinding
 in_file file f = record { file = file_view file; finding = finding_view f }
 
 -- the finding is on the line and in the column of this place
-abbrev pub IsAt : File → Finding → Place → Type 0
+abbrev pub IsAt : File → Finding → SourcePosition → Type 0
 IsAt file f p = position_of file.source.now f.offset ≡ place_position p
 
 -- The place is one of the file, and the finding is on the line that begins where it says.
-pub record IsOnLine (file : File) (f : Finding) (p : Place) : Type 0 where
+pub record IsOnLine (file : File) (f : Finding) (p : SourcePosition) : Type 0 where
   pub place : IsPlaceIn file.source.now p
   pub line : line_from file.source.now f.offset file.source.now ≡ drop p.line_start file.source.now
 

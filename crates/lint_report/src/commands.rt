@@ -9,7 +9,7 @@ ghost use Rattle.lint_report.specs.Parts.{escaped, part_byte};
 ghost use Rattle.lint_report.specs.declared.commands.Part.TheVariants.{Message};
 ghost use Rattle.lint_report.specs.View.{IsAt, entry_label, in_file, optional_text};
 
-use lint_finding::{File, Finding, Place, Severity};
+use lint_finding::{File, Finding, Severity, SourcePosition};
 use std::alloc::AllocError;
 
 /// Appends the command of a finding that is at this place: `::error file=FILE,line=LINE,col=COLUMN,title=CODE::TEXT`.
@@ -17,7 +17,7 @@ pub(crate) fn push_command(
     text: &mut String,
     file: &File,
     finding: &Finding,
-    place: Place,
+    place: SourcePosition,
 ) -> Result<(), AllocError>
     requires { IsAt file.now finding.now place }
     ensures { OnOk result (Appends text.old text.new (finding_command (in_file file.now finding.now))) }

@@ -10,7 +10,7 @@ ghost use Rattle.serde_json.specs.View.{view};
 ghost use Rattle.serde_json.specs.Written.{compact_text};
 
 use crate::severity_name;
-use lint_finding::{File, Finding, Place};
+use lint_finding::{File, Finding, SourcePosition};
 use serde_json::{Map, Value};
 use std::alloc::{AllocError, Global};
 
@@ -20,7 +20,7 @@ pub(crate) fn push_json_line(
     alloc: Global,
     file: &File,
     finding: &Finding,
-    place: Place,
+    place: SourcePosition,
 ) -> Result<(), AllocError>
     requires { IsAt file.now finding.now place }
     ensures { OnOk result (Appends text.old text.new (json_line (finding_data (in_file file.now finding.now)))) }
@@ -34,7 +34,7 @@ fn finding_json(
     alloc: Global,
     file: &File,
     finding: &Finding,
-    place: Place,
+    place: SourcePosition,
 ) -> Result<String, AllocError>
     requires { IsAt file.now finding.now place }
     ensures { IfOk result (λ json. string_bytes json
@@ -48,7 +48,7 @@ fn finding_value(
     alloc: Global,
     file: &File,
     finding: &Finding,
-    place: Place,
+    place: SourcePosition,
 ) -> Result<Value, AllocError>
     requires { IsAt file.now finding.now place }
     ensures { IfOk result (λ value. view value ≡ finding_data (in_file file.now finding.now)) }

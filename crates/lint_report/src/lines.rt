@@ -10,7 +10,7 @@ ghost use Rattle.lint_report.specs.ByColours.{caret_by, head_by, line_by};
 ghost use Rattle.lint_report.specs.View.{IsAt, entry_label, in_file, optional_text};
 
 use crate::masked::push_masked;
-use lint_finding::{File, Finding, Place, Severity};
+use lint_finding::{File, Finding, Severity, SourcePosition};
 use std::alloc::AllocError;
 
 /// Appends the first line of a finding that is at this place, with the place and the severity in colours if `coloured` is
@@ -22,7 +22,7 @@ pub fn push_finding_line(
     text: &mut String,
     file: &File,
     finding: &Finding,
-    place: Place,
+    place: SourcePosition,
     coloured: bool,
 ) -> Result<(), AllocError>
     requires { IsAt file.now finding.now place }
@@ -40,7 +40,7 @@ fn push_head(
     text: &mut String,
     file: &File,
     finding: &Finding,
-    place: Place,
+    place: SourcePosition,
     coloured: bool,
 ) -> Result<(), AllocError>
     requires { IsAt file.now finding.now place }
@@ -58,7 +58,7 @@ fn push_plain_head(
     text: &mut String,
     file: &File,
     finding: &Finding,
-    place: Place,
+    place: SourcePosition,
 ) -> Result<(), AllocError>
     requires { IsAt file.now finding.now place }
     ensures { OnOk result (Appends text.old text.new (head_by false (in_file file.now finding.now))) }
@@ -73,7 +73,7 @@ fn push_coloured_head(
     text: &mut String,
     file: &File,
     finding: &Finding,
-    place: Place,
+    place: SourcePosition,
 ) -> Result<(), AllocError>
     requires { IsAt file.now finding.now place }
     ensures { OnOk result (Appends text.old text.new (head_by true (in_file file.now finding.now))) }

@@ -13,7 +13,7 @@ use crate::commands::push_command;
 use crate::json::push_json_line;
 use crate::summary::{Summary, push_json_summaries, push_summary_lines};
 use crate::{push_finding_line, push_finding_text};
-use lint_finding::{File, FileFindings, Finding, Place, Severity};
+use lint_finding::{File, FileFindings, Finding, Severity, SourcePosition};
 use std::alloc::{AllocError, Global};
 
 /// How findings are written.
@@ -82,7 +82,7 @@ fn push_file_findings(
     ensures { OnOk result (Appends text.old text.new (file_output format notes findings.now)) }
 {
     let file = &findings.file;
-    let mut place = Place::start();
+    let mut place = SourcePosition::start();
     for finding in &findings.findings {
         place = place.moved_to(file.source, finding.offset);
         push_if_shown(text, alloc, format, notes, file, finding, place)?;
@@ -98,7 +98,7 @@ fn push_if_shown(
     notes: bool,
     file: &File,
     finding: &Finding,
-    place: Place,
+    place: SourcePosition,
 ) -> Result<(), AllocError>
     requires at { IsAt file.now finding.now place }
     requires line { IsOnLine file.now finding.now place }
@@ -118,7 +118,7 @@ fn push_finding(
     format: Format,
     file: &File,
     finding: &Finding,
-    place: Place,
+    place: SourcePosition,
 ) -> Result<(), AllocError>
     requires at { IsAt file.now finding.now place }
     requires line { IsOnLine file.now finding.now place }

@@ -12,7 +12,7 @@ ghost use Rattle.lint_report.specs.View.{IsAt, IsOnLine, in_file, optional_text,
 use crate::excerpts::{Excerpt, Window};
 use crate::lines::{caret, push_finding_line};
 use crate::masked::{masked, push_masked};
-use lint_finding::{File, Finding, Place};
+use lint_finding::{File, Finding, SourcePosition};
 use std::alloc::AllocError;
 use unicode_width::UnicodeWidthChar;
 
@@ -25,7 +25,7 @@ pub fn push_finding_text(
     text: &mut String,
     file: &File,
     finding: &Finding,
-    place: Place,
+    place: SourcePosition,
     coloured: bool,
 ) -> Result<(), AllocError>
     requires at { IsAt file.now finding.now place }
@@ -41,7 +41,7 @@ fn push_shown_line(
     text: &mut String,
     file: &File,
     finding: &Finding,
-    place: Place,
+    place: SourcePosition,
     coloured: bool,
 ) -> Result<(), AllocError>
     requires at { IsAt file.now finding.now place }

@@ -15,7 +15,7 @@ use super::FluentBundle;
 use fluent_ast::Pattern;
 use fluent_errors::FluentError;
 use fluent_meaning::laws::work_is_bounded;
-use fluent_progress::{Lent, Place};
+use fluent_progress::{BorrowedSettings, Surroundings};
 use fluent_resolver::Fault;
 use fluent_resolver::answer::{answer, answer_within, hand_out, lone_text, write_answer};
 use fluent_text::stack::StackBudget;
@@ -69,7 +69,7 @@ where
         work_is_bounded::<C, F>();
         let lent = self.lent();
         let locals: Option<&'x FluentArgs<'s, C>> = None;
-        let place = Place {
+        let place = Surroundings {
             ids: &self.ids,
             context: &lent,
             arguments: args,
@@ -151,7 +151,7 @@ where
     {
         let lent = self.lent();
         let locals: Option<&'x FluentArgs<'s, C>> = None;
-        let place = Place {
+        let place = Surroundings {
             ids: &self.ids,
             context: &lent,
             arguments: args,
@@ -180,7 +180,7 @@ where
         work_is_bounded::<C, F>();
         let lent = self.lent();
         let locals: Option<&'x FluentArgs<'s, C>> = None;
-        let place = Place {
+        let place = Surroundings {
             ids: &self.ids,
             context: &lent,
             arguments: args,
@@ -211,10 +211,10 @@ where
     }
 
     /// What patterns are resolved in, lent.
-    pub(crate) fn lent(&self) -> Lent<'_, M, G, T>
+    pub(crate) fn lent(&self) -> BorrowedSettings<'_, M, G, T>
         ensures { IsLent (bundle_of self.now) result }
     {
-        Lent {
+        BorrowedSettings {
             plurals: &self.plurals,
             isolating: self.isolating,
             transform: self.transform.as_ref(),

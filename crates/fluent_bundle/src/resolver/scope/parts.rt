@@ -14,7 +14,7 @@ use super::Scope;
 use fluent_ast::{CallArguments, Expression, InlineExpression, Pattern};
 use fluent_errors::{FluentError, ReferenceKind, ResolverError};
 use fluent_progress::fallback::write_inline_braced;
-use fluent_progress::{Frames, Path, Place, Progress};
+use fluent_progress::{Frames, Path, Progress, Surroundings};
 use fluent_resolver::steps::{opened, referred, values};
 use fluent_text::stack::StackBudget;
 use fluent_value::{
@@ -132,7 +132,7 @@ where
         let bundle = self.bundle;
         let lent = bundle.lent();
         let locals: Option<&'b FluentArgs<'s, C>> = None;
-        let place = Place {
+        let place = Surroundings {
             ids: &bundle.ids,
             context: &lent,
             arguments: self.arguments,
@@ -160,7 +160,7 @@ where
         let bundle = self.bundle;
         let lent = bundle.lent();
         let locals: Option<&'b FluentArgs<'s, C>> = None;
-        let place = Place {
+        let place = Surroundings {
             ids: &bundle.ids,
             context: &lent,
             arguments: self.arguments,
@@ -203,7 +203,7 @@ where
         let bundle = self.bundle;
         let lent = bundle.lent();
         let locals: Option<&'b FluentArgs<'s, C>> = None;
-        let place = Place {
+        let place = Surroundings {
             ids: &bundle.ids,
             context: &lent,
             arguments: self.arguments,

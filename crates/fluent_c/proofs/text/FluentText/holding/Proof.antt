@@ -10,7 +10,7 @@ use Rattle.std.proofs.alloc.Global.TheLaws as heap_laws
 use Rattle.std.specs.contracts.impls.GlobalAllocator.TheImpl.{ghosts}
 use Rattle.fluent_c.specs.Texts.{buffers_row}
 use Rattle.fluent_c.proofs.Texts.{text_good, held_by, held_in}
-use Rattle.fluent_kept.proofs.Values.{Loose, loose_good, loose_out}
+use Rattle.fluent_kept.proofs.Values.{RawBox, loose_good, loose_out}
 use Rattle.fluent_c.proofs.text.FluentText.TheLaws.{lowered}
 use Rattle.fluent_c.specs.contracts.text.FluentText.{the_row}
 use Rattle.fluent_c.specs.contracts.text.FluentText.holding as f
@@ -18,7 +18,7 @@ use Rattle.fluent_c.proofs.text.FluentText.holding.Statement.{statement}
 use Rattle.fluent_c.proofs.text.FluentText.holding.Code as code
 
 abbrev Owner : RattleType
-Owner = Loose buffers_row heap.the_row heap_laws.the_row_laws ghosts
+Owner = RawBox buffers_row heap.the_row heap_laws.the_row_laws ghosts
 
 abbrev stayed : Stays f.ended.signature.params f.ended.kept
 stayed = (stay_dropped (plain (λ _. RawPtr)) yes, (stay_dropped (plain (λ _. usize)) yes, (stay_dropped (plain (λ _. Owner)) yes, tt)))

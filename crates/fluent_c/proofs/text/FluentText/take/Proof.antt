@@ -20,7 +20,7 @@ use Rattle.std.proofs.alloc.Global.TheLaws as heap_laws
 use Rattle.std.specs.contracts.impls.GlobalAllocator.TheImpl.{ghosts}
 use Rattle.fluent_c.specs.Texts.{buffers_row}
 use Rattle.fluent_c.proofs.Texts.{held_out, good_of}
-use Rattle.fluent_kept.proofs.Values.{both, Loose, al, loose_good, loose_in}
+use Rattle.fluent_kept.proofs.Values.{both, RawBox, al, loose_good, loose_in}
 use Rattle.fluent_c.proofs.text.FluentText.TheLaws.{lowers}
 use Rattle.fluent_c.specs.contracts.text.FluentText.{the_row}
 use Rattle.fluent_c.specs.contracts.text.FluentText.take as f
@@ -28,7 +28,7 @@ use Rattle.fluent_c.proofs.text.FluentText.take.Statement.{statement}
 use Rattle.fluent_c.proofs.text.FluentText.take.Code as code
 
 abbrev Owner : RattleType
-Owner = Loose buffers_row heap.the_row heap_laws.the_row_laws ghosts
+Owner = RawBox buffers_row heap.the_row heap_laws.the_row_laws ghosts
 
 abbrev stayed : Stays f.ended.signature.params f.ended.kept
 stayed = (stay_dropped (plain (λ _. the_row)) yes, (stay_dropped (plain (λ _. heap.the_row)) yes, tt))

@@ -30,10 +30,10 @@ use Rattle.fluent_kept.proofs.BundleMade as bundle
 use Rattle.fluent_kept.proofs.Heaps.{boxed_in, boxed_out, lent_in}
 use Rattle.fluent_kept.proofs.Tokens.{met, goes_below, comes_up}
 use Rattle.fluent_kept.proofs.Rows.{of_resources, resources_within}
-use Rattle.fluent_kept.proofs.Values.{Loose, al, loose_good, loose_out}
-use Rattle.fluent_kept.proofs.shelf.Shelf.TheLaws as shelf_laws
+use Rattle.fluent_kept.proofs.Values.{RawBox, al, loose_good, loose_out}
+use Rattle.fluent_kept.proofs.shelf.KeptSources.TheLaws as shelf_laws
 use Rattle.fluent_kept.proofs.bundle.Bundle.TheLaws as bundle_laws
-use Rattle.fluent_kept.specs.contracts.shelf.Shelf.{the_row as Shelf}
+use Rattle.fluent_kept.specs.contracts.shelf.KeptSources.{the_row as KeptSources}
 use Rattle.fluent_kept.specs.contracts.bundle.Bundle.{the_row as Bundle}
 use Rattle.fluent_kept.specs.contracts.bundle.Bundle.tie as f
 use Rattle.fluent_kept.proofs.bundle.Bundle.tie.Statement.{statement}
@@ -42,16 +42,16 @@ use Rattle.fluent_kept.specs.contracts.desk.lay_out as g
 use Rattle.fluent_kept.proofs.desk.lay_out.Met as callee
 
 abbrev Result : RattleType
-Result = RS.the_row Bundle Shelf
+Result = RS.the_row Bundle KeptSources
 
 abbrev stayed : Stays f.ended.signature.params f.ended.kept
-stayed = (stay_dropped (plain (λ _. heap.the_row)) yes, (stay_dropped (plain (λ _. Shelf)) yes, tt))
+stayed = (stay_dropped (plain (λ _. heap.the_row)) yes, (stay_dropped (plain (λ _. KeptSources)) yes, tt))
 
 pub tie_spec : {M : Type 1} → statement M
 tie_spec 𝓤 𝓛 𝓜 𝓡 wired =
     let H = 𝓛.H in let 𝓣 = tables 𝓤 H 𝓜 𝓡 𝓡.env in let c = f.clauses 𝓛 𝓜.mem 𝓡.returns in let fn = code.function in let Z = heap.the_row in let LZ = heap_laws.the_row_laws in
     proved_at 𝓛 f.ended stayed c 𝓜 𝓡
-    (Goes-dropped 𝓛 0 (plain (λ _. heap.the_row)) yes (λ κs x w. refl), (Goes-dropped 𝓛 0 (plain (λ _. Shelf)) yes (λ κs x w. refl), tt))
+    (Goes-dropped 𝓛 0 (plain (λ _. heap.the_row)) yes (λ κs x w. refl), (Goes-dropped 𝓛 0 (plain (λ _. KeptSources)) yes (λ κs x w. refl), tt))
     f.Key.name fn (code.unfolded 𝓤 H 𝓜 𝓡 wired) (λ z are.
     let κs = z.0.0 in let args = z.0.3 in let words = z.0.4 in let Post : Val → SProp 𝓤 = (walk_of 𝓛 f.ended stayed c).post z in
     let a = args.0 in let d = args.1.0 in
@@ -88,7 +88,7 @@ tie_spec 𝓤 𝓛 𝓜 𝓡 wired =
     await ! tt $ pick ! (λ n. split ! $ split ! $ split3 ! $ move ! (4 ∷ []) $ pick ! (λ ls. split ! $ drop ! $ heard ! _ (λ lays.
     move ! (2 ∷ []) $ drop ! $ move ! (0 ∷ 1 ∷ 4 ∷ []) $ comes_up ! β κ full_share $ move ! (2 ∷ []) $
     -- [the desk, if there is one; the tokens; what the loan leaves; the block; the sources]
-    apart (Loose Desk Z LZ ghosts) ! n (u ∷ [])
+    apart (RawBox Desk Z LZ ghosts) ! n (u ∷ [])
     (λ x us is ev. loose_out Desk Z LZ ghosts ! x us (λ b3 o3 h3 e3 ws3 fits3. move ! (1 ∷ []) $ drop ! $
     let typed = loose_good Desk Z LZ ghosts b3 o3 h3 fits3 in
     let d' : Bundle.Denot = record { sources = d.sources; read = block_ptr b2 o2; desk = block_ptr b3 o3; catalog = d.catalog } in
@@ -109,11 +109,11 @@ tie_spec 𝓤 𝓛 𝓜 𝓡 wired =
     move ! (3 ∷ 4 ∷ []) $ lent_in ! κr (resources_row κ) (λ v. IsReadOf v d.catalog) a2 b2 o2 w reads $ fjoin ! $ move ! (3 ∷ 0 ∷ []) $ fjoin ! $ move ! (1 ∷ 0 ∷ []) $ fjoin ! $ move ! (1 ∷ 0 ∷ []) $ fjoin ! $
     let owns_at = bundle_owns d.sources (block_ptr b2 o2) (block_ptr b3 o3) d.catalog in
     fpack ! ℕ (owns_at α) β $ fpack ! ℕ (λ α'. fex ℕ (owns_at α')) α $ bundle.bundle_in ! d' $
-    use1 𝓛 (‵ (Result.own_val (Ok d') (v' ∷ []))) (Ok-of 𝓛 Bundle Shelf d' (bundle_laws.lowered d')) $
+    use1 𝓛 (‵ (Result.own_val (Ok d') (v' ∷ []))) (Ok-of 𝓛 Bundle KeptSources d' (bundle_laws.lowered d')) $
     nothing ! $ nothing ! $ join ! $ nothing ! $ join ! $ nothing ! $ done !))
     (λ is ev.
-    let back : Shelf.Denot = record { sources = d.sources; read = block_ptr b2 o2; catalog = d.catalog } in let word = shelf_laws.lowered back in
-    let v' : Val = live 1 (vcons word vnil) in let good : Good (layout Result) v' = (and_tt (has_ty (layout Shelf) word) (shelf.shelf_good 𝓛 back).0, (record { fits = lit< tt }, ((shelf.shelf_good 𝓛 back).1, tt))) in
+    let back : KeptSources.Denot = record { sources = d.sources; read = block_ptr b2 o2; catalog = d.catalog } in let word = shelf_laws.lowered back in
+    let v' : Val = live 1 (vcons word vnil) in let good : Good (layout Result) v' = (and_tt (has_ty (layout KeptSources) word) (shelf.shelf_good 𝓛 back).0, (record { fits = lit< tt }, ((shelf.shelf_good 𝓛 back).1, tt))) in
     lft_end ! tt $ use1 𝓛 (‵ (fdead κr)) (𝓛.lfts.dead-incl κr (β ∷ []) (meet_⊑_left (β ∷ []) κ)) $
     move ! (0 ∷ 2 ∷ []) $ lent_back ! tt $ move ! (0 ∷ 2 ∷ []) $ fjoin ! $ use1 𝓛 (‵ (boxed (resources_row κ) (block_ptr b2 o2) w a2)) (id⊢ 𝓤 _) $
     boxed_in ! (resources_row κ) (block_ptr b2 o2) (λ v. IsReadOf v d.catalog) a2 w reads $
@@ -126,5 +126,5 @@ tie_spec 𝓤 𝓛 𝓜 𝓡 wired =
     exec ! 𝓣.C 𝓣.Λ Ev code.Mir.t-8 (at_ret Ev Post) $ sets ! (of_opd ! (get ! refl)) refl good $
     returns ! (look_at ! 0 refl) $ free_all ! refl $
     suffices ! _ (ends_at 𝓛 f.ended stayed c z v' (Err back) (tt, (tt, tt)) (tt, (tt, tt))) $ says ! refl $
-    use1 𝓛 (‵ (Result.own_val (Err back) (v' ∷ []))) (Err-of 𝓛 Bundle Shelf back word) $
+    use1 𝓛 (‵ (Result.own_val (Err back) (v' ∷ []))) (Err-of 𝓛 Bundle KeptSources back word) $
     nothing ! $ nothing ! $ join ! $ nothing ! $ join ! $ nothing ! $ done !)))))))))))

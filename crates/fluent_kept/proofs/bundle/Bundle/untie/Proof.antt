@@ -18,10 +18,10 @@ use Rattle.fluent_kept.proofs.Made.{apart}
 use Rattle.fluent_kept.proofs.BundleMade as bundle
 use Rattle.fluent_kept.proofs.Heaps.{boxed_in, boxed_out, lent_out}
 use Rattle.fluent_kept.proofs.Tokens.{met, goes_below, comes_up}
-use Rattle.fluent_kept.proofs.Values.{both, Loose, al, loose_good, loose_in}
-use Rattle.fluent_kept.proofs.shelf.Shelf.TheLaws as shelf_laws
+use Rattle.fluent_kept.proofs.Values.{both, RawBox, al, loose_good, loose_in}
+use Rattle.fluent_kept.proofs.shelf.KeptSources.TheLaws as shelf_laws
 use Rattle.fluent_kept.proofs.bundle.Bundle.TheLaws as bundle_laws
-use Rattle.fluent_kept.specs.contracts.shelf.Shelf.{the_row as Shelf}
+use Rattle.fluent_kept.specs.contracts.shelf.KeptSources.{the_row as KeptSources}
 use Rattle.fluent_kept.specs.contracts.bundle.Bundle.{the_row as Bundle}
 use Rattle.fluent_kept.specs.contracts.bundle.Bundle.untie as f
 use Rattle.fluent_kept.proofs.bundle.Bundle.untie.Statement.{statement}
@@ -59,7 +59,7 @@ untie_spec 𝓤 𝓛 𝓜 𝓡 wired =
     move ! (0 ∷ 5 ∷ []) $ loose_in Desk Z LZ ghosts ! b3 o3 h a l $ move ! (3 ∷ 4 ∷ []) $ goes_below ! β κ full_share $
     nothing ! $ move ! (4 ∷ 0 ∷ []) $ join ! $ nothing ! $ move ! (3 ∷ 0 ∷ []) $ join ! $ move ! (2 ∷ 0 ∷ []) $ join ! $ join ! $ nothing ! $ move ! (1 ∷ 0 ∷ []) $
     let k = triple_of 𝓛 g.signature (g.spec 𝓛 𝓜.mem 𝓡.returns) in
-    let gone : (Loose Desk Z LZ ghosts).Denot = record { at = block_ptr b3 o3; alloc = a; value = l } in
+    let gone : (RawBox Desk Z LZ ghosts).Denot = record { at = block_ptr b3 o3; alloc = a; value = l } in
     let y : k.Ghost = (((κr, (κ, tt)), (m, (Share.right full_share, tt)), (meet_⊑_right (β ∷ []) κ, tt), (gone, tt), (both (vptr b3 o3) h ∷ [], tt)), tt) in
     use2 𝓛 (raw (k.pre y)) (id⊢ 𝓤 _) $
     calls_at ! (fm 𝓛 𝓜 𝓡) k (callee.met 𝓤 𝓛 𝓜 𝓡 (code.calls-fluent_kept::desk::discard_desk 𝓡.env wired)) y (and_then ! (get ! refl) (no_more !)) (λ u.
@@ -69,7 +69,7 @@ untie_spec 𝓤 𝓛 𝓜 𝓡 wired =
     move ! (2 ∷ []) $ drop ! $ move ! (2 ∷ []) $ drop ! $ comes_up ! β κ full_share $
     lft_end ! tt $ use1 𝓛 (‵ (fdead κr)) (𝓛.lfts.dead-incl κr (β ∷ []) (meet_⊑_left (β ∷ []) κ)) $ move ! (2 ∷ []) $
     lent_out ! κr (resources_row κ) d.read (λ w. IsReadOf w d.catalog) (λ a2 b2 o2 w e2 reads. move ! (2 ∷ 0 ∷ []) $ lent_back ! tt $ fjoin ! $ use1 𝓛 (‵ (boxed (resources_row κ) (block_ptr b2 o2) w a2)) (id⊢ 𝓤 _) $
-    let back : Shelf.Denot = record { sources = d.sources; read = block_ptr b2 o2; catalog = d.catalog } in
+    let back : KeptSources.Denot = record { sources = d.sources; read = block_ptr b2 o2; catalog = d.catalog } in
     boxed_in ! (resources_row κ) (block_ptr b2 o2) (λ v. IsReadOf v d.catalog) a2 w reads $
     move ! (2 ∷ 0 ∷ []) $ fjoin ! $ move ! (1 ∷ 0 ∷ []) $ fjoin ! $ fpack ! ℕ (shelf_owns d.sources (block_ptr b2 o2) d.catalog) α $ shelf.shelf_in ! back $
     sets ! (is ! (agg ! (and_then ! (get ! refl) (and_then ! (get ! refl) (no_more !)))) (ap (λ (p : Ptr). shelf_laws.lowered (record back { read = p })) e2)) refl (shelf.shelf_good 𝓛 back) $
