@@ -7,19 +7,19 @@ ghost use Rattle.lint_finding.specs.View.{file_view};
 ghost use Rattle.lint_findings.specs.Files.{location};
 ghost use Rattle.lint_finding.specs.PlaceView.{IsPlaceIn};
 
-use lint_finding::{EntryPoint, File};
+use lint_finding::{File, SourcePosition};
 use std::fmt;
 
 /// A place in a file. Its text is `FILE:LINE:COLUMN`.
 #[derive(Clone, Copy, Debug)]
 pub struct Location<'a> {
     file: &'a str,
-    place: EntryPoint,
+    place: SourcePosition,
 }
 
 impl<'a> Location<'a> {
     /// The location of a place in the source of a file.
-    pub fn new(file: File<'a>, place: EntryPoint) -> Location<'a>
+    pub fn new(file: File<'a>, place: SourcePosition) -> Location<'a>
         requires { IsPlaceIn file.source.now place }
         ensures { location_text result ≡ location (file_view file.entry) place.offset }
     {
