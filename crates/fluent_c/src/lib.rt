@@ -45,7 +45,7 @@ pub use fluent_kept::FluentBundle;
 pub use formatting::fluent_bundle_format;
 pub use languages::fluent_negotiate;
 pub use linting::{FluentLintOptions, fluent_lint};
-pub use listing::{fluent_bundle_attributes, fluent_bundle_messages};
+pub use listing::{fluent_bundle_attributes, fluent_bundle_messages, fluent_bundle_variables};
 pub use occurrences::fluent_occurrences;
 pub use options::{FluentBundleOptions, fluent_bundle_new_with};
 pub use text::{FluentText, fluent_free_text};

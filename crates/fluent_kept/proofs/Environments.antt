@@ -1,7 +1,7 @@
 -- A desk over what was read of a catalog answers from the catalog's environment.
 use Rattle.std.proofs.Common.{◌≡◌, Bool, List, [], ◌∷◌, map, Option, ap, ◌∙◌}
 use Rattle.std.specs.Prelude.{option_map}
-use Rattle.fluent_answers.specs.Sources.{formatted_in, ids_of}
+use Rattle.fluent_answers.specs.Sources.{formatted_in}
 use Rattle.fluent_run.proofs.ResourceIds.{all_by_id-read}
 use Rattle.fluent_grammar.specs.Tiling.{runtime_tree}
 use Rattle.fluent_meaning.specs.Environment.{Environment}
@@ -16,7 +16,7 @@ use Rattle.fluent_run.specs.DeskView.{desk_ids, ids_added}
 use Rattle.fluent_run.specs.RunView.{no_text}
 use Rattle.fluent_value.specs.Value.{error}
 use Rattle.fluent_value.specs.declared.function.NoFunction.{NoFunction}
-use Rattle.fluent_kept.specs.Catalogs.{Catalog, catalog_environment, desk_environment}
+use Rattle.fluent_kept.specs.Catalogs.{Catalog, catalog_environment, catalog_ids, desk_environment}
 use Rattle.fluent_kept.specs.declared.desk.KeptDesk.{KeptDesk}
 
 -- an environment, by what makes it
@@ -31,13 +31,16 @@ environment-of ids isolating numerals plurals = record {
   shown = no_text;
 }
 
-pub environment-same : (desk : KeptDesk) (catalog : Catalog) (resources : List FluentResource) → map entries_view resources ≡ map runtime_tree catalog.sources →
-    desk_ids desk.desk ≡ ids_added catalog.settings.overriding resources → desk.desk.plurals.now ≡ catalog.plurals → desk.desk.isolating ≡ catalog.settings.isolating →
+-- the ids of what was read of a catalog stand for what the catalog's do
+pub ids-same : (desk : KeptDesk) (catalog : Catalog) (resources : List FluentResource) → map entries_view resources ≡ map runtime_tree catalog.sources →
+    desk_ids desk.desk ≡ ids_added catalog.settings.overriding resources → desk_ids desk.desk ≡ catalog_ids catalog
+ids-same desk catalog resources read ids = ids ∙ ap (with_ids catalog.settings.overriding (number_pair ∷ [])) (all_by_id-read resources catalog.sources read)
+
+pub environment-same : (desk : KeptDesk) (catalog : Catalog) → desk_ids desk.desk ≡ catalog_ids catalog → desk.desk.plurals.now ≡ catalog.plurals → desk.desk.isolating ≡ catalog.settings.isolating →
     option_map locale_view desk.desk.numerals ≡ catalog.settings.numerals →
     desk_environment desk ≡ catalog_environment catalog
-environment-same desk catalog resources read ids by isolating numerals =
-    let overriding = catalog.settings.overriding in
-    ap (λ x. environment-of x desk.desk.isolating (option_map locale_view desk.desk.numerals) desk.desk.plurals.now) (ids ∙ ap (with_ids overriding (number_pair ∷ [])) (all_by_id-read resources catalog.sources read))
-    ∙ ap (λ x. environment-of (ids_of overriding catalog.sources) x (option_map locale_view desk.desk.numerals) desk.desk.plurals.now) isolating
-    ∙ ap (λ x. environment-of (ids_of overriding catalog.sources) catalog.settings.isolating x desk.desk.plurals.now) numerals
-    ∙ ap (λ x. environment-of (ids_of overriding catalog.sources) catalog.settings.isolating catalog.settings.numerals x) by
+environment-same desk catalog ids by isolating numerals =
+    ap (λ x. environment-of x desk.desk.isolating (option_map locale_view desk.desk.numerals) desk.desk.plurals.now) ids
+    ∙ ap (λ x. environment-of (catalog_ids catalog) x (option_map locale_view desk.desk.numerals) desk.desk.plurals.now) isolating
+    ∙ ap (λ x. environment-of (catalog_ids catalog) catalog.settings.isolating x desk.desk.plurals.now) numerals
+    ∙ ap (λ x. environment-of (catalog_ids catalog) catalog.settings.isolating catalog.settings.numerals x) by

@@ -8,8 +8,8 @@ use Rattle.fluent_plurals.specs.declared.plurals.LanguagePlurals.{LanguagePlural
 use Rattle.fluent_grammar.specs.Words.{Text}
 use Rattle.fluent_ids.specs.Found.{message_in}
 use Rattle.fluent_meaning.specs.Environment.{Environment}
-use Rattle.fluent_meaning.specs.Ids.{Meaning}
-use Rattle.fluent_run.specs.DeskView.{arguments_view, message_reply}
+use Rattle.fluent_meaning.specs.Ids.{Ids, Meaning, find}
+use Rattle.fluent_run.specs.DeskView.{arguments_view, desk_ids, message_reply}
 use Rattle.fluent_run.specs.Listing.{attribute_lines, message_lines}
 use Rattle.fluent_run.specs.ReplyView.{reply_view}
 use Rattle.fluent_value.specs.Args.{argument}
@@ -18,7 +18,8 @@ use Rattle.fluent_value.specs.declared.args.FluentArgs.{FluentArgs}
 use Rattle.fluent_value.specs.declared.custom.NoCustom.{NoCustom}
 use Rattle.fluent_value.specs.declared.function.NoFunction.{NoFunction}
 use Rattle.fluent_check.specs.Report.{report_text}
-use Rattle.fluent_kept.specs.Catalogs.{Catalog, IsDeskOf, calling_in, catalog_calling, catalog_entries, catalog_environment, catalog_of, desk_calling, desk_entries, desk_environment}
+use Rattle.fluent_kept.specs.Catalogs.{Catalog, IsDeskOf, calling_in, catalog_calling, catalog_entries, catalog_environment, catalog_ids, catalog_of, desk_calling, desk_entries, desk_environment}
+use Rattle.fluent_kept.specs.Variables.{variable_lines}
 use Rattle.fluent_kept.specs.declared.desk.KeptDesk.{KeptDesk}
 use Rattle.fluent_kept.specs.declared.question.Answer.{Answer}
 use Rattle.fluent_kept.specs.declared.question.Answer.TheVariants as answer
@@ -120,6 +121,17 @@ AreAttributes env id (answer.Call call) = ⊥
 AreAttributes env id (answer.Names text) = attribute_lines (message_in (env.find id)) ≡ Some (string_bytes text)
 AreAttributes env id (answer.Report text) = ⊥
 
+-- the variables that a message is shown with, unless memory ran out
+abbrev pub AreVariables : Ids NoFunction → Text → Answer → Type 0
+AreVariables ids id answer.Memory = Unit {0}
+AreVariables ids id answer.NoMessage = IsNone (message_in (find ids id))
+AreVariables ids id answer.NoPattern = ⊥
+AreVariables ids id answer.Found = ⊥
+AreVariables ids id (answer.Reply reply) = ⊥
+AreVariables ids id (answer.Call call) = ⊥
+AreVariables ids id (answer.Names text) = variable_lines ids id ≡ Some (string_bytes text)
+AreVariables ids id (answer.Report text) = ⊥
+
 -- the report on sources, unless memory ran out
 abbrev pub IsReport : List Text → Answer → Type 0
 IsReport sources answer.Memory = Unit {0}
@@ -131,22 +143,24 @@ IsReport sources (answer.Call call) = ⊥
 IsReport sources (answer.Names text) = ⊥
 IsReport sources (answer.Report text) = string_bytes text ≡ report_text sources
 
--- the answer to a question, from an environment, that of messages that call functions, the entries by their ids, and the sources
-abbrev pub IsAnswer : Environment (Unit {0}) NoFunction → (Table → Option (Environment (Unit {0}) ℕ)) → List (Text × Meaning NoFunction) → List Text → Question → Answer → Type 0
-IsAnswer env calling entries sources (question.Format id attribute arguments spare) answer = IsReplyTo env id.now attribute arguments answer
-IsAnswer env calling entries sources (question.Call id attribute arguments answers spare) answer = IsReplyOrCallTo env calling id.now attribute arguments answers answer
-IsAnswer env calling entries sources (question.Has id attribute) answer = IsFound env id.now (option_copied attribute) answer
-IsAnswer env calling entries sources question.Messages answer = AreMessages env entries answer
-IsAnswer env calling entries sources (question.Attributes id) answer = AreAttributes env id.now answer
-IsAnswer env calling entries sources question.Report answer = IsReport sources answer
+-- the answer to a question, from an environment, that of messages that call functions, what ids stand for, the entries by their
+-- ids, and the sources
+abbrev pub IsAnswer : Environment (Unit {0}) NoFunction → (Table → Option (Environment (Unit {0}) ℕ)) → Ids NoFunction → List (Text × Meaning NoFunction) → List Text → Question → Answer → Type 0
+IsAnswer env calling ids entries sources (question.Format id attribute arguments spare) answer = IsReplyTo env id.now attribute arguments answer
+IsAnswer env calling ids entries sources (question.Call id attribute arguments answers spare) answer = IsReplyOrCallTo env calling id.now attribute arguments answers answer
+IsAnswer env calling ids entries sources (question.Has id attribute) answer = IsFound env id.now (option_copied attribute) answer
+IsAnswer env calling ids entries sources question.Messages answer = AreMessages env entries answer
+IsAnswer env calling ids entries sources (question.Attributes id) answer = AreAttributes env id.now answer
+IsAnswer env calling ids entries sources (question.Variables id) answer = AreVariables ids id.now answer
+IsAnswer env calling ids entries sources question.Report answer = IsReport sources answer
 
 -- the answer by what a desk has
 abbrev pub IsAnswerOf : KeptDesk → Question → Answer → Type 0
-IsAnswerOf desk = IsAnswer (desk_environment desk) (desk_calling desk) (desk_entries desk) (catalog_of desk.sources.now).sources
+IsAnswerOf desk = IsAnswer (desk_environment desk) (desk_calling desk) (desk_ids desk.desk) (desk_entries desk) (catalog_of desk.sources.now).sources
 
 -- the answer of a catalog
 abbrev pub Answers : Catalog → Question → Answer → Type 0
-Answers catalog question answer = IsAnswer (catalog_environment catalog) (catalog_calling catalog) (catalog_entries catalog) catalog.sources question answer
+Answers catalog question answer = IsAnswer (catalog_environment catalog) (catalog_calling catalog) (catalog_ids catalog) (catalog_entries catalog) catalog.sources question answer
 
 -- this is the answer of whatever catalog a desk answers as, and the desk still does
 abbrev pub AnswersAsIts : KeptDesk → KeptDesk → Question → Answer → Type 0

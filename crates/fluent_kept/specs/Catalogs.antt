@@ -1,18 +1,18 @@
 -- What a bundle is made of, and what its parts are of that.
 use Rattle.std.specs.Prelude.{◌≡◌, ℕ, List, Option, map, option_and_then, option_map, vec_items, string_bytes}
-use Rattle.fluent_answers.specs.Sources.{Settings, environment_of}
+use Rattle.fluent_answers.specs.Sources.{Settings, environment_of, ids_of}
 use Rattle.fluent_calls.specs.DeskView as calls
 use Rattle.fluent_calls.specs.declared.desk.FunctionDesk.{FunctionDesk}
 use Rattle.fluent_calls.specs.Functions.{Table, calling_environment, no_answer}
 use Rattle.fluent_grammar.specs.Tiling.{runtime_tree}
 use Rattle.fluent_grammar.specs.Words.{Text}
 use Rattle.fluent_meaning.specs.Environment.{Environment}
-use Rattle.fluent_meaning.specs.Ids.{Meaning, entries_by_id}
+use Rattle.fluent_meaning.specs.Ids.{Ids, Meaning, entries_by_id}
 use Rattle.fluent_numerals.specs.Lookup.{Locale, locale_for}
 use Rattle.fluent_plurals.specs.Plurals.{plurals_by}
 use Rattle.fluent_plurals.specs.declared.plurals.LanguagePlurals.{LanguagePlurals}
 use Rattle.fluent_resource.specs.ResourceView.{entries_view}
-use Rattle.fluent_run.specs.DeskView.{environment_in}
+use Rattle.fluent_run.specs.DeskView.{desk_ids, environment_in}
 use Rattle.fluent_run.specs.ResourceIds.{all_by_id}
 use Rattle.fluent_run.specs.RunView.{no_text}
 use Rattle.fluent_tidy_laws.specs.Joined.{lists}
@@ -62,6 +62,10 @@ calling_in desk table = calls.environment_in plurals_by (λ _ S text. text) no_a
 abbrev pub desk_calling : KeptDesk → Table → Option (Environment (Unit {0}) ℕ)
 desk_calling desk table = option_map (λ d. calling_in d table) desk.functions
 
+-- what the ids of a catalog stand for
+abbrev pub catalog_ids : Catalog → Ids NoFunction
+catalog_ids c = ids_of c.settings.overriding c.sources
+
 -- the messages and terms of a catalog by their ids, one source after the other
 abbrev pub catalog_entries : Catalog → List (Text × Meaning NoFunction)
 catalog_entries c = entries_by_id (lists c.sources)
@@ -87,6 +91,7 @@ CallsFor read desk = (catalog : Catalog) → IsReadOf read catalog → CallsAs d
 pub record IsDeskOf (desk : KeptDesk) (catalog : Catalog) : Type 0 where
   pub sources : catalog_of desk.sources.now ≡ catalog
   pub environment : desk_environment desk ≡ catalog_environment catalog
+  pub ids : desk_ids desk.desk ≡ catalog_ids catalog
   pub entries : desk_entries desk ≡ catalog_entries catalog
   pub calling : CallsAs desk.functions catalog
 

@@ -3,12 +3,14 @@
 ghost use Rattle.std.specs.Prelude.{◌≡◌, IfOk, IfSome, option_copied, string_bytes};
 ghost use Rattle.fluent_check.specs.Report.{report_text};
 ghost use Rattle.fluent_kept.specs.Catalogs.{CallsFor, IsDeskFor, catalog_of, desk_entries, desk_environment};
-ghost use Rattle.fluent_kept.specs.Answers.{AnswersAsIts, AreAttributes, AreMessages, IsAnswerOf, IsCallOf, IsCalledTo, IsFound, IsMissing, IsReplyTo};
+ghost use Rattle.fluent_run.specs.DeskView.{desk_ids};
+ghost use Rattle.fluent_kept.specs.Answers.{AnswersAsIts, AreAttributes, AreMessages, AreVariables, IsAnswerOf, IsCallOf, IsCalledTo, IsFound, IsMissing, IsReplyTo};
 
 use crate::loose::RawBox;
 use crate::question::{Answer, Question};
 use crate::resources::Resources;
 use crate::sources::{Sources, borrow_texts};
+use crate::variables::variable_lines;
 use fluent_calls::{FunctionDesk, Outcome, Unanswered, Written};
 use fluent_check::check_text;
 use fluent_plurals::LanguagePlurals;
@@ -131,6 +133,17 @@ impl<'r, 's> KeptDesk<'r, 's> {
         }
     }
 
+    /// The variables that a message is shown with.
+    fn variables(&self, alloc: Global, id: &str) -> Answer
+        ensures { AreVariables (desk_ids self.now.desk) id.now result }
+    {
+        match variable_lines(alloc, self.desk.ids(), id) {
+            Ok(Some(text)) => Answer::Names(text),
+            Ok(None) => Answer::NoMessage,
+            Err(_) => Answer::Memory,
+        }
+    }
+
     /// What a check of the sources reports. It reads them whole, within the budget of the stack.
     ///
     /// # Errors
@@ -170,6 +183,7 @@ impl<'r, 's> KeptDesk<'r, 's> {
             Question::Has { id, attribute } => self.has(*id, *attribute),
             Question::Messages => self.messages(alloc),
             Question::Attributes { id } => self.attributes(alloc, *id),
+            Question::Variables { id } => self.variables(alloc, *id),
             Question::Report => match self.report(alloc) {
                 Ok(text) => Answer::Report(text),
                 Err(_) => Answer::Memory,

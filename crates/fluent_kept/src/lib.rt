@@ -12,6 +12,7 @@ mod resources;
 mod shelf;
 mod sources;
 mod threads;
+mod variables;
 
 pub use bundle::Bundle;
 pub use handle::FluentBundle;

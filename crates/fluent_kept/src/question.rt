@@ -34,6 +34,10 @@ pub enum Question<'a> {
     Attributes {
         id: &'a str,
     },
+    /// The variables that a message is shown with.
+    Variables {
+        id: &'a str,
+    },
     /// What a check of the sources reports.
     Report,
 }
@@ -53,7 +57,8 @@ pub enum Answer {
     Reply(Reply),
     /// The first call that has no answer.
     Call(String),
-    /// A line for each id, in the order of the first entries, or for each name, in the order of the message.
+    /// A line for each id, in the order of the first entries; for each name of an attribute, in the order of the message; or for
+    /// each variable, in the order in which they are met.
     Names(String),
     /// A line for each error and for each entry whose id was there before it.
     Report(String),

@@ -6,7 +6,7 @@ ghost use Rattle.fluent_meaning.specs.Ids.{attribute_named, find};
 ghost use Rattle.fluent_ids.specs.Found.{message_in};
 ghost use Rattle.fluent_ids.specs.MessageView.{message_of};
 ghost use Rattle.fluent_serve.specs.Frames.{none, ok};
-ghost use Rattle.fluent_run.specs.DeskView.{attributes_in, desk_ids, elements_found, IsFormatted, ids_added, frame_asked, line_frame, messages_in, reply_frame, reply_to};
+ghost use Rattle.fluent_run.specs.DeskView.{attributes_in, desk_ids, elements_found, IsFormatted, ids_added, frame_asked, line_frame, messages_in, plain_ids, reply_frame, reply_to};
 ghost use Rattle.fluent_run.specs.ReplyView.{reply_of, reply_view};
 ghost use Rattle.fluent_serve.specs.AnswerView.{Adds};
 ghost use Rattle.fluent_serve.specs.Exchange.{IsFrontOf};
@@ -97,6 +97,13 @@ impl<'b, 'r, 's, M: MemoizerKind> Desk<'b, 'r, 's, M> {
             (pattern_asked (option_copied attribute.entry) (find (desk_ids self.now) id.now)) }
     {
         self.pattern_named(id, attribute).is_some()
+    }
+
+    /// What the ids of its messages, terms and functions stand for.
+    pub fn ids(&self) -> &FluentIds<'r, 's, NoFunction>
+        ensures { plain_ids result.now ≡ desk_ids self.now }
+    {
+        &self.ids
     }
 
     /// The ids of the messages, each in a line that ends in LF, in the order of their first entries in the resources. An id is

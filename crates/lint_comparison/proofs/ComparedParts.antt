@@ -5,11 +5,11 @@ use Rattle.lint_findings.specs.Comparison.{as_message, attribute_names, differen
 use Rattle.fluent_grammar.specs.Tree as t
 use Rattle.fluent_grammar.specs.Words.{Text}
 use Rattle.lint_comparison.specs.Compared.{own_differences, variable_differences}
-use Rattle.lint_comparison.specs.HasNames.{HasNames, texts}
+use Rattle.lint_endless.specs.HasNames.{HasNames, texts}
 use Rattle.lint_comparison.specs.Lacks.{lacking}
 use Rattle.lint_comparison.specs.LackingAttributes.{names_of}
 use Rattle.lint_comparison.specs.declared.lack.Lack.TheVariants as of
-use Rattle.lint_comparison.specs.declared.names.Names.{Names}
+use Rattle.lint_endless.specs.declared.names.Names.{Names}
 use Rattle.lint_comparison.proofs.Lacking.{both_added}
 
 module _ (a b d e : List c.Difference) where

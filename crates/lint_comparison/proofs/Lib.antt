@@ -1,9 +1,3 @@
-pub mod Unions
-pub mod Rounds
-pub mod NamesAdded
-pub mod NodeReferences
-pub mod References
-pub mod Reaching
 pub mod Lacking
 pub mod SameMessages
 pub mod ComparedParts

@@ -2,8 +2,8 @@
 use Rattle.std.proofs.Common.{◌≡◌, ◌∙◌, List, [], ◌∷◌, ◌++◌, map, Option, Some, None, option_to_list, refl, ap, sym, append_assoc}
 use Rattle.std.specs.List.{flat_map}
 use Rattle.std.proofs.lemmas.List.Concat.{flat_map-append}
-use Rattle.lint_comparison.proofs.NodeReferences.{of_elements}
-use Rattle.lint_comparison.specs.HasReached.{node_references}
+use Rattle.lint_endless.proofs.NodeReferences.{by_references, of_elements}
+use Rattle.lint_endless.specs.HasReached.{node_references}
 use Rattle.lint_entries.specs.AttributePlaces.{uncommented}
 use Rattle.lint_findings.specs.Flaws.{Owner, attribute_patterns, entry_patterns}
 use Rattle.lint_findings.specs.Nodes.{Node, elements_nodes}
@@ -58,7 +58,7 @@ module _ (what : Referred) where
 
   -- the nodes of a pattern name what the pattern names
   pub nodes_ids : (es : Elements) → flat_map node_ids (elements_nodes es) ≡ pattern_ids es
-  nodes_ids es = in_nodes (elements_nodes es) ∙ of_elements named (no_string what) (no_number what) es
+  nodes_ids es = in_nodes (elements_nodes es) ∙ by_references named (no_string what) (no_number what) (elements_nodes es) ∙ of_elements named (no_string what) (no_number what) es
 
   -- ---- an entry
 

@@ -6,10 +6,10 @@ use Rattle.lint_findings.specs.Comparison as c
 use Rattle.lint_findings.specs.Comparison.{attribute_names, untranslated, value_difference}
 use Rattle.fluent_grammar.specs.Tree as t
 use Rattle.fluent_grammar.specs.Words.{Text}
-use Rattle.lint_comparison.specs.HasNames.{HasNames}
+use Rattle.lint_endless.specs.HasNames.{HasNames}
 use Rattle.lint_comparison.specs.Lacks.{Adds, lacking}
 use Rattle.lint_comparison.specs.declared.lack.Lack.TheVariants as of
-use Rattle.lint_comparison.specs.declared.names.Names.{Names}
+use Rattle.lint_endless.specs.declared.names.Names.{Names}
 
 -- of the value and of the attributes of a message m, compared with o
 abbrev pub own_differences : t.Message → t.Message → List c.Difference

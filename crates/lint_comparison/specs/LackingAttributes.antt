@@ -10,7 +10,7 @@ use Rattle.fluent_grammar.specs.Tree as t
 use Rattle.fluent_grammar.specs.Words.{Text}
 use Rattle.lint_comparison.specs.Lacks.{Adds, AddsLacking, lacking}
 use Rattle.lint_comparison.specs.declared.lack.Lack.{Lack}
-use Rattle.lint_comparison.specs.declared.names.Names.{Names}
+use Rattle.lint_endless.specs.declared.names.Names.{Names}
 
 abbrev pub names_of : List t.Attribute → List Text
 names_of as' = map (λ (a : t.Attribute). a.id) as'

@@ -6,10 +6,10 @@ use Rattle.lint_finding.specs.declared.difference.Difference.{Difference}
 use Rattle.lint_findings.specs.Comparison as c
 use Rattle.lint_findings.specs.Comparison.{without}
 use Rattle.fluent_grammar.specs.Words.{Text}
-use Rattle.lint_comparison.specs.HasNames.{HasNames}
+use Rattle.lint_endless.specs.HasNames.{HasNames}
 use Rattle.lint_comparison.specs.declared.lack.Lack.{Lack}
 use Rattle.lint_comparison.specs.declared.lack.Lack.TheVariants as of
-use Rattle.lint_comparison.specs.declared.names.Names.{Names}
+use Rattle.lint_endless.specs.declared.names.Names.{Names}
 
 -- the difference that a name of a kind makes
 abbrev pub lack_of : Lack → Text → c.Difference

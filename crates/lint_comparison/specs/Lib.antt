@@ -1,5 +1,3 @@
-pub mod HasNames
-pub mod HasReached
 pub mod Lacks
 pub mod LackingAttributes
 pub mod Compared

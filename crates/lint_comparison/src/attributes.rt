@@ -3,12 +3,12 @@
 
 ghost use Rattle.std.specs.Prelude.{IfOk, OnOk};
 ghost use Rattle.fluent_ast.specs.Borrowed.{attributes_of};
-ghost use Rattle.lint_comparison.specs.HasNames.{HasNames};
+ghost use Rattle.lint_endless.specs.HasNames.{HasNames};
 ghost use Rattle.lint_comparison.specs.LackingAttributes.{AddsLackingOf, AddsLackingNames, known_names};
 
 use crate::lack::Lack;
-use crate::names::Names;
 use fluent_ast::Attribute;
+use lint_endless::Names;
 use lint_finding::Difference;
 use std::alloc::{AllocError, Global};
 

@@ -10,11 +10,10 @@ ghost use Rattle.lint_finding.specs.DifferenceView.{difference_view};
 
 use crate::attributes::push_lacking_attributes;
 use crate::lack::Lack;
-use crate::names::Names;
 use crate::same::is_same_message;
-use crate::variables::variables_of;
 use fluent_ast::{Message, Pattern};
 use fluent_ids::GetEntry;
+use lint_endless::{Names, variables_of};
 use lint_finding::{CatalogIds, Difference};
 use std::alloc::{AllocError, Global};
 

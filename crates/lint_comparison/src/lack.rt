@@ -3,10 +3,10 @@
 
 ghost use Rattle.std.specs.Prelude.{◌≡◌, OnOk};
 ghost use Rattle.lint_comparison.specs.Lacks.{AddsIfLacking, AddsLacking, lack_of};
-ghost use Rattle.lint_comparison.specs.HasNames.{texts};
+ghost use Rattle.lint_endless.specs.HasNames.{texts};
 ghost use Rattle.lint_finding.specs.DifferenceView.{difference_view};
 
-use crate::names::Names;
+use lint_endless::Names;
 use lint_finding::Difference;
 use std::alloc::AllocError;
 

@@ -6,9 +6,8 @@
 //! difference with its place. `Findings.antt` and `ComparisonFindings.antt` of `lint_findings` say which findings they are
 //! and how they go together; `docs/reference/lint.md` has the rules in plain words.
 //!
-//! The variables of a message are its own and those of all messages that it refers to, at any remove. Each of these is
-//! looked up once, so a message takes time linear in what it refers to. Only a message that differs is gone through for
-//! places.
+//! The variables of a message are its own and those of all messages that it refers to, at any remove: `lint_endless` lists
+//! them. Only a message that differs is gone through for places.
 #![tactic(auto)]
 
 mod attributes;
@@ -17,13 +16,10 @@ mod findings;
 mod first_places;
 mod lack;
 mod missing;
-mod names;
 mod places;
-mod reached;
 mod reference;
 mod referred;
 mod same;
-mod variables;
 
 pub use findings::{message_findings, missing_finding};
 pub use missing::missing_findings;

@@ -1,6 +1,6 @@
 -- The graph of the patterns of a catalog has an edge for each reference that enters one.
 use Rattle.std.proofs.Common.{◌≡◌, ◌∙◌, ℕ, zero, suc, ◌<◌, true, false, List, [], ◌∷◌, ◌++◌, length, map, Option, Some, None, option_map, refl, ap, sym, arith}
-use Rattle.std.specs.List.{All, filter_map, cons_option}
+use Rattle.std.specs.List.{All, filter_map, flat_map, cons_option}
 use Rattle.std.specs.Option.{option_to_list}
 use Rattle.std.proofs.lemmas.List.Elements.{All-nil, All-cons}
 use Rattle.fluent_grammar.specs.Tree as t
@@ -14,7 +14,7 @@ use Rattle.lint_endless.specs.declared.indices.Indices.{Indices}
 use Rattle.lint_endless.specs.Holding.{Holds, entered, pattern_at, target_pattern}
 use Rattle.lint_endless.specs.Marks.{AreBelow}
 use Rattle.lint_endless.specs.ReferenceGraph.{reference_index, node_index, graph_by}
-use Rattle.lint_endless.proofs.NodeReferences.{node_patterns, of_nodes, of_elements}
+use Rattle.lint_endless.proofs.NodeReferences as nodes
 
 targets : (target : Target) → target_patterns target ≡ option_to_list (target_pattern target)
 targets (there es) = refl
@@ -34,7 +34,17 @@ module _ (ids : Ids (Unit {0})) (others : List Elements) (indices : Indices) (ps
   reference_agrees (t.variable_reference x) = refl
   reference_agrees (t.nested e) = refl
 
-  node_agrees : (node : Node) → node_patterns (find ids) node ≡ found (node_index indices node)
+  -- the patterns that the references of a node, of nodes and of a pattern enter
+  abbrev of_node : Node → List Elements
+  of_node = nodes.of_node (reference_patterns (find ids)) (λ x. refl) (λ x. refl)
+
+  abbrev of_nodes : List Node → List Elements
+  of_nodes ns = flat_map of_node ns
+
+  of_elements : (es : Elements) → of_nodes (elements_nodes es) ≡ next_patterns (find ids) es
+  of_elements = nodes.of_elements (reference_patterns (find ids)) (λ x. refl) (λ x. refl)
+
+  node_agrees : (node : Node) → of_node node ≡ found (node_index indices node)
   node_agrees (expression i) = reference_agrees i
   node_agrees (select i vs) = refl
   node_agrees (repeated_key k) = refl
@@ -43,16 +53,16 @@ module _ (ids : Ids (Unit {0})) (others : List Elements) (indices : Indices) (ps
   both None vs = refl
   both (Some v) vs = refl
 
-  nodes_agree : (nodes : List Node) → of_nodes (find ids) nodes ≡ map (pattern_at ps) (filter_map (node_index indices) nodes)
+  nodes_agree : (ns : List Node) → of_nodes ns ≡ map (pattern_at ps) (filter_map (node_index indices) ns)
   nodes_agree [] = refl
-  nodes_agree (node ∷ nodes) =
-      ap (λ x. x ++ of_nodes (find ids) nodes) (node_agrees node)
-      ∙ ap (λ x. found (node_index indices node) ++ x) (nodes_agree nodes)
-      ∙ both (node_index indices node) (filter_map (node_index indices) nodes)
+  nodes_agree (n ∷ ns) =
+      ap (λ x. x ++ of_nodes ns) (node_agrees n)
+      ∙ ap (λ x. found (node_index indices n) ++ x) (nodes_agree ns)
+      ∙ both (node_index indices n) (filter_map (node_index indices) ns)
 
   nexts_from : (qs : List Elements) (v : ℕ) → v < length qs → next_patterns (find ids) (pattern_at qs v) ≡ map (pattern_at ps) (edges (graph_by indices qs) v)
   nexts_from [] v inside = absurd (omega arith)
-  nexts_from (q ∷ qs) zero inside = sym (of_elements (find ids) q) ∙ nodes_agree (elements_nodes q)
+  nexts_from (q ∷ qs) zero inside = sym (of_elements q) ∙ nodes_agree (elements_nodes q)
   nexts_from (q ∷ qs) (suc v) inside = nexts_from qs v (omega arith)
 
   -- the edges of a pattern lead to those that its references enter

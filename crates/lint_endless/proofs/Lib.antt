@@ -15,3 +15,8 @@ pub mod Circle
 pub mod Work
 pub mod Fetched
 pub mod Settled
+pub mod Unions
+pub mod Rounds
+pub mod NamesAdded
+pub mod References
+pub mod Reaching

@@ -1,30 +1,36 @@
--- The patterns that the nodes of a pattern enter are those that its references enter.
-use Rattle.std.proofs.Common.{◌≡◌, ◌∙◌, Bool, true, false, if◌then◌else◌, List, [], ◌∷◌, ◌++◌, Option, refl, ap, sym}
+-- What the nodes of a pattern name, or enter, is what its references do.
+use Rattle.std.proofs.Common.{◌≡◌, ◌∙◌, Bool, true, false, if◌then◌else◌, List, [], ◌∷◌, ◌++◌, refl, ap, sym, append-nil}
 use Rattle.std.specs.List.{flat_map}
 use Rattle.std.proofs.lemmas.List.Concat.{flat_map-append}
 use Rattle.fluent_grammar.specs.Words.{Text}
 use Rattle.fluent_grammar.specs.Tree as t
 use Rattle.fluent_grammar.specs.Tree.{Elements, Expression, Variants, VariantKey, Inline, Arguments, Inlines, Nameds, MaybeArguments}
-use Rattle.fluent_meaning.specs.Ids.{Meaning}
-use Rattle.fluent_meaning.specs.Substitution.{term_target}
-use Rattle.lint_findings.specs.References.{elements_references, expression_references, variants_references, inline_references, maybe_references, arguments_references, inlines_references, nameds_references, reference_patterns, target_patterns}
+use Rattle.lint_findings.specs.References.{elements_references, expression_references, variants_references, inline_references, maybe_references, arguments_references, inlines_references, nameds_references}
 use Rattle.lint_findings.specs.Nodes.{Node, expression, select, repeated_key, elements_nodes, expression_nodes, variants_nodes, inline_nodes, maybe_nodes, arguments_nodes, inlines_nodes, nameds_nodes, is_literal}
+use Rattle.lint_endless.specs.HasReached.{node_references}
 
-module _ (meaning : Text → Option (Meaning (Unit {0}))) where
-  abbrev pub node_patterns : Node → List Elements
-  node_patterns (expression i) = reference_patterns meaning i
-  node_patterns (select i vs) = []
-  node_patterns (repeated_key k) = []
+-- literals name nothing
+module _ {A : Type 0} (names : Inline → List A) (string : (x : Text) → names (t.string_literal x) ≡ []) (number : (x : Text) → names (t.number_literal x) ≡ []) where
+  abbrev pub of_node : Node → List A
+  of_node (expression i) = names i
+  of_node (select i vs) = []
+  of_node (repeated_key k) = []
 
-  abbrev pub of_nodes : List Node → List Elements
-  of_nodes nodes = flat_map node_patterns nodes
+  abbrev pub of_nodes : List Node → List A
+  of_nodes nodes = flat_map of_node nodes
 
-  abbrev pub of_references : List Inline → List Elements
-  of_references is = flat_map (reference_patterns meaning) is
+  abbrev pub of_references : List Inline → List A
+  of_references is = flat_map names is
+
+  -- the same by the references that nodes are
+  pub by_references : (nodes : List Node) → flat_map names (flat_map node_references nodes) ≡ of_nodes nodes
+  by_references [] = refl
+  by_references (expression i ∷ nodes) = ap (λ l. names i ++ l) (by_references nodes)
+  by_references (select i vs ∷ nodes) = by_references nodes
+  by_references (repeated_key k ∷ nodes) = by_references nodes
 
   both : (ns ms : List Node) (is js : List Inline) → of_nodes ns ≡ of_references is → of_nodes ms ≡ of_references js → of_nodes (ns ++ ms) ≡ of_references (is ++ js)
-  both ns ms is js e h =
-      flat_map-append node_patterns ns ms ∙ (ap (λ x. x ++ of_nodes ms) e ∙ ap (λ x. of_references is ++ x) h) ∙ sym (flat_map-append (reference_patterns meaning) is js)
+  both ns ms is js e h = flat_map-append of_node ns ms ∙ (ap (λ x. x ++ of_nodes ms) e ∙ ap (λ x. of_references is ++ x) h) ∙ sym (flat_map-append names is js)
 
   without_key : (b : Bool) (k : VariantKey) (nodes : List Node) → of_nodes ((if b then repeated_key k ∷ [] else []) ++ nodes) ≡ of_nodes nodes
   without_key true k nodes = refl
@@ -57,11 +63,11 @@ module _ (meaning : Text → Option (Meaning (Unit {0}))) where
         ∙ both (elements_nodes es) (variants_nodes (k ∷ keys) vs) (elements_references es) (variants_references vs) (of_elements es) (of_variants (k ∷ keys) vs)
 
     of_inline : (i : Inline) → of_nodes (inline_nodes i) ≡ of_references (inline_references i)
-    of_inline (t.string_literal x) = refl
-    of_inline (t.number_literal x) = refl
-    of_inline (t.function_reference id a) = of_arguments a
+    of_inline (t.string_literal x) = append-nil (names (t.string_literal x)) ∙ string x
+    of_inline (t.number_literal x) = append-nil (names (t.number_literal x)) ∙ number x
+    of_inline (t.function_reference id a) = ap (λ xs. names (t.function_reference id a) ++ xs) (of_arguments a)
     of_inline (t.message_reference id a) = refl
-    of_inline (t.term_reference id a c) = ap (λ xs. target_patterns (term_target id a (meaning id)) ++ xs) (of_maybe c)
+    of_inline (t.term_reference id a c) = ap (λ xs. names (t.term_reference id a c) ++ xs) (of_maybe c)
     of_inline (t.variable_reference x) = refl
     of_inline (t.nested e) = of_expression e
 

@@ -6,3 +6,5 @@ pub mod Marks
 pub mod EndlessView
 pub mod Graph
 pub mod Path
+pub mod HasNames
+pub mod HasReached

@@ -1,6 +1,6 @@
 use Rattle.std.proofs.Common.{◌≡◌, ◌++◌, List, map, take}
 use Rattle.fluent_ast.specs.Borrowed.{attributes_of}
-use Rattle.lint_comparison.specs.HasNames.{HasNames}
+use Rattle.lint_endless.specs.HasNames.{HasNames}
 use Rattle.lint_comparison.specs.Lacks.{lacking}
 use Rattle.lint_comparison.specs.LackingAttributes.{names_of}
 use Rattle.lint_finding.specs.DifferenceView.{difference_view}

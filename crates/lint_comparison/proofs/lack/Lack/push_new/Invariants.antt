@@ -1,5 +1,5 @@
 use Rattle.std.proofs.Common.{◌≡◌, ◌++◌, List, map, take}
-use Rattle.lint_comparison.specs.HasNames.{HasNames, texts}
+use Rattle.lint_endless.specs.HasNames.{HasNames, texts}
 use Rattle.lint_comparison.specs.Lacks.{lacking}
 use Rattle.lint_finding.specs.DifferenceView.{difference_view}
 use Rattle.fluent_grammar.specs.Words.{Text}
