@@ -97,6 +97,8 @@ static void try_lists(struct FluentBundle *bundle) {
     check("attributes", fluent_attributes(bundle, "a", &list) == FLUENT_READ && lists(&list, "title "));
     check("no attributes", fluent_attributes(bundle, "n", &list) == FLUENT_READ && lists(&list, ""));
     check("attributes of no message", fluent_attributes(bundle, NULL, &list) == FLUENT_NO_MESSAGE && holds(&list, ""));
+    check("variables", fluent_variables(bundle, "n", &list) == FLUENT_READ && lists(&list, "n "));
+    check("variables of no message", fluent_variables(bundle, NULL, &list) == FLUENT_NO_MESSAGE && lists(&list, "n "));
     fluent_free_text(&list);
 }
 

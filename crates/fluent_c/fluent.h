@@ -170,8 +170,13 @@ static inline uint32_t fluent_attributes(struct FluentBundle *bundle, const char
     return fluent_bundle_attributes(bundle, fluent_bytes(id), fluent_len(id), text);
 }
 
-/* The next line of a list of fluent_bundle_messages or fluent_bundle_attributes, or NULL after the last. `len` is the one
- * before, whose line is `line`; begin with NULL. The line ends in a line feed, which `len` doesn't count:
+/* fluent_bundle_variables. */
+static inline uint32_t fluent_variables(struct FluentBundle *bundle, const char *id, struct FluentText *text) {
+    return fluent_bundle_variables(bundle, fluent_bytes(id), fluent_len(id), text);
+}
+
+/* The next line of a list, such as that of fluent_bundle_messages or fluent_bundle_variables, or NULL after the last. `len`
+ * is the one before, whose line is `line`; begin with NULL. The line ends in a line feed, which `len` doesn't count:
  *
  *     size_t len = 0;
  *     for (const char *id = fluent_next_line(&ids, NULL, &len); id; id = fluent_next_line(&ids, id, &len))

@@ -460,6 +460,19 @@ uint32_t fluent_bundle_attributes(
     struct FluentText *text
 );
 
+/* Lists the variables that a message is shown with: `text` is their names, each ended by a line feed, and empty if there
+ * is none. They are those of its value and its attributes, and those of the messages that it refers to, directly or not.
+ * First come its own, then those of the messages that it names, and then those of the messages that these name, each in
+ * the order in which it is met and each once. The variables of a term are its own arguments, and aren't listed. The call
+ * takes time in proportion to what the message refers to. It returns FLUENT_READ, FLUENT_NO_MESSAGE, FLUENT_NOT_UTF8,
+ * FLUENT_NO_BUNDLE or FLUENT_NO_MEMORY. `id` needs a pointer that isn't null, also if `id_len` is 0. */
+uint32_t fluent_bundle_variables(
+    struct FluentBundle *bundle,
+    const uint8_t *id,
+    size_t id_len,
+    struct FluentText *text
+);
+
 /* Reports what is wrong with the sources of a bundle, as the command `ftl check` does: a line for each error, and for
  * each message or term with a duplicate id. The text is empty if there is nothing to report. It returns FLUENT_READ,
  * FLUENT_NO_BUNDLE or FLUENT_NO_MEMORY. */

@@ -78,6 +78,7 @@ static uint32_t call_missing(struct Kept *kept) { return call_with(kept, 0); }
 static uint32_t call_answered(struct Kept *kept) { return call_with(kept, 1); }
 static uint32_t messages(struct Kept *kept) { return fluent_bundle_messages(&kept->bundle, &kept->text); }
 static uint32_t attributes(struct Kept *kept) { return fluent_bundle_attributes(&kept->bundle, TEXT("welcome"), &kept->text); }
+static uint32_t variables(struct Kept *kept) { return fluent_bundle_variables(&kept->bundle, TEXT("broken"), &kept->text); }
 static uint32_t report(struct Kept *kept) { return fluent_bundle_errors(&kept->bundle, &kept->text); }
 static uint32_t negotiate(struct Kept *kept) {
     static const struct FluentSource tags[] = {BYTES("de"), BYTES("de-AT")};
@@ -123,6 +124,7 @@ static const struct {
     {"fluent_bundle_call", call_answered},
     {"fluent_bundle_messages", messages},
     {"fluent_bundle_attributes", attributes},
+    {"fluent_bundle_variables", variables},
     {"fluent_bundle_format", format},
     {"fluent_bundle_format of many arguments", format_many},
     {"fluent_bundle_errors", report},
