@@ -287,12 +287,29 @@ class Bundle:
         A name that it has twice is there twice: the first is the one that `format` takes. Raises `MissingMessageError`
         if there is no such message.
         """
+        return self._list_of(id, c.library.fluent_bundle_attributes, "attributes")
+
+    def variables(self, id: str) -> list[str]:
+        """The names of the variables that a message is shown with, each once.
+
+        They are those of its value and its attributes, and those of the messages that it refers to, directly or not:
+        first its own, then those of the messages that it names, and so on. The variables of terms aren't there: they
+        are the terms' own arguments. Raises `MissingMessageError` if there is no such message.
+
+        >>> with Bundle("inbox = { $user }: { unread }\\nunread = { $count } messages") as bundle:
+        ...     bundle.variables("inbox")
+        ['user', 'count']
+        """
+        return self._list_of(id, c.library.fluent_bundle_variables, "variables")
+
+    def _list_of(self, id: str, call: Callable[..., int], what: str) -> list[str]:
+        """What a call lists of a message."""
         key = encoded(id, "the id")
-        listed, names = self._list(c.library.fluent_bundle_attributes, key, len(key))
+        listed, names = self._list(call, key, len(key))
         if listed == c.NO_MESSAGE:
             raise MissingMessageError(_missing(id, None, listed))
         if listed != c.READ:
-            self._refuse(listed, f"the list of the attributes of {id!r}")
+            self._refuse(listed, f"the list of the {what} of {id!r}")
         return names
 
     def _list(self, call: Callable[..., int], *of: object) -> tuple[int, list[str]]:

@@ -167,6 +167,7 @@ def _load() -> ctypes.CDLL:
         "fluent_bundle_has": [bundle, ctypes.c_char_p, size, ctypes.c_char_p, size],
         "fluent_bundle_messages": [bundle, text],
         "fluent_bundle_attributes": [bundle, ctypes.c_char_p, size, text],
+        "fluent_bundle_variables": [bundle, ctypes.c_char_p, size, text],
         "fluent_bundle_errors": [bundle, text],
         "fluent_negotiate": [
             ctypes.POINTER(FluentSource), size, ctypes.POINTER(FluentSource), size, ctypes.c_uint32,

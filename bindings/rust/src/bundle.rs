@@ -190,6 +190,25 @@ impl<R: Borrow<FluentResource>> FluentBundle<R> {
         self.ids.iter().filter_map(|id| Some((&**id, self.get_message(id)?)))
     }
 
+    /// The variables that the message of an id is shown with, each once, or `None` if there is no such message.
+    ///
+    /// They are those of its value and its attributes, and those of the messages that it refers to, directly or not: first
+    /// its own, then those of the messages that it names, and so on. The variables of terms are the terms' own arguments.
+    ///
+    /// ```
+    /// # use kozhvadi::{FluentBundle, FluentResource};
+    /// let source = "inbox = { $user }: { unread }\nunread = { $count } messages\n    .title = { $user }";
+    /// let mut bundle = FluentBundle::new(vec!["en"]);
+    /// bundle.add_resource(FluentResource::try_new(source.to_string()).unwrap()).unwrap();
+    /// let names: Vec<String> = bundle.variables("inbox").unwrap().collect();
+    /// assert_eq!(names, ["user", "count"]);
+    /// ```
+    pub fn variables(&self, id: &str) -> Option<impl Iterator<Item = String>> {
+        self.message(id)?;
+        let names = self.kept().variables(id).unwrap_or_else(|| out_of_memory());
+        Some(names.into_iter())
+    }
+
     /// The text of a pattern. Errors are added to `errors`, and you get the text even if there are errors.
     ///
     /// A text that asks for no argument is lent: the bundle keeps it once it was asked for.

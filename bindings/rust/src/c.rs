@@ -170,6 +170,12 @@ extern "C" {
         id_len: usize,
         text: *mut FluentText,
     ) -> u32;
+    pub fn fluent_bundle_variables(
+        bundle: *mut FluentBundle,
+        id: *const u8,
+        id_len: usize,
+        text: *mut FluentText,
+    ) -> u32;
     pub fn fluent_bundle_errors(bundle: *mut FluentBundle, report: *mut FluentText) -> u32;
     pub fn fluent_bundle_free(bundle: *mut FluentBundle);
     pub fn fluent_free_text(text: *mut FluentText);

@@ -143,6 +143,16 @@ impl Kept {
         names.as_str().lines().map(String::from).collect()
     }
 
+    /// The variables that a message is shown with, or `None` if the library was refused memory.
+    pub(crate) fn variables(&self, id: &str) -> Option<Vec<String>> {
+        let mut names = Text::none();
+        // SAFETY: the pointer is that of a slice of the length next to it, and the handle holds a bundle, which is lent
+        // by `&mut`.
+        let answered =
+            unsafe { c::fluent_bundle_variables(&mut self.asked().handle, id.as_ptr(), id.len(), names.place()) };
+        (answered == c::FLUENT_READ).then(|| names.as_str().lines().map(String::from).collect())
+    }
+
     /// What a check of the sources reports, or `None` if the library was refused memory.
     pub(crate) fn report(&self) -> Option<String> {
         let mut report = Text::none();

@@ -29,6 +29,7 @@ mod options;
 mod text;
 mod threads;
 mod tidying;
+mod variables;
 mod version;
 mod writing;
 
@@ -45,12 +46,13 @@ pub use fluent_kept::FluentBundle;
 pub use formatting::fluent_bundle_format;
 pub use languages::fluent_negotiate;
 pub use linting::{FluentLintOptions, fluent_lint};
-pub use listing::{fluent_bundle_attributes, fluent_bundle_messages, fluent_bundle_variables};
+pub use listing::{fluent_bundle_attributes, fluent_bundle_messages};
 pub use occurrences::fluent_occurrences;
 pub use options::{FluentBundleOptions, fluent_bundle_new_with};
 pub use text::{FluentText, fluent_free_text};
 pub use threads::texts_are_send;
 pub use tidying::{FluentPlace, fluent_tidy};
+pub use variables::fluent_bundle_variables;
 pub use version::fluent_version;
 pub use writing::{fluent_write, fluent_write_counted, fluent_write_json};
 

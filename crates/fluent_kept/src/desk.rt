@@ -10,7 +10,7 @@ use crate::loose::RawBox;
 use crate::question::{Answer, Question};
 use crate::resources::Resources;
 use crate::sources::{Sources, borrow_texts};
-use crate::variables::variable_lines;
+use crate::variables::variable_names;
 use fluent_calls::{FunctionDesk, Outcome, Unanswered, Written};
 use fluent_check::check_text;
 use fluent_plurals::LanguagePlurals;
@@ -137,11 +137,7 @@ impl<'r, 's> KeptDesk<'r, 's> {
     fn variables(&self, alloc: Global, id: &str) -> Answer
         ensures { AreVariables (desk_ids self.now.desk) id.now result }
     {
-        match variable_lines(alloc, self.desk.ids(), id) {
-            Ok(Some(text)) => Answer::Names(text),
-            Ok(None) => Answer::NoMessage,
-            Err(_) => Answer::Memory,
-        }
+        variable_names(alloc, self.desk.ids(), id)
     }
 
     /// What a check of the sources reports. It reads them whole, within the budget of the stack.

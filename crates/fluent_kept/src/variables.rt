@@ -6,18 +6,35 @@ ghost use Rattle.fluent_run.specs.DeskView.{plain_ids};
 ghost use Rattle.fluent_run.specs.Listing.{lines};
 ghost use Rattle.fluent_serve.specs.Frames.{ended};
 ghost use Rattle.lint_endless.specs.HasNames.{texts};
+ghost use Rattle.fluent_kept.specs.Answers.{AreVariables};
 ghost use Rattle.fluent_kept.specs.Variables.{variable_lines};
 
+use crate::question::Answer;
 use fluent_ids::FluentIds;
 use fluent_value::NoFunction;
 use lint_endless::variables_of;
 use std::alloc::{AllocError, Global};
 
-/// The variables that the message of an id is shown with, each in a line that ends in LF, or `None` if there is no such message.
+/// The variables that the message of an id is shown with, as an answer.
+pub(crate) fn variable_names<'i, 's: 'i>(
+    alloc: Global,
+    ids: &FluentIds<'_, 's, NoFunction>,
+    id: &'i str,
+) -> Answer
+    ensures { AreVariables (plain_ids ids.now) id.now result }
+{
+    match variable_lines(alloc, ids, id) {
+        Ok(Some(text)) => Answer::Names(text),
+        Ok(None) => Answer::NoMessage,
+        Err(_) => Answer::Memory,
+    }
+}
+
+/// The same, each in a line that ends in LF, or `None` if there is no such message.
 ///
 /// # Errors
 /// [`AllocError`] if memory runs out; nothing is kept.
-pub(crate) fn variable_lines<'i, 's: 'i>(
+fn variable_lines<'i, 's: 'i>(
     alloc: Global,
     ids: &FluentIds<'_, 's, NoFunction>,
     id: &'i str,
