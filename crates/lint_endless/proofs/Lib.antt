@@ -20,3 +20,4 @@ pub mod Rounds
 pub mod NamesAdded
 pub mod References
 pub mod Reaching
+pub mod VariableRows

@@ -10,7 +10,9 @@ use std::collections::HashSet;
 /// Names, each once, in the order in which they were added.
 #[derive(Drop)]
 pub struct Names<'s> {
+    /// The names.
     pub list: Vec<&'s str>,
+    /// The same, to look them up.
     set: HashSet<&'s str>,
 }
 

@@ -12,16 +12,9 @@ use fluent_ids::FluentIds;
 use std::alloc::{AllocError, Global};
 
 /// The variables of a message and of all that it refers to, at any remove: first its own, then those of the messages that
-/// it names, and then those of the messages that these name. None if the id isn't that of a message.
+/// it names, then those of the messages that these name, and so on. An id that isn't that of a message has none.
 ///
 /// Each message is looked up once, so it takes time in proportion to what the message refers to.
-///
-/// ```no_run
-/// let names = variables_of(alloc, &ids, "inbox")?; // inbox = { $count } of { total }
-/// for name in &names.list {
-///     println!(rt; "${}", name)?; // $count, and then those of `total`
-/// }
-/// ```
 ///
 /// # Errors
 /// [`AllocError`] if memory runs out; nothing is kept.
