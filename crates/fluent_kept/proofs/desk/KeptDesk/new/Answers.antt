@@ -16,7 +16,7 @@ returns c =
     let settings = c.settings.ensures in
     let desk : KeptDesk = record { sources = read.sources; desk = c.in_ok-desk.desk; functions = c.in_ok-functions.functions } in
     let ids : (catalog : Catalog) → IsReadOf read catalog → desk_ids desk.desk ≡ catalog_ids catalog = λ catalog is. ids-same desk catalog (vec_items read.list) is.entries
-        (made.ids ∙ ap (ids_added c.settings.result.overriding) c.deref.ensures.value ∙ ap (λ s. ids_added s.overriding (vec_items read.list)) settings ∙ ap (λ k. ids_added k.settings.overriding (vec_items read.list)) is.sources) in
+    (made.ids ∙ ap (ids_added c.settings.result.overriding) c.deref.ensures.value ∙ ap (λ s. ids_added s.overriding (vec_items read.list)) settings ∙ ap (λ k. ids_added k.settings.overriding (vec_items read.list)) is.sources) in
     record {
       of_catalog = λ catalog is. record {
         sources = is.sources;
