@@ -1,10 +1,10 @@
 //! Making, asking and changing arguments.
 
-ghost use Rattle.std.specs.Prelude.{◌≡◌, [], IfOk, OnOk, OnErr, IsOk, length, option_map, option_copied};
+ghost use Rattle.std.specs.Prelude.{◌≡◌, ◌≤◌, [], IfOk, OnOk, OnErr, IsOk, length, option_map, option_copied};
 ghost use Rattle.std.specs.List.Sorted.{IsSearchInRange};
 ghost use Rattle.fluent_value.specs.Args.{argument};
 ghost use Rattle.fluent_value.specs.ArgsNames.{IsPlaceOf};
-ghost use Rattle.fluent_value.specs.ArgsSet.{HasName, SetsPair, SetsConverted};
+ghost use Rattle.fluent_value.specs.ArgsSet.{HasName, PutsIn, SetsPair, SetsConverted};
 ghost use Rattle.fluent_value.specs.ArgsView.{args_view};
 ghost use Rattle.fluent_value.specs.View.{value_view};
 
@@ -57,6 +57,26 @@ impl<'args, C: FluentType> FluentArgs<'args, C> {
     }
 }
 
+/// Puts an argument in at an index. Only those after it are moved, of which there are none at the end.
+///
+/// # Errors
+/// [`AllocError`] if memory runs out; the arguments are unchanged.
+fn put_in<'args, C: FluentType + Drop>(
+    arguments: &mut Vec<Argument<'args, C>>,
+    index: usize,
+    argument: Argument<'args, C>,
+) -> Result<(), AllocError>
+    requires { index ≤ length arguments.old.items }
+    ensures items { PutsIn result arguments.old.items arguments.new.items index argument.entry }
+{
+    if index == arguments.len() {
+        arguments.push(argument)?;
+    } else {
+        arguments.insert(index, argument)?;
+    }
+    Ok(())
+}
+
 impl<'args, C: FluentType + Drop> FluentArgs<'args, C> {
     /// Gives a name a value, in the place of the one that it has, if it has one; then it doesn't allocate, and
     /// succeeds. A name is whatever converts to a [`CowStr`], and a value whatever converts to a [`FluentValue`]:
@@ -99,7 +119,7 @@ impl<'args, C: FluentType + Drop> FluentArgs<'args, C> {
     {
         match self.place(name.as_str()) {
             Ok(index) => self.arguments[index].value = value,
-            Err(index) => self.arguments.insert(index, Argument { name, value })?,
+            Err(index) => put_in(&mut self.arguments, index, Argument { name, value })?,
         }
         Ok(())
     }
