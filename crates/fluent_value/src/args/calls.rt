@@ -5,7 +5,7 @@ ghost use Rattle.std.specs.List.Sorted.{IsSearchInRange};
 ghost use Rattle.fluent_value.specs.Args.{argument};
 ghost use Rattle.fluent_value.specs.ArgsNames.{IsPlaceOf};
 ghost use Rattle.fluent_value.specs.ArgsSet.{HasName, PutsIn, SetsPair, SetsConverted};
-ghost use Rattle.fluent_value.specs.ArgsView.{args_view};
+ghost use Rattle.fluent_value.specs.ArgsView.{args_view, pairs_view};
 ghost use Rattle.fluent_value.specs.View.{value_view};
 
 use super::{Argument, FluentArgs};
@@ -41,6 +41,9 @@ impl<'args, C: FluentType> FluentArgs<'args, C> {
         ensures { option_map (value_view C.meaning) (option_copied result)
             ≡ argument name.now (args_view C.meaning self.now) }
     {
+        if self.arguments.len() <= FEW {
+            return value_among(&self.arguments, name);
+        }
         match self.place(name) {
             Ok(index) => Some(&self.arguments[index].value),
             Err(_) => None,
@@ -55,6 +58,25 @@ impl<'args, C: FluentType> FluentArgs<'args, C> {
         self.arguments
             .binary_search_by(|argument| argument.name.as_str().cmp(name))
     }
+}
+
+/// Of no more arguments than these each is looked at for a name: most names differ in their lengths.
+const FEW: usize = 8;
+
+/// The value of the first of these arguments that has a name.
+fn value_among<'v, 'args, C: FluentType>(
+    all: &'v [Argument<'args, C>],
+    name: &str,
+) -> Option<&'v FluentValue<'args, C>>
+    ensures { option_map (value_view C.meaning) (option_copied result)
+        ≡ argument name.now (pairs_view C.meaning all.now) }
+{
+    for argument in all {
+        if name == argument.name.as_str() {
+            return Some(&argument.value);
+        }
+    }
+    None
 }
 
 /// Puts an argument in at an index. Only those after it are moved, of which there are none at the end.
