@@ -1,19 +1,19 @@
 //! Bundles of resources.
 
-use crate::args::FluentArgs;
+use crate::args::{FluentArgs, NONE};
 use crate::call::Functions;
 use crate::errors::{EntryKind, FluentError};
+use crate::ids::ById;
 use crate::kept::{Kept, Refusal, Settings};
 use crate::listing::Entry;
 use crate::message::{FluentMessage, Message, Pattern};
 use crate::resolver::{ReferenceKind, ResolverError};
 use crate::resource::FluentResource;
-use crate::text::Text;
+use crate::text::{ShortText, Text};
 use crate::value::FluentValue;
 use std::borrow::{Borrow, Cow};
 use std::collections::{hash_map, HashMap};
 use std::fmt;
-use std::mem;
 use std::sync::atomic::{AtomicU64, Ordering};
 use std::sync::{Arc, OnceLock};
 
@@ -32,7 +32,7 @@ pub struct FluentBundle<R = FluentResource> {
     plain_numbers: bool,
     resources: Vec<Added<R>>,
     /// The entry of each id that counts.
-    entries: HashMap<Arc<str>, Held>,
+    entries: HashMap<Arc<str>, Held, ById>,
     /// The ids of messages and terms, in the order in which each came first.
     ids: Vec<Arc<str>>,
     functions: Functions,
@@ -77,7 +77,7 @@ impl<R: Borrow<FluentResource>> FluentBundle<R> {
             isolating: true,
             plain_numbers: false,
             resources: Vec::new(),
-            entries: HashMap::from([(Arc::from("NUMBER"), Held::Other)]),
+            entries: HashMap::from_iter([(Arc::from("NUMBER"), Held::Other)]),
             ids: Vec::new(),
             functions: Functions::default(),
             number: BUNDLES.fetch_add(1, Ordering::Relaxed),
@@ -247,8 +247,10 @@ impl<R: Borrow<FluentResource>> FluentBundle<R> {
         if let Some(text) = self.fixed_text(pattern) {
             return w.write_str(text);
         }
-        match self.formatted(pattern, args, errors, |text| mem::replace(text, Text::none())) {
-            Some(text) => {
+        let mut copy = ShortText::none();
+        match self.formatted(pattern, args, errors, |text| copy.take(text)) {
+            Some(None) => w.write_str(copy.as_str()),
+            Some(Some(text)) => {
                 let written = w.write_str(text.as_str());
                 self.kept().give_back(text);
                 written
@@ -281,7 +283,7 @@ impl<R: Borrow<FluentResource>> FluentBundle<R> {
         own.fixed(|| {
             let fixed = |text: &mut Text, errors: &str| errors.is_empty().then(|| text.as_str().into());
             // A text that calls a function isn't kept.
-            self.kept().format(own, &FluentArgs::new(), |_| None, fixed).ok()?
+            self.kept().format(own, &NONE, |_| None, fixed).ok()?
         })
     }
 
@@ -293,10 +295,11 @@ impl<R: Borrow<FluentResource>> FluentBundle<R> {
         errors: &mut Vec<FluentError>,
         took: impl FnOnce(&mut Text) -> T,
     ) -> Option<T> {
-        let none = FluentArgs::new();
         let answer = |call: &str| Some(self.functions.answer(call));
-        let answered = self.kept().format(pattern, args.unwrap_or(&none), answer, |text, lines| {
-            errors.extend(lines.split_terminator('\n').map(|line| ResolverError::of_line(line).into()));
+        let answered = self.kept().format(pattern, args.unwrap_or(&NONE), answer, |text, lines| {
+            if !lines.is_empty() {
+                errors.extend(lines.split_terminator('\n').map(|line| ResolverError::of_line(line).into()));
+            }
             took(text)
         });
         let error = match answered {

@@ -1,6 +1,6 @@
 //! A bundle that the library keeps.
 
-use crate::args::FluentArgs;
+use crate::args::{FluentArgs, NONE};
 use crate::c;
 use crate::message::Pattern;
 use crate::text::Text;
@@ -96,10 +96,10 @@ impl Kept {
         answer: impl Fn(&str) -> Option<FluentValue<'static>>,
         took: impl FnOnce(&mut Text, &str) -> T,
     ) -> Result<T, Refusal> {
-        let mut answers = FluentArgs::new();
+        let mut answers = None;
         loop {
             let mut asked = self.asked();
-            let answered = asked.ask(pattern, args, &answers);
+            let answered = asked.ask(pattern, args, answers.as_ref().unwrap_or(&NONE));
             match answered {
                 c::FLUENT_READ => {
                     let Asked { text, errors, .. } = &mut *asked;
@@ -112,7 +112,7 @@ impl Kept {
             let call = asked.call.as_str().to_owned();
             drop(asked);
             let value = answer(&call).ok_or(Refusal::Call)?;
-            answers.set(call, value);
+            answers.get_or_insert_with(FluentArgs::new).set(call, value);
         }
     }
 

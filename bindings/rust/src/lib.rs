@@ -37,6 +37,7 @@ mod c;
 mod call;
 mod decimal;
 mod errors;
+mod ids;
 mod kept;
 mod languages;
 mod linting;

@@ -55,6 +55,7 @@ impl FluentNumber {
         FluentNumber { options, ..FluentNumber::from(value) }
     }
 
+    #[inline]
     fn of(amount: Amount) -> Self {
         FluentNumber { amount, options: FluentNumberOptions::default() }
     }
@@ -120,6 +121,7 @@ impl fmt::Display for FluentNumber {
 macro_rules! integers {
     ($($integer:ty),*) => {$(
         impl From<$integer> for FluentNumber {
+            #[inline]
             fn from(n: $integer) -> Self {
                 let decimal = i128::try_from(n).ok().and_then(Decimal::of_integer);
                 FluentNumber::of(decimal.map_or(Amount::Float(n as f64), Amount::Decimal))
@@ -172,6 +174,7 @@ macro_rules! numbers {
         }
 
         impl From<$number> for FluentValue<'_> {
+            #[inline]
             fn from(n: $number) -> Self {
                 FluentValue::Number(n.into())
             }

@@ -71,11 +71,12 @@ pub struct FluentNumberOptions {
 }
 
 impl Default for FluentNumberOptions {
+    #[inline]
     fn default() -> Self {
         FluentNumberOptions {
-            style: FluentNumberStyle::default(),
+            style: FluentNumberStyle::Decimal,
             currency: None,
-            currency_display: FluentNumberCurrencyDisplayStyle::default(),
+            currency_display: FluentNumberCurrencyDisplayStyle::Symbol,
             use_grouping: true,
             minimum_integer_digits: None,
             minimum_fraction_digits: None,

@@ -1,6 +1,7 @@
 -- How many digits are shown, as ECMA-402's SetNumberFormatDigitOptions settles it, and the number that they write.
-use Rattle.std.specs.Prelude.{ℕ, ◌+◌, ◌-◌, ◌*◌, ◌/◌, ◌^◌, min, max, Bool, ◌||◌, ◌&&◌, not, ◌==◌, if◌then◌else◌, length, decimal, Option, None, is_some, unwrap_or}
+use Rattle.std.specs.Prelude.{◌≡◌, ℕ, ◌+◌, ◌-◌, ◌*◌, ◌/◌, ◌%◌, ◌^◌, min, max, Bool, ◌||◌, ◌&&◌, not, ◌==◌, if◌then◌else◌, length, decimal, Option, None, is_some, unwrap_or}
 use Rattle.fluent_number.specs.Options.{Options}
+use Rattle.fluent_numerals.specs.declared.rounding.Parts.{Parts}
 use Rattle.fluent_numerals.specs.declared.rounding.Shown.{Shown}
 
 -- a number rounded to a multiple of this power of ten, and halves away from zero
@@ -22,15 +23,20 @@ asked_least usual_least usual_most o =
 
 -- Digits after the point at most: those asked for, else the usual ones, or more if at least more are asked for. ECMA-402 takes up
 -- to 100.
-abbrev pub most_fraction_digits : ℕ → Option ℕ → Options → ℕ
-most_fraction_digits usual asked o = min (unwrap_or o.maximum_fraction_digits (max usual (unwrap_or asked 0))) 100
+abbrev pub most_fraction_digits : ℕ → ℕ → Options → ℕ
+most_fraction_digits usual_least usual_most o =
+    let asked = asked_least usual_least usual_most o in min (unwrap_or o.maximum_fraction_digits (max usual_most (unwrap_or asked 0))) 100
 
--- of units, of which 10 ^ places are one; at least as many digits as asked for, else as are usual, but never more than at most
+-- digits after the point at least: those asked for, else the usual ones, but never more than at most
+abbrev pub least_fraction_digits : ℕ → ℕ → Options → ℕ
+least_fraction_digits usual_least usual_most o =
+    min (unwrap_or (asked_least usual_least usual_most o) usual_least) (most_fraction_digits usual_least usual_most o)
+
+-- of units, of which 10 ^ places are one
 abbrev pub by_fraction : ℕ → ℕ → ℕ → Options → ℕ → Shown
 by_fraction places usual_least usual_most o units =
-    let asked = asked_least usual_least usual_most o in
-    let most = most_fraction_digits usual_most asked o in
-    record { units = rounded (places - most) units; least = min (unwrap_or asked usual_least) most }
+    let most = most_fraction_digits usual_least usual_most o in
+    record { units = rounded (places - most) units; least = least_fraction_digits usual_least usual_most o }
 
 -- Significant digits: from 1 to 21. ECMA-402 takes no other counts.
 abbrev pub most_significant_digits : Options → ℕ
@@ -48,8 +54,23 @@ by_significant places o units =
     let left = rounded (digit_count units - most_significant_digits o) units in
     record { units = left; least = least_significant_digits o + places - size places left }
 
+-- whether significant digits are asked for
+abbrev pub has_significant_digits : Options → Bool
+has_significant_digits o = is_some o.minimum_significant_digits || is_some o.maximum_significant_digits
+
 -- the units that are left, and how many digits are shown after the point at least; significant digits go first
 abbrev pub shown_of : ℕ → ℕ → ℕ → Options → ℕ → Shown
 shown_of places usual_least usual_most o units =
-    if is_some o.minimum_significant_digits || is_some o.maximum_significant_digits
-    then by_significant places o units else by_fraction places usual_least usual_most o units
+    if has_significant_digits o then by_significant places o units else by_fraction places usual_least usual_most o units
+
+-- these parts are what is shown, before the point and after it
+abbrev pub ArePartsOf : ℕ → Shown → Parts → Type 0
+ArePartsOf places s parts = (parts.whole ≡ s.units / 10 ^ places) × (parts.fraction ≡ s.units % 10 ^ places) × (parts.least ≡ s.least)
+
+-- the parts of what is shown, of units of which 10 ^ places are one
+abbrev pub AreShownParts : ℕ → ℕ → ℕ → Options → ℕ → Parts → Type 0
+AreShownParts places usual_least usual_most o units = ArePartsOf places (shown_of places usual_least usual_most o units)
+
+-- the same by the digits after the point, of units of which 10 ^ 18 are one
+abbrev pub ArePartsByFraction : ℕ → ℕ → Options → ℕ → Parts → Type 0
+ArePartsByFraction usual_least usual_most o units = ArePartsOf 18 (by_fraction 18 usual_least usual_most o units)

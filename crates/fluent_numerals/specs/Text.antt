@@ -8,7 +8,7 @@ use Rattle.fluent_number.specs.declared.options.FluentNumberStyle.TheVariants as
 use Rattle.fluent_number.specs.declared.options.FluentNumberCurrencyDisplayStyle.{FluentNumberCurrencyDisplayStyle}
 use Rattle.fluent_number.specs.declared.options.FluentNumberCurrencyDisplayStyle.TheVariants as display
 use Rattle.fluent_value.specs.Value.{Value, text, number, custom, none, error}
-use Rattle.fluent_numerals.specs.Tagged.{Text, utf8}
+use Rattle.fluent_numerals.specs.Tagged.{Text}
 use Rattle.fluent_numerals.specs.Forms.{Pattern, Form, Forms, Currency}
 use Rattle.fluent_numerals.specs.Signs.{begins_with_sign, ends_with_sign}
 use Rattle.fluent_numerals.specs.FormTable.{form_table}
@@ -64,6 +64,10 @@ grouped digits is_grouped group p (c ∷ cs) =
 abbrev pub integer_text : Forms → Form → Bool → Text → Text
 integer_text f form use_grouping ds =
     grouped f.digits (use_grouping && nat_le (form.pattern.primary + f.least_grouped) (length ds)) form.group form.pattern ds
+
+-- a whole number, with zeros before it up to a least count of digits
+abbrev pub whole_text : Forms → Form → Bool → ℕ → ℕ → Text
+whole_text f form use_grouping least whole = integer_text f form use_grouping (padded least (decimal whole))
 
 -- the digits after the point: down to the last one that isn't 0, and at least so many
 abbrev pub fraction_digits : ℕ → ℕ → ℕ → Text
@@ -133,12 +137,16 @@ prefix_of below p = if below then p.negative_prefix else p.prefix
 abbrev pub suffix_of : Bool → Pattern → List Piece
 suffix_of below p = if below then p.negative_suffix else p.suffix
 
-abbrev pub text_by : Forms → Layout → Bool → Options → Shown → Text
-text_by f how below o s =
+-- a number's text, by what stands before the point, after it, and how many digits there are after it at least
+abbrev pub text_of_parts : Forms → Layout → Bool → Options → ℕ → ℕ → ℕ → Text
+text_of_parts f how below o whole fraction least =
     affix_text f how.symbol (prefix_of below how.form.pattern)
-    ++ (integer_text f how.form o.use_grouping (padded (least_integer_digits o) (decimal (s.units / 10 ^ how.places)))
-    ++ (fraction_text f how.form how.places s.least (s.units % 10 ^ how.places)
+    ++ (whole_text f how.form o.use_grouping (least_integer_digits o) whole
+    ++ (fraction_text f how.form how.places least fraction
     ++ affix_text f how.symbol (suffix_of below how.form.pattern)))
+
+abbrev pub text_by : Forms → Layout → Bool → Options → Shown → Text
+text_by f how below o s = text_of_parts f how below o (s.units / 10 ^ how.places) (s.units % 10 ^ how.places) s.least
 
 -- The text of a number.
 unfoldable pub numeral_text : Locale → Number → Text

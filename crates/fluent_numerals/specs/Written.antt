@@ -5,12 +5,12 @@ use Rattle.fluent_number.specs.Decimal.{is_below_zero}
 use Rattle.fluent_number.specs.Number.{Number}
 use Rattle.fluent_numerals.specs.Lookup.{Locale, locale_for}
 use Rattle.fluent_numerals.specs.Tagged.{Text}
-use Rattle.fluent_numerals.specs.Text.{Layout, numeral_text, text_by}
-use Rattle.fluent_numerals.specs.declared.rounding.Shown.{Shown}
+use Rattle.fluent_numerals.specs.Text.{Layout, numeral_text, text_of_parts}
+use Rattle.fluent_numerals.specs.declared.rounding.Parts.{Parts}
 
 -- a number's text by what is shown of it
-abbrev pub text_as : Locale → Layout → Number → Shown → Text
-text_as l how n s = text_by l.forms how (is_below_zero n.value) n.options s
+abbrev pub text_as : Locale → Layout → Number → Parts → Text
+text_as l how n parts = text_of_parts l.forms how (is_below_zero n.value) n.options parts.whole parts.fraction parts.least
 
 -- unless memory ran out, a text was put after the one that was there
 abbrev pub Adds : {A E : Type 0} → Result A E → String Global → String Global → Text → Type 0

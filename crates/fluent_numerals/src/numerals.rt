@@ -11,9 +11,9 @@ use crate::currencies::currency_named;
 use crate::currency::Currency;
 use crate::forms::{Form, Forms, forms_named};
 use crate::locales::locale_entry;
-use crate::rounding::{Shown, least_integer_digits, shown_digits, split_at_point, units_of};
+use crate::rounding::{Parts, least_integer_digits, shown_parts};
 use crate::tagged::first_fitting;
-use crate::writing::{padded_digits, push_affix, push_fraction, push_integer};
+use crate::writing::{push_affix, push_fraction, push_whole};
 use fluent_number::{
     FluentNumber, FluentNumberCurrencyDisplayStyle, FluentNumberOptions, FluentNumberStyle,
 };
@@ -76,14 +76,14 @@ impl LocaleNumerals {
         ensures { IsText result (numeral_text (locale_view self.now) (number_of number.now)) }
     {
         let layout = self.layout(&number.options);
-        let shown = shown_digits(
-            units_of(number.value),
+        let parts = shown_parts(
+            number.value,
             layout.places,
             layout.least,
             layout.most,
             &number.options,
         );
-        self.written(alloc, &layout, shown, number)
+        self.written(alloc, &layout, parts, number)
     }
 
     /// The text of what is shown of a number.
@@ -91,15 +91,15 @@ impl LocaleNumerals {
         &self,
         alloc: Global,
         layout: &Layout<'_>,
-        shown: Shown,
+        parts: Parts,
         number: &FluentNumber,
     ) -> Result<String, AllocError>
-        requires { layout.now.places ≤ 18 }
+        requires few { layout.now.places ≤ 18 }
+        requires below { parts.fraction < 10 ^ layout.now.places }
         ensures { IsText result
-            (text_as (locale_view self.now) (layout_view layout.now) (number_of number.now) shown) }
+            (text_as (locale_view self.now) (layout_view layout.now) (number_of number.now) parts) }
     {
         let form = layout.form;
-        let (whole, fraction) = split_at_point(shown.units, layout.places);
         let pattern = form.pattern.pattern();
         let below_zero = number.value.is_negative();
         let mut text = String::new(alloc);
@@ -109,14 +109,20 @@ impl LocaleNumerals {
             self.forms,
             layout.symbol,
         )?;
-        let digits = padded_digits(alloc, whole, least_integer_digits(&number.options))?;
-        let grouping = number.options.use_grouping;
-        push_integer(&mut text, digits.as_bytes(), grouping, self.forms, form)?;
+        push_whole(
+            &mut text,
+            alloc,
+            parts.whole,
+            least_integer_digits(&number.options),
+            number.options.use_grouping,
+            self.forms,
+            form,
+        )?;
         push_fraction(
             &mut text,
-            fraction,
+            parts.fraction,
             layout.places,
-            shown.least,
+            parts.least,
             self.forms,
             form,
         )?;

@@ -1,7 +1,8 @@
 //! How many digits are shown, and the number that they write.
 ghost use Rattle.std.specs.Prelude.{◌≡◌, ◌+◌, ◌-◌, ◌*◌, ◌/◌, ◌%◌, ◌^◌, ◌<◌, ◌≤◌, length, decimal, unsigned_abs};
 ghost use Rattle.fluent_number.specs.Options.{options_of};
-ghost use Rattle.fluent_numerals.specs.Rounding.{asked_least, by_fraction, by_significant, least_integer_digits, rounded, shown_of};
+ghost use Rattle.fluent_number.specs.Decimal.{fraction_of};
+ghost use Rattle.fluent_numerals.specs.Rounding.{ArePartsByFraction, AreShownParts, asked_least, by_fraction, by_significant, has_significant_digits, least_fraction_digits, least_integer_digits, most_fraction_digits, rounded, shown_of};
 
 use fluent_number::{Decimal, FluentNumberOptions};
 use itoa::Buffer;
@@ -17,15 +18,73 @@ const MOST_SIGNIFICANT_DIGITS: usize = 21;
 
 /// What is shown of a number.
 #[derive(Clone, Copy)]
-pub(crate) struct Shown {
+struct Shown {
     /// The units that are left after rounding.
-    pub(crate) units: u128,
+    units: u128,
+    /// How many digits there are after the point at least.
+    least: usize,
+}
+
+/// What is shown of a number, before the point and after it.
+#[derive(Clone, Copy)]
+pub(crate) struct Parts {
+    /// What stands before the point.
+    pub(crate) whole: u128,
+    /// What stands after the point, in units.
+    pub(crate) fraction: u64,
     /// How many digits there are after the point at least.
     pub(crate) least: usize,
 }
 
+/// What is shown of a decimal, where a style shows ten to the power of `places` units as one, and usually from `least` to
+/// `most` digits after the point.
+///
+/// A whole number needs no division: it is rounded to itself.
+pub(crate) fn shown_parts(
+    value: Decimal,
+    places: usize,
+    least: usize,
+    most: usize,
+    options: &FluentNumberOptions,
+) -> Parts
+    requires few { places ≤ 18 }
+    ensures parts { AreShownParts places least most (options_of options.now) (unsigned_abs value) result }
+    ensures below { result.fraction < 10 ^ places }
+{
+    if places == 18 && value.fraction() == 0 && !has_significant_digits(options) {
+        return whole_parts(value, least, most, options);
+    }
+    let shown = shown_digits(units_of(value), places, least, most, options);
+    let (whole, fraction) = split_at_point(shown.units, places);
+    Parts {
+        whole,
+        fraction,
+        least: shown.least,
+    }
+}
+
+/// The same for a whole number, by the digits after the point.
+fn whole_parts(value: Decimal, least: usize, most: usize, options: &FluentNumberOptions) -> Parts
+    requires { fraction_of value ≡ 0 }
+    ensures parts { ArePartsByFraction least most (options_of options.now) (unsigned_abs value) result }
+    ensures none { result.fraction ≡ 0 }
+{
+    Parts {
+        whole: u128::from(value.whole()),
+        fraction: 0,
+        least: fraction_counts(least, most, options).0,
+    }
+}
+
+/// Whether significant digits are asked for.
+fn has_significant_digits(options: &FluentNumberOptions) -> bool
+    ensures { result ≡ has_significant_digits (options_of options.now) }
+{
+    options.minimum_significant_digits.is_some() || options.maximum_significant_digits.is_some()
+}
+
 /// The units of a decimal, without its sign.
-pub(crate) fn units_of(value: Decimal) -> u128
+fn units_of(value: Decimal) -> u128
     ensures value { result ≡ unsigned_abs value }
     ensures small { result < 10 ^ 38 }
 {
@@ -45,7 +104,7 @@ pub(crate) fn least_integer_digits(options: &FluentNumberOptions) -> usize
 
 /// What is shown of this many units, of which ten to the power of `places` are one, where a style usually shows from `least` to
 /// `most` digits after the point.
-pub(crate) fn shown_digits(
+fn shown_digits(
     units: u128,
     places: usize,
     least: usize,
@@ -57,9 +116,7 @@ pub(crate) fn shown_digits(
     ensures value { result ≡ shown_of places least most (options_of options.now) units }
     ensures small { result.units < 2 * 10 ^ 38 }
 {
-    if options.minimum_significant_digits.is_some()
-        || options.maximum_significant_digits.is_some()
-    {
+    if has_significant_digits(options) {
         by_significant_digits(units, places, options)
     } else {
         by_fraction_digits(units, places, least, most, options)
@@ -79,15 +136,24 @@ fn by_fraction_digits(
     ensures value { result ≡ by_fraction places least most (options_of options.now) units }
     ensures small { result.units < 2 * 10 ^ 38 }
 {
+    let (least, most) = fraction_counts(least, most, options);
+    Shown {
+        units: rounded(units, places.saturating_sub(most)),
+        least,
+    }
+}
+
+/// How many digits there are after the point at least and at most, where a style usually shows from `least` to `most`.
+fn fraction_counts(least: usize, most: usize, options: &FluentNumberOptions) -> (usize, usize)
+    ensures least { result.0 ≡ least_fraction_digits least most (options_of options.now) }
+    ensures most { result.1 ≡ most_fraction_digits least most (options_of options.now) }
+{
     let asked = asked_least(least, most, options);
     let most = options
         .maximum_fraction_digits
         .unwrap_or(most.max(asked.unwrap_or(0)))
         .min(MOST_FRACTION_DIGITS);
-    Shown {
-        units: rounded(units, places.saturating_sub(most)),
-        least: asked.unwrap_or(least).min(most),
-    }
+    (asked.unwrap_or(least).min(most), most)
 }
 
 /// The least count of digits after the point that is asked for. Of a style with a fixed count it counts only together with a
@@ -146,8 +212,22 @@ fn digit_count(n: u128) -> usize
     buffer.format(n).len()
 }
 
-/// Ten to a power of at most 38.
+/// Ten to a power of at most 38. It isn't computed for the places of numbers, or for those that are mostly rounded away.
 fn power_of_ten(exponent: usize) -> u128
+    requires { exponent ≤ 38 }
+    ensures value { result ≡ 10 ^ exponent }
+    ensures positive { 0 < result }
+    ensures bound { result ≤ 10 ^ 38 }
+{
+    match exponent {
+        15 => 1_000_000_000_000_000,
+        18 => 1_000_000_000_000_000_000,
+        _ => computed_power(exponent),
+    }
+}
+
+/// Ten to a power of at most 38.
+fn computed_power(exponent: usize) -> u128
     requires { exponent ≤ 38 }
     ensures value { result ≡ 10 ^ exponent }
     ensures positive { 0 < result }
@@ -157,7 +237,7 @@ fn power_of_ten(exponent: usize) -> u128
 }
 
 /// What stands before the point, and after it, of units of which ten to a power are one.
-pub(crate) fn split_at_point(units: u128, places: usize) -> (u128, u64)
+fn split_at_point(units: u128, places: usize) -> (u128, u64)
     requires { places ≤ 18 }
     ensures whole { result.0 ≡ units / 10 ^ places }
     ensures fraction { result.1 ≡ units % 10 ^ places }

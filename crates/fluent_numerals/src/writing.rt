@@ -2,7 +2,7 @@
 ghost use Rattle.std.specs.Prelude.{◌≡◌, ◌+◌, ◌-◌, ◌*◌, ◌/◌, ◌%◌, ◌^◌, ◌<◌, ◌≤◌, replicate, decimal};
 ghost use Rattle.fluent_numerals.specs.Written.{Adds, IsText};
 ghost use Rattle.fluent_numerals.specs.Views.{forms_view, form_view, pattern_view};
-ghost use Rattle.fluent_numerals.specs.Text.{piece_text, affix_text, native, grouped, closes_group, integer_text, padded, fraction_text, fraction_digits, natives};
+ghost use Rattle.fluent_numerals.specs.Text.{piece_text, affix_text, native, grouped, closes_group, integer_text, padded, fraction_text, fraction_digits, natives, whole_text};
 
 use crate::currency::{begins_with_sign, ends_with_sign};
 use crate::forms::{Form, Forms};
@@ -57,8 +57,31 @@ fn push_piece(
     }
 }
 
+/// Writes what stands before the point, with zeros before it up to a least count of digits.
+#[tactic(auto, using(crate::proofs::Steps::padded_enough))]
+pub(crate) fn push_whole(
+    text: &mut String,
+    alloc: Global,
+    whole: u128,
+    least: usize,
+    grouping: bool,
+    forms: &Forms,
+    form: &Form,
+) -> Result<(), AllocError>
+    ensures { Adds result text.old text.new
+        (whole_text (forms_view forms.now) (form_view form.now) grouping least whole) }
+{
+    let mut buffer = Buffer::new();
+    let digits = buffer.format(whole);
+    if least <= digits.len() {
+        return push_integer(text, digits.as_bytes(), grouping, forms, form);
+    }
+    let padded = padded_digits(alloc, digits, least)?;
+    push_integer(text, padded.as_bytes(), grouping, forms, form)
+}
+
 /// Writes the digits before the point.
-pub(crate) fn push_integer(
+fn push_integer(
     text: &mut String,
     digits: &[u8],
     grouping: bool,
@@ -80,12 +103,10 @@ pub(crate) fn push_integer(
     )
 }
 
-/// The digits of a number, with zeros before them up to a least count.
-pub(crate) fn padded_digits(alloc: Global, whole: u128, least: usize) -> Result<String, AllocError>
-    ensures { IsText result (padded least (decimal whole)) }
+/// Digits with zeros before them up to a least count.
+fn padded_digits(alloc: Global, digits: &str, least: usize) -> Result<String, AllocError>
+    ensures { IsText result (padded least digits.now) }
 {
-    let mut buffer = Buffer::new();
-    let digits = buffer.format(whole);
     let mut text = String::with_capacity(alloc, digits.len().max(least))?;
     push_zeros(&mut text, least.saturating_sub(digits.len()))?;
     text.push_str(digits)?;

@@ -1,5 +1,5 @@
 -- Where a name stands among names that ascend.
-use Rattle.std.proofs.Common.{◌≡◌, Bool, true, false, ℕ, zero, suc, ◌<◌, ◌≤◌, List, [], ◌∷◌, ◌++◌, length, take, drop, map, Some, None, Result, Ok, Err, MatchResult, cond, refl, ap, sym, ◌∙◌, arith}
+use Rattle.std.proofs.Common.{◌≡◌, Bool, true, false, ℕ, zero, suc, ◌+◌, ◌<◌, ◌≤◌, List, [], ◌∷◌, ◌++◌, length, take, drop, map, Some, None, Result, Ok, Err, MatchResult, cond, get_or, drop-cons, refl, ap, sym, ◌∙◌, arith}
 use Rattle.std.specs.Prelude.{slice_index_or, slice_set, if◌then◌else◌}
 use Rattle.std.specs.List.{AllWithin, AllByRecursion, HoldsAt}
 use Rattle.std.specs.List.Sorted.{IsStrictlySortedBy, IsNonDecreasingBy, IsBinarySearchResult, IsPartitionPoint}
@@ -9,6 +9,8 @@ use Rattle.std.specs.Ordering.{nat_cmp, ordering_index, ordering_reverse, match_
 use Rattle.std.specs.Cmp.Lexicographic.{slice_cmp, nat_list_cmp_total}
 use Rattle.std.proofs.lemmas.Cmp.{alike_right}
 use Rattle.std.proofs.lemmas.Map.Keys.{sorted_tail}
+use Rattle.std.proofs.lemmas.Map.Text.{is_eq-slice_cmp}
+use Rattle.std.specs.Str.{bytes_eq}
 use Rattle.std.specs.BTreeMap.{insert_entry, is_at}
 use Rattle.std.specs.Map.{lookup, keys_of}
 
@@ -118,6 +120,14 @@ module _ {B V : Type 0} (key : B → List ℕ) (val : B → V) where
   found name (e ∷ es) (suc i) ascending fits here d =
       ap (λ o. cond (is_eq o) (Some (val e)) (lookup (is_at (order name)) (plain es))) (before name e es i ascending (omega (arith, fits)) here)
       ∙ found name es i (sorted_tail order (key e) (map key es) ascending) (omega (arith, fits)) here d
+
+  -- what is found from a place on, by what is there
+  pub found_from : (name : List ℕ) (es : List B) (i : ℕ) (e : B) → i < length es → e ≡ get_or es i e → lookup (is_at (order name)) (plain (drop i es)) ≡ cond (bytes_eq name (key e)) (Some (val e)) (lookup (is_at (order name)) (plain (drop (i + 1) es)))
+  found_from name es i e fits here =
+      let behind = drop (i + 1) es in
+      let more : suc i ≡ i + 1 = omega arith in
+      ap (λ l. lookup (is_at (order name)) (plain l)) (drop-cons es i e fits ∙ ap (λ n. get_or es i e ∷ drop n es) more ∙ ap (λ it. it ∷ behind) (sym here))
+      ∙ ap (λ b. cond b (Some (val e)) (lookup (is_at (order name)) (plain behind))) (is_eq-slice_cmp name (key e))
 
   -- nothing is found where the name has a place but doesn't stand
   pub missing : (name : List ℕ) (es : List B) (i : ℕ) → AllWithin (λ b. order (key b) name ≡ Less) es 0 i → AllWithin (λ b. order (key b) name ≡ Greater) es i (length es) → lookup (is_at (order name)) (plain es) ≡ None

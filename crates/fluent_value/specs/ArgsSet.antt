@@ -1,8 +1,8 @@
 -- What setting arguments does, by a name and a value as they are and as they are converted.
-use Rattle.std.specs.Prelude.{◌≡◌, List, [], map, Option, IsSome}
+use Rattle.std.specs.Prelude.{◌≡◌, ℕ, if◌then◌else◌, List, [], map, Option, IsSome, Result, is_ok}
 use Rattle.std.specs.Global.{Global}
 use Rattle.std.specs.Iterator.{Drains}
-use Rattle.std.specs.List.{AllZip}
+use Rattle.std.specs.List.{AllZip, insert}
 use Rattle.std.specs.Cow.{cow_str_bytes}
 use Rattle.std.specs.declared.borrow.CowStr.{CowStr}
 use Rattle.fluent_value.specs.Args.{argument, with_argument, all_set}
@@ -14,6 +14,10 @@ use Rattle.fluent_value.specs.declared.args.FluentArgs.{FluentArgs}
 -- the arguments have a value of this name
 abbrev pub HasName : {C S : Type 0} (meaning : C → S) → FluentArgs C → CowStr Global → Type 0
 HasName meaning args name = IsSome (argument (cow_str_bytes name) (args_view meaning args))
+
+-- unless memory ran out, the new list is the old one with this put in at an index
+abbrev pub PutsIn : {A E X : Type 0} → Result A E → (old new : List X) → ℕ → X → Type 0
+PutsIn result old new i x = new ≡ (if is_ok result then insert old i x else old)
 
 -- the new arguments are the old ones, with this name and value
 abbrev pub SetsPair : {C S : Type 0} (meaning : C → S) (old new : FluentArgs C) → CowStr Global × FluentValue C → Type 0

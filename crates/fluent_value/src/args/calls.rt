@@ -1,11 +1,11 @@
 //! Making, asking and changing arguments.
 
-ghost use Rattle.std.specs.Prelude.{◌≡◌, [], IfOk, OnOk, OnErr, IsOk, length, option_map, option_copied};
+ghost use Rattle.std.specs.Prelude.{◌≡◌, ◌≤◌, [], IfOk, OnOk, OnErr, IsOk, length, option_map, option_copied};
 ghost use Rattle.std.specs.List.Sorted.{IsSearchInRange};
 ghost use Rattle.fluent_value.specs.Args.{argument};
 ghost use Rattle.fluent_value.specs.ArgsNames.{IsPlaceOf};
-ghost use Rattle.fluent_value.specs.ArgsSet.{HasName, SetsPair, SetsConverted};
-ghost use Rattle.fluent_value.specs.ArgsView.{args_view};
+ghost use Rattle.fluent_value.specs.ArgsSet.{HasName, PutsIn, SetsPair, SetsConverted};
+ghost use Rattle.fluent_value.specs.ArgsView.{args_view, pairs_view};
 ghost use Rattle.fluent_value.specs.View.{value_view};
 
 use super::{Argument, FluentArgs};
@@ -41,6 +41,9 @@ impl<'args, C: FluentType> FluentArgs<'args, C> {
         ensures { option_map (value_view C.meaning) (option_copied result)
             ≡ argument name.now (args_view C.meaning self.now) }
     {
+        if self.arguments.len() <= FEW {
+            return value_among(&self.arguments, name);
+        }
         match self.place(name) {
             Ok(index) => Some(&self.arguments[index].value),
             Err(_) => None,
@@ -55,6 +58,45 @@ impl<'args, C: FluentType> FluentArgs<'args, C> {
         self.arguments
             .binary_search_by(|argument| argument.name.as_str().cmp(name))
     }
+}
+
+/// Of no more arguments than these each is looked at for a name: most names differ in their lengths.
+const FEW: usize = 8;
+
+/// The value of the first of these arguments that has a name.
+fn value_among<'v, 'args, C: FluentType>(
+    all: &'v [Argument<'args, C>],
+    name: &str,
+) -> Option<&'v FluentValue<'args, C>>
+    ensures { option_map (value_view C.meaning) (option_copied result)
+        ≡ argument name.now (pairs_view C.meaning all.now) }
+{
+    for argument in all {
+        if name == argument.name.as_str() {
+            return Some(&argument.value);
+        }
+    }
+    None
+}
+
+/// Puts an argument in at an index. Only those after it are moved, of which there are none at the end.
+///
+/// # Errors
+/// [`AllocError`] if memory runs out; the arguments are unchanged.
+fn put_in<'args, C: FluentType + Drop>(
+    arguments: &mut Vec<Argument<'args, C>>,
+    index: usize,
+    argument: Argument<'args, C>,
+) -> Result<(), AllocError>
+    requires { index ≤ length arguments.old.items }
+    ensures items { PutsIn result arguments.old.items arguments.new.items index argument.entry }
+{
+    if index == arguments.len() {
+        arguments.push(argument)?;
+    } else {
+        arguments.insert(index, argument)?;
+    }
+    Ok(())
 }
 
 impl<'args, C: FluentType + Drop> FluentArgs<'args, C> {
@@ -99,7 +141,7 @@ impl<'args, C: FluentType + Drop> FluentArgs<'args, C> {
     {
         match self.place(name.as_str()) {
             Ok(index) => self.arguments[index].value = value,
-            Err(index) => self.arguments.insert(index, Argument { name, value })?,
+            Err(index) => put_in(&mut self.arguments, index, Argument { name, value })?,
         }
         Ok(())
     }

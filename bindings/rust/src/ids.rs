@@ -1,0 +1,41 @@
+//! Ids of messages as keys.
+
+use std::hash::{BuildHasherDefault, Hasher};
+
+/// How a map with ids as its keys hashes them.
+///
+/// It is fast for short texts, and isn't made to withstand a person who chooses ids to slow a program down: ids are those
+/// of the program's own translations.
+pub(crate) type ById = BuildHasherDefault<IdHasher>;
+
+/// The hash of what was written so far.
+#[derive(Default)]
+pub(crate) struct IdHasher(u64);
+
+/// An odd number without a pattern in its bits: the digits of 2^64 divided by the golden ratio.
+const ODD: u64 = 0x9e37_79b9_7f4a_7c15;
+
+impl IdHasher {
+    fn add(&mut self, word: u64) {
+        self.0 = (self.0.rotate_left(5) ^ word).wrapping_mul(ODD);
+    }
+}
+
+impl Hasher for IdHasher {
+    fn write(&mut self, bytes: &[u8]) {
+        let mut words = bytes.chunks_exact(8);
+        for word in &mut words {
+            self.add(u64::from_le_bytes(word.try_into().unwrap_or_default()));
+        }
+        let rest = words.remainder().iter().rev().fold(0, |rest, &byte| rest << 8 | u64::from(byte));
+        self.add(rest ^ (bytes.len() as u64) << 56);
+    }
+
+    /// What follows the bytes of a text, which count themselves.
+    fn write_u8(&mut self, _end: u8) {}
+
+    fn finish(&self) -> u64 {
+        // A table takes the place from the low bits and a tag from the high ones, and a product is best in its high half.
+        self.0 ^ (self.0 >> 32)
+    }
+}
