@@ -1,19 +1,10 @@
 -- What is written for a line, by whether it has arguments.
-use Rattle.std.proofs.Common.{◌≡◌, Bool, true, false, List, [], Option, Some, None, map, refl, sym, ap, ◌∙◌}
+use Rattle.std.proofs.Common.{◌≡◌, true, false, List, Option, Some, None, option_map, refl, ap}
 use Rattle.std.specs.Prelude.{is_some}
 use Rattle.fluent_grammar.specs.Words.{Text}
 use Rattle.fluent_serve.specs.Frames.{Answer, bad}
-use Rattle.fluent_run.specs.DeskView.{answer_asked, arguments_view, valued}
-use Rattle.fluent_run.specs.declared.arguments.ValuedArguments.{ValuedArguments}
-use Rattle.fluent_serve.specs.ReadArguments.{AreRead}
-use Rattle.fluent_value.specs.Args.{all_set}
+use Rattle.fluent_run.specs.DeskView.{answer_asked, values_by_name}
 use Rattle.fluent_value.specs.Value.{Value}
-
--- whether they were read is whether there are any
-pub read-if : {A : Type 0} (has : A → List (Text × Text) → Type 0) (old new : A) (arguments : Option (List (Text × Text))) (are_read : Bool) →
-    AreRead has old new arguments are_read → are_read ≡ is_some arguments
-read-if has old new None are_read read = read
-read-if has old new (Some more) are_read read = read.0
 
 module _ (answer : List (Text × Text) → Answer) where
   -- without arguments the line is bad
@@ -31,8 +22,13 @@ module _ (answer : List (Text × Text) → Answer) where
   like-asked other None same = refl
   like-asked other (Some more) same = same more
 
--- an answer by the values of the arguments that were read
-pub valued-asked : (answer : List (Text × Value (Unit {0})) → Answer) (old new : ValuedArguments) (arguments : Option (List (Text × Text))) (are_read : Bool) → are_read ≡ true → arguments_view old.values ≡ [] →
-    AreRead (λ (held : ValuedArguments) more. arguments_view held.values ≡ all_set [] (map valued more)) old new arguments are_read → answer (arguments_view new.values) ≡ answer_asked (λ more. answer (all_set [] (map valued more))) arguments
-valued-asked answer old new None are_read is empty read = absurd (let wrong : true ≡ false = sym is ∙ read in cc)
-valued-asked answer old new (Some more) are_read is empty read = ap answer (read.1 [] empty)
+-- there are no values if there are no arguments
+pub valued-bad : (answer : List (Text × Text) → Answer) (arguments : Option (List (Text × Text))) → None ≡ option_map values_by_name arguments → bad ≡ answer_asked answer arguments
+valued-bad answer None is = refl
+valued-bad answer (Some pairs) is = absurd cc
+
+-- an answer by the values of the arguments
+pub valued-asked : (answer : List (Text × Value (Unit {0})) → Answer) (values : List (Text × Value (Unit {0}))) (arguments : Option (List (Text × Text))) →
+    Some values ≡ option_map values_by_name arguments → answer values ≡ answer_asked (λ pairs. answer (values_by_name pairs)) arguments
+valued-asked answer values None is = absurd cc
+valued-asked answer values (Some pairs) is = let same : values ≡ values_by_name pairs = cc in ap answer same

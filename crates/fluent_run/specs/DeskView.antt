@@ -68,6 +68,14 @@ arguments_view args = args_view (λ c. tt) args
 abbrev pub valued : Text × Text → Text × Value (Unit {0})
 valued pair = (pair.0, number_or_text pair.1)
 
+-- the values of arguments of a line by their names, the last of a name counting
+abbrev pub values_by_name : List (Text × Text) → List (Text × Value (Unit {0}))
+values_by_name pairs = all_set [] (map valued pairs)
+
+-- the values of the arguments after a line's first tab, if each part there is one
+abbrev pub values_behind : Option (Bor Text) → Option (List (Text × Value (Unit {0})))
+values_behind rest = option_map values_by_name (arguments_behind rest)
+
 -- an argument was set to the value of a text
 abbrev pub IsSetTo : Text → Text → FluentArgs NoCustom → FluentArgs NoCustom → Type 0
 IsSetTo name text old new = arguments_view new ≡ with_argument name (number_or_text text) (arguments_view old)
@@ -112,9 +120,9 @@ answer_asked answer (Some arguments) = answer arguments
 abbrev pub frame_asked : (List (Text × Text) → Answer) → Option (Bor Text) → Text
 frame_asked answer rest = frame_of (answer_asked answer (arguments_behind rest))
 
--- what a pattern gives for arguments of a line, the last of a name counting
+-- what a pattern gives for arguments of a line
 abbrev pub pattern_answer : {M : Type 0} → KindGhosts M → Desk M → Elements → List (Text × Text) → Answer
-pattern_answer kind desk es arguments = ok (reply_by kind.category_of kind.stringified desk (all_set [] (map valued arguments)) es)
+pattern_answer kind desk es arguments = ok (reply_by kind.category_of kind.stringified desk (values_by_name arguments) es)
 
 -- what is written for a line with these arguments, which asks for the code's pattern
 abbrev pub reply_frame : {M : Type 0} → KindGhosts M → Desk M → Option (Bor Text) → Pattern (Bor Text) → Text

@@ -1,39 +1,13 @@
 //! The arguments of a request, as values.
 
-ghost use Rattle.std.specs.Prelude.{◌≡◌, ⊤, [], IfOk, OnOk, is_some, map};
-ghost use Rattle.fluent_run.specs.DeskView.{IsSetTo, arguments_view, valued};
+ghost use Rattle.std.specs.Prelude.{◌≡◌, [], IfOk, OnOk, is_some, option_map};
+ghost use Rattle.fluent_run.specs.DeskView.{IsSetTo, arguments_view, values_behind, values_by_name};
 ghost use Rattle.fluent_serve.specs.RequestView.{arguments_behind, arguments_view as texts_view};
-ghost use Rattle.fluent_value.specs.Args.{all_set};
 
-use fluent_serve::request::{Arguments, read_arguments};
+use fluent_serve::request::Arguments;
 use fluent_value::{FluentArgs, FluentValue, NoCustom};
 use std::alloc::{AllocError, Global};
 use std::borrow::CowStr;
-
-/// The values of arguments: the number that a text is, or else the text. The last of a name counts.
-#[derive(Drop)]
-pub(crate) struct ValuedArguments<'line> {
-    pub(crate) values: FluentArgs<'line, NoCustom>,
-}
-
-impl<'line> ValuedArguments<'line> {
-    /// Of no arguments. It doesn't allocate.
-    pub(crate) fn new(alloc: Global) -> Self
-        ensures { arguments_view result.values ≡ [] }
-    {
-        ValuedArguments {
-            values: FluentArgs::new(alloc),
-        }
-    }
-}
-
-impl<'line> Arguments<'line> for ValuedArguments<'line> {
-    ghost has = { λ held arguments. arguments_view held.values ≡ all_set [] (map valued arguments) };
-
-    fn put(&mut self, name: &'line str, text: &'line str) -> Result<(), AllocError> {
-        set_valued(&mut self.values, name, text)
-    }
-}
 
 /// Sets an argument to the value of a text.
 fn set_valued<'line>(
@@ -55,8 +29,7 @@ pub fn valued_arguments<'line>(
     alloc: Global,
     pairs: &[(&'line str, &'line str)],
 ) -> Result<FluentArgs<'line, NoCustom>, AllocError>
-    ensures { IfOk result (λ args. arguments_view args
-        ≡ all_set [] (map valued (texts_view pairs.now))) }
+    ensures { IfOk result (λ args. arguments_view args ≡ values_by_name (texts_view pairs.now)) }
 {
     let mut arguments = FluentArgs::new(alloc);
     for &(name, text) in pairs {
@@ -65,24 +38,30 @@ pub fn valued_arguments<'line>(
     Ok(arguments)
 }
 
-/// Whether each argument of what is after a line's first tab, if there is one, has an equals sign.
+/// The values of what is after a line's first tab, if there is one: of each argument the number that its text is, or else the
+/// text. The last of a name counts. `None` if an argument has no equals sign.
 ///
 /// # Errors
-/// None comes up: nothing is allocated.
-pub(crate) fn are_arguments(rest: Option<&str>) -> Result<bool, AllocError>
-    ensures { IfOk result (λ are_arguments. are_arguments ≡ is_some (arguments_behind rest.entry)) }
+/// [`AllocError`] if memory runs out before an argument without an equals sign is read; nothing is kept.
+pub(crate) fn read_valued<'line>(
+    alloc: Global,
+    rest: Option<&'line str>,
+) -> Result<Option<FluentArgs<'line, NoCustom>>, AllocError>
+    ensures { IfOk result (λ args. option_map arguments_view args ≡ values_behind rest.entry) }
 {
-    read_arguments(rest, &mut Passed)
+    let mut values = FluentArgs::new(alloc);
+    for argument in Arguments::of(rest) {
+        let Some((name, text)) = argument else {
+            return Ok(None);
+        };
+        set_valued(&mut values, name, text)?;
+    }
+    Ok(Some(values))
 }
 
-/// Arguments that nobody needs.
-#[derive(Clone, Copy)]
-struct Passed;
-
-impl<'line> Arguments<'line> for Passed {
-    ghost has = { λ _ _. ⊤ };
-
-    fn put(&mut self, _name: &'line str, _text: &'line str) -> Result<(), AllocError> {
-        Ok(())
-    }
+/// Whether each argument of what is after a line's first tab, if there is one, has an equals sign.
+pub(crate) fn are_arguments(rest: Option<&str>) -> bool
+    ensures { result ≡ is_some (arguments_behind rest.entry) }
+{
+    Arguments::of(rest).all(|argument| argument.is_some())
 }

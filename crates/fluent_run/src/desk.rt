@@ -11,7 +11,7 @@ ghost use Rattle.fluent_run.specs.ReplyView.{reply_of, reply_view};
 ghost use Rattle.fluent_serve.specs.AnswerView.{Adds};
 ghost use Rattle.fluent_serve.specs.Exchange.{IsFrontOf};
 
-use crate::arguments::{ValuedArguments, are_arguments};
+use crate::arguments::{are_arguments, read_valued};
 use crate::catalog::ids_of;
 use crate::listing::{message_lines, name_lines};
 use crate::reply::{ErrorLine, Reply, push_text, resolve};
@@ -24,7 +24,7 @@ use fluent_progress::{BorrowedSettings, Surroundings};
 use fluent_resolver::answer::lone_text;
 use fluent_resource::FluentResource;
 use fluent_serve::answer::Answer;
-use fluent_serve::request::{Asked, read_arguments};
+use fluent_serve::request::Asked;
 use fluent_serve::serve::Engine;
 use fluent_text::stack::StackBudget;
 use fluent_value::{FluentArgs, MemoizerKind, NoCustom, NoFunction, NoTransform};
@@ -220,11 +220,10 @@ impl<'b, 'r, 's, M: MemoizerKind> Desk<'b, 'r, 's, M> {
         if let Some(text) = lone_text(pattern) {
             return push_lone(alloc, text, arguments, out);
         }
-        let mut valued = ValuedArguments::new(alloc);
-        if !read_arguments(arguments, &mut valued)? {
+        let Some(values) = read_valued(alloc, arguments)? else {
             return Answer::<ErrorLine<'_>>::Bad.push_to(alloc, out);
-        }
-        let reply = self.reply_to(alloc, pattern, &valued.values, String::new(alloc))?;
+        };
+        let reply = self.reply_to(alloc, pattern, &values, String::new(alloc))?;
         reply.push_to(out)
     }
 
@@ -254,7 +253,7 @@ fn push_lone(
     ensures ok { OnOk result (Adds out.old out.new (frame_asked (λ _. ok (reply_of text.now [])) arguments.entry)) }
     ensures front { IsFrontOf out.old.items out.new.items }
 {
-    if are_arguments(arguments)? {
+    if are_arguments(arguments) {
         push_text(alloc, text, out)
     } else {
         Answer::<ErrorLine<'_>>::Bad.push_to(alloc, out)
@@ -266,7 +265,7 @@ fn push_nothing(alloc: Global, arguments: Option<&str>, out: &mut Vec<u8>) -> Re
     ensures ok { OnOk result (Adds out.old out.new (frame_asked (λ _. none) arguments.entry)) }
     ensures front { IsFrontOf out.old.items out.new.items }
 {
-    if are_arguments(arguments)? {
+    if are_arguments(arguments) {
         Answer::<ErrorLine<'_>>::Nothing.push_to(alloc, out)
     } else {
         Answer::<ErrorLine<'_>>::Bad.push_to(alloc, out)

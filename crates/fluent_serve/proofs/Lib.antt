@@ -1,5 +1,4 @@
 pub mod Requests
-mod ArgumentsRead
 pub mod Answers
 pub mod Exchange
 pub mod Serving

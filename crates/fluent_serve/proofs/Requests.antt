@@ -1,22 +1,16 @@
 -- Lemmas on the arguments of a request line.
-use Rattle.std.proofs.Common.{◌≡◌, ℕ, suc, ◌+◌, ◌<◌, Bool, true, false, cond, List, [], ◌∷◌, length, drop, Option, Some, None, refl, sym, ap, ◌∙◌, arith, option_copied}
+use Rattle.std.proofs.Common.{◌≡◌, ℕ, suc, Bool, true, false, cond, List, [], ◌∷◌, ◌++◌, length, map, codes, Option, Some, None, refl, sym, ap, ◌∙◌, arith, option_copied}
 use Rattle.std.specs.Prelude.{◌==◌, not}
 use Rattle.std.proofs.lemmas.Bool.{eqb-true, eqb-false}
-use Rattle.std.proofs.lemmas.List.{length-drop}
 use Rattle.std.proofs.lemmas.List.Splits.{slice_split_first}
 use Rattle.std.proofs.lemmas.List.Sums.{prefix_len-le-length}
 use Rattle.std.specs.List.{slice_split, position_or_len}
 use Rattle.std.specs.Str.{is_utf8, IsUtf8}
 use Rattle.std.proofs.lemmas.Str.{is_utf8-from_IsUtf8, IsUtf8-from_is_utf8}
-use Rattle.fluent_serve.specs.Text.{Text, tab, dot, equals, cut_at}
-use Rattle.fluent_serve.specs.Requests.{argument_of, arguments_of, and_argument, request_with, request_of_parts, request_of}
+use Rattle.fluent_serve.specs.Text.{Text, tab, dot, cut_at}
+use Rattle.fluent_serve.specs.Requests.{arguments_of, and_argument, request_with, request_of_parts, request_of}
 use denote.Ref.{Bor}
-use Rattle.fluent_serve.specs.RequestView.{parts_behind, arguments_behind}
-
--- how much of a line is left
-abbrev pub text_size : Option Text → ℕ
-text_size None = 0
-text_size (Some s) = length s + 1
+use Rattle.fluent_serve.specs.RequestView.{all_arguments, argument_in, each_argument, parts_behind}
 
 -- where no element passes, the list is the one part
 split_none-at : (p : ℕ → Bool) (x : ℕ) (xs : Text) (b : Bool) → p x ≡ b → (position_or_len p xs ≡ length xs → slice_split p xs ≡ xs ∷ []) →
@@ -36,26 +30,22 @@ split_cut separator s = by_test (position_or_len (λ b. b == separator) s == len
     by_test true is = rw is (split_none (λ b. b == separator) s (eqb-true _ _ is))
     by_test false is = rw is (slice_split_first (λ b. b == separator) s 0 (omega (arith, prefix_len-le-length (λ b. not (b == separator)) s, eqb-false _ _ is)))
 
--- what is after a separator is shorter than the text
-pub behind_shorter : (separator : ℕ) (s rest : Text) → (cut_at separator s).1 ≡ Some rest → length rest < length s
-behind_shorter separator s rest h = by_test (position_or_len (λ b. b == separator) s == length s) refl
-  where
-    by_test : (b : Bool) → (position_or_len (λ b. b == separator) s == length s) ≡ b → length rest < length s
-    by_test true is = absurd (let e : None ≡ Some rest = rw is at h in cc)
-    by_test false is =
-        let n = position_or_len (λ b. b == separator) s in
-        let e : Some (drop (n + 1) s) ≡ Some rest = rw is at h in
-        let same : drop (n + 1) s ≡ rest = cc in
-        omega (arith, ap length same, length-drop (n + 1) s, prefix_len-le-length (λ b. not (b == separator)) s, eqb-false _ _ is)
-
 -- what is left of a line is its first part and what is after that
 pub read_on : (rest : Option (Bor Text)) (text : Bor Text) (part : Text) (behind : Option (Bor Text)) →
-    rest ≡ Some text → (part, option_copied behind) ≡ cut_at tab text.now →
-    arguments_behind rest ≡ and_argument (argument_of (λ s. s) (cut_at equals part)) (arguments_behind behind)
+    rest ≡ Some text → (part, option_copied behind) ≡ cut_at tab text.now → each_argument rest ≡ argument_in part ∷ each_argument behind
 read_on rest text part behind is cut =
-    ap arguments_behind is
-    ∙ (ap (arguments_of (λ s. s)) (split_cut tab text.now)
-    ∙ ap (λ (p : Text × Option Text). arguments_of (λ s. s) (p.0 ∷ parts_behind tab p.1)) (sym cut))
+    ap each_argument is
+    ∙ (ap (map argument_in) (split_cut tab text.now)
+    ∙ ap (λ (p : Text × Option Text). map argument_in (p.0 ∷ parts_behind tab p.1)) (sym cut))
+
+-- an argument ends at its first equals sign, may be empty after that, and is missing without one
+three_parts : map argument_in (parts_behind tab (Some (codes "n=1=2" ++ tab ∷ codes "m" ++ tab ∷ codes "k="))) ≡ Some (codes "n", codes "1=2") ∷ None ∷ Some (codes "k", []) ∷ []
+three_parts = refl
+
+-- parts that are arguments are all arguments
+pub all_are_arguments : (parts : List Text) → all_arguments (map argument_in parts) ≡ arguments_of (λ s. s) parts
+all_are_arguments [] = refl
+all_are_arguments (part ∷ parts) = ap (and_argument (argument_in part)) (all_are_arguments parts)
 
 -- what a line that is UTF-8 asks for
 pub request_of-text : (line : Text) → IsUtf8 line →

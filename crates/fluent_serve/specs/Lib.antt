@@ -1,6 +1,5 @@
 pub mod Texts
 pub mod RequestView
-pub mod ReadArguments
 pub mod AnswerView
 pub mod Devices
 pub mod Exchange

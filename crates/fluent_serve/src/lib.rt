@@ -2,7 +2,7 @@
 //! caller.
 //!
 //! [`serve::serve`] moves the bytes, between a [`stream::Source`] and a [`stream::Sink`]. A [`serve::Engine`] answers one line:
-//! [`request::Asked::of`] returns what the line asks for, [`request::read_arguments`] reads its arguments, and
+//! [`request::Asked::of`] returns what the line asks for, [`request::Arguments`] its arguments, one after the other, and
 //! [`answer::Answer`] frames what it found.
 //!
 //! `specs/Requests.antt` says what a line asks for, `specs/Frames.antt` what its frame is, and `specs/Lines.antt` which lines

@@ -1,12 +1,10 @@
 //! Request lines: an id, an optional attribute, and arguments, separated by tabs.
-ghost use Rattle.std.specs.Prelude.{◌≡◌, ℕ, List, IfOk, OnOk, option_map};
-ghost use Rattle.fluent_serve.specs.Text.{equals, cut_at};
-ghost use Rattle.fluent_serve.specs.Requests.{request_of, argument_of};
-ghost use Rattle.fluent_serve.specs.RequestView.{asked_request, argument_view, arguments_behind};
-ghost use Rattle.fluent_serve.specs.ReadArguments.{AreRead, GetsArgument};
+ghost use Rattle.std.specs.Iterator.{YieldsFirstBy, item_count};
+ghost use Rattle.std.specs.Prelude.{◌≡◌, option_map};
+ghost use Rattle.fluent_serve.specs.Requests.{request_of};
+ghost use Rattle.fluent_serve.specs.RequestView.{all_arguments, argument_in, argument_view, arguments_behind, arguments_left, asked_request, each_argument};
 
 use crate::cut::cut;
-use std::alloc::AllocError;
 use std::str;
 
 /// What a line asks for, before its arguments are read.
@@ -41,64 +39,48 @@ impl<'line> Asked<'line> {
     }
 }
 
-/// What the arguments of a line are put into, one after the other.
+/// The arguments of a request line, one after the other: a name and a text, or `None` if there is no equals sign.
 ///
 /// ```no_run
-/// #[derive(Drop)]
-/// struct Texts<'line> {
-///     named: Vec<(&'line str, &'line str)>,
-/// }
-///
-/// impl<'line> Arguments<'line> for Texts<'line> {
-///     ghost has = { λ texts arguments. arguments_view texts.named.items ≡ arguments };
-///
-///     fn put(&mut self, name: &'line str, text: &'line str) -> Result<(), AllocError> {
-///         self.named.push((name, text))?;
-///         Ok(())
-///     }
-/// }
-/// ..
-/// if read_arguments(asked.arguments, &mut texts)? {
-///     println!(rt; "{} arguments", texts.named.len())?;
+/// for argument in Arguments::of(asked.arguments) {
+///     let (name, text) = argument.context("no equals sign")?;
+///     println!(rt; "{name} is {text}")?; // count is 3
 /// }
 /// ```
-pub trait Arguments<'line> {
-    /// Whether these were put into it, in their order.
-    ghost has: { Self → List (List ℕ × List ℕ) → Type 0 };
-
-    /// Puts an argument into it.
-    ///
-    /// # Errors
-    /// [`AllocError`] if memory runs out.
-    fn put(&mut self, name: &'line str, text: &'line str) -> Result<(), AllocError>
-        ensures { OnOk result (GetsArgument has self.old self.new (name.now, text.now)) };
+#[derive(Drop)]
+pub struct Arguments<'line> {
+    /// What the next argument begins, if there is one.
+    rest: Option<&'line str>,
 }
 
-/// Reads what is after a line's first tab, if there is one, and puts each argument where it belongs. It returns whether
-/// each has an equals sign. If one has none, some of the others may be put there.
-///
-/// # Errors
-/// [`AllocError`] if memory runs out; some of the arguments may be put there then.
-pub fn read_arguments<'line, A: Arguments<'line>>(
-    mut rest: Option<&'line str>,
-    arguments: &mut A,
-) -> Result<bool, AllocError>
-    ensures { IfOk result (AreRead A.has arguments.old arguments.new (arguments_behind rest.entry)) }
-{
-    while let Some(text) = rest {
-        let (part, behind) = cut(text, '\t');
-        let Some((name, text)) = read_argument(part) else {
-            return Ok(false);
-        };
-        arguments.put(name, text)?;
-        rest = behind;
+impl<'line> Arguments<'line> {
+    /// Those of what is after a line's first tab, if it has one.
+    pub fn of(rest: Option<&'line str>) -> Self
+        ensures each { arguments_left result ≡ each_argument rest.entry }
+        ensures all { all_arguments (arguments_left result) ≡ arguments_behind rest.entry }
+    {
+        Arguments { rest }
     }
-    Ok(true)
+}
+
+impl<'line> Iterator for Arguments<'line> {
+    type Item = Option<(&'line str, &'line str)>;
+
+    ghost next_gives = { YieldsFirstBy (option_map argument_view) arguments_left };
+
+    ghost remaining = { item_count arguments_left };
+
+    #[inline(always)]
+    fn next(&mut self) -> Option<Option<(&'line str, &'line str)>> {
+        let (part, behind) = cut(self.rest?, '\t');
+        self.rest = behind;
+        Some(read_argument(part))
+    }
 }
 
 /// An argument: its name ends at its first equals sign.
 fn read_argument(part: &str) -> Option<(&str, &str)>
-    ensures { option_map argument_view result ≡ argument_of (λ s. s) (cut_at equals part.now) }
+    ensures { option_map argument_view result ≡ argument_in part.now }
 {
     let (name, value) = cut(part, '=');
     Some((name, value?))
