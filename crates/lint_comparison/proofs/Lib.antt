@@ -14,3 +14,4 @@ pub mod Placed
 pub mod Lists
 pub mod MissingParts
 pub mod Naming
+pub mod Hinting

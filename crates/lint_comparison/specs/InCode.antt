@@ -56,9 +56,10 @@ abbrev pub same_attribute : Attribute (Bor Text) → Attribute (Bor Text) → Bo
 same_attribute attribute other =
     bytes_eq (attribute_of other).id (attribute_of attribute).id && same_elements (attribute_of attribute).value (attribute_of other).value
 
--- the findings of these differences of a message
-abbrev pub AreFindingsBy : Text → Message (Bor Text) → Text → List Difference → Vec Finding Global → Type 0
-AreFindingsBy source message text differences found = AreFindingsOf source (message_of message).id text (map difference_view differences) found
+-- the findings of these differences of a message, with the ids of a reference
+abbrev pub AreFindingsBy : FluentIds (Unit {0}) → Text → Message (Bor Text) → Text → List Difference → Vec Finding Global → Type 0
+AreFindingsBy reference source message text differences found =
+    AreFindingsOf source (message_of message).id text (variables_by reference (message_of message).id) (map difference_view differences) found
 
 -- what is left of a text after the value at its front
 abbrev pub LeavesOfValue : Option (Pattern (Bor Text)) → Text → Text → Type 0

@@ -10,3 +10,4 @@ pub mod InCode
 pub mod Missing
 pub mod Referred
 pub mod ComparedBy
+pub mod Hinted

@@ -15,6 +15,7 @@ mod attributes;
 mod compared;
 mod findings;
 mod first_places;
+mod hints;
 mod lack;
 mod missing;
 mod names;

@@ -1,5 +1,5 @@
 -- The plain differences that differences stand for.
-use Rattle.std.specs.Prelude.{ℕ, Some, None}
+use Rattle.std.specs.Prelude.{ℕ, Option, Some}
 use Rattle.fluent_grammar.specs.Words.{Text}
 use Rattle.lint_findings.specs.Comparison as c
 use Rattle.lint_findings.specs.ComparisonFindings.{difference_code, difference_severity, difference_text}
@@ -18,14 +18,14 @@ difference_view (of.UnknownVariable name) = c.unknown_variable name.now
 difference_view (of.UnusedVariable name) = c.unused_variable name.now
 difference_view of.Untranslated = c.untranslated
 
--- The finding of a difference of the message with this id, at an offset. At that of `difference_at` it is
--- `difference_finding`.
-abbrev pub finding_at : ℕ → Text → c.Difference → Finding
-finding_at offset id d = record {
+-- The finding of a difference of the message with this id, at an offset, with a hint. At that of `difference_at`, and with
+-- that of `difference_hint`, it is `difference_finding`.
+abbrev pub finding_at : ℕ → Text → Option Text → c.Difference → Finding
+finding_at offset id hint d = record {
   offset = offset;
   code = difference_code d;
   severity = difference_severity d;
   entry = Some id;
   text = difference_text d;
-  hint = None;
+  hint = hint;
 }

@@ -1,7 +1,7 @@
 //! Differences, in words.
 #![tactic(auto)]
 
-ghost use Rattle.std.specs.Prelude.{◌≡◌, IfOk, Some};
+ghost use Rattle.std.specs.Prelude.{◌≡◌, IfOk, Some, option_map, string_bytes};
 ghost use Rattle.lint_finding.specs.DifferenceView.{difference_view, finding_at};
 ghost use Rattle.lint_finding.specs.View.{finding_view, severity_view};
 ghost use Rattle.lint_findings.specs.ComparisonFindings.{difference_code, difference_severity, difference_text};
@@ -69,13 +69,19 @@ impl Difference<'_> {
         }
     }
 
-    /// The finding of a difference of the message with this id, at an offset.
+    /// The finding of a difference of the message with this id, at an offset, with a hint.
     ///
     /// # Errors
     /// [`AllocError`] if memory runs out; nothing is kept.
-    pub fn finding(&self, alloc: Global, id: &str, offset: usize) -> Result<Finding, AllocError>
+    pub fn finding(
+        &self,
+        alloc: Global,
+        id: &str,
+        offset: usize,
+        hint: Option<String>,
+    ) -> Result<Finding, AllocError>
         ensures { IfOk result (λ finding. finding_view finding
-            ≡ finding_at offset id.now (difference_view self.now)) }
+            ≡ finding_at offset id.now (option_map string_bytes hint) (difference_view self.now)) }
     {
         let entry = String::from_str(alloc, id)?;
         let text = self.to_string(alloc)?;
@@ -85,7 +91,7 @@ impl Difference<'_> {
             severity: self.severity(),
             entry: Some(entry),
             text,
-            hint: None,
+            hint,
         })
     }
 }
