@@ -21,6 +21,8 @@ use Rattle.fluent_ids.specs.declared.ids.FluentIds.{FluentIds}
 use Rattle.fluent_meaning.specs.Same.{same_elements}
 use Rattle.lint_comparison.specs.Compared.{untranslated_if, variable_differences}
 use Rattle.lint_comparison.specs.Found.{AreFindingsOf, AreFoundIn}
+use Rattle.lint_comparison.specs.Hinted.{AreHintedBy}
+use Rattle.lint_comparison.specs.declared.names.Names.{Names}
 
 -- ---- by ids of a catalog and of its reference
 
@@ -28,6 +30,10 @@ module _ (ids : FluentIds (Unit {0})) where
   -- the variables that the message of an id is shown with
   abbrev pub variables_by : Text → List Text
   variables_by id = c.variables_of (ids_view (Unit {0}) ids) id
+
+  -- the names that the hints of these differences of the message of an id need, if these are the ids of the reference
+  abbrev pub AreNamesFor : Text → List Difference → Names → Type 0
+  AreNamesFor id differences names = AreHintedBy names (variables_by id) (map difference_view differences)
 
 module _ (ids reference : FluentIds (Unit {0})) where
   abbrev pub differences_by : Text → List c.Difference

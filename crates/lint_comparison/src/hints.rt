@@ -3,8 +3,8 @@
 
 ghost use Rattle.std.specs.Prelude.{◌≡◌, IfOk, map};
 ghost use Rattle.std.specs.List.{list_any};
-ghost use Rattle.lint_comparison.specs.Hinted.{AreHintedBy, IsHintBy, is_unknown_variable};
-ghost use Rattle.lint_comparison.specs.InCode.{variables_by};
+ghost use Rattle.lint_comparison.specs.Hinted.{IsHintBy, is_unknown_variable};
+ghost use Rattle.lint_comparison.specs.InCode.{AreNamesFor};
 ghost use Rattle.lint_finding.specs.DifferenceView.{difference_view};
 
 use crate::names::Names;
@@ -24,8 +24,7 @@ pub fn names_for_hints<'i, 's: 'i>(
     id: &'i str,
     differences: &[Difference<'_>],
 ) -> Result<Names<'i>, AllocError>
-    ensures { IfOk result (λ names. AreHintedBy names (variables_by reference.now id.now)
-        (map difference_view differences.now)) }
+    ensures { IfOk result (AreNamesFor reference.now id.now differences.now) }
 {
     if has_unknown_variable(differences) {
         variables_of(alloc, reference, id)

@@ -1,9 +1,9 @@
 //! Differences, in words.
 #![tactic(auto)]
 
-ghost use Rattle.std.specs.Prelude.{◌≡◌, IfOk, Some, option_map, string_bytes};
-ghost use Rattle.lint_finding.specs.DifferenceView.{difference_view, finding_at};
-ghost use Rattle.lint_finding.specs.View.{finding_view, severity_view};
+ghost use Rattle.std.specs.Prelude.{◌≡◌, IfOk, Some};
+ghost use Rattle.lint_finding.specs.DifferenceView.{IsFindingAt, difference_view};
+ghost use Rattle.lint_finding.specs.View.{severity_view};
 ghost use Rattle.lint_findings.specs.ComparisonFindings.{difference_code, difference_severity, difference_text};
 
 use crate::{Finding, Severity};
@@ -80,8 +80,7 @@ impl Difference<'_> {
         offset: usize,
         hint: Option<String>,
     ) -> Result<Finding, AllocError>
-        ensures { IfOk result (λ finding. finding_view finding
-            ≡ finding_at offset id.now (option_map string_bytes hint) (difference_view self.now)) }
+        ensures { IfOk result (IsFindingAt offset id.now hint self.now) }
     {
         let entry = String::from_str(alloc, id)?;
         let text = self.to_string(alloc)?;

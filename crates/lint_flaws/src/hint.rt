@@ -74,9 +74,9 @@ impl<'a, 's> Flaw<'a, 's> {
 }
 
 /// If a message of this id is missing.
-fn message_hint<'s>(
+fn message_hint<'r, 's: 'r>(
     alloc: Global,
-    ids: &CatalogIds<'_, 's>,
+    ids: &CatalogIds<'r, 's>,
     id: &'s str,
 ) -> Result<Option<Hint<'s>>, AllocError>
     ensures { IfOk result (IsHint
@@ -93,9 +93,9 @@ fn message_hint<'s>(
 }
 
 /// If a term of this id is missing.
-fn term_hint<'s>(
+fn term_hint<'r, 's: 'r>(
     alloc: Global,
-    ids: &CatalogIds<'_, 's>,
+    ids: &CatalogIds<'r, 's>,
     id: &'s str,
 ) -> Result<Option<Hint<'s>>, AllocError>
     ensures { IfOk result (IsHint
@@ -125,11 +125,11 @@ fn value_hint<'s>(ids: &CatalogIds<'_, 's>, id: &str) -> Option<Hint<'s>>
 
 /// The ids of messages.
 #[derive(Clone, Copy)]
-struct Messages<'c, 'r, 's> {
+struct Messages<'c, 'r, 's: 'r> {
     ids: &'c CatalogIds<'r, 's>,
 }
 
-impl KnownNames for Messages<'_, '_, '_> {
+impl<'c, 'r, 's: 'r> KnownNames for Messages<'c, 'r, 's> {
     ghost knows = { λ messages. is_message (ids_view _ messages.ids.now) };
 
     fn has_name(&self, name: &str) -> bool {
@@ -139,11 +139,11 @@ impl KnownNames for Messages<'_, '_, '_> {
 
 /// The ids of terms.
 #[derive(Clone, Copy)]
-struct Terms<'c, 'r, 's> {
+struct Terms<'c, 'r, 's: 'r> {
     ids: &'c CatalogIds<'r, 's>,
 }
 
-impl KnownNames for Terms<'_, '_, '_> {
+impl<'c, 'r, 's: 'r> KnownNames for Terms<'c, 'r, 's> {
     ghost knows = { λ terms. is_term (ids_view _ terms.ids.now) };
 
     fn has_name(&self, name: &str) -> bool {
