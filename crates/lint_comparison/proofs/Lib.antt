@@ -14,4 +14,3 @@ pub mod Placed
 pub mod Lists
 pub mod MissingParts
 pub mod Naming
-pub mod Hinting

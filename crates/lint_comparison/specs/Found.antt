@@ -1,5 +1,5 @@
 -- The findings of a message, by the reference.
-use Rattle.std.specs.Prelude.{◌≡◌, ℕ, List, map, IfOk, Option, Result, Vec}
+use Rattle.std.specs.Prelude.{◌≡◌, ℕ, List, map, Option, Vec}
 use Rattle.std.specs.Global.{Global}
 use Rattle.std.specs.Option.{option_to_list}
 use Rattle.lint_finding.specs.View.{finding_view}
@@ -10,8 +10,6 @@ use Rattle.lint_findings.specs.Tiles.{entry_tile}
 use Rattle.fluent_grammar.specs.Tree as t
 use Rattle.fluent_grammar.specs.Words.{Text}
 use Rattle.fluent_meaning.specs.Ids.{Ids}
-use Rattle.lint_comparison.specs.HasNames.{HasNames}
-use Rattle.lint_comparison.specs.declared.names.Names.{Names}
 
 -- the findings of an entry of a catalog with this reference, in this source
 abbrev pub AreFoundIn : Ids (Unit {0}) → Ids (Unit {0}) → Text → t.Entry → Text → Vec Finding Global → Type 0
@@ -23,18 +21,8 @@ IsMissingIn ids source e s found = (at : ℕ) → map finding_view (option_to_li
 
 -- ---- of differences of the message of an id at the front of a text
 
--- if the message of the reference is shown with these variables
-abbrev pub IsFindingOf : Text → Text → Text → List Text → Difference → Finding → Type 0
-IsFindingOf source id s known d found = finding_view found ≡ c.difference_finding source id s known d
+abbrev pub IsFindingOf : Text → Text → Text → Difference → Finding → Type 0
+IsFindingOf source id s d found = finding_view found ≡ c.difference_finding source id s d
 
-abbrev pub AreFindingsOf : Text → Text → Text → List Text → List Difference → Vec Finding Global → Type 0
-AreFindingsOf source id s known ds found = map finding_view found.items ≡ map (c.difference_finding source id s known) ds
-
--- If all went well: the same, with the names that are listed.
-abbrev pub IsFindingByNames : {E : Type 0} → Result Finding E → Text → Text → Text → Names → Difference → Type 0
-IsFindingByNames result source id s names d =
-    (known : List Text) → HasNames names known → IfOk result (IsFindingOf source id s known d)
-
-abbrev pub AreFindingsByNames : {E : Type 0} → Result (Vec Finding Global) E → Text → Text → Text → Names → List Difference → Type 0
-AreFindingsByNames result source id s names ds =
-    (known : List Text) → HasNames names known → IfOk result (AreFindingsOf source id s known ds)
+abbrev pub AreFindingsOf : Text → Text → Text → List Difference → Vec Finding Global → Type 0
+AreFindingsOf source id s ds found = map finding_view found.items ≡ map (c.difference_finding source id s) ds

@@ -21,8 +21,6 @@ use Rattle.fluent_ids.specs.declared.ids.FluentIds.{FluentIds}
 use Rattle.fluent_meaning.specs.Same.{same_elements}
 use Rattle.lint_comparison.specs.Compared.{untranslated_if, variable_differences}
 use Rattle.lint_comparison.specs.Found.{AreFindingsOf, AreFoundIn}
-use Rattle.lint_comparison.specs.Hinted.{AreHintedBy}
-use Rattle.lint_comparison.specs.declared.names.Names.{Names}
 
 -- ---- by ids of a catalog and of its reference
 
@@ -30,10 +28,6 @@ module _ (ids : FluentIds (Unit {0})) where
   -- the variables that the message of an id is shown with
   abbrev pub variables_by : Text → List Text
   variables_by id = c.variables_of (ids_view (Unit {0}) ids) id
-
-  -- the names that the hints of these differences of the message of an id need, if these are the ids of the reference
-  abbrev pub AreNamesFor : Text → List Difference → Names → Type 0
-  AreNamesFor id differences names = AreHintedBy names (variables_by id) (map difference_view differences)
 
 module _ (ids reference : FluentIds (Unit {0})) where
   abbrev pub differences_by : Text → List c.Difference
@@ -62,10 +56,9 @@ abbrev pub same_attribute : Attribute (Bor Text) → Attribute (Bor Text) → Bo
 same_attribute attribute other =
     bytes_eq (attribute_of other).id (attribute_of attribute).id && same_elements (attribute_of attribute).value (attribute_of other).value
 
--- the findings of these differences of a message, with the ids of a reference
-abbrev pub AreFindingsBy : FluentIds (Unit {0}) → Text → Message (Bor Text) → Text → List Difference → Vec Finding Global → Type 0
-AreFindingsBy reference source message text differences found =
-    AreFindingsOf source (message_of message).id text (variables_by reference (message_of message).id) (map difference_view differences) found
+-- the findings of these differences of a message
+abbrev pub AreFindingsBy : Text → Message (Bor Text) → Text → List Difference → Vec Finding Global → Type 0
+AreFindingsBy source message text differences found = AreFindingsOf source (message_of message).id text (map difference_view differences) found
 
 -- what is left of a text after the value at its front
 abbrev pub LeavesOfValue : Option (Pattern (Bor Text)) → Text → Text → Type 0

@@ -10,4 +10,3 @@ pub mod InCode
 pub mod Missing
 pub mod Referred
 pub mod ComparedBy
-pub mod Hinted

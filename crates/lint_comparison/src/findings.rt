@@ -3,7 +3,7 @@
 
 ghost use Rattle.std.specs.Prelude.{◌≡◌, ◌-◌, IfOk, length, map};
 ghost use Rattle.fluent_ast.specs.Borrowed.{message_of};
-ghost use Rattle.lint_comparison.specs.Found.{AreFindingsByNames, IsFindingByNames, IsMissingIn};
+ghost use Rattle.lint_comparison.specs.Found.{AreFindingsOf, IsFindingOf, IsMissingIn};
 ghost use Rattle.lint_comparison.specs.InCode.{AreFindingsBy, AreFoundOf};
 ghost use Rattle.lint_comparison.specs.HasPlaces.{HasPlacesOf};
 ghost use Rattle.lint_finding.specs.DifferenceView.{difference_view};
@@ -13,8 +13,6 @@ ghost use Rattle.fluent_grammar.specs.Tree as t;
 ghost use Rattle.fluent_ids.specs.IdsView.{ids_view};
 
 use crate::compared::differences;
-use crate::hints::{difference_hint, names_for_hints};
-use crate::names::Names;
 use crate::places::Places;
 use fluent_ast::Message;
 use lint_finding::{CatalogIds, Difference, Finding};
@@ -40,7 +38,7 @@ pub fn message_findings<'s>(
     if found.is_empty() {
         return Ok(Vec::new(alloc));
     }
-    findings_of(alloc, reference, source, message, text, &found)
+    findings_of(alloc, source, message, text, &found)
 }
 
 /// The finding that a catalog has no message of the id of this one, which is of the reference, if it has none. The text
@@ -63,43 +61,39 @@ pub fn missing_finding(
         return Ok(None);
     }
     let offset = offset_of(source, text);
-    Ok(Some(Difference::MissingMessage.finding(alloc, id, offset, None)?))
+    Ok(Some(Difference::MissingMessage.finding(alloc, id, offset)?))
 }
 
 /// The findings of these differences of a message.
-fn findings_of<'s>(
+fn findings_of(
     alloc: Global,
-    reference: &CatalogIds<'_, 's>,
     source: &str,
     message: &Message<&str>,
     text: &[u8],
     differences: &[Difference<'_>],
 ) -> Result<Vec<Finding>, AllocError>
     requires { IsEntryAt (t.message (message_of message.now)) text.now }
-    ensures { IfOk result (AreFindingsBy reference.now source.now message.now text.now differences.now) }
+    ensures { IfOk result (AreFindingsBy source.now message.now text.now differences.now) }
 {
     let places = Places::of_message(alloc, message, text)?;
-    let id = message.id.name;
-    let names = names_for_hints(alloc, reference, id, differences)?;
-    findings_at(alloc, source, id, text, &places, &names, differences)
+    findings_at(alloc, source, message.id.name, text, &places, differences)
 }
 
-/// The same, by the places of the message, with hints by these names.
+/// The same, by the places of the message.
 fn findings_at<'t>(
     alloc: Global,
     source: &str,
     id: &str,
     text: &'t [u8],
     places: &Places<'_, 't>,
-    names: &Names<'_>,
     differences: &[Difference<'_>],
 ) -> Result<Vec<Finding>, AllocError>
     requires { HasPlacesOf places.now (entry_places text.now) }
-    ensures { AreFindingsByNames result source.now id.now text.now names.now (map difference_view differences.now) }
+    ensures { IfOk result (AreFindingsOf source.now id.now text.now (map difference_view differences.now)) }
 {
     let mut findings = Vec::with_capacity(alloc, differences.len())?;
     for difference in differences {
-        findings.push(finding_at(alloc, source, id, text, places, names, difference)?)?;
+        findings.push(finding_at(alloc, source, id, text, places, difference)?)?;
     }
     Ok(findings)
 }
@@ -110,15 +104,13 @@ fn finding_at<'t>(
     id: &str,
     text: &'t [u8],
     places: &Places<'_, 't>,
-    names: &Names<'_>,
     difference: &Difference<'_>,
 ) -> Result<Finding, AllocError>
     requires { HasPlacesOf places.now (entry_places text.now) }
-    ensures { IsFindingByNames result source.now id.now text.now names.now (difference_view difference.now) }
+    ensures { IfOk result (IsFindingOf source.now id.now text.now (difference_view difference.now)) }
 {
     let place = places.place_of(difference, text);
-    let hint = difference_hint(alloc, names, difference)?;
-    difference.finding(alloc, id, offset_of(source, place), hint)
+    difference.finding(alloc, id, offset_of(source, place))
 }
 
 /// How many bytes of a source stand before a text.

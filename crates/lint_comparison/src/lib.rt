@@ -15,7 +15,6 @@ mod attributes;
 mod compared;
 mod findings;
 mod first_places;
-mod hints;
 mod lack;
 mod missing;
 mod names;

@@ -2,9 +2,8 @@
 #![tactic(auto)]
 
 ghost use Rattle.std.specs.Prelude.{[], OnOk};
-ghost use Rattle.lint_comparison.specs.HasNames.{GetsName, HasNames, IsListed, is_in_set};
+ghost use Rattle.lint_comparison.specs.HasNames.{GetsName, HasNames, IsListed};
 
-use lint_flaws::KnownNames;
 use std::alloc::{AllocError, Global};
 use std::collections::HashSet;
 
@@ -43,14 +42,6 @@ impl<'s> Names<'s> {
     pub fn has(&self, name: &str) -> bool
         ensures { IsListed self.now name.now result }
     {
-        self.set.contains(name)
-    }
-}
-
-impl KnownNames for Names<'_> {
-    ghost knows = { is_in_set };
-
-    fn has_name(&self, name: &str) -> bool {
         self.set.contains(name)
     }
 }
