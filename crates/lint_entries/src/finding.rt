@@ -2,17 +2,16 @@
 #![tactic(auto)]
 
 ghost use Rattle.std.specs.Prelude.{◌≡◌, ◌-◌, IfOk, OnOk, length, map, option_map, option_to_list, string_bytes};
-ghost use Rattle.lint_entries.specs.Made.{Adds, IsFlawFinding, made_of};
+ghost use Rattle.lint_entries.specs.Made.{Adds, IsFlawFinding, IsHintText, made_of};
 ghost use Rattle.lint_finding.specs.View.{finding_view};
 ghost use Rattle.lint_flaws.specs.FlawView.{flaw_view};
-ghost use Rattle.lint_flaws.specs.HintText.{hint_text};
 ghost use Rattle.fluent_ids.specs.IdsView.{ids_view};
 ghost use Rattle.lint_entries.specs.Problems.{direction_text};
 
 use crate::label::Label;
 use crate::problem::{Direction, Problem};
 use lint_finding::{CatalogIds, Finding};
-use lint_flaws::{Flaw, Hint};
+use lint_flaws::Flaw;
 use std::alloc::{AllocError, Global};
 
 /// A place in an entry or in one of its attributes: the source from there on.
@@ -46,7 +45,7 @@ pub fn flaw_finding<'s>(
 {
     let entry = place.label.to_string(alloc)?;
     let text = flaw.to_string(alloc)?;
-    let hint = hint_of(alloc, flaw.hint(ids))?;
+    let hint = hint_of(alloc, ids, &flaw)?;
     Ok(Finding {
         offset: place.offset(),
         code: flaw.code(),
@@ -57,10 +56,15 @@ pub fn flaw_finding<'s>(
     })
 }
 
-fn hint_of(alloc: Global, hint: Option<Hint<'_>>) -> Result<Option<String>, AllocError>
-    ensures { IfOk result (λ made. option_map string_bytes made ≡ option_map hint_text hint.entry) }
+/// The text of the hint of a flaw, if there is one.
+fn hint_of<'s>(
+    alloc: Global,
+    ids: &CatalogIds<'_, 's>,
+    flaw: &Flaw<'_, 's>,
+) -> Result<Option<String>, AllocError>
+    ensures { IsHintText result (ids_view _ ids.now) (flaw_view flaw.now) }
 {
-    match hint {
+    match flaw.hint(alloc, ids)? {
         Some(hint) => Ok(Some(hint.to_string(alloc)?)),
         None => Ok(None),
     }

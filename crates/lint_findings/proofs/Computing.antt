@@ -9,12 +9,13 @@ use Rattle.lint_findings.specs.Tiles.{tiles_from}
 use Rattle.lint_findings.specs.Endless.{patterns_left}
 use Rattle.lint_findings.specs.Comparison.{messages_within}
 use Rattle.lint_findings.specs.Occurrences.{walkers, attribute_places}
+use Rattle.lint_findings.specs.NearNames.{nearest, name_bytes}
 use Rattle.lint_findings.specs.Files.{File}
 use Rattle.lint_findings.specs.Findings.{Options, findings, findings_with_reference}
 use Rattle.lint_findings.specs.Report.{shown, report_text}
 
 unfoldable pub computing_findings : ⊤
-unfolding computing same_elements tiles_from patterns_left messages_within walkers attribute_places digits chars
+unfolding computing same_elements tiles_from patterns_left messages_within walkers attribute_places nearest name_bytes digits chars
 computing_findings = tt
 
 unfoldable pub file : Text → Text → File

@@ -4,6 +4,7 @@ mod SyntaxRows
 mod FlawRows
 mod CatalogRows
 mod CategoryRows
+mod NearNameRows
 mod ComparisonRows
 mod ReferenceRows
 mod OutputRows

@@ -1,6 +1,7 @@
 -- What may be the cause of a flaw.
-use Rattle.std.specs.Prelude.{if◌then◌else◌, List, [], ◌∷◌, ◌++◌, Bool, Option, Some, None, codes}
+use Rattle.std.specs.Prelude.{if◌then◌else◌, List, [], ◌∷◌, ◌++◌, Bool, true, false, Option, Some, None, is_some, codes}
 use Rattle.std.specs.List.{list_any}
+use Rattle.std.specs.Option.{option_or}
 use Rattle.fluent_grammar.specs.Words.{Text, hyphen, dot, dollar}
 use Rattle.fluent_grammar.specs.Tree as t
 use Rattle.fluent_grammar.specs.Tree.{Elements, Inline}
@@ -12,22 +13,39 @@ use Rattle.lint_findings.specs.References.{elements_references, reference_patter
 use Rattle.lint_findings.specs.Endless.{endless_patterns, is_pattern_among}
 use Rattle.lint_findings.specs.Flaws.{Flaw, unresolved, duplicate_key}
 use Rattle.lint_findings.specs.Comparison.{as_message}
+use Rattle.lint_findings.specs.NearNames.{nearest_hint}
 
--- if a message of this id is missing
-abbrev pub message_hint : {F : Type 0} → Text → Option (Meaning F) → Option Text
-message_hint id None = Some (codes "a variable is written " ++ in_backticks (dollar ∷ id))
-message_hint id (Some number_function) = None
-message_hint id (Some (function f)) = None
-message_hint id (Some (message m)) = None
-message_hint id (Some (term m)) = Some (in_backticks (hyphen ∷ id) ++ codes " is a term")
+-- whether an id stands for a message
+abbrev pub is_message : {F : Type 0} → Ids F → Text → Bool
+is_message ids id = is_some (as_message (find ids id))
+
+abbrev pub means_term : {F : Type 0} → Option (Meaning F) → Bool
+means_term None = false
+means_term (Some number_function) = false
+means_term (Some (function f)) = false
+means_term (Some (message m)) = false
+means_term (Some (term m)) = true
+
+-- whether it stands for a term
+abbrev pub is_term : {F : Type 0} → Ids F → Text → Bool
+is_term ids id = means_term (find ids id)
+
+-- if a message of this id is missing: the nearest message, or else a variable
+abbrev pub message_hint : {F : Type 0} → Ids F → Text → Option (Meaning F) → Option Text
+message_hint ids id None =
+    option_or (nearest_hint [] (is_message ids) id) (Some (codes "a variable is written " ++ in_backticks (dollar ∷ id)))
+message_hint ids id (Some number_function) = None
+message_hint ids id (Some (function f)) = None
+message_hint ids id (Some (message m)) = None
+message_hint ids id (Some (term m)) = Some (in_backticks (hyphen ∷ id) ++ codes " is a term")
 
 -- if a term of this id is missing
-abbrev pub term_hint : {F : Type 0} → Text → Option (Meaning F) → Option Text
-term_hint id None = None
-term_hint id (Some number_function) = None
-term_hint id (Some (function f)) = None
-term_hint id (Some (term m)) = None
-term_hint id (Some (message m)) = Some (in_backticks id ++ codes " is a message")
+abbrev pub term_hint : {F : Type 0} → Ids F → Text → Option (Meaning F) → Option Text
+term_hint ids id None = nearest_hint (hyphen ∷ []) (is_term ids) id
+term_hint ids id (Some number_function) = None
+term_hint ids id (Some (function f)) = None
+term_hint ids id (Some (term m)) = None
+term_hint ids id (Some (message m)) = Some (in_backticks id ++ codes " is a message")
 
 abbrev pub first_attribute_hint : List t.Attribute → Option Text
 first_attribute_hint [] = None
@@ -56,8 +74,8 @@ module _ {F : Type 0} (ids : Ids F) where
 
   abbrev pub unknown_hint : Reference → Option Text
   unknown_hint (to_function id) = None
-  unknown_hint (to_message id a) = message_hint id (find ids id)
-  unknown_hint (to_term id a) = term_hint id (find ids id)
+  unknown_hint (to_message id a) = message_hint ids id (find ids id)
+  unknown_hint (to_term id a) = term_hint ids id (find ids id)
   unknown_hint (to_variable id) = None
 
   -- for a flaw of this pattern

@@ -14,6 +14,7 @@ pub mod NumberOptions
 pub mod Files
 pub mod Finding
 pub mod FlawWords
+pub mod NearNames
 pub mod FlawHints
 pub mod SyntaxFindings
 pub mod EntryFindings

@@ -1,3 +1,5 @@
 pub mod Digits
 pub mod Backslashes
 pub mod EscapeThere
+pub mod NearFound
+pub mod Slips

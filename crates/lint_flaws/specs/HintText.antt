@@ -1,13 +1,27 @@
 -- The texts of hints.
-use Rattle.std.specs.Prelude.{◌∷◌, ◌++◌, codes}
+use Rattle.std.specs.Prelude.{◌≡◌, ◌∷◌, ◌++◌, codes, IfOk, Option, option_map, Result, string_bytes}
+use Rattle.fluent_grammar.specs.Tree.{Elements}
 use Rattle.fluent_grammar.specs.Words.{Text, hyphen, dot, dollar}
+use Rattle.fluent_meaning.specs.Ids.{Ids}
+use Rattle.lint_findings.specs.FlawHints.{flaw_hint}
+use Rattle.lint_findings.specs.Flaws.{Flaw}
 use Rattle.lint_findings.specs.SyntaxErrors.{in_backticks}
 use Rattle.lint_flaws.specs.declared.hint.Hint.{Hint}
 use Rattle.lint_flaws.specs.declared.hint.Hint.TheVariants as of
 
 abbrev pub hint_text : Hint → Text
+hint_text (of.NearMessage id) = codes "did you mean " ++ (in_backticks (string_bytes id) ++ codes "?")
+hint_text (of.NearTerm id) = codes "did you mean " ++ (in_backticks (hyphen ∷ string_bytes id) ++ codes "?")
 hint_text (of.Variable id) = codes "a variable is written " ++ in_backticks (dollar ∷ id.now)
 hint_text (of.Message id) = in_backticks id.now ++ codes " is a message"
 hint_text (of.Term id) = in_backticks (hyphen ∷ id.now) ++ codes " is a term"
 hint_text (of.Attribute name) = codes "it has the attribute " ++ in_backticks (dot ∷ name.now)
 hint_text of.DefaultMark = codes "write it before a variant, as `*[other]`"
+
+-- a hint, if there is one, has this text
+abbrev pub IsHint : Option Text → Option Hint → Type 0
+IsHint text hint = option_map hint_text hint ≡ text
+
+-- If all went well: this is the hint of a flaw, whatever pattern it is in.
+abbrev pub IsHintOf : {E : Type 0} → Result (Option Hint) E → Ids (Unit {0}) → Flaw → Type 0
+IsHintOf result ids flaw = (es : Elements) → IfOk result (IsHint (flaw_hint ids es flaw))

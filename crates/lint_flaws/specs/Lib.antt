@@ -4,3 +4,4 @@ pub mod Common
 pub mod MissingAmong
 pub mod MisuseView
 pub mod Escape
+pub mod Near

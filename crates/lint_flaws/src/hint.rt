@@ -1,23 +1,28 @@
 //! Hints: what may be the cause of a flaw.
 #![tactic(auto)]
 
-ghost use Rattle.std.specs.Prelude.{◌≡◌, option_map, Some};
-ghost use Rattle.lint_findings.specs.FlawHints.{flaw_hint, message_hint, term_hint, value_hint};
+ghost use Rattle.std.specs.Prelude.{◌≡◌, IfOk, option_map, Some};
+ghost use Rattle.lint_findings.specs.FlawHints.{is_message, is_term, message_hint, term_hint, value_hint};
 ghost use Rattle.lint_findings.specs.Comparison.{as_message};
 ghost use Rattle.lint_flaws.specs.FlawView.{flaw_view};
-ghost use Rattle.lint_flaws.specs.HintText.{hint_text};
-ghost use Rattle.fluent_grammar.specs.Tree.{Elements};
+ghost use Rattle.lint_flaws.specs.HintText.{IsHint, IsHintOf, hint_text};
 ghost use Rattle.fluent_ids.specs.IdsView.{ids_view};
 ghost use Rattle.fluent_meaning.specs.Ids.{find};
 
 use crate::flaw::Flaw;
+use crate::near::{KnownNames, nearest};
 use fluent_ids::Entry;
 use lint_finding::CatalogIds;
+use std::alloc::{AllocError, Global};
 use std::fmt;
 
 /// What may be the cause of a flaw. Its text is that of `docs/reference/lint.md`.
-#[derive(Clone, Copy)]
+#[derive(Drop)]
 pub enum Hint<'s> {
+    /// The message of this id may be meant.
+    NearMessage(String),
+    /// The term of this id may be meant.
+    NearTerm(String),
     /// A variable of this name may be meant.
     Variable(&'s str),
     /// There is a message of this id.
@@ -35,6 +40,8 @@ impl fmt::Display for Hint<'_> {
 
     fn fmt<W: fmt::Write>(&self, f: &mut fmt::Formatter<W>) -> fmt::Result {
         match self {
+            Hint::NearMessage(id) => write!(f, "did you mean `{id}`?"),
+            Hint::NearTerm(id) => write!(f, "did you mean `-{id}`?"),
             Hint::Variable(id) => write!(f, "a variable is written `${id}`"),
             Hint::Message(id) => write!(f, "`{id}` is a message"),
             Hint::Term(id) => write!(f, "`-{id}` is a term"),
@@ -46,38 +53,61 @@ impl fmt::Display for Hint<'_> {
 
 impl<'a, 's> Flaw<'a, 's> {
     /// The hint of a flaw, in a catalog with these ids.
-    pub fn hint(&self, ids: &CatalogIds<'_, 's>) -> Option<Hint<'s>>
-        ensures { (es : Elements) → option_map hint_text result
-            ≡ flaw_hint (ids_view _ ids.now) es (flaw_view self.now) }
+    ///
+    /// # Errors
+    /// [`AllocError`] if memory runs out; nothing is kept.
+    pub fn hint(
+        &self,
+        alloc: Global,
+        ids: &CatalogIds<'_, 's>,
+    ) -> Result<Option<Hint<'s>>, AllocError>
+        ensures { IsHintOf result (ids_view _ ids.now) (flaw_view self.now) }
     {
         match self {
-            Flaw::UnknownMessage { id, .. } => message_hint(ids, id),
-            Flaw::UnknownTerm { id, .. } => term_hint(ids, id),
-            Flaw::NoValue { id } => value_hint(ids, id),
-            Flaw::NoDefault => Some(Hint::DefaultMark),
-            Flaw::UnknownFunction { .. } | Flaw::RepeatedKey(_) => None,
+            Flaw::UnknownMessage { id, .. } => message_hint(alloc, ids, id),
+            Flaw::UnknownTerm { id, .. } => term_hint(alloc, ids, id),
+            Flaw::NoValue { id } => Ok(value_hint(ids, id)),
+            Flaw::NoDefault => Ok(Some(Hint::DefaultMark)),
+            Flaw::UnknownFunction { .. } | Flaw::RepeatedKey(_) => Ok(None),
         }
     }
 }
 
 /// If a message of this id is missing.
-fn message_hint<'s>(ids: &CatalogIds<'_, 's>, id: &'s str) -> Option<Hint<'s>>
-    ensures { option_map hint_text result ≡ message_hint id.now (find (ids_view _ ids.now) id.now) }
+fn message_hint<'r, 's: 'r>(
+    alloc: Global,
+    ids: &CatalogIds<'r, 's>,
+    id: &'s str,
+) -> Result<Option<Hint<'s>>, AllocError>
+    ensures { IfOk result (IsHint
+        (message_hint (ids_view _ ids.now) id.now (find (ids_view _ ids.now) id.now))) }
 {
     match ids.get(id) {
-        None => Some(Hint::Variable(id)),
-        Some(Entry::Term(_)) => Some(Hint::Term(id)),
-        Some(_) => None,
+        None => match nearest(alloc, &Messages { ids }, id)? {
+            Some(near) => Ok(Some(Hint::NearMessage(near))),
+            None => Ok(Some(Hint::Variable(id))),
+        },
+        Some(Entry::Term(_)) => Ok(Some(Hint::Term(id))),
+        Some(_) => Ok(None),
     }
 }
 
 /// If a term of this id is missing.
-fn term_hint<'s>(ids: &CatalogIds<'_, 's>, id: &'s str) -> Option<Hint<'s>>
-    ensures { option_map hint_text result ≡ term_hint id.now (find (ids_view _ ids.now) id.now) }
+fn term_hint<'r, 's: 'r>(
+    alloc: Global,
+    ids: &CatalogIds<'r, 's>,
+    id: &'s str,
+) -> Result<Option<Hint<'s>>, AllocError>
+    ensures { IfOk result (IsHint
+        (term_hint (ids_view _ ids.now) id.now (find (ids_view _ ids.now) id.now))) }
 {
     match ids.get(id) {
-        Some(Entry::Message(_)) => Some(Hint::Message(id)),
-        _ => None,
+        None => match nearest(alloc, &Terms { ids }, id)? {
+            Some(near) => Ok(Some(Hint::NearTerm(near))),
+            None => Ok(None),
+        },
+        Some(Entry::Message(_)) => Ok(Some(Hint::Message(id))),
+        Some(_) => Ok(None),
     }
 }
 
@@ -91,4 +121,32 @@ fn value_hint<'s>(ids: &CatalogIds<'_, 's>, id: &str) -> Option<Hint<'s>>
     };
     let attribute = message.attributes.first()?;
     Some(Hint::Attribute(attribute.id.name))
+}
+
+/// The ids of messages.
+#[derive(Clone, Copy)]
+struct Messages<'c, 'r, 's: 'r> {
+    ids: &'c CatalogIds<'r, 's>,
+}
+
+impl<'c, 'r, 's: 'r> KnownNames for Messages<'c, 'r, 's> {
+    ghost knows = { λ messages. is_message (ids_view _ messages.ids.now) };
+
+    fn has_name(&self, name: &str) -> bool {
+        matches!(self.ids.get(name), Some(Entry::Message(_)))
+    }
+}
+
+/// The ids of terms.
+#[derive(Clone, Copy)]
+struct Terms<'c, 'r, 's: 'r> {
+    ids: &'c CatalogIds<'r, 's>,
+}
+
+impl<'c, 'r, 's: 'r> KnownNames for Terms<'c, 'r, 's> {
+    ghost knows = { λ terms. is_term (ids_view _ terms.ids.now) };
+
+    fn has_name(&self, name: &str) -> bool {
+        matches!(self.ids.get(name), Some(Entry::Term(_)))
+    }
 }
