@@ -12,6 +12,8 @@ import json
 import os
 import pathlib
 import pty
+import re
+import shutil
 import subprocess
 import sys
 import tempfile
@@ -20,6 +22,8 @@ import tty
 TOP = pathlib.Path(__file__).resolve().parent.parent
 ROWS = TOP / "tests" / "rows"
 SECONDS = 60
+# Who runs the rows whose files have modes, if root does the others: for root no mode is in the way.
+NOBODY = 65534
 
 
 def is_name(text):
@@ -38,6 +42,7 @@ FREE = {
     "files": lambda it: type(it) is dict and all(is_name(key) and type(it[key]) in (str, type(None)) for key in it),
     "after": lambda it: type(it) is dict and all(is_name(key) and type(it[key]) is str for key in it),
     "links": lambda it: type(it) is dict and all(is_name(key) and type(it[key]) is str for key in it),
+    "modes": lambda it: type(it) is dict and all(is_name(key) and re.fullmatch("[0-7]{3}", it[key]) for key in it),
     "stdin": lambda it: type(it) in (str, type(None)),
     "full": lambda it: type(it) is bool,
     "gone": lambda it: type(it) is bool,
@@ -104,7 +109,33 @@ def shown(screen):
         shown += block
 
 
-def ended(program, row, folder):
+def set_modes(row, folder):
+    """Gives the row's files and folders their modes, what is in a folder before the folder."""
+    if "modes" in row and os.geteuid() == 0:
+        for path in [folder, *folder.rglob("*")]:
+            os.chown(path, NOBODY, NOBODY, follow_symlinks=False)
+    for name in sorted(row.get("modes", {}), key=len, reverse=True):
+        (folder / name).chmod(int(row["modes"][name], 8))
+
+
+def have_modes(row, folder):
+    """Whether the row's files and folders have their modes. They can all be read then."""
+    right = True
+    for name in sorted(row.get("modes", {}), key=len):
+        right = right and (folder / name).stat().st_mode & 0o777 == int(row["modes"][name], 8)
+        (folder / name).chmod(0o700)
+    return right
+
+
+def runner(program, row, tools):
+    """The program that runs a row, and as whom: a copy of it in the folder `tools`, if root may not run it."""
+    if "modes" not in row or os.geteuid() != 0:
+        return program, {}
+    tools.chmod(0o755)
+    return shutil.copy(program, tools / "ftl"), {"user": NOBODY, "group": NOBODY, "extra_groups": []}
+
+
+def ended(program, row, folder, **user):
     """How the program ends that runs on the row in this folder: its status, its output and its errors."""
     given = row.get("stdin", "")
     # A folder can be opened, and not read.
@@ -113,7 +144,7 @@ def ended(program, row, folder):
     page, target = terminal() if row.get("screen") else (None, target)
     screen, faults = terminal() if row.get("terminal") else (None, subprocess.PIPE)
     devices = {"stdin": source, "stdout": target, "stderr": faults}
-    with subprocess.Popen([program, *row["words"]], cwd=folder, env=row.get("environment", {}), **devices) as run:
+    with subprocess.Popen([program, *row["words"]], cwd=folder, env=row.get("environment", {}), **devices, **user) as run:
         try:
             output, errors = run.communicate(given and given.encode(), timeout=SECONDS)
         except subprocess.TimeoutExpired:
@@ -130,7 +161,7 @@ def differences(program, line):
     """What came otherwise than the row of a line wants, a text each."""
     row = checked(line)
     wanted = {"status": row["status"], "stdout": row["stdout"].encode(), "stderr": row["stderr"].encode()}
-    with tempfile.TemporaryDirectory() as name:
+    with tempfile.TemporaryDirectory() as name, tempfile.TemporaryDirectory() as tools:
         folder = pathlib.Path(name)
         files = bytes_of(row)
         for file, text in files.items():
@@ -138,8 +169,11 @@ def differences(program, line):
             (folder / file).write_bytes(text)
         for link, target in row.get("links", {}).items():
             (folder / link).symlink_to(target)
-        came = ended(program, row, folder)
+        set_modes(row, folder)
+        program, user = runner(program, row, pathlib.Path(tools))
+        came = ended(program, row, folder, **user)
         found = [f"{key}: wanted {wanted[key]!r}, came {came[key]!r}" for key in wanted if wanted[key] != came[key]]
+        found += ["its modes are others"] * (not have_modes(row, folder))
         return found + ["its files are others"] * (bytes_in(folder) != bytes_after(row, files))
 
 
