@@ -28,9 +28,12 @@ static struct FluentSource read_file(const char *folder, struct FluentSource lan
     FILE *file = fopen(path, "rb");
     if (!file)
         return source;
-    uint8_t *text = malloc(1 << 16);
+    fseek(file, 0, SEEK_END);
+    long size = ftell(file);
+    rewind(file);
+    uint8_t *text = size < 0 ? NULL : malloc((size_t)size + 1);
     if (text)
-        source = (struct FluentSource){text, fread(text, 1, 1 << 16, file)};
+        source = (struct FluentSource){text, fread(text, 1, (size_t)size, file)};
     fclose(file);
     return source;
 }
