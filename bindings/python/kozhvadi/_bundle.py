@@ -17,10 +17,10 @@ from typing import NoReturn, SupportsIndex, Union
 from . import _library as c
 from ._answers import Answer, resolver_errors
 from ._errors import FluentError, FluentWarning, MissingMessageError, SourceError, UnknownLocaleError
-from ._errors import source_error
 from ._extension import calls_type
 from ._functions import Functions, answer_to, functions_of
 from ._locks import new_lock
+from ._reports import Sources, source_errors, too_deep
 from ._values import Formatter, arguments_of, encoded
 
 Paths = Union[str, "os.PathLike[str]", Iterable[Union[str, "os.PathLike[str]"]]]
@@ -30,6 +30,9 @@ _BESIDE = 400 * 1024
 
 # A warning shows this many errors.
 _SHOWN = 3
+
+# Where a part of a source begins that may be a message or a term.
+_PART = re.compile(rb"^(?=[A-Za-z-])", re.M)
 
 # A text of one line that is the name of a file or of a locale.
 _NAME = re.compile(r"[^\n=#]*\.ftl|[A-Za-z]{2,3}(?:[-_][A-Za-z0-9]+)*")
@@ -64,8 +67,9 @@ class Bundle:
     that an answer meets, so it has to give the same for the same arguments. What it raises, `format` raises.
 
     `stack` is how many bytes of the machine's stack a message or a term may take when it is read, and an answer: the
-    usual 1.5 MB suit a thread with 2 MB. What nests deeper raises `MemoryError`. A thread that makes or asks the bundle
-    needs 400 KB more: `ValueError` is raised if the thread that makes it doesn't have them.
+    usual 1.5 MB suit a thread with 2 MB. A source that nests deeper is left out, which is one of the `errors`, and such
+    an answer raises `MemoryError`. A thread that makes or asks the bundle needs 400 KB more: `ValueError` is raised if
+    the thread that makes it doesn't have them.
 
     If the sources have errors, the first `format` warns of them by a `FluentWarning`, unless you looked at `errors`
     before.
@@ -128,21 +132,28 @@ class Bundle:
         self._spare: list[_Texts] = []
         self._functions = functions_of(functions)
         self._formatter, self._overriding, self._stack = formatter, bool(overriding), _budget(stack)
-        # What `errors` needs, until it was asked.
-        self._sources: list[tuple[str, bytes]] | None = named
         self._errors: list[SourceError] = []
-        texts = [text for _, text in named]
-        if self._functions:
-            made = self._read_calling(texts, tag, bool(isolating), bool(numbers))
-        else:
-            new = c.library.fluent_bundle_new_within if numbers else c.library.fluent_bundle_new_plain
-            made = self._read(texts, tag, bool(isolating), self._handle, new)
+        made = self._new(named, tag, bool(isolating), bool(numbers))
+        if made == c.NO_MEMORY:
+            named = self._without_deep(named)
+            made = self._new(named, tag, bool(isolating), bool(numbers))
         if made == c.UNKNOWN_LOCALE:
             raise UnknownLocaleError(f"the locale {locale!r} has no plural rules")
         if made != c.READ:
-            raise MemoryError(self._too_deep(named))
+            raise MemoryError("memory ran out")
+        # What `errors` needs, until it was asked; and whether the next answer warns of them.
+        self._sources: Sources | None = named
+        self._warns = True
         self._free = weakref.finalize(self, c.library.fluent_bundle_free, self._handle)
         self._calls = calls_type(ctypes.addressof(self._handle), self._handle, self._lock) if calls_type else None
+
+    def _new(self, named: Sources, tag: bytes, isolating: bool, numbers: bool) -> int:
+        """Makes the bundle that the library keeps, and gives its status."""
+        texts = [text for _, text in named]
+        if self._functions:
+            return self._read_calling(texts, tag, isolating, numbers)
+        new = c.library.fluent_bundle_new_within if numbers else c.library.fluent_bundle_new_plain
+        return self._read(texts, tag, isolating, self._handle, new)
 
     def _read(
         self, texts: list[bytes], tag: bytes, isolating: bool, handle: c.FluentBundle, new: Callable[..., int]
@@ -160,15 +171,31 @@ class Bundle:
         made: int = c.library.fluent_bundle_new_calling(array, count, options, names, named, self._handle)
         return made
 
-    def _too_deep(self, named: list[tuple[str, bytes]]) -> str:
-        """Which source can't be read."""
+    def _without_deep(self, named: Sources) -> Sources:
+        """The sources, with nothing in the place of each that nests too deep, which is an error."""
+        read: Sources = []
         for name, text in named:
-            alone = c.FluentBundle()
-            made = self._read([text], b"", True, alone, c.library.fluent_bundle_new_plain)
-            c.library.fluent_bundle_free(alone)
-            if made != c.READ:
-                return f"{name} nests too deep for {self._stack} bytes of the stack, or memory ran out"
-        return "memory ran out"
+            if self._is_read(text):
+                read.append((name, text))
+            else:
+                self._errors.append(too_deep(name, self._deep_line(text), self._stack))
+                read.append((name, b""))
+        return read
+
+    def _deep_line(self, text: bytes) -> int | None:
+        """The line on which the first part of a source begins that nests too deep by itself."""
+        starts = [0, *(part.start() for part in _PART.finditer(text))]
+        for start, end in zip(starts, [*starts[1:], len(text)]):
+            if not self._is_read(text[start:end]):
+                return text.count(b"\n", 0, start) + 1
+        return None
+
+    def _is_read(self, text: bytes) -> bool:
+        """Whether the library can read a source."""
+        alone = c.FluentBundle()
+        made = self._read([text], b"", True, alone, c.library.fluent_bundle_new_plain)
+        c.library.fluent_bundle_free(alone)
+        return made == c.READ
 
     def format(self, id: str, attribute: str | None = None, /, **arguments: object) -> Answer:
         """The text of a message's value, or of its first attribute of a name, for these arguments.
@@ -178,7 +205,7 @@ class Bundle:
         such message, value or attribute, `ValueError` if a `Number` is none or a text can't be written in UTF-8, and
         `MemoryError` if the answer nests too deep for the stack.
         """
-        if self._sources is not None:
+        if self._warns:
             self._warn()
         ask = self._call if self._functions else self._calls.format if self._calls else self._format
         answered = ask(id, attribute, arguments, self._formatter)
@@ -324,25 +351,27 @@ class Bundle:
 
     @property
     def errors(self) -> list[SourceError]:
-        """What is wrong with the sources: each error, and each entry whose id was there before it.
+        """What is wrong with the sources: those that nest too deep, each error of the others, and each entry whose id
+        was there before it.
 
         The sources are read for it once.
         """
         with self._lock:
             if self._sources is not None:
-                self._errors = self._report(self._sources)
+                self._errors += source_errors(self._report(), self._sources, self._overriding)
                 self._sources = None
+            self._warns = False
             return list(self._errors)
 
-    def _report(self, sources: list[tuple[str, bytes]]) -> list[SourceError]:
-        report = c.FluentText()
-        try:
-            told = c.library.fluent_bundle_errors(self._handle, report)
-            if told != c.READ:
-                self._refuse(told, "the report")
-            return [source_error(line, sources) for line in c.lines_of(report)]
-        finally:
-            c.library.fluent_free_text(report)
+    def _report(self) -> list[str]:
+        listed, lines = self._list(c.library.fluent_bundle_errors)
+        if listed != c.READ:
+            self._refuse(listed, "the report")
+        return lines
+
+    def _hush(self) -> None:
+        """Warns of no error: the program reports them in another way, or wants none of them."""
+        self._warns = False
 
     def _warn(self) -> None:
         """Warns of the errors of the sources, at which nobody has looked."""

@@ -67,9 +67,10 @@ class ResolverError(_Told):
 class SourceError(_Told):
     """An error of a source, or an entry whose id was there before it.
 
-    `file` is the name of the source, which is "source 1" for the first if it has no file, and `line` and `column` count
-    from 1. They are `None` for an entry whose id was there: the library doesn't report its place. `kind` is the name of
-    the error, as in "ExpectedToken", and "Overriding" for such an entry.
+    It is shown as "en.ftl:2:4: expected `=` after `bye`, found the end of the line". `file` is the name of the source,
+    which is "source 1" for the first if it has no file. `line` and `column` count from 1, and are `None` if they aren't
+    known. `kind` is the name of the error, such as "ExpectedToken": it is "Overriding" for an entry whose id was there,
+    and "TooDeep" for a source that nests too deep, of which nothing is read.
     """
 
     def __init__(
@@ -77,16 +78,3 @@ class SourceError(_Told):
     ) -> None:
         super().__init__(text)
         self.kind, self.file, self.line, self.column = kind, file, line, column
-
-
-def source_error(line: str, sources: list[tuple[str, bytes]]) -> SourceError:
-    """The error that a line of a report is, as in `source 1: bytes 7..8: ExpectedToken`, with its place."""
-    number, _, told = line.removeprefix("source ").partition(": bytes ")
-    if not told or not line.startswith("source "):
-        return SourceError(line, "Overriding")
-    place, _, kind = told.partition(": ")
-    name, text = sources[int(number) - 1]
-    before = text[: int(place.partition("..")[0])]
-    row = before.count(b"\n") + 1
-    column = len(before[before.rfind(b"\n") + 1 :].decode(errors="replace")) + 1
-    return SourceError(f"{name}:{row}:{column}: {kind}", kind, name, row, column)

@@ -201,8 +201,7 @@ class FluentBundle:
                 continue
         else:
             bundle = Bundle(self._sources(), isolating=self.use_isolating, functions=self._functions)
-        # Whoever looks at the errors of the sources isn't warned of them.
-        bundle.errors.clear()
+        bundle._hush()
         return bundle
 
 

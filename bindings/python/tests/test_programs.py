@@ -88,8 +88,9 @@ class ObjectsTest(unittest.TestCase):
 
     def test_what_nests_too_deep_is_named(self):
         deep = f"a = {'{' * 3000}\"x\"{'}' * 3000}\n"
-        with self.assertRaisesRegex(MemoryError, "source 2 nests too deep for 1572864 bytes"):
-            Bundle(["b = B\n", deep])
+        with Bundle(["b = B\n", deep]) as bundle:
+            with self.assertWarnsRegex(FluentWarning, "source 2:1:1: nests too deep for 1572864 bytes"):
+                self.assertEqual(bundle.format("b").text, "B")
         calls = "".join(f"m{n} = {'{NUMBER(' * 200}{{ m{n + 1} }}{')}' * 200}\n" for n in range(50))
         with Bundle([calls, "m50 = x\n"]) as bundle:
             self.assertEqual(bundle.format("m49").text, "NUMBER()")
@@ -145,13 +146,17 @@ class FilesTest(unittest.TestCase):
             Bundle.from_files([one, self.file("three.ftl", b"a = \xff\n")])
         with self.assertRaises(FileNotFoundError):
             Bundle.from_files(self.folder / "none.ftl")
-        with self.assertRaisesRegex(MemoryError, "deep.ftl nests too deep"):
-            Bundle.from_files([one, self.file("deep.ftl", b"d = " + b"{" * 3000 + b'"x"' + b"}" * 3000 + b"\n")])
+        deep = self.file("deep.ftl", b"d = " + b"{" * 3000 + b'"x"' + b"}" * 3000 + b"\n")
+        with Bundle.from_files([one, deep]) as bundle:
+            (error,) = bundle.errors
+            self.assertEqual((error.kind, error.file, error.line), ("TooDeep", str(deep), 1))
+            self.assertEqual(bundle.messages(), ["a"])
 
     def test_errors_are_warned_of_once(self):
         path = self.file("bad.ftl", b"a = A\n" + b"b?\n" * 5)
         with Bundle.from_files(path) as bundle:
-            with self.assertWarnsRegex(FluentWarning, r"bad\.ftl:2:2: .*; and 2 more: Bundle\.errors") as warned:
+            told = r"bad\.ftl:2:2: expected `=` after `b`, found `\?`; .*; and 2 more: Bundle\.errors"
+            with self.assertWarnsRegex(FluentWarning, told) as warned:
                 self.assertEqual(bundle.format("a").text, "A")
             self.assertEqual(warned.filename, __file__)
             self.assertEqual(len(bundle.errors), 5)

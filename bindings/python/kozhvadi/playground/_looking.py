@@ -110,7 +110,7 @@ def _units(source: bytes, offsets: Iterable[int]) -> dict[int, int]:
 def _messages(bundle: Bundle, places: Places, locale: str, arguments: dict[str, str]) -> list[Json]:
     """Each message, the first of each id."""
     # What is wrong with the source is among the findings.
-    _ = bundle.errors
+    bundle._hush()
     entries = Catalog([places])
     found: list[Json] = []
     for entry in places.entries:

@@ -103,7 +103,7 @@ def _rows(
     try:
         with Bundle(sources, locale=known(locale), isolating=False) as bundle:
             # What is wrong with the sources is reported elsewhere.
-            _ = bundle.errors
+            bundle._hush()
             for number, case in enumerate(cases):
                 id = f"{_SHOWN}{number}" if entry.is_term else entry.id
                 text = bundle.format(id, attribute, **case.arguments).text

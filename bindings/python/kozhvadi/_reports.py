@@ -1,0 +1,62 @@
+"""What is wrong with the sources of a bundle, in the words of `lint`."""
+
+from __future__ import annotations
+
+from ._errors import SourceError
+from ._linting import Finding, lint
+
+# The names of sources, and their texts in UTF-8.
+Sources = list[tuple[str, bytes]]
+
+
+def source_errors(report: list[str], sources: Sources, overriding: bool) -> list[SourceError]:
+    """The errors that the lines of a report are, such as `source 1: bytes 7..8: ExpectedToken`.
+
+    First come those of the sources, in turn, and then the entries whose id was there before.
+    """
+    broken = [line for line in report if line.startswith("source ")]
+    taken = report[len(broken) :]
+    found = _findings(sources) if report else []
+    syntax, doubles = _of_code(found, "syntax", len(broken)), _of_code(found, "duplicate-id", len(taken))
+    errors = [_error(line, sources, finding) for line, finding in zip(broken, syntax)]
+    return errors + [_double(line, finding, overriding) for line, finding in zip(taken, doubles)]
+
+
+def too_deep(name: str, line: int | None, stack: int) -> SourceError:
+    """The error of a source that nests too deep, and the line on which the message or term begins, if that is known."""
+    place = name if line is None else f"{name}:{line}:1"
+    column = None if line is None else 1
+    return SourceError(f"{place}: nests too deep for {stack} bytes of the stack", "TooDeep", name, line, column)
+
+
+def _findings(sources: Sources) -> list[Finding]:
+    """What `lint` finds. It is nothing if a source nests too deep for that: a bundle may have more stack."""
+    try:
+        return lint([(name, text.decode()) for name, text in sources]).findings
+    except MemoryError:
+        return []
+
+
+def _of_code(found: list[Finding], code: str, count: int) -> list[Finding | None]:
+    """The findings of a code, or nothing this many times if there are others than the report has lines."""
+    of_code: list[Finding | None] = [finding for finding in found if finding.code == code]
+    return of_code if len(of_code) == count else [None] * count
+
+
+def _error(line: str, sources: Sources, finding: Finding | None) -> SourceError:
+    number, _, told = line.removeprefix("source ").partition(": bytes ")
+    place, _, kind = told.partition(": ")
+    name, text = sources[int(number) - 1]
+    before = text[: int(place.partition("..")[0])]
+    row = before.count(b"\n") + 1
+    column = len(before[before.rfind(b"\n") + 1 :].decode(errors="replace")) + 1
+    words = finding.text if finding else kind
+    return SourceError(f"{name}:{row}:{column}: {words}", kind, name, row, column)
+
+
+def _double(line: str, finding: Finding | None, overriding: bool) -> SourceError:
+    if finding is None:
+        return SourceError(line, "Overriding")
+    words = line if overriding else finding.text
+    shown = f"{finding.file}:{finding.line}:{finding.column}: {words}"
+    return SourceError(shown, "Overriding", finding.file, finding.line, finding.column)
