@@ -227,6 +227,9 @@ fn what_nests_too_deep_is_an_error() {
     let (resource, errors) = FluentResource::try_new(deep.clone()).expect_err("It nests too deep.");
     assert_eq!(errors.iter().map(|error| error.kind).collect::<Vec<_>>(), [ErrorKind::OutOfMemory]);
     assert_eq!(errors[0].pos, 0..deep.len());
+    let before = "a = A\n\n# Deep\n";
+    let (_, errors) = FluentResource::try_new(format!("{before}{deep}b = B\n")).expect_err("It nests too deep.");
+    assert_eq!((errors.len(), errors[0].pos.clone()), (1, before.len()..before.len() + deep.len()));
     let mut bundle = bundle(&["a = A\n"]);
     bundle.add_resource(resource).expect("It has no messages.");
     assert_eq!(text_of(&bundle, "a", &FluentArgs::new()), "A");
