@@ -134,6 +134,34 @@ static void try_lint(void) {
     fluent_free_text(&report);
 }
 
+/* A source whose message `b`, on line 4, has this many placeables, one in the other. */
+static const char *nested(size_t levels) {
+    static char text[4000];
+    char *end = text + sprintf(text, "c = d\n\n# Deep\nb = ");
+    memset(end, '{', levels);
+    memset(end + levels, '1', 1);
+    memset(end + levels + 1, '}', levels);
+    strcpy(end + 2 * levels + 1, "\ne = f\n");
+    return text;
+}
+
+static void try_depth(void) {
+    struct FluentSource sources[2] = {{0}, {0}};
+    struct FluentBundle bundle = {0};
+    const char *texts[] = {"a = A\n", nested(1430)};
+    for (size_t each = 0; each < 2; each++) {
+        sources[each].text = fluent_bytes(texts[each]);
+        sources[each].len = fluent_len(texts[each]);
+    }
+    check("a source that nests too deep", fluent_bundle_of(texts[1], NULL, false, &bundle) == FLUENT_NO_MEMORY);
+    check("which one", fluent_deep_source(sources, 2) == 1 && fluent_deep_source(sources, 1) == 1);
+    check("its line", fluent_deep_line(&sources[1]) == 4 && fluent_deep_line(&sources[0]) == 0);
+    sources[1].text = fluent_bytes(nested(1429));
+    sources[1].len = fluent_len(nested(1429));
+    check("none of them", fluent_deep_source(sources, 2) == 2 && fluent_deep_line(&sources[1]) == 0);
+    fluent_bundle_free(&bundle);
+}
+
 int main(void) {
     struct FluentBundle bundle = {0};
     struct FluentCounts counts = {0};
@@ -147,6 +175,7 @@ int main(void) {
     try_formats(&bundle);
     try_arguments(&bundle);
     try_options();
+    try_depth();
     try_lists(&bundle);
     try_tidy();
     try_occurrences();
@@ -155,7 +184,7 @@ int main(void) {
     check("an attribute isn't", fluent_has(&bundle, "n", "title") == FLUENT_NO_PATTERN);
     fluent_bundle_free(&bundle);
     check("a bundle isn't there", fluent_has(&bundle, "a", NULL) == FLUENT_NO_BUNDLE);
-    for (uint32_t status = FLUENT_READ; status <= FLUENT_NOT_TIDY; status++)
+    for (uint32_t status = FLUENT_READ; status <= FLUENT_CALL; status++)
         check("the words of a status", strcmp(fluent_status_text(status), fluent_status_text(99)) != 0);
     printf("fluent.h: %u tried, %u wrong\n", tried, wrong);
     return wrong == 0 ? 0 : 1;

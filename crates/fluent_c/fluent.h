@@ -95,6 +95,35 @@ static inline uint32_t fluent_bundle_of(const char *source, const char *locale, 
     return fluent_bundle_new(&only, 1, fluent_bytes(locale), fluent_len(locale), isolating, false, made);
 }
 
+/* The number of the first of these sources that nests too deep for the usual budget of the stack, or `count` if none does.
+ * If a call that makes a bundle of them returns FLUENT_NO_MEMORY, leave that one out and make the call again. */
+static inline size_t fluent_deep_source(const struct FluentSource *sources, size_t count) {
+    struct FluentCounts counts = {0};
+    size_t each = 0;
+    while (each < count && fluent_parse_runtime(sources[each].text, sources[each].len, &counts) != FLUENT_NO_MEMORY)
+        each++;
+    return each;
+}
+
+/* The line of a source, counted from 1, on which the first message or term begins that nests too deep by itself, or 0 if
+ * none does. */
+static inline size_t fluent_deep_line(const struct FluentSource *source) {
+    struct FluentCounts counts = {0};
+    size_t line = 1, start_line = 1, start = 0, at = 0;
+    for (; at <= source->len; at++) {
+        uint8_t byte = at < source->len ? source->text[at] : 0;
+        bool begins = byte == '-' || (byte >= 'a' && byte <= 'z') || (byte >= 'A' && byte <= 'Z');
+        if (at == source->len || (at > 0 && source->text[at - 1] == '\n' && begins)) {
+            if (fluent_parse_runtime(source->text + start, at - start, &counts) == FLUENT_NO_MEMORY)
+                return start_line;
+            start = at;
+            start_line = line;
+        }
+        line += byte == '\n';
+    }
+    return 0;
+}
+
 /* The options of FLUENT_BUNDLE_OPTIONS with a locale, which may be NULL. */
 static inline struct FluentBundleOptions fluent_bundle_options(const char *locale) {
     struct FluentBundleOptions options = FLUENT_BUNDLE_OPTIONS;
