@@ -317,9 +317,30 @@ fn many_arguments_are_by_their_names() {
     assert_eq!(args.get("v7919"), None);
     assert_eq!(args.get(names[17].as_str()), Some(&FluentValue::from(17)));
     assert!(args.iter().map(|(name, _)| name).is_sorted());
+    let copy = args.clone();
+    assert!(copy.iter().eq(args.clone().into_iter().collect::<FluentArgs<'_>>().iter()));
+    assert!(copy.into_iter().map(|(name, _)| name).is_sorted());
+    let mut others = args.clone();
+    others.set(names[17].as_str(), "other");
+    assert_eq!((others.get(names[17].as_str()), others.iter().count()), (Some(&FluentValue::from("other")), 3645));
+    assert_ne!(others, args);
     let bundle = bundle(&["a = { $v0 } { $v3644 }\n"]);
     let place = |name: &str| names.iter().position(|it| it == name).expect("It is there.");
     assert_eq!(text_of(&bundle, "a", &args), format!("{} {}", place("v0"), place("v3644")));
     let twice: FluentArgs<'_> = [("a", 1), ("b", 2), ("a", 3), ("a", 4)].into_iter().collect();
     assert_eq!(twice, fluent_args!["b" => 2, "a" => 4]);
+    assert_eq!(
+        format!("{twice:?}"),
+        format!("{{\"a\": {:?}, \"b\": {:?}}}", FluentValue::from(4), FluentValue::from(2))
+    );
+    for count in 0..40 {
+        let up: FluentArgs<'_> = (0..count).map(|n| (format!("{n:02}"), n)).collect();
+        let (mut down, mut in_turn) = (FluentArgs::new(), FluentArgs::new());
+        for n in 0..count {
+            down.set(format!("{:02}", count - 1 - n), count - 1 - n);
+            in_turn.set(format!("{n:02}"), n);
+        }
+        assert_eq!((&down, &in_turn), (&up, &up));
+        assert!((0..count).all(|n| down.get(format!("{n:02}")) == Some(&n.into())));
+    }
 }
