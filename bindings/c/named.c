@@ -113,6 +113,16 @@ static void try_tidy(void) {
     fluent_free_text(&text);
 }
 
+static void try_outline(void) {
+    struct FluentText lines = {0};
+    struct FluentCounts counts = {0};
+    check("an outline", fluent_outline_of(SOURCE, &lines, &counts) == FLUENT_READ && holds(&lines, "a =\n.title\nn =\n")
+        && counts.messages == 2);
+    check("an outline whose counts aren't wanted", fluent_outline_of("-t = T\n", &lines, NULL) == FLUENT_READ && holds(&lines, "-t =\n"));
+    check("the outline of NULL", fluent_outline_of(NULL, &lines, NULL) == FLUENT_READ && holds(&lines, ""));
+    fluent_free_text(&lines);
+}
+
 static void try_occurrences(void) {
     struct FluentText lines = {0};
     const char *one = "{\"definition\":true,\"end\":1,\"kind\":\"message\",\"name\":\"a\",\"owner\":null,\"start\":0}\n";
@@ -178,6 +188,7 @@ int main(void) {
     try_depth();
     try_lists(&bundle);
     try_tidy();
+    try_outline();
     try_occurrences();
     try_lint();
     check("a value is there", fluent_has(&bundle, "a", NULL) == FLUENT_READ);

@@ -204,7 +204,7 @@ static inline uint32_t fluent_variables(struct FluentBundle *bundle, const char 
     return fluent_bundle_variables(bundle, fluent_bytes(id), fluent_len(id), text);
 }
 
-/* The next line of a list, such as that of fluent_bundle_messages or fluent_bundle_variables, or NULL after the last. `len`
+/* The next line of a list, such as that of fluent_bundle_messages or fluent_outline, or NULL after the last. `len`
  * is the one before, whose line is `line`; begin with NULL. The line ends in a line feed, which `len` doesn't count:
  *
  *     size_t len = 0;
@@ -222,6 +222,12 @@ static inline const char *fluent_next_line(const struct FluentText *list, const 
 static inline uint32_t fluent_tidy_of(const char *source, struct FluentText *made, struct FluentPlace *place) {
     struct FluentPlace unwanted = {0};
     return fluent_tidy(fluent_bytes(source), fluent_len(source), made, place ? place : &unwanted);
+}
+
+/* fluent_outline. `counts` may be NULL if you don't want them. */
+static inline uint32_t fluent_outline_of(const char *source, struct FluentText *made, struct FluentCounts *counts) {
+    struct FluentCounts unwanted = {0};
+    return fluent_outline(fluent_bytes(source), fluent_len(source), made, counts ? counts : &unwanted);
 }
 
 /* fluent_occurrences. */

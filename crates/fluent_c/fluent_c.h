@@ -1,6 +1,6 @@
 /* Fluent for C: the texts of messages, from a bundle that you keep or line by line from sources; which of a program's
- * languages suit a user; what is wrong with the files of a catalog; and a source's tidy text, what it is made of, in
- * numbers, and its tree as text.
+ * languages suit a user; what is wrong with the files of a catalog; and a source's tidy text, what it has, by names and
+ * in numbers, and its tree as text.
  *
  * Link libfluent_c.a with a program that has malloc, realloc and free. A text is its first byte and its length in
  * bytes. One that you pass needs no byte 0 at its end, and the library only reads it. A text of length 0 still needs a
@@ -100,13 +100,20 @@ struct FluentText {
     void *owner FLUENT_ZERO;
 };
 
+/* Lists what a source has by its names: a line for each message and each term, in their order, and after it a line for each
+ * of its attributes, in their order. Each line ends in LF:
+ *
+ *     welcome =      a message with a value
+ *     .title         an attribute of it
+ *     menu           a message without a value, which has attributes
+ *     -brand =       a term, which always has a value
+ *
+ * A name that the source has twice is there twice. `counts` are those of fluent_parse_runtime, from the same reading. It
+ * returns the numbers of fluent_parse; if that isn't FLUENT_READ, `counts` are unchanged, too. */
+uint32_t fluent_outline(const uint8_t *text, size_t len, struct FluentText *made, struct FluentCounts *counts);
+
 /* Reads a source and writes its tree back, with its junk or without. It returns the numbers of fluent_parse. */
 uint32_t fluent_write(const uint8_t *text, size_t len, bool with_junk, struct FluentText *made);
-
-/* Does what fluent_write and fluent_parse do, and reads the source once. `made` and `counts` are as they were unless it
- * returns FLUENT_READ. */
-uint32_t fluent_write_counted(
-    const uint8_t *text, size_t len, bool with_junk, struct FluentText *made, struct FluentCounts *counts);
 
 /* Reads a source and writes its tree, junk included, as JSON: compact, each object's keys in the order of their bytes.
  * It returns the numbers of fluent_parse. */

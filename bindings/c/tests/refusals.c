@@ -21,10 +21,8 @@ static const struct FluentSource SOURCES[] = {
 static uint32_t parse(struct Kept *kept) { return fluent_parse(SOURCES[0].text, SOURCES[0].len, &kept->counts); }
 static uint32_t parse_runtime(struct Kept *kept) { return fluent_parse_runtime(SOURCES[0].text, SOURCES[0].len, &kept->counts); }
 static uint32_t write_tree(struct Kept *kept) { return fluent_write(SOURCES[0].text, SOURCES[0].len, true, &kept->text); }
-static uint32_t write_counted(struct Kept *kept) {
-    return fluent_write_counted(SOURCES[0].text, SOURCES[0].len, true, &kept->text, &kept->counts);
-}
 static uint32_t write_json(struct Kept *kept) { return fluent_write_json(SOURCES[0].text, SOURCES[0].len, &kept->text); }
+static uint32_t outline(struct Kept *kept) { return fluent_outline(SOURCES[0].text, SOURCES[0].len, &kept->text, &kept->counts); }
 static uint32_t answer(struct Kept *kept) {
     return fluent_answer(SOURCES, 2, TEXT("pl"), true, false, TEXT("welcome\tname=Jane\nbroken\n"), &kept->text);
 }
@@ -111,8 +109,8 @@ static const struct {
     {"fluent_parse", parse},
     {"fluent_parse_runtime", parse_runtime},
     {"fluent_write", write_tree},
-    {"fluent_write_counted", write_counted},
     {"fluent_write_json", write_json},
+    {"fluent_outline", outline},
     {"fluent_answer", answer},
     {"fluent_answer_plain", answer_plain},
     {"fluent_bundle_new", make},

@@ -49,6 +49,7 @@ bool was_refused(void);
 
 bool try_counts(void);
 bool try_texts(void);
+bool try_outlines(void);
 bool try_answers(void);
 bool try_bundles(void);
 bool try_calls(void);

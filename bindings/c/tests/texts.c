@@ -1,7 +1,5 @@
-/* fluent_write, fluent_write_counted, fluent_write_json and fluent_free_text. */
+/* fluent_write, fluent_write_json and fluent_free_text. */
 #include "tests.h"
-
-#include <string.h>
 
 struct Row {
     const char *name;
@@ -9,35 +7,27 @@ struct Row {
     uint32_t status;
     /* What is written. */
     struct Bytes with_junk, without_junk, json;
-    /* What is counted. */
-    struct FluentCounts counts;
 };
 
 static const struct Row ROWS[] = {
-    {"nothing", BYTES(""), FLUENT_READ, BYTES(""), BYTES(""), BYTES("{\"body\":[],\"syntax\":\"2\",\"type\":\"Resource\"}"), {0}},
+    {"nothing", BYTES(""), FLUENT_READ, BYTES(""), BYTES(""), BYTES("{\"body\":[],\"syntax\":\"2\",\"type\":\"Resource\"}")},
     {"a message", BYTES("a = b\n"), FLUENT_READ, BYTES("a = b\n"), BYTES("a = b\n"),
      BYTES("{\"body\":[{\"attributes\":[],\"comment\":null,\"id\":{\"name\":\"a\",\"type\":\"Identifier\"},\"type\":\"Message\",\"value\":"
-           "{\"elements\":[{\"type\":\"TextElement\",\"value\":\"b\"}],\"type\":\"Pattern\"}}],\"syntax\":\"2\",\"type\":\"Resource\"}"), {.messages = 1}},
+           "{\"elements\":[{\"type\":\"TextElement\",\"value\":\"b\"}],\"type\":\"Pattern\"}}],\"syntax\":\"2\",\"type\":\"Resource\"}")},
     {"junk", BYTES("!\n"), FLUENT_READ, BYTES("!\n"), BYTES(""),
-     BYTES("{\"body\":[{\"content\":\"!\\n\",\"type\":\"Junk\"}],\"syntax\":\"2\",\"type\":\"Resource\"}"), {.junk = 1, .errors = 1}},
+     BYTES("{\"body\":[{\"content\":\"!\\n\",\"type\":\"Junk\"}],\"syntax\":\"2\",\"type\":\"Resource\"}")},
     {"junk between messages", BYTES("\nk1 = V\n\ng@Rb@ge = #2y ds\n\nk2 = V\n\n"), FLUENT_READ,
      BYTES("k1 = V\ng@Rb@ge = #2y ds\n\nk2 = V\n"), BYTES("k1 = V\nk2 = V\n"),
      BYTES("{\"body\":[{\"attributes\":[],\"comment\":null,\"id\":{\"name\":\"k1\",\"type\":\"Identifier\"},\"type\":\"Message\",\"value\":"
            "{\"elements\":[{\"type\":\"TextElement\",\"value\":\"V\"}],\"type\":\"Pattern\"}},"
            "{\"content\":\"g@Rb@ge = #2y ds\\n\\n\",\"type\":\"Junk\"},"
            "{\"attributes\":[],\"comment\":null,\"id\":{\"name\":\"k2\",\"type\":\"Identifier\"},\"type\":\"Message\",\"value\":"
-           "{\"elements\":[{\"type\":\"TextElement\",\"value\":\"V\"}],\"type\":\"Pattern\"}}],\"syntax\":\"2\",\"type\":\"Resource\"}"), {.messages = 2, .junk = 1, .errors = 1}},
-    {"no UTF-8", BYTES("key = \xff\n"), FLUENT_NOT_UTF8, {0}, {0}, {0}, {0}},
+           "{\"elements\":[{\"type\":\"TextElement\",\"value\":\"V\"}],\"type\":\"Pattern\"}}],\"syntax\":\"2\",\"type\":\"Resource\"}")},
+    {"no UTF-8", BYTES("key = \xff\n"), FLUENT_NOT_UTF8, {0}, {0}, {0}},
 };
 
 static uint32_t write_with_junk(const uint8_t *text, size_t len, struct FluentText *made) { return fluent_write(text, len, true, made); }
 static uint32_t write_without_junk(const uint8_t *text, size_t len, struct FluentText *made) { return fluent_write(text, len, false, made); }
-
-/* What fluent_write_counted counted last. */
-static struct FluentCounts counted;
-static uint32_t write_counted(const uint8_t *text, size_t len, struct FluentText *made) {
-    return fluent_write_counted(text, len, true, made, &counted);
-}
 
 static const struct Bytes BEFORE = BYTES("before = before\n");
 
@@ -57,17 +47,8 @@ static bool is_right(
     return is_status && is_text && !made.held && blocks_in_use() == blocks;
 }
 
-/* Whether a call of fluent_write_counted is right, and changes its counts exactly if it reads the source. */
-static bool is_counted_right(bool is_held, const struct Row *row) {
-    const struct FluentCounts other = {90, 91, 92, 93, 94}, *wanted = row->status == FLUENT_READ ? &row->counts : &other;
-    counted = other;
-    return is_right(write_counted, is_held, row->source, row->status, row->with_junk)
-        && memcmp(&counted, wanted, sizeof counted) == 0;
-}
-
-static void try_row(struct Tally *written, struct Tally *both, struct Tally *json, const struct Row *row) {
+static void try_row(struct Tally *written, struct Tally *json, const struct Row *row) {
     for (int held = 0; held < 2; held++) {
-        count_try(both, row->name, is_counted_right(held, row));
         count_try(written, row->name, is_right(write_with_junk, held, row->source, row->status, row->with_junk));
         count_try(written, row->name, is_right(write_without_junk, held, row->source, row->status, row->without_junk));
         count_try(json, row->name, is_right(fluent_write_json, held, row->source, row->status, row->json));
@@ -75,11 +56,11 @@ static void try_row(struct Tally *written, struct Tally *both, struct Tally *jso
 }
 
 bool try_texts(void) {
-    struct Tally written = {"fluent_write", 0, 0}, both = {"fluent_write_counted", 0, 0}, json = {"fluent_write_json", 0, 0};
+    struct Tally written = {"fluent_write", 0, 0}, json = {"fluent_write_json", 0, 0};
     for (size_t i = 0; i < sizeof ROWS / sizeof *ROWS; i++)
-        try_row(&written, &both, &json, &ROWS[i]);
-    const struct Row deep = {"a level more", nested(MOST_LEVELS + 1), FLUENT_NO_MEMORY, {0}, {0}, {0}, {0}};
-    try_row(&written, &both, &json, &deep);
-    bool is_written_right = print_tally(&written), is_both_right = print_tally(&both);
-    return print_tally(&json) && is_written_right && is_both_right;
+        try_row(&written, &json, &ROWS[i]);
+    const struct Row deep = {"a level more", nested(MOST_LEVELS + 1), FLUENT_NO_MEMORY, {0}, {0}, {0}};
+    try_row(&written, &json, &deep);
+    bool is_written_right = print_tally(&written);
+    return print_tally(&json) && is_written_right;
 }

@@ -54,9 +54,10 @@ enum Held {
 }
 
 impl Held {
-    fn of(entry: &Entry, bundle: u64) -> Held {
+    /// What an entry of this id is in the bundle of this number.
+    fn of(entry: &Entry<'_>, id: &Arc<str>, bundle: u64) -> Held {
         match entry.kind {
-            EntryKind::Message => Held::Message(Message::of(entry, bundle)),
+            EntryKind::Message => Held::Message(Message::of(entry, id, bundle)),
             EntryKind::Term | EntryKind::Function => Held::Other,
         }
     }
@@ -95,16 +96,17 @@ impl<R: Borrow<FluentResource>> FluentBundle<R> {
     /// # Errors
     /// [`FluentError::Overriding`] for each entry whose id was there; the others are added.
     pub fn add_resource(&mut self, resource: R) -> Result<(), Vec<FluentError>> {
-        self.forget();
+        self.prepare(resource.borrow());
         let mut errors = Vec::new();
         for entry in resource.borrow().entries() {
-            match self.entries.entry(entry.id.clone()) {
+            match self.entries.entry(Arc::from(entry.id)) {
                 hash_map::Entry::Vacant(place) => {
-                    place.insert(Held::of(entry, self.number));
-                    self.ids.push(entry.id.clone());
+                    let id = Arc::clone(place.key());
+                    place.insert(Held::of(&entry, &id, self.number));
+                    self.ids.push(id);
                 }
                 hash_map::Entry::Occupied(_) => {
-                    errors.push(FluentError::Overriding { kind: entry.kind, id: entry.id.to_string() });
+                    errors.push(FluentError::Overriding { kind: entry.kind, id: entry.id.to_owned() });
                 }
             }
         }
@@ -121,10 +123,12 @@ impl<R: Borrow<FluentResource>> FluentBundle<R> {
     /// If a resource that [`FluentBundle::add_resource`] added has an id twice too, the first entry of the overriding
     /// one counts.
     pub fn add_resource_overriding(&mut self, resource: R) {
-        self.forget();
+        self.prepare(resource.borrow());
         for entry in resource.borrow().entries() {
-            if self.entries.insert(entry.id.clone(), Held::of(entry, self.number)).is_none() {
-                self.ids.push(entry.id.clone());
+            let id = Arc::from(entry.id);
+            let held = Held::of(&entry, &id, self.number);
+            if self.entries.insert(Arc::clone(&id), held).is_none() {
+                self.ids.push(id);
             }
         }
         self.resources.push(Added { resource, overriding: true });
@@ -335,6 +339,13 @@ impl<R: Borrow<FluentResource>> FluentBundle<R> {
     fn added(&self, overriding: bool) -> impl DoubleEndedIterator<Item = &FluentResource> {
         let resources = self.resources.iter().filter(move |added| added.overriding == overriding);
         resources.map(|added| added.resource.borrow())
+    }
+
+    /// Forgets what the library was asked, and makes room for the entries of a resource.
+    fn prepare(&mut self, resource: &FluentResource) {
+        self.forget();
+        self.entries.reserve(resource.len());
+        self.ids.reserve(resource.len());
     }
 
     /// Forgets what the library was asked, before the bundle changes.

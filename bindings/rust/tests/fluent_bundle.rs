@@ -214,6 +214,15 @@ m = { n } { m }
 }
 
 #[test]
+fn comments_have_no_errors() {
+    assert!(FluentResource::try_new("#bad\na = b\n".into()).is_ok());
+    let source = "#bad é\nx\n##bad\r\ny = {\n#\nb = c";
+    let (_, errors) = FluentResource::try_new(source.into()).expect_err("The source has errors.");
+    let found: Vec<_> = errors.into_iter().map(|error| (error.pos, error.kind)).collect();
+    assert_eq!(found, [(9..10, ErrorKind::ExpectedToken), (23..24, ErrorKind::ExpectedInlineExpression)]);
+}
+
+#[test]
 fn errors_of_a_source_have_places() {
     let (_, errors) = FluentResource::try_new("a = b\ng@Rb@ge\nc = {\n".into()).expect_err("The source has errors.");
     assert_eq!((errors[0].pos.clone(), errors[0].kind), (7..8, ErrorKind::ExpectedToken));

@@ -4,3 +4,4 @@ mod Sources
 mod Given
 mod Reports
 mod InOrder
+mod OutlineRows

@@ -13,6 +13,7 @@ pub mod Languages
 pub mod Linting
 pub mod Listing
 pub mod Options
+pub mod Outline
 pub mod Calling
 pub mod Statuses
 pub mod Tidying

@@ -1,6 +1,6 @@
 //! Fluent for programs in C and Rust: the texts of messages, from a bundle that is kept ([`fluent_bundle_new`]) or from sources, line
-//! by line ([`fluent_answer`]); which of a program's languages suit a user ([`fluent_negotiate`]); what a source is made of, in
-//! numbers; and its tree as text, written back or as JSON.
+//! by line ([`fluent_answer`]); which of a program's languages suit a user ([`fluent_negotiate`]); what a source has, in
+//! numbers and by names; and its tree as text, written back or as JSON.
 //!
 //! No call takes much of the machine's stack: a source or an answer that nests too deep for 1.5 MB is refused as out of memory, so
 //! a thread with a stack of 2 MB can make each call. A bundle made by [`fluent_bundle_new_within`] has another budget.
@@ -26,6 +26,7 @@ mod locales;
 mod names;
 mod occurrences;
 mod options;
+mod outline;
 mod text;
 mod threads;
 mod tidying;
@@ -49,12 +50,13 @@ pub use linting::{FluentLintOptions, fluent_lint};
 pub use listing::{fluent_bundle_attributes, fluent_bundle_messages};
 pub use occurrences::fluent_occurrences;
 pub use options::{FluentBundleOptions, fluent_bundle_new_with};
+pub use outline::fluent_outline;
 pub use text::{FluentText, fluent_free_text};
 pub use threads::texts_are_send;
 pub use tidying::{FluentPlace, fluent_tidy};
 pub use variables::fluent_bundle_variables;
 pub use version::fluent_version;
-pub use writing::{fluent_write, fluent_write_counted, fluent_write_json};
+pub use writing::{fluent_write, fluent_write_json};
 
 /// The version of the library: a million for the first number, a thousand for the second, and one for the third.
 pub const FLUENT_VERSION: u32 = 1000;

@@ -2,16 +2,15 @@
 
 ghost use Rattle.std.specs.Prelude.{◌≡◌, ◌≢◌, IfOk};
 ghost use Rattle.serde_json.specs.Written.{compact_text};
-ghost use Rattle.fluent_syntax.specs.Tiling.{errors, tree};
+ghost use Rattle.fluent_syntax.specs.Tiling.{tree};
 ghost use Rattle.fluent_syntax.specs.Written.{written_with};
 ghost use Rattle.fluent_json.specs.Json.{json};
 ghost use Rattle.fluent_json.specs.Parts as owned;
-ghost use Rattle.fluent_c.specs.Counts.{Counted, plain};
+ghost use Rattle.fluent_c.specs.Counts.{plain};
 ghost use Rattle.fluent_c.specs.Made.{Holds};
 ghost use Rattle.fluent_c.specs.Statuses.{ReadsSource};
 ghost use Rattle.fluent_c.specs.declared.TheConstants.{FLUENT_READ};
 
-use crate::counts::FluentCounts;
 use crate::text::FluentText;
 use crate::{FLUENT_NO_MEMORY, FLUENT_NOT_UTF8, FLUENT_READ};
 use fluent_json::to_value;
@@ -21,6 +20,17 @@ use fluent_syntax::serializer::{Options, serialize_with_options};
 use fluent_text::stack::StackBudget;
 use simdutf8::basic::from_utf8;
 use std::alloc::{AllocError, Global};
+
+/// The tree of a source, with or without errors.
+fn read(alloc: Global, text: &str) -> Result<Resource<&str>, AllocError>
+    ensures { IfOk result (λ resource. plain resource ≡ tree text.now) }
+{
+    match parse_within(alloc, text, StackBudget::THREAD) {
+        Ok(resource) => Ok(resource),
+        Err(Error::Broken(resource, _errors)) => Ok(resource),
+        Err(Error::Memory) => Err(AllocError),
+    }
+}
 
 /// The tree of a source, with texts of its own.
 fn read_owned(alloc: Global, text: &str) -> Result<Resource<String>, AllocError>
@@ -33,53 +43,13 @@ fn read_owned(alloc: Global, text: &str) -> Result<Resource<String>, AllocError>
     }
 }
 
-/// The tree of a source, with or without errors, and its counts.
-#[derive(Drop)]
-struct SourceTree<'s> {
-    resource: Resource<&'s str>,
-    counts: FluentCounts,
-}
-
-impl<'s> SourceTree<'s> {
-    /// Reads a source.
-    ///
-    /// # Errors
-    /// [`AllocError`] if memory runs out, or the source nests too deep; nothing is kept.
-    fn of(alloc: Global, text: &'s str) -> Result<Self, AllocError>
-        ensures tree { IfOk result (λ read. plain read.resource ≡ tree text.now) }
-        ensures counts { IfOk result (λ read. Counted read.counts (tree text.now) (errors text.now)) }
-    {
-        match parse_within(alloc, text, StackBudget::THREAD) {
-            Ok(resource) => {
-                let counts = FluentCounts::of(&resource, 0);
-                Ok(SourceTree { resource, counts })
-            }
-            Err(Error::Broken(resource, errors)) => {
-                let counts = FluentCounts::of(&resource, errors.len());
-                Ok(SourceTree { resource, counts })
-            }
-            Err(Error::Memory) => Err(AllocError),
-        }
-    }
-
-    /// The text that the tree is written as.
-    ///
-    /// # Errors
-    /// [`AllocError`] if memory runs out; nothing is kept.
-    fn written(&self, alloc: Global, with_junk: bool) -> Result<FluentText, AllocError>
-        ensures { IfOk result (λ made. Holds made (written_with with_junk (plain self.now.resource))) }
-    {
-        let written = serialize_with_options(alloc, &self.resource, Options { with_junk })?;
-        FluentText::of(alloc, written.into_bytes())
-    }
-}
-
 /// The text that a source's tree is written as.
 fn written(alloc: Global, text: &str, with_junk: bool) -> Result<FluentText, AllocError>
     ensures { IfOk result (λ made. Holds made (written_with with_junk (tree text.now))) }
 {
-    let tree = SourceTree::of(alloc, text)?;
-    tree.written(alloc, with_junk)
+    let resource = read(alloc, text)?;
+    let written = serialize_with_options(alloc, &resource, Options { with_junk })?;
+    FluentText::of(alloc, written.into_bytes())
 }
 
 /// The JSON text of a source's tree.
@@ -116,56 +86,6 @@ pub extern "C" fn fluent_write(
     match written(alloc, text, with_junk) {
         Ok(text) => {
             made.put(alloc, text);
-            FLUENT_READ
-        }
-        Err(_) => FLUENT_NO_MEMORY,
-    }
-}
-
-/// The text that a source's tree is written as, and the counts of the tree.
-///
-/// # Errors
-/// [`AllocError`] if memory runs out, or the source nests too deep; nothing is kept.
-fn written_counted(
-    alloc: Global,
-    text: &str,
-    with_junk: bool,
-) -> Result<(FluentText, FluentCounts), AllocError>
-    ensures written { IfOk result (λ pair. Holds pair.0 (written_with with_junk (tree text.now))) }
-    ensures counted { IfOk result (λ pair. Counted pair.1 (tree text.now) (errors text.now)) }
-{
-    let tree = SourceTree::of(alloc, text)?;
-    let written = tree.written(alloc, with_junk)?;
-    Ok((written, tree.counts))
-}
-
-/// Reads a source once, writes its tree back as [`fluent_write`] does, and counts its entries and errors as
-/// [`fluent_parse`](crate::counts::fluent_parse) does.
-///
-/// The call returns what [`fluent_write`] does; `made` and `counts` are unchanged unless it is [`FLUENT_READ`].
-#[unsafe(no_mangle)]
-pub extern "C" fn fluent_write_counted(
-    alloc: Global,
-    text: &[u8],
-    with_junk: bool,
-    made: &mut FluentText,
-    counts: &mut FluentCounts,
-) -> u32
-    ensures status { ReadsSource text.now result }
-    ensures written { result ≡ FLUENT_READ
-        → Holds made.new (written_with with_junk (tree text.now)) }
-    ensures counted { result ≡ FLUENT_READ
-        → Counted counts.new (tree text.now) (errors text.now) }
-    ensures unchanged { result ≢ FLUENT_READ
-        → (made.new ≡ made.old) × (counts.new ≡ counts.old) }
-{
-    let Ok(text) = from_utf8(text) else {
-        return FLUENT_NOT_UTF8;
-    };
-    match written_counted(alloc, text, with_junk) {
-        Ok((written, found)) => {
-            made.put(alloc, written);
-            *counts = found;
             FLUENT_READ
         }
         Err(_) => FLUENT_NO_MEMORY,
