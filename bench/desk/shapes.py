@@ -77,8 +77,8 @@ class Walk:
         while self.next() and self.next() in characters:
             self.at += 1
 
-    def behind(self, end):
-        """Goes behind the next `end`, or to the end of the source."""
+    def go_past(self, end):
+        """Goes past the next `end`, or to the end of the source."""
         found = self.text.find(end, self.at)
         self.at = len(self.text) if found < 0 else found + len(end)
 
@@ -87,13 +87,13 @@ class Walk:
         while self.next():
             self.skip(" ")
             if self.next() in ("", "\n", "#"):
-                self.behind("\n")
+                self.go_past("\n")
             else:
-                self.behind("=")
+                self.go_past("=")
                 self.pattern()
 
     def pattern(self):
-        """Goes through a pattern, to the start of the line behind it, or to a brace that ends it."""
+        """Goes through a pattern, to the start of the line after it, or to a brace that ends it."""
         self.rest_of_line()
         while self.next() not in ("", "}"):
             start = self.at
@@ -106,7 +106,7 @@ class Walk:
             self.rest_of_line()
 
     def rest_of_line(self):
-        """Goes through texts and placeables, behind the end of the line or to a brace that closes."""
+        """Goes through texts and placeables, past the end of the line or to a brace that closes."""
         while self.next() not in ("", "}"):
             if self.next() == "{":
                 self.placeable()
@@ -117,7 +117,7 @@ class Walk:
                 self.at += 1
 
     def placeable(self):
-        """Goes through a placeable, from its first brace behind its last."""
+        """Goes through a placeable, past its last brace."""
         self.at += 1
         while self.next() not in ("", "}"):
             if self.next() == '"':
@@ -139,7 +139,7 @@ class Walk:
         self.at += 1
 
     def variants(self):
-        """Goes through the variants of a select, to the brace behind them."""
+        """Goes through the variants of a select, to the brace after them."""
         self.skip(" \n")
         while self.next() not in ("", "}"):
             if self.next() == "*":
@@ -147,6 +147,6 @@ class Walk:
                 if self.next() != "[":
                     self.found.add(LONE_MARK)
             else:
-                self.behind("]")
+                self.go_past("]")
                 self.pattern()
             self.skip(" \n")

@@ -135,19 +135,19 @@ enum Answer<'a> {
 
 /// Takes an answer from the front of `rest`.
 fn next_answer<'a>(rest: &mut &'a str) -> Option<Answer<'a>> {
-    let (head, behind) = rest.split_once('\n')?;
-    *rest = behind;
+    let (head, after) = rest.split_once('\n')?;
+    *rest = after;
     let Some(counts) = head.strip_prefix("ok ") else {
         return Some(Answer::Nothing(head));
     };
     let (bytes, errors) = counts.split_once(' ')?;
-    let (text, behind) = rest.split_at(bytes.parse().ok()?);
-    *rest = behind.strip_prefix('\n')?;
+    let (text, after) = rest.split_at(bytes.parse().ok()?);
+    *rest = after.strip_prefix('\n')?;
     let mut told = Vec::new();
     for _ in 0..errors.parse().ok()? {
-        let (error, behind) = rest.split_once('\n')?;
+        let (error, after) = rest.split_once('\n')?;
         told.push(error);
-        *rest = behind;
+        *rest = after;
     }
     Some(Answer::Text { text, errors: told })
 }

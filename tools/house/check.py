@@ -5,13 +5,13 @@
 
 Each block of code in a page is cut from an example, and each in the doc comment of a public crate from an example or another
 crate that the gate proves or tries, unless its fence is `no_run`: such a block was only tried once. Each public type that
-programs use has a block. Each link leads to a file and a heading that are there, and so does each path in `crates` that a
-page names; each page that a comment names is there; no line of prose in a page is wider than 120 columns; no page has words
-that docs/style.md leaves out, and no comment of the code has "behind" for "after"; each call in a shell block of a page prints
-what follows it there; each public call that can fail says how, under `# Errors`; no clause is longer than 200 characters, and
-at most 33 are longer than 120; each file that names the version names the same one, and each that lists the codes of
-findings lists the same ones; the counts of crates and functions in the pages on proofs are those of the sources; and each
-law, function and clause that a row of `proved.md` names is in the row's crates.
+programs use has a block. Each link leads to a file and a heading that are there, and so does each path in `crates` that a page
+names; each page that a comment names is there; no line of prose in a page is wider than 120 columns; no page has words that
+docs/style.md leaves out, and no comment of the code, its definitions and its proofs has "behind" for "after"; each call in a
+shell block of a page prints what follows it there; each public call that can fail says how, under `# Errors`; no clause is
+longer than 200 characters, and at most 33 are longer than 120; each file that names the version names the same one, and each
+that lists the codes of findings lists the same ones; the counts of crates and functions in the pages on proofs are those of the
+sources; and each law, function and clause that a row of `proved.md` names is in the row's crates.
 
 Prints what isn't so, then how many of these checks passed and failed, and ends with 1 if one failed. The calls of shell
 blocks need the built program, `crates/ftl/out/ftl`: without it they are skipped. `--calls` runs them alone, and `--sources`
@@ -27,7 +27,8 @@ from pathlib import Path
 OPTIONS = [word for word in sys.argv[1:] if word.startswith('--')]
 FOLDERS = [word for word in sys.argv[1:] if not word.startswith('--')]
 ROOT = Path(FOLDERS[0] if FOLDERS else Path(__file__).parents[2]).resolve()
-PAGES = [page for files in ('*.md', 'docs/**/*.md', 'bindings/**/*.md', 'crates/*/CALLING.md') for page in sorted(ROOT.glob(files))]
+PAGES = [page for files in ('*.md', 'docs/**/*.md', 'bindings/**/*.md', 'crates/*/CALLING.md', 'tests/*/README.md', 'tools/*/README.md')
+         for page in sorted(ROOT.glob(files))]
 SOURCES = sorted(ROOT.glob('crates/*/src/**/*.rt'))
 # Crates of rows and examples: nobody calls them.
 PRIVATE = re.compile(r'^(example|rows_|all_rows)')
@@ -79,6 +80,16 @@ EXAMPLES = {
 OF_ROOT_FILE = re.compile(r'^#!\[tactic\(auto\)\]$|^pub (?=fn main\()')
 # Paths in `crates` that are there once a reader has made them.
 OF_READER = re.compile(r'^crates/hello/|/out\b')
+# What has comments that are read, and how a line's comment begins.
+COMMENTED = {
+    'crates/*/src/**/*.rt': r'//[/!]?',
+    'crates/*/specs/**/*.antt': r'--',
+    'crates/*/proofs/**/*.antt': r'--',
+    'tests/more_rows/src/**/*.rt.txt': r'//[/!]?',
+    'bench/*/src/**/*.rs': r'//[/!]?',
+    'bindings/rust/src/**/*.rs': r'//[/!]?',
+    'examples/rust/*.rs': r'//[/!]?',
+}
 # Where "behind" doesn't mean "after".
 GOOD_BEHIND = re.compile(r'\b(?:left|leaves?|far|call)\b[^.;]*?\bbehind\b')
 # Where the version is named. The first match counts: in the changelog that is the topmost release. What only some checkouts
@@ -231,11 +242,12 @@ def wrong_words():
 
 
 def wrong_comments():
-    for path in SOURCES:
-        for number, line in enumerate(path.read_text().split('\n'), 1):
-            comment = re.search(r'(?:^|\s)//[/!]?(.*)', line)
-            if comment and re.search(r'\bbehind\b', GOOD_BEHIND.sub('', comment.group(1)), re.I):
-                yield f'{place_of(path, number)}: the style leaves out "behind"'
+    for files, sign in COMMENTED.items():
+        for path in sorted(ROOT.glob(files)):
+            for number, line in enumerate(path.read_text().split('\n'), 1):
+                comment = re.search(rf'(?:^|\s){sign}(?:\s|$)(.*)', line)
+                if comment and re.search(r'\bbehind\b', GOOD_BEHIND.sub('', comment.group(1)), re.I):
+                    yield f'{place_of(path, number)}: the style leaves out "behind"'
 
 
 def versions_named():

@@ -63,7 +63,7 @@ impl Made {
 
 impl Drop for Made {
     fn drop(&mut self) {
-        // The text is freed once: it is held no more behind this call.
+        // The text is freed once: it isn't held after this call.
         unsafe { fluent_free_text(self) };
     }
 }

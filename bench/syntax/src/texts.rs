@@ -11,7 +11,7 @@ pub enum Text {
     Shape(Shape),
 }
 
-/// A head with a part behind it that is repeated.
+/// A head, and a part that is repeated after it.
 pub struct Shape {
     name: String,
     head: &'static str,

@@ -57,8 +57,8 @@ class Document:
 
     def range(self, start: int, end: int) -> dict[str, dict[str, int]]:
         """The range between two offsets."""
-        (line, character), (last, behind) = self.lines.position(start), self.lines.position(end)
-        return {"start": {"line": line, "character": character}, "end": {"line": last, "character": behind}}
+        (line, character), (last, after) = self.lines.position(start), self.lines.position(end)
+        return {"start": {"line": line, "character": character}, "end": {"line": last, "character": after}}
 
 
 def _path(uri: str) -> Path | None:
