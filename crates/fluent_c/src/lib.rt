@@ -29,6 +29,7 @@ mod options;
 mod text;
 mod threads;
 mod tidying;
+mod utf8;
 mod variables;
 mod version;
 mod writing;
