@@ -7,10 +7,10 @@ ghost use Rattle.fluent_value.specs.Args.{all_set, order};
 ghost use Rattle.fluent_c.specs.Arguments.{AreRefusedFor, AreTaken, IsRefusedFor, IsTaken, number_given, pair_of, value_given, value_seen, with_given};
 ghost use Rattle.fluent_c.specs.declared.arguments.ArgumentRefusal.TheVariants.{Memory};
 
+use crate::utf8::text_in;
 use crate::{FLUENT_DECIMAL, FLUENT_INTEGER, FLUENT_NO_VALUE, FLUENT_TEXT, FLUENT_UNSIGNED};
 use fluent_number::FluentNumber;
 use fluent_value::{FluentArgs, FluentValue, NoCustom};
-use simdutf8::basic::from_utf8;
 use std::alloc::{AllocError, Global};
 use std::borrow::CowStr;
 
@@ -98,10 +98,10 @@ fn set<'a>(
     ensures taken { OnOk result (IsTaken argument.now) }
     ensures refused { IfErr result (IsRefusedFor argument.now) }
 {
-    let Ok(name) = std::str::from_utf8(argument.name) else {
+    let Some(name) = text_in(argument.name) else {
         return Err(ArgumentRefusal::NotUtf8);
     };
-    let Ok(text) = from_utf8(argument.text) else {
+    let Some(text) = text_in(argument.text) else {
         return Err(ArgumentRefusal::NotUtf8);
     };
     let Some(value) = value_of(argument, text) else {

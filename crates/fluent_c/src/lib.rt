@@ -30,6 +30,7 @@ mod outline;
 mod text;
 mod threads;
 mod tidying;
+mod utf8;
 mod variables;
 mod version;
 mod writing;

@@ -3,19 +3,15 @@
 ghost use Rattle.std.specs.Prelude.{MatchOption};
 ghost use Rattle.fluent_c.specs.Bundles.{AreNamed, AreNames};
 
-use std::str::from_utf8;
+use crate::utf8::text_in;
 
 /// An id, and the name of an attribute unless it is empty, if both are UTF-8.
 pub(crate) fn names_of<'a>(id: &'a [u8], attribute: &'a [u8]) -> Option<(&'a str, Option<&'a str>)>
     ensures { MatchOption result (¬ (AreNames id.now attribute.now))
         (AreNamed id.now attribute.now) }
 {
-    let Ok(id) = from_utf8(id) else {
-        return None;
-    };
-    let Ok(name) = from_utf8(attribute) else {
-        return None;
-    };
+    let id = text_in(id)?;
+    let name = text_in(attribute)?;
     if name.is_empty() {
         return Some((id, None));
     }
