@@ -18,7 +18,12 @@ pub(crate) struct Entry<'l> {
 impl<'l> Entry<'l> {
     /// The names of the attributes, in their order.
     pub(crate) fn attributes(&self) -> impl Iterator<Item = &'l str> {
-        self.attributes.split_terminator('\n').filter_map(|line| line.strip_prefix('.'))
+        let mut rest = self.attributes;
+        std::iter::from_fn(move || {
+            let (line, below) = cut_line(rest)?;
+            rest = below;
+            line.strip_prefix('.')
+        })
     }
 }
 
@@ -63,10 +68,10 @@ impl<'l> Iterator for Entries<'l> {
     type Item = Entry<'l>;
 
     fn next(&mut self) -> Option<Entry<'l>> {
-        let (line, below) = self.0.split_once('\n')?;
+        let (line, below) = cut_line(self.0)?;
         let mut rest = below;
         while rest.starts_with('.') {
-            rest = rest.split_once('\n')?.1;
+            rest = cut_line(rest)?.1;
         }
         self.0 = rest;
         let attributes = &below[..below.len() - rest.len()];
@@ -80,6 +85,12 @@ impl<'l> Iterator for Entries<'l> {
         };
         Some(Entry { kind, id, has_value, attributes })
     }
+}
+
+/// Cuts the first line off. Lines are so short that a look at each byte is the fastest way to find the end.
+fn cut_line(lines: &str) -> Option<(&str, &str)> {
+    let end = lines.bytes().position(|byte| byte == b'\n')?;
+    Some((&lines[..end], &lines[end + 1..]))
 }
 
 #[cfg(test)]
