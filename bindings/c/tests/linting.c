@@ -30,10 +30,10 @@ struct Row {
 #define HALLO FILE_OF("de.ftl", "hi = Hallo, { $nmae }!\nbye = { hi }\n")
 #define HELLO FILE_OF("en.ftl", "hi = Hello, { $name }!\nbye = Bye, { $name }!\n")
 #define COMPARED \
-    "{\"code\":\"unknown-variable\",\"column\":15,\"entry\":\"hi\",\"file\":\"de.ftl\",\"hint\":null,\"line\":1,\"offset\":14," \
-    "\"severity\":\"error\",\"text\":\"the reference has no variable `$nmae`\"}\n" \
-    "{\"code\":\"unknown-variable\",\"column\":1,\"entry\":\"bye\",\"file\":\"de.ftl\",\"hint\":null,\"line\":2,\"offset\":23," \
-    "\"severity\":\"error\",\"text\":\"the reference has no variable `$nmae`\"}\n" \
+    "{\"code\":\"unknown-variable\",\"column\":15,\"entry\":\"hi\",\"file\":\"de.ftl\"," \
+    "\"hint\":\"did you mean `$name`?\",\"line\":1,\"offset\":14,\"severity\":\"error\",\"text\":\"the reference has no variable `$nmae`\"}\n" \
+    "{\"code\":\"unknown-variable\",\"column\":1,\"entry\":\"bye\",\"file\":\"de.ftl\"," \
+    "\"hint\":\"did you mean `$name`?\",\"line\":2,\"offset\":23,\"severity\":\"error\",\"text\":\"the reference has no variable `$nmae`\"}\n" \
     "{\"file\":\"de.ftl\",\"messages\":2,\"missing\":null,\"obsolete\":0,\"untranslated\":0}\n" \
     "{\"file\":\"en.ftl\",\"messages\":2,\"missing\":0,\"obsolete\":null,\"untranslated\":null}\n"
 

@@ -71,13 +71,18 @@ def extent(source: bytes, offset: int) -> tuple[int, int]:
 def fixes(
     finding: Finding, places: Places, catalog: Catalog, reference: Catalog, functions: Iterable[str] = ()
 ) -> list[Fix]:
-    """How a finding can be mended, the best first."""
+    """How a finding can be mended, the best first.
+
+    A variable of a message that is referred to is found at the id of the other message: there is nothing to change there.
+    """
     if finding.code == "missing-category":
         return _with_variant(finding, places)
     if finding.code not in _MISSING:
         return []
     start, end = extent(places.source, finding.offset)
     written = places.source[start:end].decode()
+    if finding.code == "unknown-variable" and not written.startswith("$"):
+        return []
     known = _known(finding, written, catalog, reference, functions)
     named = [name for name in _NAMED.findall(finding.hint or "") if name != written]
     sure = [name for name in named if name in known]

@@ -334,6 +334,9 @@ class FixesTest(unittest.TestCase):
         self.assertEqual(self.fixed("save = S\na = { svae } { NUMBR(1) }\n"), "save = S\na = { save } { NUMBER(1) }\n")
         self.assertEqual(self.fixed("a = { $nmae }\n", "a = { $name }\n"), "a = { $name }\n")
         self.assertEqual(
+            self.fixed("a = { $nmae }\nb = { a }\n", "a = { $nmae }\nb = { $name }\n"), "a = { $nmae }\nb = { a }\n"
+        )
+        self.assertEqual(
             self.fixed("b = x\n    .title = y\na = { b.titel }\n"), "b = x\n    .title = y\na = { b.title }\n"
         )
         self.assertEqual(self.fixed("a = { -quite-another }\n"), "a = { -quite-another }\n")

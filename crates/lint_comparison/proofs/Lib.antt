@@ -8,3 +8,5 @@ pub mod Placed
 pub mod Lists
 pub mod MissingParts
 pub mod Naming
+pub mod Hinting
+pub mod Variables

@@ -10,6 +10,8 @@ use Rattle.lint_findings.specs.Tiles.{entry_tile}
 use Rattle.fluent_grammar.specs.Tree as t
 use Rattle.fluent_grammar.specs.Words.{Text}
 use Rattle.fluent_meaning.specs.Ids.{Ids}
+use Rattle.lint_endless.specs.HasNames.{HasNames}
+use Rattle.lint_endless.specs.declared.names.Names.{Names}
 
 -- the findings of an entry of a catalog with this reference, in this source
 abbrev pub AreFoundIn : Ids (Unit {0}) → Ids (Unit {0}) → Text → t.Entry → Text → Vec Finding Global → Type 0
@@ -19,10 +21,11 @@ AreFoundIn ids reference source e s found = map finding_view found.items ≡ c.m
 abbrev pub IsMissingIn : Ids (Unit {0}) → Text → t.Entry → Text → Option Finding → Type 0
 IsMissingIn ids source e s found = (at : ℕ) → map finding_view (option_to_list found) ≡ c.missing_findings ids source (entry_tile at s e)
 
--- ---- of differences of the message of an id at the front of a text
+-- ---- of differences of the message of an id at the front of a text, if the message of the reference is shown with the
+-- variables that are listed
 
-abbrev pub IsFindingOf : Text → Text → Text → Difference → Finding → Type 0
-IsFindingOf source id s d found = finding_view found ≡ c.difference_finding source id s d
+abbrev pub IsFindingBy : Text → Text → Text → Names → Difference → Finding → Type 0
+IsFindingBy source id s names d found = (known : List Text) → HasNames names known → finding_view found ≡ c.difference_finding source id s known d
 
-abbrev pub AreFindingsOf : Text → Text → Text → List Difference → Vec Finding Global → Type 0
-AreFindingsOf source id s ds found = map finding_view found.items ≡ map (c.difference_finding source id s) ds
+abbrev pub AreFindingsBy : Text → Text → Text → Names → List Difference → Vec Finding Global → Type 0
+AreFindingsBy source id s names ds found = (known : List Text) → HasNames names known → map finding_view found.items ≡ map (c.difference_finding source id s known) ds

@@ -20,7 +20,9 @@ use Rattle.fluent_ids.specs.IdsView.{ids_view}
 use Rattle.fluent_ids.specs.declared.ids.FluentIds.{FluentIds}
 use Rattle.fluent_meaning.specs.Same.{same_elements}
 use Rattle.lint_comparison.specs.Compared.{untranslated_if, variable_differences}
-use Rattle.lint_comparison.specs.Found.{AreFindingsOf, AreFoundIn}
+use Rattle.lint_comparison.specs.Found.{AreFindingsBy, AreFoundIn}
+use Rattle.lint_endless.specs.HasNames.{HasNames}
+use Rattle.lint_endless.specs.declared.names.Names.{Names}
 
 -- ---- by ids of a catalog and of its reference
 
@@ -28,6 +30,10 @@ module _ (ids : FluentIds (Unit {0})) where
   -- the variables that the message of an id is shown with
   abbrev pub variables_by : Text → List Text
   variables_by id = c.variables_of (ids_view (Unit {0}) ids) id
+
+  -- these names are those variables
+  abbrev pub AreVariablesOf : Text → Names → Type 0
+  AreVariablesOf id names = HasNames names (variables_by id)
 
 module _ (ids reference : FluentIds (Unit {0})) where
   abbrev pub differences_by : Text → List c.Difference
@@ -56,9 +62,9 @@ abbrev pub same_attribute : Attribute (Bor Text) → Attribute (Bor Text) → Bo
 same_attribute attribute other =
     bytes_eq (attribute_of other).id (attribute_of attribute).id && same_elements (attribute_of attribute).value (attribute_of other).value
 
--- the findings of these differences of a message
-abbrev pub AreFindingsBy : Text → Message (Bor Text) → Text → List Difference → Vec Finding Global → Type 0
-AreFindingsBy source message text differences found = AreFindingsOf source (message_of message).id text (map difference_view differences) found
+-- the findings of these differences of a message, by the variables that are listed
+abbrev pub AreMessageFindings : Text → Message (Bor Text) → Text → Names → List Difference → Vec Finding Global → Type 0
+AreMessageFindings source message text names differences found = AreFindingsBy source (message_of message).id text names (map difference_view differences) found
 
 -- what is left of a text after the value at its front
 abbrev pub LeavesOfValue : Option (Pattern (Bor Text)) → Text → Text → Type 0

@@ -8,3 +8,4 @@ pub mod InCode
 pub mod Missing
 pub mod Referred
 pub mod ComparedBy
+pub mod Hinted

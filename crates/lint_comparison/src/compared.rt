@@ -4,7 +4,7 @@
 ghost use Rattle.std.specs.Prelude.{◌≡◌, IfOk, OnOk, map};
 ghost use Rattle.fluent_ast.specs.Borrowed.{message_of};
 ghost use Rattle.lint_comparison.specs.Compared.{AddsVariablesBy, own_differences};
-ghost use Rattle.lint_comparison.specs.InCode.{differences_by, message_differences_by, untranslated_by, values_difference, variable_differences_by, variables_by};
+ghost use Rattle.lint_comparison.specs.InCode.{AreVariablesOf, differences_by, message_differences_by, untranslated_by, values_difference, variable_differences_by, variables_by};
 ghost use Rattle.lint_comparison.specs.Lacks.{Adds};
 ghost use Rattle.lint_finding.specs.DifferenceView.{difference_view};
 
@@ -18,46 +18,68 @@ use lint_finding::{CatalogIds, Difference};
 use std::alloc::{AllocError, Global};
 
 /// How an id of a catalog differs from that of the reference.
+#[derive(Drop)]
+pub struct Comparison<'i> {
+    /// The differences.
+    pub differences: Vec<Difference<'i>>,
+    /// The variables that the message of the reference is shown with.
+    pub variables: Names<'i>,
+}
+
+/// Compares an id of a catalog with that of the reference.
 ///
 /// # Errors
 /// [`AllocError`] if memory runs out; nothing is kept.
-pub fn differences<'i, 's: 'i>(
+pub fn compare<'i, 's: 'i>(
     alloc: Global,
     ids: &CatalogIds<'_, 's>,
     reference: &CatalogIds<'_, 's>,
     id: &'i str,
-) -> Result<Vec<Difference<'i>>, AllocError>
-    ensures { IfOk result (λ found. map difference_view found.items
+) -> Result<Comparison<'i>, AllocError>
+    ensures found { IfOk result (λ compared. map difference_view compared.differences.items
         ≡ differences_by ids.now reference.now id.now) }
+    ensures known { IfOk result
+        (λ compared. AreVariablesOf reference.now id.now compared.variables) }
 {
-    let mut found = Vec::new(alloc);
-    push_differences(alloc, ids, reference, id, &mut found)?;
-    Ok(found)
+    let mut differences = Vec::new(alloc);
+    let variables = push_differences(alloc, ids, reference, id, &mut differences)?;
+    Ok(Comparison {
+        differences,
+        variables,
+    })
 }
 
-/// Adds them.
+/// Adds the differences. The result is the variables of the reference.
 fn push_differences<'i, 's: 'i>(
     alloc: Global,
     ids: &CatalogIds<'_, 's>,
     reference: &CatalogIds<'_, 's>,
     id: &'i str,
     found: &mut Vec<Difference<'i>>,
-) -> Result<(), AllocError>
-    ensures { OnOk result (Adds found.old found.new (differences_by ids.now reference.now id.now)) }
+) -> Result<Names<'i>, AllocError>
+    ensures added { OnOk result
+        (Adds found.old found.new (differences_by ids.now reference.now id.now)) }
+    ensures known { IfOk result (AreVariablesOf reference.now id.now) }
 {
     let message = ids.get_entry_message(id);
     let other = reference.get_entry_message(id);
     match (message, other) {
-        (None, None) => Ok(()),
-        (None, Some(_)) => Ok(found.push(Difference::MissingMessage)?),
-        (Some(_), None) => Ok(found.push(Difference::ObsoleteMessage)?),
+        (None, None) => Ok(Names::new(alloc)),
+        (None, Some(_)) => {
+            found.push(Difference::MissingMessage)?;
+            variables_of(alloc, reference, id)
+        }
+        (Some(_), None) => {
+            found.push(Difference::ObsoleteMessage)?;
+            Ok(Names::new(alloc))
+        }
         (Some(message), Some(other)) => {
             push_of_both(alloc, ids, reference, id, message, other, found)
         }
     }
 }
 
-/// Adds those of a message that both have.
+/// Adds those of a message that both have. The result is the variables of the reference.
 fn push_of_both<'i, 's: 'i>(
     alloc: Global,
     ids: &CatalogIds<'_, 's>,
@@ -66,13 +88,15 @@ fn push_of_both<'i, 's: 'i>(
     message: &Message<&'s str>,
     other: &Message<&'s str>,
     found: &mut Vec<Difference<'i>>,
-) -> Result<(), AllocError>
-    ensures { OnOk result (Adds found.old found.new
+) -> Result<Names<'i>, AllocError>
+    ensures added { OnOk result (Adds found.old found.new
         (message_differences_by ids.now reference.now id.now message.now other.now)) }
+    ensures known { IfOk result (AreVariablesOf reference.now id.now) }
 {
     push_of_message(alloc, message, other, found)?;
-    push_variables(alloc, ids, reference, id, found)?;
-    push_untranslated(message, other, found)
+    let variables = push_variables(alloc, ids, reference, id, found)?;
+    push_untranslated(message, other, found)?;
+    Ok(variables)
 }
 
 /// Adds those of the value and of the attributes.
@@ -107,35 +131,38 @@ fn push_value(
     }
 }
 
-/// Adds those of the variables.
+/// Adds those of the variables. The result is the variables of the reference.
 fn push_variables<'i, 's: 'i>(
     alloc: Global,
     ids: &CatalogIds<'_, 's>,
     reference: &CatalogIds<'_, 's>,
     id: &'i str,
     found: &mut Vec<Difference<'i>>,
-) -> Result<(), AllocError>
-    ensures { OnOk result (Adds found.old found.new
+) -> Result<Names<'i>, AllocError>
+    ensures added { OnOk result (Adds found.old found.new
         (variable_differences_by ids.now reference.now id.now)) }
+    ensures known { IfOk result (AreVariablesOf reference.now id.now) }
 {
     let variables = variables_of(alloc, ids, id)?;
     push_variables_by(alloc, &variables, reference, id, found)
 }
 
-/// Adds those of these variables of the message of the catalog.
+/// Adds those of these variables of the message of the catalog. The result is the variables of the reference.
 fn push_variables_by<'i, 's: 'i>(
     alloc: Global,
     variables: &Names<'i>,
     reference: &CatalogIds<'_, 's>,
     id: &'i str,
     found: &mut Vec<Difference<'i>>,
-) -> Result<(), AllocError>
-    ensures { OnOk result (AddsVariablesBy variables.now (variables_by reference.now id.now)
+) -> Result<Names<'i>, AllocError>
+    ensures added { OnOk result (AddsVariablesBy variables.now (variables_by reference.now id.now)
         found.old found.new) }
+    ensures known { IfOk result (AreVariablesOf reference.now id.now) }
 {
     let others = variables_of(alloc, reference, id)?;
     Lack::UnknownVariable.push_new(&variables.list, &others, found)?;
-    Lack::UnusedVariable.push_new(&others.list, variables, found)
+    Lack::UnusedVariable.push_new(&others.list, variables, found)?;
+    Ok(others)
 }
 
 /// Adds that a message has the text of the other, if it has.

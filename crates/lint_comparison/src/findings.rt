@@ -3,8 +3,8 @@
 
 ghost use Rattle.std.specs.Prelude.{◌≡◌, ◌-◌, IfOk, length, map};
 ghost use Rattle.fluent_ast.specs.Borrowed.{message_of};
-ghost use Rattle.lint_comparison.specs.Found.{AreFindingsOf, IsFindingOf, IsMissingIn};
-ghost use Rattle.lint_comparison.specs.InCode.{AreFindingsBy, AreFoundOf};
+ghost use Rattle.lint_comparison.specs.Found.{AreFindingsBy, IsFindingBy, IsMissingIn};
+ghost use Rattle.lint_comparison.specs.InCode.{AreFoundOf, AreMessageFindings};
 ghost use Rattle.lint_comparison.specs.HasPlaces.{HasPlacesOf};
 ghost use Rattle.lint_finding.specs.DifferenceView.{difference_view};
 ghost use Rattle.lint_entries.specs.AttributePlaces.{IsEntryAt};
@@ -12,9 +12,11 @@ ghost use Rattle.lint_findings.specs.Occurrences.{entry_places};
 ghost use Rattle.fluent_grammar.specs.Tree as t;
 ghost use Rattle.fluent_ids.specs.IdsView.{ids_view};
 
-use crate::compared::differences;
+use crate::compared::compare;
+use crate::hints::difference_hint;
 use crate::places::Places;
 use fluent_ast::Message;
+use lint_endless::Names;
 use lint_finding::{CatalogIds, Difference, Finding};
 use std::alloc::{AllocError, Global};
 
@@ -34,11 +36,19 @@ pub fn message_findings<'s>(
     requires { IsEntryAt (t.message (message_of message.now)) text.now }
     ensures { IfOk result (AreFoundOf ids.now reference.now source.now message.now text.now) }
 {
-    let found = differences(alloc, ids, reference, message.id.name)?;
-    if found.is_empty() {
+    let compared = compare(alloc, ids, reference, message.id.name)?;
+    let differences = &compared.differences;
+    if differences.is_empty() {
         return Ok(Vec::new(alloc));
     }
-    findings_of(alloc, source, message, text, &found)
+    findings_of(
+        alloc,
+        source,
+        message,
+        text,
+        &compared.variables,
+        differences,
+    )
 }
 
 /// The finding that a catalog has no message of the id of this one, which is of the reference, if it has none. The text
@@ -61,22 +71,32 @@ pub fn missing_finding(
         return Ok(None);
     }
     let offset = offset_of(source, text);
-    Ok(Some(Difference::MissingMessage.finding(alloc, id, offset)?))
+    Ok(Some(Difference::MissingMessage.finding(alloc, id, offset, None)?))
 }
 
-/// The findings of these differences of a message.
+/// The findings of these differences of a message, if that of the reference is shown with these variables.
 fn findings_of(
     alloc: Global,
     source: &str,
     message: &Message<&str>,
     text: &[u8],
+    variables: &Names<'_>,
     differences: &[Difference<'_>],
 ) -> Result<Vec<Finding>, AllocError>
     requires { IsEntryAt (t.message (message_of message.now)) text.now }
-    ensures { IfOk result (AreFindingsBy source.now message.now text.now differences.now) }
+    ensures { IfOk result
+        (AreMessageFindings source.now message.now text.now variables.now differences.now) }
 {
     let places = Places::of_message(alloc, message, text)?;
-    findings_at(alloc, source, message.id.name, text, &places, differences)
+    findings_at(
+        alloc,
+        source,
+        message.id.name,
+        text,
+        &places,
+        variables,
+        differences,
+    )
 }
 
 /// The same, by the places of the message.
@@ -86,14 +106,16 @@ fn findings_at<'t>(
     id: &str,
     text: &'t [u8],
     places: &Places<'_, 't>,
+    variables: &Names<'_>,
     differences: &[Difference<'_>],
 ) -> Result<Vec<Finding>, AllocError>
     requires { HasPlacesOf places.now (entry_places text.now) }
-    ensures { IfOk result (AreFindingsOf source.now id.now text.now (map difference_view differences.now)) }
+    ensures { IfOk result (AreFindingsBy source.now id.now text.now variables.now
+        (map difference_view differences.now)) }
 {
     let mut findings = Vec::with_capacity(alloc, differences.len())?;
     for difference in differences {
-        findings.push(finding_at(alloc, source, id, text, places, difference)?)?;
+        findings.push(finding_at(alloc, source, id, text, places, variables, difference)?)?;
     }
     Ok(findings)
 }
@@ -104,13 +126,16 @@ fn finding_at<'t>(
     id: &str,
     text: &'t [u8],
     places: &Places<'_, 't>,
+    variables: &Names<'_>,
     difference: &Difference<'_>,
 ) -> Result<Finding, AllocError>
     requires { HasPlacesOf places.now (entry_places text.now) }
-    ensures { IfOk result (IsFindingOf source.now id.now text.now (difference_view difference.now)) }
+    ensures { IfOk result (IsFindingBy source.now id.now text.now variables.now
+        (difference_view difference.now)) }
 {
     let place = places.place_of(difference, text);
-    difference.finding(alloc, id, offset_of(source, place))
+    let hint = difference_hint(alloc, variables, difference)?;
+    difference.finding(alloc, id, offset_of(source, place), hint)
 }
 
 /// How many bytes of a source stand before a text.

@@ -10,10 +10,14 @@ use Rattle.lint_endless.specs.declared.names.Names.{Names}
 abbrev pub texts : List (Bor Text) → List Text
 texts names = map (λ s. s.now) names
 
+-- whether a name is in the set, which is what is looked up
+abbrev pub is_in_set : Names → Text → Bool
+is_in_set names name = contains_by (λ k. bytes_eq name k.now) names.set
+
 -- These names are listed, and are those that are known.
 pub record HasNames (names : Names) (xs : List Text) : Type 0 where
   pub listed : texts names.list.items ≡ xs
-  pub known : (name : Text) → contains_by (λ k. bytes_eq name k.now) names.set ≡ is_among name xs
+  pub known : (name : Text) → is_in_set names name ≡ is_among name xs
 
 -- after this name was added, if it was new
 abbrev pub GetsName : Names → Text → Names → Type 0

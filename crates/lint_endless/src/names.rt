@@ -1,8 +1,8 @@
 //! Names, each once.
 #![tactic(auto)]
 
-ghost use Rattle.std.specs.Prelude.{[], OnOk};
-ghost use Rattle.lint_endless.specs.HasNames.{GetsName, HasNames, IsListed};
+ghost use Rattle.std.specs.Prelude.{◌≡◌, [], OnOk};
+ghost use Rattle.lint_endless.specs.HasNames.{GetsName, HasNames, IsListed, is_in_set};
 
 use std::alloc::{AllocError, Global};
 use std::collections::HashSet;
@@ -42,7 +42,8 @@ impl<'s> Names<'s> {
 
     /// Whether a name is one of these.
     pub fn has(&self, name: &str) -> bool
-        ensures { IsListed self.now name.now result }
+        ensures listed { IsListed self.now name.now result }
+        ensures found { result ≡ is_in_set self.now name.now }
     {
         self.set.contains(name)
     }

@@ -1,11 +1,14 @@
 -- The plain differences that differences stand for.
-use Rattle.std.specs.Prelude.{ℕ, Some, None}
+use Rattle.std.specs.Prelude.{◌≡◌, ℕ, Option, Some, option_map, String, string_bytes}
+use Rattle.std.specs.Global.{Global}
 use Rattle.fluent_grammar.specs.Words.{Text}
 use Rattle.lint_findings.specs.Comparison as c
 use Rattle.lint_findings.specs.ComparisonFindings.{difference_code, difference_severity, difference_text}
-use Rattle.lint_findings.specs.Finding.{Finding}
+use Rattle.lint_findings.specs.Finding as f
 use Rattle.lint_finding.specs.declared.difference.Difference.{Difference}
 use Rattle.lint_finding.specs.declared.difference.Difference.TheVariants as of
+use Rattle.lint_finding.specs.declared.records.Finding.{Finding}
+use Rattle.lint_finding.specs.View.{finding_view}
 
 abbrev pub difference_view : Difference → c.Difference
 difference_view of.MissingMessage = c.missing_message
@@ -18,14 +21,18 @@ difference_view (of.UnknownVariable name) = c.unknown_variable name.now
 difference_view (of.UnusedVariable name) = c.unused_variable name.now
 difference_view of.Untranslated = c.untranslated
 
--- The finding of a difference of the message with this id, at an offset. At that of `difference_at` it is
--- `difference_finding`.
-abbrev pub finding_at : ℕ → Text → c.Difference → Finding
-finding_at offset id d = record {
+-- The finding of a difference of the message with this id, at an offset, with a hint. At that of `difference_at`, and with
+-- that of `difference_hint`, it is `difference_finding`.
+abbrev pub finding_at : ℕ → Text → Option Text → c.Difference → f.Finding
+finding_at offset id hint d = record {
   offset = offset;
   code = difference_code d;
   severity = difference_severity d;
   entry = Some id;
   text = difference_text d;
-  hint = None;
+  hint = hint;
 }
+
+-- a finding stands for that of a difference of the message with this id, at an offset, with a hint
+abbrev pub IsFindingAt : ℕ → Text → Option (String Global) → Difference → Finding → Type 0
+IsFindingAt offset id hint d found = finding_view found ≡ finding_at offset id (option_map string_bytes hint) (difference_view d)

@@ -2,8 +2,8 @@
 #![tactic(auto)]
 
 ghost use Rattle.std.specs.Prelude.{◌≡◌, IfOk, Some};
-ghost use Rattle.lint_finding.specs.DifferenceView.{difference_view, finding_at};
-ghost use Rattle.lint_finding.specs.View.{finding_view, severity_view};
+ghost use Rattle.lint_finding.specs.DifferenceView.{IsFindingAt, difference_view};
+ghost use Rattle.lint_finding.specs.View.{severity_view};
 ghost use Rattle.lint_findings.specs.ComparisonFindings.{difference_code, difference_severity, difference_text};
 
 use crate::{Finding, Severity};
@@ -69,13 +69,18 @@ impl Difference<'_> {
         }
     }
 
-    /// The finding of a difference of the message with this id, at an offset.
+    /// The finding of a difference of the message with this id, at an offset, with a hint.
     ///
     /// # Errors
     /// [`AllocError`] if memory runs out; nothing is kept.
-    pub fn finding(&self, alloc: Global, id: &str, offset: usize) -> Result<Finding, AllocError>
-        ensures { IfOk result (λ finding. finding_view finding
-            ≡ finding_at offset id.now (difference_view self.now)) }
+    pub fn finding(
+        &self,
+        alloc: Global,
+        id: &str,
+        offset: usize,
+        hint: Option<String>,
+    ) -> Result<Finding, AllocError>
+        ensures { IfOk result (IsFindingAt offset id.now hint self.now) }
     {
         let entry = String::from_str(alloc, id)?;
         let text = self.to_string(alloc)?;
@@ -85,7 +90,7 @@ impl Difference<'_> {
             severity: self.severity(),
             entry: Some(entry),
             text,
-            hint: None,
+            hint,
         })
     }
 }

@@ -12,7 +12,7 @@ use Rattle.fluent_grammar.specs.Tree as t
 use Rattle.fluent_grammar.specs.Tiling.{errors}
 use Rattle.fluent_meaning.specs.Ids.{Ids, find}
 use Rattle.lint_findings.specs.Tiles.{Tile, entry_tile, junk_tile, tiles}
-use Rattle.lint_findings.specs.Comparison.{Difference, missing_message, obsolete_message, missing_value, obsolete_value, missing_attribute, obsolete_attribute, unknown_variable, unused_variable, untranslated, differences, as_message}
+use Rattle.lint_findings.specs.Comparison.{Difference, missing_message, obsolete_message, missing_value, obsolete_value, missing_attribute, obsolete_attribute, unknown_variable, unused_variable, untranslated, differences, variables_of, as_message}
 use Rattle.lint_findings.specs.ComparisonFindings.{difference_finding, message_findings, missing_findings}
 use Rattle.lint_findings.specs.Finding.{Finding}
 use Rattle.lint_findings.specs.SyntaxFindings.{syntax_finding}
@@ -28,19 +28,19 @@ use Rattle.lint_findings.proofs.TilesAreTheList.{tiles_have_the_errors}
 -- ---- comparisons
 
 module _ (S : Type 0) (rules : Rules) (file : File) where
-  of_difference : (id s : Text) (d : Difference) → IsSound S rules file (difference_finding file.source id s d)
-  of_difference id s missing_message = plain S rules file _ refl refl refl
-  of_difference id s obsolete_message = plain S rules file _ refl refl refl
-  of_difference id s missing_value = plain S rules file _ refl refl refl
-  of_difference id s obsolete_value = plain S rules file _ refl refl refl
-  of_difference id s (missing_attribute a) = plain S rules file _ refl refl refl
-  of_difference id s (obsolete_attribute a) = plain S rules file _ refl refl refl
-  of_difference id s (unknown_variable x) = plain S rules file _ refl refl refl
-  of_difference id s (unused_variable x) = plain S rules file _ refl refl refl
-  of_difference id s untranslated = plain S rules file _ refl refl refl
+  of_difference : (id s : Text) (known : List Text) (d : Difference) → IsSound S rules file (difference_finding file.source id s known d)
+  of_difference id s known missing_message = plain S rules file _ refl refl refl
+  of_difference id s known obsolete_message = plain S rules file _ refl refl refl
+  of_difference id s known missing_value = plain S rules file _ refl refl refl
+  of_difference id s known obsolete_value = plain S rules file _ refl refl refl
+  of_difference id s known (missing_attribute a) = plain S rules file _ refl refl refl
+  of_difference id s known (obsolete_attribute a) = plain S rules file _ refl refl refl
+  of_difference id s known (unknown_variable x) = plain S rules file _ refl refl refl
+  of_difference id s known (unused_variable x) = plain S rules file _ refl refl refl
+  of_difference id s known untranslated = plain S rules file _ refl refl refl
 
   of_message : (ids reference : Ids (Unit {0})) (e : t.Entry) (s : Text) → All (IsSound S rules file) (message_findings ids reference file.source e s)
-  of_message ids reference (t.message m) s = mapped S rules file (difference_finding file.source m.id s) (of_difference m.id s) (differences ids reference m.id)
+  of_message ids reference (t.message m) s = mapped S rules file (difference_finding file.source m.id s (variables_of reference m.id)) (of_difference m.id s (variables_of reference m.id)) (differences ids reference m.id)
   of_message ids reference (t.term m) s = none S rules file
   of_message ids reference (t.comment c) s = none S rules file
   of_message ids reference (t.group_comment c) s = none S rules file
@@ -53,7 +53,7 @@ module _ (S : Type 0) (rules : Rules) (file : File) where
 
   of_missing : (ids : Ids (Unit {0})) (tile : Tile) → All (IsSound S rules file) (missing_findings ids file.source tile)
   of_missing ids (junk_tile at s refusal) = none S rules file
-  of_missing ids (entry_tile at s (t.message m)) = unless_there (is_some (as_message (find ids m.id))) (difference_finding file.source m.id s missing_message) (of_difference m.id s missing_message)
+  of_missing ids (entry_tile at s (t.message m)) = unless_there (is_some (as_message (find ids m.id))) (difference_finding file.source m.id s [] missing_message) (of_difference m.id s [] missing_message)
   of_missing ids (entry_tile at s (t.term m)) = none S rules file
   of_missing ids (entry_tile at s (t.comment c)) = none S rules file
   of_missing ids (entry_tile at s (t.group_comment c)) = none S rules file

@@ -1,9 +1,11 @@
 -- Worked rows: the nearest name.
-use Rattle.std.specs.Prelude.{◌≡◌, [], ◌∷◌, ◌++◌, List, Option, Some, None, codes}
+use Rattle.std.specs.Prelude.{◌≡◌, false, [], ◌∷◌, ◌++◌, List, Option, Some, None, codes}
 use Rattle.std.proofs.Common.{refl}
 use Rattle.fluent_grammar.specs.Words.{Text, is_among}
+use Rattle.lint_findings.specs.Comparison.{unknown_variable, unused_variable}
+use Rattle.lint_findings.specs.ComparisonFindings.{difference_hint}
 use Rattle.lint_findings.specs.NearNames.{additions, near_names, nearest, omissions, swaps}
-use Rattle.lint_findings.proofs.Computing.{computing_findings, file, Reports}
+use Rattle.lint_findings.proofs.Computing.{computing_findings, file, Reports, ReportsWithReference}
 
 -- the nearest of these names
 Nearest : List Text → Text → Option Text → Type 0
@@ -62,9 +64,28 @@ another_letter : Nearest (codes "name" ∷ []) (codes "nam" ++ (195 ∷ 169 ∷ 
 unfolding computing_findings Nearest
 another_letter = refl
 
+-- ---- of a difference, if the message of the reference is shown with these variables
+
+a_variable : difference_hint (codes "count" ∷ codes "name" ∷ []) (unknown_variable (codes "nmae")) ≡ Some (codes "did you mean `$name`?")
+unfolding computing_findings
+a_variable = refl
+
+another_variable : difference_hint (codes "count" ∷ codes "name" ∷ []) (unknown_variable (codes "nom")) ≡ None
+unfolding computing_findings
+another_variable = refl
+
+not_of_an_unused_variable : difference_hint (codes "name" ∷ []) (unused_variable (codes "nmae")) ≡ None
+not_of_an_unused_variable = refl
+
 -- ---- in a catalog
 
 near_messages_and_terms : Reports [] (file (codes "a.ftl") (codes "brand = B\n-firm = F\nab = { brnad } { -frm } { firmm } { -firmb } { firm } { xyz }\n") ∷ [])
     (codes "a.ftl:3:8: error: ab: there is no message `brnad` [unknown-message]\n3 | ab = { brnad } { -frm } { firmm } { -firmb } { firm } { xyz }\n  |        ^\n  = did you mean `brand`?\na.ftl:3:18: error: ab: there is no term `-frm` [unknown-term]\n3 | ab = { brnad } { -frm } { firmm } { -firmb } { firm } { xyz }\n  |                  ^\n  = did you mean `-firm`?\na.ftl:3:27: error: ab: there is no message `firmm` [unknown-message]\n3 | ab = { brnad } { -frm } { firmm } { -firmb } { firm } { xyz }\n  |                           ^\n  = a variable is written `$firmm`\na.ftl:3:37: error: ab: there is no term `-firmb` [unknown-term]\n3 | ab = { brnad } { -frm } { firmm } { -firmb } { firm } { xyz }\n  |                                     ^\n  = did you mean `-firm`?\na.ftl:3:48: error: ab: there is no message `firm` [unknown-message]\n3 | ab = { brnad } { -frm } { firmm } { -firmb } { firm } { xyz }\n  |                                                ^\n  = `-firm` is a term\na.ftl:3:57: error: ab: there is no message `xyz` [unknown-message]\n3 | ab = { brnad } { -frm } { firmm } { -firmb } { firm } { xyz }\n  |                                                         ^\n  = a variable is written `$xyz`\n")
 unfolding computing_findings file Reports
 near_messages_and_terms = refl
+
+-- the reference's message gets the variables of the one that it refers to
+near_variables : ReportsWithReference false (file (codes "en.ftl") (codes "m = { k }\nk = { $name }\n") ∷ []) (file (codes "de.ftl") (codes "m = { $Name } { $nom }\nk = { $name }\n") ∷ [])
+    (codes "de.ftl:1:7: error: m: the reference has no variable `$Name` [unknown-variable]\n1 | m = { $Name } { $nom }\n  |       ^\n  = did you mean `$name`?\nde.ftl:1:17: error: m: the reference has no variable `$nom` [unknown-variable]\n1 | m = { $Name } { $nom }\n  |                 ^\n")
+unfolding computing_findings file ReportsWithReference
+near_variables = refl

@@ -48,7 +48,7 @@ Summarizes : List File → List File → (List Summary → Text) → Text → Ty
 Summarizes references files form written = form (summaries references files (with_a_reference references files)) ≡ written
 
 in_json_with_a_reference : WritesWithReference (file (codes "en.ftl") (codes "hi = Hello, { $name }!\nbye = Bye, { $name }!\n") ∷ []) (file (codes "de.ftl") (codes "hi = Hallo, { $nmae }!\nbye = { hi }\n") ∷ []) json
-    (codes "{\"code\":\"unknown-variable\",\"column\":15,\"entry\":\"hi\",\"file\":\"de.ftl\",\"hint\":null,\"line\":1,\"offset\":14,\"severity\":\"error\",\"text\":\"the reference has no variable `$nmae`\"}\n{\"code\":\"unknown-variable\",\"column\":1,\"entry\":\"bye\",\"file\":\"de.ftl\",\"hint\":null,\"line\":2,\"offset\":23,\"severity\":\"error\",\"text\":\"the reference has no variable `$nmae`\"}\n")
+    (codes "{\"code\":\"unknown-variable\",\"column\":15,\"entry\":\"hi\",\"file\":\"de.ftl\",\"hint\":\"did you mean `$name`?\",\"line\":1,\"offset\":14,\"severity\":\"error\",\"text\":\"the reference has no variable `$nmae`\"}\n{\"code\":\"unknown-variable\",\"column\":1,\"entry\":\"bye\",\"file\":\"de.ftl\",\"hint\":\"did you mean `$name`?\",\"line\":2,\"offset\":23,\"severity\":\"error\",\"text\":\"the reference has no variable `$nmae`\"}\n")
 unfolding computing_findings serde_json_on_literals file with_a_reference WritesWithReference
 in_json_with_a_reference = refl
 

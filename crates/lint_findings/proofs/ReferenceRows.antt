@@ -14,7 +14,7 @@ unfolding computing_findings file ReportsWithReference
 values_and_attributes = refl
 
 unknown_variables : ReportsWithReference false (file (codes "en.ftl") (codes "hi = Hello, { $name }!\nbye = Bye, { $name }!\n") ∷ []) (file (codes "de.ftl") (codes "hi = Hallo, { $nmae }!\nbye = { hi }\n") ∷ [])
-    (codes "de.ftl:1:15: error: hi: the reference has no variable `$nmae` [unknown-variable]\n1 | hi = Hallo, { $nmae }!\n  |               ^\nde.ftl:2:1: error: bye: the reference has no variable `$nmae` [unknown-variable]\n2 | bye = { hi }\n  | ^\n")
+    (codes "de.ftl:1:15: error: hi: the reference has no variable `$nmae` [unknown-variable]\n1 | hi = Hallo, { $nmae }!\n  |               ^\n  = did you mean `$name`?\nde.ftl:2:1: error: bye: the reference has no variable `$nmae` [unknown-variable]\n2 | bye = { hi }\n  | ^\n  = did you mean `$name`?\n")
 unfolding computing_findings file ReportsWithReference
 unknown_variables = refl
 

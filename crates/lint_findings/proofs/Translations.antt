@@ -18,7 +18,7 @@ use Rattle.fluent_meaning.specs.Substitution.{message_target, there}
 use Rattle.fluent_meaning.proofs.Stays.{first_stays, find-++}
 use Rattle.lint_findings.specs.Tiles.{Tile, entry_tile, junk_tile, tiles}
 use Rattle.lint_findings.specs.Flaws.{catalog_ids}
-use Rattle.lint_findings.specs.Comparison.{Difference, missing_message, obsolete_message, missing_value, obsolete_value, missing_attribute, obsolete_attribute, unknown_variable, unused_variable, untranslated, differences, differences_between, as_message}
+use Rattle.lint_findings.specs.Comparison.{Difference, missing_message, obsolete_message, missing_value, obsolete_value, missing_attribute, obsolete_attribute, unknown_variable, unused_variable, untranslated, differences, differences_between, variables_of, as_message}
 use Rattle.lint_findings.specs.Finding.{Finding}
 use Rattle.lint_findings.specs.Files.{File}
 use Rattle.lint_findings.specs.DuplicateIds.{Declaration, first_declaration, duplicate_findings}
@@ -57,11 +57,11 @@ not_missing id (unknown_variable x) h = λ k. k
 not_missing id (unused_variable x) h = λ k. k
 not_missing id untranslated h = λ k. k
 
-fine : (source id s : Text) (ds : List Difference) → All Present (map (difference_finding source id s) ds) → Fine id ds
-fine source id s [] h = All-nil NotMissing
-fine source id s (d ∷ ds) h =
-    All-cons NotMissing (id, d) (map (λ x. (id, x)) ds) (not_missing id d (All-head Present (difference_finding source id s d) (map (difference_finding source id s) ds) h))
-    (fine source id s ds (All-tail Present (difference_finding source id s d) (map (difference_finding source id s) ds) h))
+fine : (source id s : Text) (known : List Text) (ds : List Difference) → All Present (map (difference_finding source id s known) ds) → Fine id ds
+fine source id s known [] h = All-nil NotMissing
+fine source id s known (d ∷ ds) h =
+    All-cons NotMissing (id, d) (map (λ x. (id, x)) ds) (not_missing id d (All-head Present (difference_finding source id s known d) (map (difference_finding source id s known) ds) h))
+    (fine source id s known ds (All-tail Present (difference_finding source id s known d) (map (difference_finding source id s known) ds) h))
 
 -- ---- what holds of the pairs of a map holds of what is found
 
@@ -164,7 +164,7 @@ module _ (ids : Ids (Unit {0})) (id : Text) (o : t.Message) where
   translated_step x ts here later (junk_tile at s refusal) is found = later found
   translated_step x ts here later (entry_tile at s (t.message m)) is found =
       first_or id m.id (message (record m { comment = None })) (entry_found ts id) (message o)
-      (λ same e. rw same (present_step (is_some (as_message (find ids m.id))) (difference_finding x.file.source m.id s missing_message) refl
+      (λ same e. rw same (present_step (is_some (as_message (find ids m.id))) (difference_finding x.file.source m.id s [] missing_message) refl
       (without_file x.file (missing_findings ids x.file.source (entry_tile at s (t.message m))) (rw is at here))))
       (λ apart. later) (is_at (order id) m.id) refl found
   translated_step x ts here later (entry_tile at s (t.term m)) is found =
@@ -225,8 +225,8 @@ module _ (options : Options) (references files : List File) (id : Text) (v : t.M
       All Present (findings_of_tile rules before file (entry_tile at s (t.message m))) → Reported
   here_reported file before at s m same h k clean =
       let none : duplicate_findings rules.functions before (t.message m) at m.id ≡ [] = subst (λ x. duplicate_findings rules.functions before (t.message m) at x ≡ []) same (no_duplicates before (t.message m) at h k) in
-      let own : All Present (map (difference_finding file.source m.id s) (differences ids reference m.id)) = compared (duplicate_findings rules.functions before (t.message m) at m.id) (entry_findings ids options.plurals file.source (t.message m) s) _ none clean in
-      rw same (fine file.source m.id s (differences ids reference m.id) own)
+      let own : All Present (map (difference_finding file.source m.id s (variables_of reference m.id)) (differences ids reference m.id)) = compared (duplicate_findings rules.functions before (t.message m) at m.id) (entry_findings ids options.plurals file.source (t.message m) s) _ none clean in
+      rw same (fine file.source m.id s (variables_of reference m.id) (differences ids reference m.id) own)
 
   reported_step : (x : FileTile) (before : List Declaration) (ts : List FileTile) → first_declaration id before ≡ None → find rules.functions id ≡ None →
       ((more : List Declaration) → first_declaration id more ≡ None → entry_found ts id ≡ Some (message v) → LacksNothing (findings_of_tiles rules (before ++ more) ts) → Reported) →

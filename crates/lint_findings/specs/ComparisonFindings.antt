@@ -3,12 +3,13 @@ use Rattle.std.specs.Prelude.{◌-◌, Bool, false, if◌then◌else◌, List, [
 use Rattle.std.specs.Option.{option_map_or}
 use Rattle.std.specs.List.{flat_map}
 use Rattle.std.specs.Str.{bytes_eq}
-use Rattle.fluent_grammar.specs.Words.{Text, dot, dollar}
+use Rattle.fluent_grammar.specs.Words.{Text, dot, dollar, is_among}
 use Rattle.fluent_grammar.specs.Tree as t
 use Rattle.fluent_meaning.specs.Ids.{Ids, find}
 use Rattle.lint_findings.specs.SyntaxErrors.{in_backticks}
 use Rattle.lint_findings.specs.Tiles.{Tile, entry_tile}
-use Rattle.lint_findings.specs.Comparison.{Difference, missing_message, obsolete_message, missing_value, obsolete_value, missing_attribute, obsolete_attribute, unknown_variable, unused_variable, untranslated, differences, as_message}
+use Rattle.lint_findings.specs.Comparison.{Difference, missing_message, obsolete_message, missing_value, obsolete_value, missing_attribute, obsolete_attribute, unknown_variable, unused_variable, untranslated, differences, variables_of, as_message}
+use Rattle.lint_findings.specs.NearNames.{nearest_hint}
 use Rattle.lint_findings.specs.Nodes.{Node, expression}
 use Rattle.lint_findings.specs.Occurrences.{Occurrence, occurrences, PatternPlace, entry_places}
 use Rattle.lint_findings.specs.Finding.{Severity, error, warning, note, Finding}
@@ -69,15 +70,21 @@ difference_at s (unknown_variable x) =
     unwrap_or (first_variable_at x (flat_map (λ (p : PatternPlace). occurrences p.pattern_at) (entry_places s))) s
 difference_at s _ = s
 
--- the finding of a difference, of the message of this id at the front of an end of the source
-abbrev pub difference_finding : Text → Text → Text → Difference → Finding
-difference_finding source id s d = record {
+-- the variable that may be meant, among those of the message of the reference
+abbrev pub difference_hint : List Text → Difference → Option Text
+difference_hint known (unknown_variable x) = nearest_hint (dollar ∷ []) (λ name. is_among name known) x
+difference_hint known _ = None
+
+-- The finding of a difference, of the message of this id at the front of an end of the source. That of the reference is
+-- shown with these variables.
+abbrev pub difference_finding : Text → Text → Text → List Text → Difference → Finding
+difference_finding source id s known d = record {
   offset = length source - length (difference_at s d);
   code = difference_code d;
   severity = difference_severity d;
   entry = Some id;
   text = difference_text d;
-  hint = None;
+  hint = difference_hint known d;
 }
 
 -- ---- of an entry
@@ -85,11 +92,11 @@ difference_finding source id s d = record {
 -- the differences of a message of the catalog, in this source
 abbrev pub message_findings : {F : Type 0} → Ids F → Ids F → Text → t.Entry → Text → List Finding
 message_findings ids reference source (t.message m) s =
-    map (difference_finding source m.id s) (differences ids reference m.id)
+    map (difference_finding source m.id s (variables_of reference m.id)) (differences ids reference m.id)
 message_findings ids reference source _ s = []
 
 -- of a message of the reference, in this source: whether the catalog has none
 abbrev pub missing_findings : {F : Type 0} → Ids F → Text → Tile → List Finding
 missing_findings ids source (entry_tile at s (t.message m)) =
-    if is_some (as_message (find ids m.id)) then [] else difference_finding source m.id s missing_message ∷ []
+    if is_some (as_message (find ids m.id)) then [] else difference_finding source m.id s [] missing_message ∷ []
 missing_findings ids source _ = []

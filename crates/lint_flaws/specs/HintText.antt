@@ -12,6 +12,7 @@ use Rattle.lint_flaws.specs.declared.hint.Hint.TheVariants as of
 abbrev pub hint_text : Hint → Text
 hint_text (of.NearMessage id) = codes "did you mean " ++ (in_backticks (string_bytes id) ++ codes "?")
 hint_text (of.NearTerm id) = codes "did you mean " ++ (in_backticks (hyphen ∷ string_bytes id) ++ codes "?")
+hint_text (of.NearVariable name) = codes "did you mean " ++ (in_backticks (dollar ∷ string_bytes name) ++ codes "?")
 hint_text (of.Variable id) = codes "a variable is written " ++ in_backticks (dollar ∷ id.now)
 hint_text (of.Message id) = in_backticks id.now ++ codes " is a message"
 hint_text (of.Term id) = in_backticks (hyphen ∷ id.now) ++ codes " is a term"

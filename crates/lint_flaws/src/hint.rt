@@ -16,13 +16,16 @@ use lint_finding::CatalogIds;
 use std::alloc::{AllocError, Global};
 use std::fmt;
 
-/// What may be the cause of a flaw. Its text is that of `docs/reference/lint.md`.
+/// What may be the cause of a flaw, or of a variable that a reference doesn't have. Its text is that of
+/// `docs/reference/lint.md`.
 #[derive(Drop)]
 pub enum Hint<'s> {
     /// The message of this id may be meant.
     NearMessage(String),
     /// The term of this id may be meant.
     NearTerm(String),
+    /// The variable of this name may be meant, which the reference has.
+    NearVariable(String),
     /// A variable of this name may be meant.
     Variable(&'s str),
     /// There is a message of this id.
@@ -42,6 +45,7 @@ impl fmt::Display for Hint<'_> {
         match self {
             Hint::NearMessage(id) => write!(f, "did you mean `{id}`?"),
             Hint::NearTerm(id) => write!(f, "did you mean `-{id}`?"),
+            Hint::NearVariable(name) => write!(f, "did you mean `${name}`?"),
             Hint::Variable(id) => write!(f, "a variable is written `${id}`"),
             Hint::Message(id) => write!(f, "`{id}` is a message"),
             Hint::Term(id) => write!(f, "`-{id}` is a term"),
