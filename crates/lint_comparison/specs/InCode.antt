@@ -39,6 +39,10 @@ module _ (ids reference : FluentIds (Unit {0})) where
   abbrev pub differences_by : Text → List c.Difference
   differences_by id = c.differences (ids_view (Unit {0}) ids) (ids_view (Unit {0}) reference) id
 
+  -- these are those differences
+  abbrev pub AreDifferencesOf : Text → List Difference → Type 0
+  AreDifferencesOf id found = map difference_view found ≡ differences_by id
+
   -- of the message of an id in both
   abbrev pub message_differences_by : Text → Message (Bor Text) → Message (Bor Text) → List c.Difference
   message_differences_by id message other = c.message_differences (ids_view (Unit {0}) ids) (ids_view (Unit {0}) reference) id (message_of message) (message_of other)

@@ -1,12 +1,11 @@
 //! How a message differs from that of the reference.
 #![tactic(auto)]
 
-ghost use Rattle.std.specs.Prelude.{◌≡◌, IfOk, OnOk, map};
+ghost use Rattle.std.specs.Prelude.{IfOk, OnOk};
 ghost use Rattle.fluent_ast.specs.Borrowed.{message_of};
 ghost use Rattle.lint_comparison.specs.Compared.{AddsVariablesBy, own_differences};
-ghost use Rattle.lint_comparison.specs.InCode.{AreVariablesOf, differences_by, message_differences_by, untranslated_by, values_difference, variable_differences_by, variables_by};
+ghost use Rattle.lint_comparison.specs.InCode.{AreDifferencesOf, AreVariablesOf, differences_by, message_differences_by, untranslated_by, values_difference, variable_differences_by, variables_by};
 ghost use Rattle.lint_comparison.specs.Lacks.{Adds};
-ghost use Rattle.lint_finding.specs.DifferenceView.{difference_view};
 
 use crate::attributes::push_lacking_attributes;
 use crate::lack::Lack;
@@ -36,8 +35,8 @@ pub fn compare<'i, 's: 'i>(
     reference: &CatalogIds<'_, 's>,
     id: &'i str,
 ) -> Result<Comparison<'i>, AllocError>
-    ensures found { IfOk result (λ compared. map difference_view compared.differences.items
-        ≡ differences_by ids.now reference.now id.now) }
+    ensures found { IfOk result
+        (λ compared. AreDifferencesOf ids.now reference.now id.now compared.differences.items) }
     ensures known { IfOk result
         (λ compared. AreVariablesOf reference.now id.now compared.variables) }
 {
