@@ -54,8 +54,10 @@ impl<'l> Iterator for Entries<'l> {
         let (lines, start) = (self.lines, self.at);
         let end = line_end(lines, start)?;
         self.at = end + 1;
+        let mut attribute_count = 0;
         while lines.as_bytes().get(self.at) == Some(&b'.') {
             self.at = line_end(lines, self.at)? + 1;
+            attribute_count += 1;
         }
         let line = &lines[start..end];
         let (is_term, has_value) = (line.starts_with('-'), line.ends_with(" ="));
@@ -65,6 +67,7 @@ impl<'l> Iterator for Entries<'l> {
             id: start + usize::from(is_term)..end - if has_value { " =".len() } else { 0 },
             has_value,
             attributes: end + 1..self.at,
+            attribute_count,
         })
     }
 }
@@ -78,6 +81,7 @@ pub(crate) struct Entry<'l> {
     pub(crate) has_value: bool,
     /// The place of the lines of the attributes, each of them a dot and a name.
     attributes: Range<usize>,
+    pub(crate) attribute_count: usize,
 }
 
 impl<'l> Entry<'l> {
@@ -102,10 +106,24 @@ impl<'l> Entry<'l> {
     }
 }
 
-/// Where the line ends that begins at a place. Lines are so short that it is fastest to look at each byte.
+/// Where the line ends that begins at a place.
 fn line_end(lines: &str, start: usize) -> Option<usize> {
-    let len = lines.as_bytes()[start..].iter().position(|&byte| byte == b'\n')?;
-    Some(start + len)
+    /// A byte eight times.
+    const fn each(byte: u8) -> u64 {
+        u64::from_le_bytes([byte; 8])
+    }
+    let mut words = lines.as_bytes()[start..].chunks_exact(8);
+    let mut passed = start;
+    for word in &mut words {
+        // The byte of a line feed is 0, and the lowest high bit that is set is that of the first byte 0.
+        let word = u64::from_le_bytes(word.try_into().ok()?) ^ each(b'\n');
+        let feeds = word.wrapping_sub(each(1)) & !word & each(1 << 7);
+        if feeds != 0 {
+            return Some(passed + feeds.trailing_zeros() as usize / 8);
+        }
+        passed += 8;
+    }
+    Some(passed + words.remainder().iter().position(|&byte| byte == b'\n')?)
 }
 
 #[cfg(test)]

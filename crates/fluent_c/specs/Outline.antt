@@ -1,5 +1,6 @@
 -- The messages, the terms and the attributes of a source by their names, in lines.
-use Rattle.std.specs.Prelude.{List, [], ◌∷◌, ◌++◌, Option, Some, None, codes}
+use Rattle.std.specs.Prelude.{◌≡◌, List, [], ◌∷◌, ◌++◌, Option, Some, None, String, codes, string_bytes}
+use Rattle.std.specs.Global.{Global}
 use Rattle.std.specs.List.{flat_map}
 use Rattle.fluent_grammar.specs.Words.{Text, dot, hyphen}
 use Rattle.fluent_serve.specs.Frames.{ended}
@@ -38,3 +39,7 @@ entry_lines (t.junk s) = []
 -- the lines of entries, in their order
 abbrev pub outline_lines : List t.Entry → Text
 outline_lines entries = flat_map entry_lines entries
+
+-- a text has these bytes after those that it had
+abbrev pub Gains : String Global → String Global → Text → Type 0
+Gains old new bytes = string_bytes new ≡ string_bytes old ++ bytes

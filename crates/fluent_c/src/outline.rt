@@ -1,11 +1,11 @@
 //! The messages, the terms and the attributes of a source by their names, in lines.
 
-ghost use Rattle.std.specs.Prelude.{◌≡◌, ◌≢◌, ◌++◌, IfOk, OnOk, string_bytes};
+ghost use Rattle.std.specs.Prelude.{◌≡◌, ◌≢◌, IfOk, OnOk, string_bytes};
 ghost use Rattle.fluent_syntax.specs.Tiling.{runtime_errors, runtime_tree};
 ghost use Rattle.fluent_syntax.specs.View.{attributes_view, entry_view, message_view, term_view};
 ghost use Rattle.fluent_c.specs.Counts.{Counted, HasEntries, Text, plain, text_of};
 ghost use Rattle.fluent_c.specs.Made.{Holds};
-ghost use Rattle.fluent_c.specs.Outline.{attribute_lines, entry_lines, message_line, outline_lines, term_line};
+ghost use Rattle.fluent_c.specs.Outline.{Gains, attribute_lines, entry_lines, message_line, outline_lines, term_line};
 ghost use Rattle.fluent_c.specs.Statuses.{ReadsSource};
 ghost use Rattle.fluent_c.specs.declared.TheConstants.{FLUENT_READ};
 
@@ -59,8 +59,8 @@ impl Outline {
 
 /// Appends the line of a message.
 fn push_message(text: &mut String, message: &Message<&str>) -> Result<(), AllocError>
-    ensures { OnOk result (string_bytes text.new
-        ≡ string_bytes text.old ++ message_line (message_view Text text_of message.now)) }
+    ensures { OnOk result (Gains text.old text.new
+        (message_line (message_view Text text_of message.now))) }
 {
     text.push_str(message.id.name)?;
     match message.value {
@@ -71,8 +71,8 @@ fn push_message(text: &mut String, message: &Message<&str>) -> Result<(), AllocE
 
 /// Appends the line of a term.
 fn push_term(text: &mut String, term: &Term<&str>) -> Result<(), AllocError>
-    ensures { OnOk result (string_bytes text.new
-        ≡ string_bytes text.old ++ term_line (term_view Text text_of term.now)) }
+    ensures { OnOk result (Gains text.old text.new
+        (term_line (term_view Text text_of term.now))) }
 {
     text.push_str("-")?;
     text.push_str(term.id.name)?;
@@ -81,8 +81,8 @@ fn push_term(text: &mut String, term: &Term<&str>) -> Result<(), AllocError>
 
 /// Appends a line for each attribute.
 fn push_attributes(text: &mut String, attributes: &[Attribute<&str>]) -> Result<(), AllocError>
-    ensures { OnOk result (string_bytes text.new
-        ≡ string_bytes text.old ++ attribute_lines (attributes_view Text text_of attributes.now)) }
+    ensures { OnOk result (Gains text.old text.new
+        (attribute_lines (attributes_view Text text_of attributes.now))) }
 {
     for attribute in attributes {
         text.push_str(".")?;
@@ -94,8 +94,8 @@ fn push_attributes(text: &mut String, attributes: &[Attribute<&str>]) -> Result<
 
 /// Appends the lines of an entry, which has some if it is a message or a term.
 fn push_entry(text: &mut String, entry: &Entry<&str>) -> Result<(), AllocError>
-    ensures { OnOk result (string_bytes text.new
-        ≡ string_bytes text.old ++ entry_lines (entry_view Text text_of entry.now)) }
+    ensures { OnOk result (Gains text.old text.new
+        (entry_lines (entry_view Text text_of entry.now))) }
 {
     match entry {
         Entry::Message(message) => {
