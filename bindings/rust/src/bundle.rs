@@ -3,7 +3,7 @@
 use crate::args::{FluentArgs, NONE};
 use crate::call::Functions;
 use crate::errors::{EntryKind, FluentError};
-use crate::ids::ById;
+use crate::ids::{ById, Name};
 use crate::kept::{Kept, Refusal, Settings};
 use crate::listing::Entry;
 use crate::message::{FluentMessage, Message, Pattern};
@@ -15,7 +15,7 @@ use std::borrow::{Borrow, Cow};
 use std::collections::{hash_map, HashMap};
 use std::fmt;
 use std::sync::atomic::{AtomicU64, Ordering};
-use std::sync::{Arc, OnceLock};
+use std::sync::OnceLock;
 
 /// A bundle of resources, by which their messages are formatted.
 ///
@@ -32,9 +32,9 @@ pub struct FluentBundle<R = FluentResource> {
     plain_numbers: bool,
     resources: Vec<Added<R>>,
     /// The entry of each id that counts.
-    entries: HashMap<Arc<str>, Held, ById>,
+    entries: HashMap<Name, Held, ById>,
     /// The ids of messages and terms, in the order in which each came first.
-    ids: Vec<Arc<str>>,
+    ids: Vec<Name>,
     functions: Functions,
     /// A number that no other bundle of the process has.
     number: u64,
@@ -55,7 +55,7 @@ enum Held {
 
 impl Held {
     /// What an entry of this id is in the bundle of this number.
-    fn of(entry: &Entry<'_>, id: &Arc<str>, bundle: u64) -> Held {
+    fn of(entry: &Entry<'_>, id: &Name, bundle: u64) -> Held {
         match entry.kind {
             EntryKind::Message => Held::Message(Message::of(entry, id, bundle)),
             EntryKind::Term | EntryKind::Function => Held::Other,
@@ -78,7 +78,7 @@ impl<R: Borrow<FluentResource>> FluentBundle<R> {
             isolating: true,
             plain_numbers: false,
             resources: Vec::new(),
-            entries: HashMap::from_iter([(Arc::from("NUMBER"), Held::Other)]),
+            entries: HashMap::from_iter([(Name::from("NUMBER"), Held::Other)]),
             ids: Vec::new(),
             functions: Functions::default(),
             number: BUNDLES.fetch_add(1, Ordering::Relaxed),
@@ -99,14 +99,14 @@ impl<R: Borrow<FluentResource>> FluentBundle<R> {
         self.prepare(resource.borrow());
         let mut errors = Vec::new();
         for entry in resource.borrow().entries() {
-            match self.entries.entry(Arc::from(entry.id)) {
+            match self.entries.entry(entry.name()) {
                 hash_map::Entry::Vacant(place) => {
-                    let id = Arc::clone(place.key());
+                    let id = place.key().clone();
                     place.insert(Held::of(&entry, &id, self.number));
                     self.ids.push(id);
                 }
                 hash_map::Entry::Occupied(_) => {
-                    errors.push(FluentError::Overriding { kind: entry.kind, id: entry.id.to_owned() });
+                    errors.push(FluentError::Overriding { kind: entry.kind, id: entry.id().to_owned() });
                 }
             }
         }
@@ -125,9 +125,8 @@ impl<R: Borrow<FluentResource>> FluentBundle<R> {
     pub fn add_resource_overriding(&mut self, resource: R) {
         self.prepare(resource.borrow());
         for entry in resource.borrow().entries() {
-            let id = Arc::from(entry.id);
-            let held = Held::of(&entry, &id, self.number);
-            if self.entries.insert(Arc::clone(&id), held).is_none() {
+            let id = entry.name();
+            if self.entries.insert(id.clone(), Held::of(&entry, &id, self.number)).is_none() {
                 self.ids.push(id);
             }
         }
@@ -160,7 +159,7 @@ impl<R: Borrow<FluentResource>> FluentBundle<R> {
             return Err(FluentError::Overriding { kind: EntryKind::Function, id: id.to_owned() });
         }
         self.forget();
-        self.entries.insert(Arc::from(id), Held::Other);
+        self.entries.insert(Name::from(id), Held::Other);
         self.functions.add(id, Box::new(function));
         Ok(())
     }

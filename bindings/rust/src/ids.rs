@@ -1,6 +1,69 @@
 //! Ids of messages as keys.
 
-use std::hash::{BuildHasherDefault, Hasher};
+use std::borrow::Borrow;
+use std::fmt;
+use std::hash::{BuildHasherDefault, Hash, Hasher};
+use std::ops::{Deref, Range};
+use std::sync::Arc;
+
+/// An id, or the name of an attribute: a part of lines that it shares with others.
+#[derive(Clone)]
+pub(crate) struct Name {
+    lines: Arc<str>,
+    place: Range<usize>,
+}
+
+impl Name {
+    /// The name at a place of lines.
+    pub(crate) fn at(lines: &Arc<str>, place: Range<usize>) -> Name {
+        assert!(lines.get(place.clone()).is_some(), "There is a name.");
+        Name { lines: Arc::clone(lines), place }
+    }
+}
+
+impl From<&str> for Name {
+    fn from(name: &str) -> Name {
+        Name { lines: Arc::from(name), place: 0..name.len() }
+    }
+}
+
+impl Deref for Name {
+    type Target = str;
+
+    #[inline]
+    fn deref(&self) -> &str {
+        // SAFETY: each name is made of a place that the lines have, and neither of them changes.
+        unsafe { self.lines.get_unchecked(self.place.clone()) }
+    }
+}
+
+impl Borrow<str> for Name {
+    #[inline]
+    fn borrow(&self) -> &str {
+        self
+    }
+}
+
+impl Hash for Name {
+    #[inline]
+    fn hash<H: Hasher>(&self, state: &mut H) {
+        str::hash(self, state);
+    }
+}
+
+impl PartialEq for Name {
+    fn eq(&self, other: &Name) -> bool {
+        **self == **other
+    }
+}
+
+impl Eq for Name {}
+
+impl fmt::Debug for Name {
+    fn fmt(&self, f: &mut fmt::Formatter<'_>) -> fmt::Result {
+        str::fmt(self, f)
+    }
+}
 
 /// How a map with ids as its keys hashes them.
 ///
@@ -22,6 +85,7 @@ impl IdHasher {
 }
 
 impl Hasher for IdHasher {
+    #[inline]
     fn write(&mut self, bytes: &[u8]) {
         for word in bytes.chunks_exact(8) {
             self.add(u64::from_le_bytes(word.try_into().unwrap_or_default()));

@@ -2,36 +2,17 @@
 
 use crate::c;
 use crate::errors::EntryKind;
+use crate::ids::Name;
 use crate::text::Text;
-
-/// A message or a term of a source.
-#[derive(Clone, Copy)]
-pub(crate) struct Entry<'l> {
-    pub(crate) kind: EntryKind,
-    /// The id, without the `-` of a term.
-    pub(crate) id: &'l str,
-    pub(crate) has_value: bool,
-    /// A line for each attribute: a dot, and its name.
-    attributes: &'l str,
-}
-
-impl<'l> Entry<'l> {
-    /// The names of the attributes, in their order.
-    pub(crate) fn attributes(&self) -> impl Iterator<Item = &'l str> {
-        let mut rest = self.attributes;
-        std::iter::from_fn(move || {
-            let (line, below) = cut_line(rest)?;
-            rest = below;
-            line.strip_prefix('.')
-        })
-    }
-}
+use std::iter;
+use std::ops::Range;
+use std::sync::Arc;
 
 /// What the library lists of a source.
-#[derive(Clone, PartialEq, Eq)]
+#[derive(Clone, Default, PartialEq, Eq)]
 pub(crate) struct Listing {
     /// A line for each message and each term, and after it one for each of its attributes.
-    lines: Box<str>,
+    lines: Arc<str>,
     /// How many messages and terms there are.
     count: usize,
 }
@@ -56,41 +37,93 @@ impl Listing {
 
     /// The messages and terms, in their order.
     pub(crate) fn entries(&self) -> Entries<'_> {
-        Entries(&self.lines)
+        Entries { lines: &self.lines, at: 0 }
     }
 }
 
-/// The messages and terms of lines, in their order.
-#[derive(Default)]
-pub(crate) struct Entries<'l>(&'l str);
+/// The messages and terms from a place of lines on, in their order.
+pub(crate) struct Entries<'l> {
+    lines: &'l Arc<str>,
+    at: usize,
+}
 
 impl<'l> Iterator for Entries<'l> {
     type Item = Entry<'l>;
 
     fn next(&mut self) -> Option<Entry<'l>> {
-        let (line, below) = cut_line(self.0)?;
-        let mut rest = below;
-        while rest.starts_with('.') {
-            rest = cut_line(rest)?.1;
+        let (lines, start) = (self.lines, self.at);
+        let end = line_end(lines, start)?;
+        self.at = end + 1;
+        let mut attribute_count = 0;
+        while lines.as_bytes().get(self.at) == Some(&b'.') {
+            self.at = line_end(lines, self.at)? + 1;
+            attribute_count += 1;
         }
-        self.0 = rest;
-        let attributes = &below[..below.len() - rest.len()];
-        let (name, has_value) = match line.strip_suffix(" =") {
-            Some(name) => (name, true),
-            None => (line, false),
-        };
-        let (kind, id) = match name.strip_prefix('-') {
-            Some(id) => (EntryKind::Term, id),
-            None => (EntryKind::Message, name),
-        };
-        Some(Entry { kind, id, has_value, attributes })
+        let line = &lines[start..end];
+        let (is_term, has_value) = (line.starts_with('-'), line.ends_with(" ="));
+        Some(Entry {
+            lines,
+            kind: if is_term { EntryKind::Term } else { EntryKind::Message },
+            id: start + usize::from(is_term)..end - if has_value { " =".len() } else { 0 },
+            has_value,
+            attributes: end + 1..self.at,
+            attribute_count,
+        })
     }
 }
 
-/// Cuts the first line off. Lines are so short that a look at each byte is the fastest way to find the end.
-fn cut_line(lines: &str) -> Option<(&str, &str)> {
-    let end = lines.bytes().position(|byte| byte == b'\n')?;
-    Some((&lines[..end], &lines[end + 1..]))
+/// A message or a term of a source.
+pub(crate) struct Entry<'l> {
+    lines: &'l Arc<str>,
+    pub(crate) kind: EntryKind,
+    /// The place of the id, without the `-` of a term.
+    id: Range<usize>,
+    pub(crate) has_value: bool,
+    /// The place of the lines of the attributes, each of them a dot and a name.
+    attributes: Range<usize>,
+    pub(crate) attribute_count: usize,
+}
+
+impl<'l> Entry<'l> {
+    /// The id.
+    pub(crate) fn id(&self) -> &'l str {
+        &self.lines[self.id.clone()]
+    }
+
+    /// The id, as a key.
+    pub(crate) fn name(&self) -> Name {
+        Name::at(self.lines, self.id.clone())
+    }
+
+    /// The names of the attributes, in their order.
+    pub(crate) fn attributes(&self) -> impl Iterator<Item = Name> + 'l {
+        let (lines, mut left) = (self.lines, self.attributes.clone());
+        iter::from_fn(move || {
+            let place = left.start + ".".len()..line_end(&lines[..left.end], left.start)?;
+            left.start = place.end + 1;
+            Some(Name::at(lines, place))
+        })
+    }
+}
+
+/// Where the line ends that begins at a place.
+fn line_end(lines: &str, start: usize) -> Option<usize> {
+    /// A byte eight times.
+    const fn each(byte: u8) -> u64 {
+        u64::from_le_bytes([byte; 8])
+    }
+    let mut words = lines.as_bytes()[start..].chunks_exact(8);
+    let mut passed = start;
+    for word in &mut words {
+        // The byte of a line feed is 0, and the lowest high bit that is set is that of the first byte 0.
+        let word = u64::from_le_bytes(word.try_into().ok()?) ^ each(b'\n');
+        let feeds = word.wrapping_sub(each(1)) & !word & each(1 << 7);
+        if feeds != 0 {
+            return Some(passed + feeds.trailing_zeros() as usize / 8);
+        }
+        passed += 8;
+    }
+    Some(passed + words.remainder().iter().position(|&byte| byte == b'\n')?)
 }
 
 #[cfg(test)]
@@ -103,8 +136,8 @@ mod tests {
         let entries: Vec<_> = listing
             .entries()
             .map(|entry| {
-                let attributes = entry.attributes().map(String::from).collect();
-                (entry.kind, entry.id.to_owned(), entry.has_value, attributes)
+                let attributes = entry.attributes().map(|name| name.to_string()).collect();
+                (entry.kind, entry.id().to_owned(), entry.has_value, attributes)
             })
             .collect();
         assert_eq!(listing.len(), entries.len());
