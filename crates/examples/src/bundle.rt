@@ -93,13 +93,19 @@ fn show_catalog(rt: &HostRuntime) -> Result<()> {
         FluentResource::try_new(alloc, "bye = Goodbye, { $name }.\n")?,
     ];
     let mut catalog = Catalog::new(alloc, &resources)?;
-    let mut args = FluentArgs::new(alloc);
-    args.set("name", "Jane")?;
     for id in ["inbox", "bye"] {
-        let text = catalog.text(alloc, id, &args)?;
-        println!(rt; "{text}")?;
+        say_from(rt, &mut catalog, id)?;
     }
     println!(rt; "{} with errors", catalog.faulty)?;
+    Ok(())
+}
+
+/// Prints a text of a catalog, for Jane.
+fn say_from<'r, 's: 'r>(rt: &HostRuntime, catalog: &mut Catalog<'r, 's>, id: &str) -> Result<()> {
+    let mut args = FluentArgs::new(rt.alloc());
+    args.set("name", "Jane")?;
+    let text = catalog.text(rt.alloc(), id, &args)?;
+    println!(rt; "{text}")?;
     Ok(())
 }
 
@@ -122,13 +128,23 @@ fn count_files(rt: &HostRuntime, resource: FluentResource<'static>) -> Result<()
     let mut bundle = LanguageBundle::for_tag(alloc, "pl").context("no rules")?;
     bundle.set_use_isolating(false);
     bundle.add_resource(&resource)?;
+    for count in [1_u32, 3, 5] {
+        say_count(rt, &bundle, count)?;
+    }
+    Ok(())
+}
+
+/// Prints how many files there are.
+fn say_count<'r, 's: 'r>(
+    rt: &HostRuntime,
+    bundle: &LanguageBundle<'r, 's>,
+    count: u32,
+) -> Result<()> {
     let message = bundle.get_message("files").context("no such message")?;
     let pattern = message.value().context("the message has no value")?;
-    for count in [1_u32, 3, 5] {
-        let mut args = FluentArgs::new(alloc);
-        args.set("count", count)?;
-        let text = bundle.format_pattern(pattern, Some(&args), &mut Vec::new(alloc))?;
-        println!(rt; "{text}")?;
-    }
+    let mut args = FluentArgs::new(rt.alloc());
+    args.set("count", count)?;
+    let text = bundle.format_pattern(pattern, Some(&args), &mut Vec::new(rt.alloc()))?;
+    println!(rt; "{text}")?;
     Ok(())
 }

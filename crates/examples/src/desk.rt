@@ -26,8 +26,10 @@ pub fn main(rt: HostRuntime) -> Result<()> {
 fn show_errors(rt: &HostRuntime) -> Result<()> {
     let alloc = rt.alloc();
     let report = check(alloc, &[SOURCE])?;
-    for error in report.errors.iter().flatten() {
-        println!(rt; "{error}")?;
+    for errors in &report.errors {
+        for error in errors {
+            println!(rt; "{error}")?;
+        }
     }
     Ok(())
 }

@@ -1,7 +1,7 @@
 //! Reads the texts of the user's languages from `l10n/LANGUAGE`, and shows each message in the first language that has it.
 
 use anyhow::{Context, Result};
-use fluent_bundle::localization::format_value;
+use fluent_bundle::localization::{LocalizedText, format_value};
 use fluent_bundle::{FluentArgs, FluentResource, LanguageBundle};
 use fluent_languages::{NegotiationStrategy, negotiate_languages, tag_of_posix};
 use std::alloc::{AllocError, Global};
@@ -137,12 +137,20 @@ fn bundle_of<'r, 's>(
 
 /// Shows a message in the first language that has it.
 fn say<'r, 's: 'r>(rt: &HostRuntime, bundles: &[LanguageBundle<'r, 's>], id: &str) -> Result<()> {
-    let mut args = FluentArgs::new(rt.alloc());
-    args.set("name", "Jane")?;
-    let mut errors = Vec::new(rt.alloc());
-    match format_value(bundles, id, Some(&args), &mut errors)? {
+    match text_of(rt.alloc(), bundles, id)? {
         Some(found) => println!(rt; "{}", found.text)?,
         None => println!(rt; "{id} is missing")?,
     }
     Ok(())
+}
+
+fn text_of<'r, 's: 'r>(
+    alloc: Global,
+    bundles: &[LanguageBundle<'r, 's>],
+    id: &str,
+) -> Result<Option<LocalizedText<'s>>, AllocError> {
+    let mut args = FluentArgs::new(alloc);
+    args.set("name", "Jane")?;
+    let mut errors = Vec::new(alloc);
+    format_value(bundles, id, Some(&args), &mut errors)
 }

@@ -14,6 +14,11 @@ fn welcome(rt: &HostRuntime, res: FluentResource<'static>) -> Result<()> {
     let alloc = rt.alloc();
     let mut bundle = LanguageBundle::for_tag(alloc, "en-US").context("unknown locale")?;
     bundle.add_resource(&res)?;
+    greet(rt, &bundle)
+}
+
+fn greet<'r, 's: 'r>(rt: &HostRuntime, bundle: &LanguageBundle<'r, 's>) -> Result<()> {
+    let alloc = rt.alloc();
     let mut args = FluentArgs::new(alloc);
     args.set("name", "John")?;
     let msg = bundle
