@@ -40,12 +40,6 @@ given_more old mid new calls n so_far is some =
     ] in
     rw is (le-min one_more most)
 
--- which refusal it was
-pub by_error : {P : Type 0} (e : RunError) → (e ≡ Memory → P) → (e ≡ Read → P) → (e ≡ Write → P) → P
-by_error Memory m r w = m refl
-by_error Read m r w = r refl
-by_error Write m r w = w refl
-
 -- how a run ended
 pub by_outcome : {P : Type 0} (r : Result (Unit {0}) RunError) → (r ≡ Err Write → ⊥) → (r ≡ Ok tt → P) → (r ≡ Err Memory → P) → (r ≡ Err Read → P) → P
 by_outcome (Ok tt) not_write ok memory read = ok refl

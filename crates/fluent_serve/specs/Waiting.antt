@@ -65,6 +65,11 @@ Serves source reader reader' sink writer writer' waiting answer bound result =
     ServesOn (devices source.remaining reader reader' sink.contents writer writer') waiting.output.items answer
     (HasFailed (source.failures reader) (source.failures reader')) bound result
 
+-- A call that could write counts a failure of the writer if that is what it ended by, and else none.
+pub record CountsFailures {W : Type 0} (sink : SinkGhosts W) (writer writer' : W) (result : Result (Unit {0}) RunError) : Type 0 where
+  pub failed : IsErrOf result Write → HasFailed (sink.failures writer) (sink.failures writer')
+  pub kept : (IsErrOf result Write → ⊥) → sink.failures writer' ≡ sink.failures writer
+
 -- The answer to a line, what waited of it and its end, is put after what waits; if memory ran out, nothing is.
 pub record PutsLine {W : Type 0} (sink : SinkGhosts W) (writer writer' : W) (waiting waiting' : Waiting) (answer : Text → Text) (end : Text) (result : Result (Unit {0}) RunError) : Type 0 where
   pub ok : OnOk result (Puts (sink.contents writer) waiting.output.items (sink.contents writer') waiting'.output.items (answer (waiting.line.items ++ end)))

@@ -4,7 +4,7 @@ ghost use Rattle.std.specs.Io.KnownBytes.{Appends, IsAtEnd};
 ghost use Rattle.fluent_serve.specs.Lines.{IsUnfinished, unfinished};
 ghost use Rattle.fluent_serve.specs.Devices.{HasFailed};
 ghost use Rattle.fluent_serve.specs.Exchange.{GivesUp, Runs};
-ghost use Rattle.fluent_serve.specs.Waiting.{IsSplitAtLine, PutsBlock, PutsFront, PutsLine, PutsRest, Serves};
+ghost use Rattle.fluent_serve.specs.Waiting.{CountsFailures, IsSplitAtLine, PutsBlock, PutsFront, PutsLine, PutsRest, Serves};
 ghost use Rattle.fluent_serve.specs.declared.serve.RunError.TheVariants.{Memory, Read, Write};
 
 use crate::stream::{ReadFailed, Sink, Source, WriteFailed};
@@ -139,11 +139,7 @@ fn answer_line<E: Engine, W: Sink>(
     ensures put { PutsLine W.Sink writer.old writer.new waiting.old waiting.new
         (E.reply engine.now) end.now result }
     ensures line { OnOk result (waiting.new.line.items ≡ []) }
-    ensures failures { OnOk result (W.failures writer.new ≡ W.failures writer.old) }
-    ensures memory_failures { IsErrOf result RunError.Memory
-        → W.failures writer.new ≡ W.failures writer.old }
-    ensures failed { IsErrOf result RunError.Write
-        → HasFailed (W.failures writer.old) (W.failures writer.new) }
+    ensures counted { CountsFailures W.Sink writer.old writer.new result }
     ensures never_read { IsErrOf result RunError.Read → ⊥ }
 {
     if waiting.line.is_empty() {
@@ -187,11 +183,7 @@ fn answer_block<E: Engine, W: Sink>(
     ensures line { OnOk result (waiting.new.line.items
         ≡ unfinished (waiting.old.line.items ++ block.now)) }
     ensures unfinished { OnOk result (IsUnfinished waiting.new.line.items) }
-    ensures failures { OnOk result (W.failures writer.new ≡ W.failures writer.old) }
-    ensures memory_failures { IsErrOf result RunError.Memory
-        → W.failures writer.new ≡ W.failures writer.old }
-    ensures failed { IsErrOf result RunError.Write
-        → HasFailed (W.failures writer.old) (W.failures writer.new) }
+    ensures counted { CountsFailures W.Sink writer.old writer.new result }
     ensures never_read { IsErrOf result RunError.Read → ⊥ }
 {
     let mut rest = block;
@@ -235,10 +227,7 @@ fn answer_all<E: Engine, R: Source, W: Sink>(
     ensures reads { OnOk result (R.failures reader.new ≡ R.failures reader.old) }
     ensures given_up { IsErrOf result RunError.Read
         → GivesUp R.Source reader.old reader.new reads }
-    ensures failed { IsErrOf result RunError.Write
-        → HasFailed (W.failures writer.old) (W.failures writer.new) }
-    ensures kept { (IsErrOf result RunError.Write → ⊥)
-        → W.failures writer.new ≡ W.failures writer.old }
+    ensures counted { CountsFailures W.Sink writer.old writer.new result }
 {
     for _ in 0..reads {
         let count = reader.read(block)?;

@@ -3,7 +3,7 @@ use Rattle.std.proofs.lemmas.List.{length-take}
 use Rattle.std.proofs.lemmas.Result.{err_from_is_err_and}
 use Rattle.fluent_serve.specs.Devices.{HasFailed}
 use Rattle.fluent_serve.proofs.Runs.{at_start, line_free, serves_whole, serves_all, serves_first, first_in_block, front_in_block, block_done, block_cut}
-use Rattle.fluent_serve.proofs.Outcomes.{on_ok_map, on_ok_always, failed_now, given_none, given_more, by_error}
+use Rattle.fluent_serve.proofs.Outcomes.{on_ok_map, on_ok_always, failed_now, given_none, given_more}
 use Rattle.fluent_serve.proofs.serve.answer_all.Goals as goal
 
 pub loop-init : goal.loop-init
@@ -55,18 +55,13 @@ returns-in_err-answer_block-clause-served g c =
       write = λ is. front_in_block c.loop.invariant.so_far (g.R.Source.remaining c.read.new.self) _ c.in_ok-count.ensures.bytes.0 (c.in_err-answer_block.ensures.put.write (rw (p.1, p.2) at is));
     }
 
-pub returns-in_err-answer_block-clause-failed : goal.returns-in_err-answer_block-clause-failed
-returns-in_err-answer_block-clause-failed g c = λ is.
+pub returns-in_err-answer_block-clause-counted : goal.returns-in_err-answer_block-clause-counted
+returns-in_err-answer_block-clause-counted g c =
     let p = err_from_is_err_and c.from_residual-in_err-answer_block.result c.from_residual-in_err-answer_block.ensures.1 in
-    subst (λ n. HasFailed n (g.W.Sink.failures c.answer_block.new.writer)) c.loop.invariant.writer (c.in_err-answer_block.ensures.failed (rw (p.1, p.2) at is))
-
-pub returns-in_err-answer_block-clause-kept : goal.returns-in_err-answer_block-clause-kept
-returns-in_err-answer_block-clause-kept g c = λ not_write.
-    let p = err_from_is_err_and c.from_residual-in_err-answer_block.result c.from_residual-in_err-answer_block.ensures.1 in
-    by_error c.in_err-answer_block.field-0.0
-    (λ is. c.in_err-answer_block.ensures.memory_failures (ap Err is) ∙ c.loop.invariant.writer)
-    (λ is. absurd (c.in_err-answer_block.ensures.never_read (ap Err is)))
-    (λ is. absurd (not_write (p.1 ∙ ap Err (p.2 ∙ is))))
+    record {
+      failed = λ is. subst (λ n. HasFailed n (g.W.Sink.failures c.answer_block.new.writer)) c.loop.invariant.writer (c.in_err-answer_block.ensures.counted.failed (rw (p.1, p.2) at is));
+      kept = λ not_write. c.in_err-answer_block.ensures.counted.kept (λ is. not_write (p.1 ∙ (ap Err p.2 ∙ is))) ∙ c.loop.invariant.writer;
+    }
 
 pub returns-in_err-flush-clause-served : goal.returns-in_err-flush-clause-served
 returns-in_err-flush-clause-served g c = record {
@@ -76,11 +71,19 @@ returns-in_err-flush-clause-served g c = record {
   write = λ is. block_cut c.loop.invariant.so_far (g.R.Source.remaining c.read.new.self) _ c.in_ok-count.ensures.bytes.0 c.in_ok-answer_block.ensures.put.ok c.in_err-flush.ensures.err;
 }
 
+pub returns-in_err-flush-clause-counted : goal.returns-in_err-flush-clause-counted
+returns-in_err-flush-clause-counted g c =
+    let p = err_from_is_err_and c.from_residual-in_err-flush.result c.from_residual-in_err-flush.ensures.1 in
+    record {
+      failed = λ is. subst (λ n. HasFailed n (g.W.Sink.failures c.flush.new.writer)) (c.in_ok-answer_block.ensures.counted.kept (λ ok. absurd cc) ∙ c.loop.invariant.writer) c.in_err-flush.ensures.failed;
+      kept = λ not_write. absurd (not_write (p.1 ∙ ap Err p.2));
+    }
+
 pub loop-preserved : goal.loop-preserved
 loop-preserved g c = record {
   so_far = block_done c.loop.invariant.so_far (g.R.Source.remaining c.read.new.self) _ c.in_ok-count.ensures.bytes.0 c.in_ok-answer_block.ensures.put.ok c.in_ok-flush.ensures.ok
       c.in_ok-answer_block.ensures.line c.in_ok-flush.ensures.emptied (omega (arith, length-take c.in_ok-count.count c.read.new.buffer, c.in_ok-count.ensures.bound, c.if-count-eq0.false));
   given = given_more (g.R.Source.given c.args.reader.now) (g.R.Source.given c.loop.reader) (g.R.Source.given c.read.new.self) _ c.in_ok-count.count c.loop.invariant.given c.in_ok-count.ensures.counted (omega (arith, c.if-count-eq0.false));
   reader = c.in_ok-count.ensures.failed ∙ c.loop.invariant.reader;
-  writer = c.in_ok-flush.ensures.failures ∙ (c.in_ok-answer_block.ensures.failures ∙ c.loop.invariant.writer);
+  writer = c.in_ok-flush.ensures.failures ∙ (c.in_ok-answer_block.ensures.counted.kept (λ ok. absurd cc) ∙ c.loop.invariant.writer);
 }

@@ -1,5 +1,6 @@
-use Rattle.std.proofs.Common.{◌∙◌, refl, rules}
+use Rattle.std.proofs.Common.{◌∙◌, refl, rules, ap, subst, Err}
 use Rattle.std.proofs.lemmas.Result.{err_from_is_err_and}
+use Rattle.fluent_serve.specs.Devices.{HasFailed}
 use Rattle.fluent_serve.proofs.Lines.{unfinished_append}
 use Rattle.fluent_serve.proofs.Exchange.{puts_nothing}
 use Rattle.fluent_serve.proofs.Serving.{answered_next, answered_front, answered_first, answered_all, answered_left}
@@ -10,7 +11,7 @@ loop-end-preserved g c = record {
   answered = answered_next c.loop-end.waiting.line.items c.loop-end.rest.now c.in-Some.end.now c.in-Some.behind.now c.loop-end.invariant.answered c.loop-end.invariant.line
       c.in-Some.ensures.0 c.in-Some.ensures.1 c.answer_line.new.waiting.line.items c.in_ok-answer_line.ensures.line c.in_ok-answer_line.ensures.put.ok;
   line = rw c.in_ok-answer_line.ensures.line refl;
-  failures = c.in_ok-answer_line.ensures.failures ∙ c.loop-end.invariant.failures;
+  failures = c.in_ok-answer_line.ensures.counted.kept (λ ok. absurd cc) ∙ c.loop-end.invariant.failures;
 }
 
 pub returns-in_err-answer_line-clause-put : goal.returns-in_err-answer_line-clause-put
@@ -21,6 +22,14 @@ returns-in_err-answer_line-clause-put g c =
       memory = λ is. answered_first c.loop-end.invariant.answered (c.in_err-answer_line.ensures.put.memory (rw (p.1, p.2) at is));
       write = λ is. answered_front c.loop-end.waiting.line.items c.loop-end.rest.now c.in-Some.end.now c.in-Some.behind.now c.loop-end.invariant.answered c.loop-end.invariant.line
           c.in-Some.ensures.0 c.in-Some.ensures.1 (c.in_err-answer_line.ensures.put.write (rw (p.1, p.2) at is));
+    }
+
+pub returns-in_err-answer_line-clause-counted : goal.returns-in_err-answer_line-clause-counted
+returns-in_err-answer_line-clause-counted g c =
+    let p = err_from_is_err_and c.from_residual.result c.from_residual.ensures.1 in
+    record {
+      failed = λ is. subst (λ n. HasFailed n (g.W.Sink.failures c.answer_line.new.writer)) c.loop-end.invariant.failures (c.in_err-answer_line.ensures.counted.failed (rw (p.1, p.2) at is));
+      kept = λ not_write. c.in_err-answer_line.ensures.counted.kept (λ is. not_write (p.1 ∙ (ap Err p.2 ∙ is))) ∙ c.loop-end.invariant.failures;
     }
 
 pub returns-in_err-extend_from_slice-clause-put : goal.returns-in_err-extend_from_slice-clause-put

@@ -38,7 +38,7 @@ returns-in_err-flush-clause-served g c = record {
 
 pub returns-in_err-flush-clause-failed : goal.returns-in_err-flush-clause-failed
 returns-in_err-flush-clause-failed g c = λ is.
-    subst (λ n. HasFailed n (g.W.Sink.failures c.flush.new.writer)) (c.answer_all-outcome.ensures.kept (λ w. false≢true (c.if-is_write_failure.ensures.1 w))) c.in_err-flush.ensures.failed
+    subst (λ n. HasFailed n (g.W.Sink.failures c.flush.new.writer)) (c.answer_all-outcome.ensures.counted.kept (λ w. false≢true (c.if-is_write_failure.ensures.1 w))) c.in_err-flush.ensures.failed
 
 pub returns-clause-served : goal.returns-clause-served
 returns-clause-served g c = record {
@@ -50,4 +50,4 @@ returns-clause-served g c = record {
 
 pub returns-clause-writes : goal.returns-clause-writes
 returns-clause-writes g c = on_ok_always c.answer_all-outcome.result
-    (c.in_ok-flush.ensures.failures ∙ c.answer_all-outcome.ensures.kept (λ w. false≢true (c.if-is_write_failure.ensures.1 w)))
+    (c.in_ok-flush.ensures.failures ∙ c.answer_all-outcome.ensures.counted.kept (λ w. false≢true (c.if-is_write_failure.ensures.1 w)))
