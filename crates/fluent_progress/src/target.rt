@@ -98,17 +98,19 @@ impl<'b, 'r, 's, 'a, C: FluentType, F, E: Context<C, F>> Surroundings<'b, 'r, 's
             ≡ message_meant self.now id.now attribute.now) }
     {
         let alloc = self.context.alloc();
-        let Some(Entry::Message((_, message))) = self.ids.get(id.name) else {
-            return Ok(Target::Unknown(unknown_message(alloc, id, attribute)?));
+        let found = match (self.ids.get(id.name), attribute) {
+            (Some(Entry::Message((_, message))), None) => match &message.value {
+                Some(value) => Some(value),
+                None => return Ok(Target::NoValue(String::from_str(alloc, id.name)?)),
+            },
+            (Some(Entry::Message((_, message))), Some(name)) => {
+                attribute_named(&message.attributes, name.name)
+            }
+            _ => None,
         };
-        let found = match attribute {
-            None => message.value.as_ref(),
-            Some(name) => attribute_named(&message.attributes, name.name),
-        };
-        match (found, attribute) {
-            (Some(pattern), _) => Ok(Target::There(pattern)),
-            (None, None) => Ok(Target::NoValue(String::from_str(alloc, id.name)?)),
-            (None, Some(_)) => Ok(Target::Unknown(unknown_message(alloc, id, attribute)?)),
+        match found {
+            Some(pattern) => Ok(Target::There(pattern)),
+            None => Ok(Target::Unknown(unknown_message(alloc, id, attribute)?)),
         }
     }
 
@@ -125,13 +127,14 @@ impl<'b, 'r, 's, 'a, C: FluentType, F, E: Context<C, F>> Surroundings<'b, 'r, 's
             ≡ term_meant self.now id.now attribute.now) }
     {
         let alloc = self.context.alloc();
-        let Some(Entry::Term((_, term))) = self.ids.get(id.name) else {
-            return Ok(Target::Unknown(unknown_term(alloc, id, attribute)?));
+        let found = match (self.ids.get(id.name), attribute) {
+            (Some(Entry::Term((_, term))), None) => Some(&term.value),
+            (Some(Entry::Term((_, term))), Some(name)) => {
+                attribute_named(&term.attributes, name.name)
+            }
+            _ => None,
         };
-        let Some(name) = attribute else {
-            return Ok(Target::There(&term.value));
-        };
-        match attribute_named(&term.attributes, name.name) {
+        match found {
             Some(pattern) => Ok(Target::There(pattern)),
             None => Ok(Target::Unknown(unknown_term(alloc, id, attribute)?)),
         }
