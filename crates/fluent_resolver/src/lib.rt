@@ -1,8 +1,8 @@
 //! Resolving patterns, and formatting one pattern for one request.
 //!
 //! [`answer::answer`] returns the text of a pattern, and [`answer::write_answer`] writes it piece by piece. Both take the
-//! caller's list of errors for the time of the call, and put it back with those that were reported. The module [`steps`] is
-//! for programs that open placeables themselves.
+//! caller's list of errors for the time of the call, and put it back with those that were reported. A program that opens
+//! placeables itself calls [`pattern::write_opened`], [`pattern::write_referred`] and the module [`steps`].
 //!
 //! Below them stand the functions that call each other: [`pattern::write_pattern`] writes a pattern to a text, with the
 //! budget, the path and the errors that its [`Progress`] holds. A [`Surroundings`] lends what it is resolved in for the call alone:

@@ -15,7 +15,8 @@ use fluent_ast::{CallArguments, Expression, InlineExpression, Pattern};
 use fluent_errors::{FluentError, ReferenceKind, ResolverError};
 use fluent_progress::fallback::write_inline_braced;
 use fluent_progress::{Frames, Path, Progress, Surroundings};
-use fluent_resolver::steps::{opened, referred, values};
+use fluent_resolver::pattern::{write_opened, write_referred};
+use fluent_resolver::steps::values;
 use fluent_text::stack::StackBudget;
 use fluent_value::{
     FluentArgs, FluentFunction, FluentType, FluentValue, MemoizerKind, TextTransform,
@@ -138,7 +139,7 @@ where
             arguments: self.arguments,
             locals,
         };
-        let written = opened(out, &place, &mut progress, pattern, expression);
+        let written = write_opened(out, &place, &mut progress, pattern, expression);
         self.put_back(progress);
         written
     }
@@ -166,7 +167,7 @@ where
             arguments: self.arguments,
             locals,
         };
-        let written = referred(out, &place, &mut progress, inline, pattern);
+        let written = write_referred(out, &place, &mut progress, inline, pattern);
         self.put_back(progress);
         written
     }

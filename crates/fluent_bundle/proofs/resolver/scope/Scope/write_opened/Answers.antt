@@ -7,8 +7,8 @@ use Rattle.fluent_bundle.proofs.resolver.scope.Scope.write_opened.Goals as goal
 
 pub returns-clause-wrote : goal.returns-clause-wrote
 returns-clause-wrote g c =
-    on_ok_weaker c.opened-written.result (λ h. put-writes g.T.TextTransform.transformed c.args.self.now c.progress-progress.new.self c.put_back.new.self c.progress-progress.ensures.kept c.lent-lent.result c.lent-lent.ensures c.progress-progress.result c.opened-written.new.progress c.progress-progress.ensures.path c.progress-progress.ensures.state c.put_back.ensures.state (λ env place. s.unmarked_written env (pattern_view (Bor (List ℕ)) (λ s. s.now) c.args.pattern.now) (expression_view (Bor (List ℕ)) (λ s. s.now) c.args.expression.now) place) h) c.opened-written.ensures.wrote
+    on_ok_weaker c.write_opened-written.result (λ h. put-writes g.T.TextTransform.transformed c.args.self.now c.progress-progress.new.self c.put_back.new.self c.progress-progress.ensures.kept c.lent-lent.result c.lent-lent.ensures c.progress-progress.result c.write_opened-written.new.progress c.progress-progress.ensures.path c.progress-progress.ensures.state c.put_back.ensures.state (λ env place. s.unmarked_written env (pattern_view (Bor (List ℕ)) (λ s. s.now) c.args.pattern.now) (expression_view (Bor (List ℕ)) (λ s. s.now) c.args.expression.now) place) h) c.write_opened-written.ensures.wrote
 
 pub returns-clause-refused : goal.returns-clause-refused
 returns-clause-refused g c =
-    on_err_weaker c.opened-written.result (λ h. put-tells g.T.TextTransform.transformed c.args.self.now c.progress-progress.new.self c.put_back.new.self c.progress-progress.ensures.kept c.lent-lent.result c.lent-lent.ensures c.progress-progress.result c.opened-written.new.progress c.progress-progress.ensures.path c.progress-progress.ensures.state c.put_back.ensures.state (λ env place. s.unmarked_written env (pattern_view (Bor (List ℕ)) (λ s. s.now) c.args.pattern.now) (expression_view (Bor (List ℕ)) (λ s. s.now) c.args.expression.now) place) h) c.opened-written.ensures.refused
+    on_err_weaker c.write_opened-written.result (λ h. put-tells g.T.TextTransform.transformed c.args.self.now c.progress-progress.new.self c.put_back.new.self c.progress-progress.ensures.kept c.lent-lent.result c.lent-lent.ensures c.progress-progress.result c.write_opened-written.new.progress c.progress-progress.ensures.path c.progress-progress.ensures.state c.put_back.ensures.state (λ env place. s.unmarked_written env (pattern_view (Bor (List ℕ)) (λ s. s.now) c.args.pattern.now) (expression_view (Bor (List ℕ)) (λ s. s.now) c.args.expression.now) place) h) c.write_opened-written.ensures.refused
