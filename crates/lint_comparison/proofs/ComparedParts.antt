@@ -1,7 +1,7 @@
 -- The parts of the differences of a message, one after the other.
 use Rattle.std.proofs.Common.{◌≡◌, ◌∙◌, List, ◌++◌, ap, append_assoc, Bor}
 use Rattle.lint_findings.specs.Comparison as c
-use Rattle.lint_findings.specs.Comparison.{as_message, attribute_names, differences_between, message_differences, missing_attribute, obsolete_attribute, same_message, unknown_variable, unused_variable, untranslated, value_difference, variables_of, without}
+use Rattle.lint_findings.specs.Comparison.{attribute_names, value_difference}
 use Rattle.fluent_grammar.specs.Tree as t
 use Rattle.fluent_grammar.specs.Words.{Text}
 use Rattle.lint_comparison.specs.Compared.{own_differences, variable_differences}

@@ -1,7 +1,7 @@
 //! The graph of patterns in a list: each leads to those that its references enter.
 #![tactic(auto)]
 
-ghost use Rattle.std.specs.Prelude.{◌≡◌, IfOk, map};
+ghost use Rattle.std.specs.Prelude.{◌≡◌, IfOk};
 ghost use Rattle.fluent_ast.specs.Borrowed.{elements_of};
 ghost use Rattle.lint_endless.specs.Holding.{patterns_of};
 ghost use Rattle.lint_endless.specs.ReferenceGraph.{entered_indices, graph_by, next_indices};

@@ -1,7 +1,7 @@
 //! What references reach.
 #![tactic(auto)]
 
-ghost use Rattle.std.specs.Prelude.{◌≡◌, [], OnOk, option_map};
+ghost use Rattle.std.specs.Prelude.{[], OnOk, option_map};
 ghost use Rattle.fluent_ast.specs.Borrowed.{attributes_of, elements_of, message_of};
 ghost use Rattle.lint_endless.specs.HasReached.{GetsReferences, HasReached, attribute_references, message_references, node_references, value_references};
 ghost use Rattle.lint_findings.specs.Comparison.{references_of};

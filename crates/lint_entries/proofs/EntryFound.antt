@@ -6,7 +6,6 @@ use Rattle.fluent_meaning.specs.Fallback.{with_attribute}
 use Rattle.fluent_meaning.specs.Ids.{Ids}
 use Rattle.fluent_plurals.specs.declared.plurals.LanguagePlurals.{LanguagePlurals}
 use Rattle.lint_findings.specs.EntryFindings.{attribute_findings, pattern_findings, patterns_findings, entry_findings}
-use Rattle.lint_findings.specs.Finding.{Finding}
 use Rattle.lint_findings.specs.Flaws.{attribute_patterns}
 use Rattle.lint_findings.specs.Occurrences.{after_equals, pattern_read}
 use Rattle.lint_entries.specs.EntryParts.{LeaveRest, Parts, attributes_at, maybe_value_at, parts_found, parts_of, value_at}

@@ -3,7 +3,6 @@ use Rattle.std.proofs.Common.{◌≡◌, ◌∙◌, List, [], ◌∷◌, ◌++�
 use Rattle.std.specs.Slice.Iter.{iter_rest}
 use Rattle.lint_findings.specs.PlaceLaws.{tile_errors}
 use Rattle.lint_findings.specs.Tiles as of_source
-use Rattle.lint_findings.specs.Tiles.{entry_tile, junk_tile}
 use Rattle.fluent_grammar.proofs.Got.{got_node}
 use Rattle.fluent_grammar.specs.Reading.{entry_at}
 use Rattle.fluent_grammar.specs.Refusal.{got}

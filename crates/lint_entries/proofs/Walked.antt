@@ -3,7 +3,7 @@ use Rattle.std.proofs.Common.{◌≡◌, ◌∙◌, suc, List, [], ◌∷◌, �
 use Rattle.std.proofs.lemmas.List.{map-append}
 use Rattle.lint_findings.proofs.TilesAreTheList.{tiles_have_the_errors}
 use Rattle.lint_findings.specs.Tiles as of_source
-use Rattle.lint_findings.specs.Tiles.{entry_tile, junk_tile, tiles, tiles_from}
+use Rattle.lint_findings.specs.Tiles.{tiles, tiles_from}
 use Rattle.fluent_grammar.specs.Tree as t
 use Rattle.fluent_grammar.specs.Words.{Text}
 use Rattle.fluent_parsed.specs.ErrorView.{error_told, error_view}

@@ -1,5 +1,5 @@
 -- What each call adds to the findings.
-use Rattle.std.specs.Prelude.{◌≡◌, List, [], map, Option, OnOk, Result, Vec}
+use Rattle.std.specs.Prelude.{◌≡◌, List, [], map, Option, Vec}
 use Rattle.std.specs.Global.{Global}
 use denote.Ref.{Bor}
 use Rattle.fluent_ast.specs.Borrowed.{attributes_of, elements_of}
@@ -17,7 +17,6 @@ use Rattle.lint_nodes.specs.NodeView.{node_view}
 use Rattle.lint_nodes.specs.declared.nodes.Node.{Node}
 use Rattle.lint_nodes.specs.OccurrenceView.{occurrence_view}
 use Rattle.lint_nodes.specs.declared.occurrence.Occurrence.{Occurrence}
-use Rattle.fluent_plurals.specs.declared.plurals.LanguagePlurals.{LanguagePlurals}
 use Rattle.lint_entries.specs.AttributesFound.{attributes_found}
 use Rattle.lint_entries.specs.FirstEndless.{first_entered}
 use Rattle.lint_entries.specs.FoundAt.{endless_found, flaw_findings, node_found, nodes_of, occurrences_found, option_findings, pattern_found, value_found}
@@ -46,20 +45,19 @@ AddsAttributes catalog entry attributes s old new = Adds old new (attributes_fou
 abbrev pub endless_among : Ids (Unit {0}) → EntryPoint → List Occurrence → List f.Finding
 endless_among ids name occurrences = endless_found name (first_entered ids (nodes_of occurrences))
 
--- those of a node at a place, in a pattern with these elements
-abbrev pub AddsNode : Catalog → Elements → EntryPoint → Node → Vec Finding Global → Vec Finding Global → Type 0
-AddsNode catalog es place node old new = Adds old new (node_found catalog es place (node_view node))
+-- those of a node at a place
+abbrev pub AddsNode : Catalog → EntryPoint → Node → Vec Finding Global → Vec Finding Global → Type 0
+AddsNode catalog place node old new = Adds old new (node_found catalog place (node_view node))
+
+-- those of the flaws of a node at a place
+abbrev pub AddsFlaws : FluentIds (Unit {0}) → EntryPoint → Node → Vec Finding Global → Vec Finding Global → Type 0
+AddsFlaws ids place node old new = Adds old new (flaw_findings ids place (node_view node))
 
 -- those of the options of a node at a place
 abbrev pub AddsOptions : EntryPoint → Node → Vec Finding Global → Vec Finding Global → Type 0
 AddsOptions place node old new = Adds old new (option_findings place (node_view node))
 
--- If all went well: those of occurrences in a source, whatever pattern they are in.
-abbrev pub AddsOccurrences : {A E : Type 0} → Result A E → Catalog → Text → Label → List Occurrence → Vec Finding Global → Vec Finding Global → Type 0
-AddsOccurrences result catalog source label occurrences old new =
-    (es : Elements) → OnOk result (Adds old new (occurrences_found catalog source label es (map occurrence_view occurrences)))
-
--- If all went well: those of the flaws of a node at a place, whatever pattern it is in.
-abbrev pub AddsFlaws : {A E : Type 0} → Result A E → FluentIds (Unit {0}) → EntryPoint → Node → Vec Finding Global → Vec Finding Global → Type 0
-AddsFlaws result ids place node old new =
-    (plurals : Option LanguagePlurals) (es : Elements) → OnOk result (Adds old new (flaw_findings ids plurals es place (node_view node)))
+-- those of occurrences in a source
+abbrev pub AddsOccurrences : Catalog → Text → Label → List Occurrence → Vec Finding Global → Vec Finding Global → Type 0
+AddsOccurrences catalog source label occurrences old new =
+    Adds old new (occurrences_found catalog source label (map occurrence_view occurrences))

@@ -8,7 +8,7 @@ use Rattle.fluent_plurals.specs.declared.plurals.LanguagePlurals.{LanguagePlural
 use Rattle.lint_findings.specs.EntryFindings.{attribute_findings, pattern_findings}
 use Rattle.lint_findings.specs.Finding.{Finding}
 use Rattle.lint_findings.specs.Occurrences.{after_equals, pattern_read}
-use Rattle.lint_entries.specs.AttributePlaces.{AreAttributesAt, IsBodyAt, attribute_value, read_rest, value_elements}
+use Rattle.lint_entries.specs.AttributePlaces.{IsBodyAt, attribute_value, read_rest, value_elements}
 
 -- a minus for a term, the id, and the patterns
 pub record Parts : Type 0 where

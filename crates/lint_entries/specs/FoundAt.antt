@@ -18,7 +18,7 @@ use Rattle.lint_nodes.specs.declared.occurrence.Occurrence.{Occurrence}
 use Rattle.lint_entries.specs.CatalogView.{ids_in}
 use Rattle.lint_entries.specs.FirstEndless.{endless_at}
 use Rattle.lint_entries.specs.Labels.{label_text}
-use Rattle.lint_entries.specs.Made.{made_of}
+use Rattle.lint_entries.specs.Made.{flaw_finding, made_of}
 use Rattle.lint_entries.specs.declared.problem.Problem.TheVariants as problem
 use Rattle.lint_entries.specs.declared.catalog.Catalog.{Catalog}
 use Rattle.lint_entries.specs.declared.finding.EntryPoint.{EntryPoint}
@@ -28,10 +28,9 @@ use Rattle.lint_entries.specs.declared.label.Label.{Label}
 abbrev pub nodes_of : List Occurrence → List n.Node
 nodes_of os = map (λ (x : Occurrence). node_view x.node) os
 
--- of the flaws of a node at a place, in a pattern with these elements
-abbrev pub flaw_findings : FluentIds (Unit {0}) → Option LanguagePlurals → Elements → EntryPoint → n.Node → List Finding
-flaw_findings ids plurals es place node =
-    map (e.flaw_finding (ids_view (Unit {0}) ids) plurals place.source.now es (label_text place.label) place.at.now) (e.node_flaws (ids_view (Unit {0}) ids) node)
+-- of the flaws of a node at a place
+abbrev pub flaw_findings : FluentIds (Unit {0}) → EntryPoint → n.Node → List Finding
+flaw_findings ids place node = map (flaw_finding (ids_view (Unit {0}) ids) place) (e.node_flaws (ids_view (Unit {0}) ids) node)
 
 -- the finding at a place that a category is missing
 abbrev pub category_finding : EntryPoint → PluralCategory → Finding
@@ -73,15 +72,15 @@ abbrev pub endless_found : EntryPoint → Option Text → List Finding
 endless_found place first = endless_at place.source.now (label_text place.label) place.at.now first
 
 module _ (catalog : Catalog) where
-  -- of a node at a place, in a pattern with these elements
-  abbrev pub node_found : Elements → EntryPoint → n.Node → List Finding
-  node_found es place node =
-      e.node_findings (ids_in catalog) catalog.plurals place.source.now es (label_text place.label) place.at.now node
+  -- of a node at a place
+  abbrev pub node_found : EntryPoint → n.Node → List Finding
+  node_found place node =
+      e.node_findings (ids_in catalog) catalog.plurals place.source.now (label_text place.label) place.at.now node
 
-  -- of occurrences in a source, in a pattern with these elements
-  abbrev pub occurrences_found : Text → Label → Elements → List o.Occurrence → List Finding
-  occurrences_found source label es os =
-      flat_map (λ (x : o.Occurrence). e.node_findings (ids_in catalog) catalog.plurals source es (label_text label) x.at x.node) os
+  -- of occurrences in a source
+  abbrev pub occurrences_found : Text → Label → List o.Occurrence → List Finding
+  occurrences_found source label os =
+      flat_map (λ (x : o.Occurrence). e.node_findings (ids_in catalog) catalog.plurals source (label_text label) x.at x.node) os
 
   -- of a pattern with a name at this place, in the source from its first byte on
   abbrev pub pattern_found : EntryPoint → Text → Elements → List Finding

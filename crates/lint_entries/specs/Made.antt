@@ -1,12 +1,9 @@
 -- Findings that are made at a place.
-use Rattle.std.specs.Prelude.{◌≡◌, ◌-◌, List, ◌++◌, length, map, IfOk, Option, option_map, Result, Some, String, string_bytes, Vec}
+use Rattle.std.specs.Prelude.{◌≡◌, ◌-◌, List, ◌++◌, length, map, Some, Vec}
 use Rattle.std.specs.Global.{Global}
-use Rattle.fluent_grammar.specs.Tree.{Elements}
 use Rattle.fluent_meaning.specs.Ids.{Ids}
-use Rattle.fluent_plurals.specs.declared.plurals.LanguagePlurals.{LanguagePlurals}
 use Rattle.lint_findings.specs.EntryFindings as e
 use Rattle.lint_findings.specs.Finding as f
-use Rattle.lint_findings.specs.FlawHints.{flaw_hint}
 use Rattle.lint_findings.specs.Flaws.{Flaw}
 use Rattle.lint_finding.specs.View.{finding_view}
 use Rattle.lint_finding.specs.declared.records.Finding.{Finding}
@@ -15,14 +12,9 @@ use Rattle.lint_entries.specs.Problems.{problem_code, problem_severity, problem_
 use Rattle.lint_entries.specs.declared.finding.EntryPoint.{EntryPoint}
 use Rattle.lint_entries.specs.declared.problem.Problem.{Problem}
 
--- a finding stands for that of a flaw of a node, whatever pattern the node is in
-abbrev pub IsFlawFinding : Ids (Unit {0}) → EntryPoint → Flaw → Finding → Type 0
-IsFlawFinding ids place flaw made = (plurals : Option LanguagePlurals) (es : Elements) →
-    finding_view made ≡ e.flaw_finding ids plurals place.source.now es (label_text place.label) place.at.now flaw
-
--- If all went well: this is the hint of a flaw, if it has one, whatever pattern the flaw is in.
-abbrev pub IsHintText : {E : Type 0} → Result (Option (String Global)) E → Ids (Unit {0}) → Flaw → Type 0
-IsHintText result ids flaw = (es : Elements) → IfOk result (λ made. option_map string_bytes made ≡ flaw_hint ids es flaw)
+-- the finding of a flaw of a node at a place
+abbrev pub flaw_finding : Ids (Unit {0}) → EntryPoint → Flaw → f.Finding
+flaw_finding ids place flaw = e.flaw_finding ids place.source.now (label_text place.label) place.at.now flaw
 
 -- the finding of a problem at a place
 abbrev pub made_of : EntryPoint → Problem → f.Finding

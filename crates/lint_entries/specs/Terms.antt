@@ -3,16 +3,12 @@ use Rattle.std.specs.Prelude.{◌≡◌, ℕ, Bool, List, [], ◌∷◌, ◌++�
 use Rattle.std.specs.HashSet.{contains_by}
 use Rattle.std.specs.Option.{option_to_list}
 use Rattle.std.specs.Str.{bytes_eq}
-use denote.Ref.{Bor}
 use Rattle.fluent_grammar.specs.Tree.{Entry}
 use Rattle.fluent_grammar.specs.Words.{Text, is_among}
 use Rattle.lint_finding.specs.View.{finding_view}
 use Rattle.lint_finding.specs.declared.records.Finding as code
 use Rattle.lint_findings.specs.UnusedTerms.{unused_findings}
 use Rattle.lint_entries.specs.declared.terms.ReferredTerms.{ReferredTerms}
-
-abbrev pub texts : List (Bor Text) → List Text
-texts ids = map (λ (s : Bor Text). s.now) ids
 
 -- the catalog refers to the term of this id
 abbrev pub is_referred : ReferredTerms → Text → Bool

@@ -1,7 +1,7 @@
 //! The first declaration of each id.
 #![tactic(auto)]
 
-ghost use Rattle.std.specs.Prelude.{◌≡◌, [], IfOk, OnErr, OnOk, option_map};
+ghost use Rattle.std.specs.Prelude.{[], IfOk, OnErr, OnOk, option_map};
 ghost use Rattle.fluent_ast.specs.Borrowed.{entry_of};
 ghost use Rattle.lint_entries.specs.DuplicateText.{duplicate_text};
 ghost use Rattle.lint_entries.specs.First.{AreFirst, GetsDeclaration, HasDuplicateFinding, IsDuplicateAfter, IsSame};

@@ -2,8 +2,9 @@
 #![tactic(auto)]
 
 ghost use Rattle.std.specs.Prelude.{◌≡◌, ◌-◌, IfOk, OnOk, length, map, option_map, option_to_list, string_bytes};
-ghost use Rattle.lint_entries.specs.Made.{Adds, IsFlawFinding, IsHintText, made_of};
+ghost use Rattle.lint_entries.specs.Made.{Adds, flaw_finding, made_of};
 ghost use Rattle.lint_finding.specs.View.{finding_view};
+ghost use Rattle.lint_findings.specs.FlawHints.{flaw_hint};
 ghost use Rattle.lint_flaws.specs.FlawView.{flaw_view};
 ghost use Rattle.fluent_ids.specs.IdsView.{ids_view};
 ghost use Rattle.lint_entries.specs.Problems.{direction_text};
@@ -41,7 +42,8 @@ pub fn flaw_finding<'s>(
     place: &EntryPoint<'_, '_, 's>,
     flaw: Flaw<'_, 's>,
 ) -> Result<Finding, AllocError>
-    ensures { IfOk result (IsFlawFinding (ids_view _ ids.now) place.now (flaw_view flaw.entry)) }
+    ensures { IfOk result (λ made. finding_view made
+        ≡ flaw_finding (ids_view _ ids.now) place.now (flaw_view flaw.entry)) }
 {
     let entry = place.label.to_string(alloc)?;
     let text = flaw.to_string(alloc)?;
@@ -62,7 +64,8 @@ fn hint_of<'s>(
     ids: &CatalogIds<'_, 's>,
     flaw: &Flaw<'_, 's>,
 ) -> Result<Option<String>, AllocError>
-    ensures { IsHintText result (ids_view _ ids.now) (flaw_view flaw.now) }
+    ensures { IfOk result (λ made. option_map string_bytes made
+        ≡ flaw_hint (ids_view _ ids.now) (flaw_view flaw.now)) }
 {
     match flaw.hint(alloc, ids)? {
         Some(hint) => Ok(Some(hint.to_string(alloc)?)),

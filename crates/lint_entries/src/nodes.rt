@@ -1,11 +1,10 @@
 //! The findings of nodes.
 #![tactic(auto)]
 
-ghost use Rattle.std.specs.Prelude.{◌≡◌, OnOk};
+ghost use Rattle.std.specs.Prelude.{OnOk};
 ghost use Rattle.lint_entries.specs.Added.{AddsFlaws, AddsNode, AddsOccurrences, AddsOptions};
 ghost use Rattle.lint_entries.specs.FoundAt.{category_findings, escape_findings};
 ghost use Rattle.lint_entries.specs.Made.{Adds};
-ghost use Rattle.fluent_grammar.specs.Tree.{Elements};
 ghost use Rattle.lint_flaws.specs.Common.{AreCommonBy};
 ghost use Rattle.lint_nodes.specs.NodeView.{node_view};
 
@@ -31,8 +30,8 @@ pub fn push_occurrences<'s>(
     occurrences: &[Occurrence<'_, 's, '_>],
     findings: &mut Vec<Finding>,
 ) -> Result<(), AllocError>
-    ensures { AddsOccurrences result catalog.now source.now label.entry occurrences.now
-        findings.old findings.new }
+    ensures { OnOk result (AddsOccurrences catalog.now source.now label.entry occurrences.now
+        findings.old findings.new) }
 {
     for occurrence in occurrences {
         let place = EntryPoint {
@@ -54,8 +53,7 @@ fn push_node<'s>(
     node: Node<'_, 's>,
     findings: &mut Vec<Finding>,
 ) -> Result<(), AllocError>
-    ensures { (es : Elements) → OnOk result
-        (AddsNode catalog.now es place.now node.entry findings.old findings.new) }
+    ensures { OnOk result (AddsNode catalog.now place.now node.entry findings.old findings.new) }
 {
     push_flaw(alloc, catalog.endless.ids, place, node, findings)?;
     push_categories(
@@ -77,7 +75,7 @@ fn push_flaw<'s>(
     node: Node<'_, 's>,
     findings: &mut Vec<Finding>,
 ) -> Result<(), AllocError>
-    ensures { AddsFlaws result ids.now place.now node.entry findings.old findings.new }
+    ensures { OnOk result (AddsFlaws ids.now place.now node.entry findings.old findings.new) }
 {
     if let Some(flaw) = node_flaw(ids, node) {
         findings.push(flaw_finding(alloc, ids, place, flaw)?)?;

@@ -1,7 +1,7 @@
 //! What follows an entry in its source.
 #![tactic(auto)]
 
-ghost use Rattle.std.specs.Prelude.{◌≡◌, IfOk, option_map};
+ghost use Rattle.std.specs.Prelude.{IfOk, option_map};
 ghost use Rattle.fluent_ast.specs.Borrowed.{attributes_of, elements_of, message_of, term_of};
 ghost use Rattle.lint_entries.specs.AttributePlaces.{AreAttributes, AreAttributesAt, IsEntryAt, LeavesRest, value_elements};
 ghost use Rattle.lint_entries.specs.Added.{LeavesAfter};
@@ -94,6 +94,7 @@ fn pattern_rest<'t>(
     requires { IsPatternAt text.now (elements_of pattern.now) }
     ensures { IfOk result (λ rest. LeavesAfter (elements_of pattern.now) text.now rest.now) }
 {
+    // The occurrences aren't needed here, but a walk that doesn't list them would be a second copy of this one.
     let found = pattern_occurrences(alloc, pattern, text)?;
     Ok(found.rest)
 }

@@ -1,9 +1,10 @@
 //! The terms that a catalog refers to, and those that it doesn't.
 #![tactic(auto)]
 
-ghost use Rattle.std.specs.Prelude.{◌≡◌, [], IfOk, OnOk, Some};
+ghost use Rattle.std.specs.Prelude.{[], IfOk, OnOk, Some};
 ghost use Rattle.fluent_ast.specs.Borrowed.{entry_of};
-ghost use Rattle.lint_entries.specs.Terms.{AreTermsOf, GetsTerm, IsUnusedFinding, texts};
+ghost use Rattle.lint_endless.specs.HasNames.{texts};
+ghost use Rattle.lint_entries.specs.Terms.{AreTermsOf, GetsTerm, IsUnusedFinding};
 
 use crate::entries::label;
 use fluent_ast::Entry;

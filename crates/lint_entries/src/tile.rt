@@ -1,7 +1,7 @@
 //! The tiles of a source that are no comments.
 #![tactic(auto)]
 
-ghost use Rattle.std.specs.Prelude.{◌≡◌, All, IfOk, count_by, map};
+ghost use Rattle.std.specs.Prelude.{◌≡◌, All, IfOk, map};
 ghost use Rattle.fluent_ast.specs.Borrowed.{entries_of};
 ghost use Rattle.lint_entries.specs.Kept.{parts};
 ghost use Rattle.lint_entries.specs.TileView.{AreErrorsOf, CountsEntries, CountsMessages, IsReadPart, IsTreeOf, is_entry_part, is_message_part, tile_view};
@@ -50,24 +50,12 @@ pub fn source_tiles<'r, 's>(
 pub fn message_count(tiles: &[Tile]) -> usize
     ensures { CountsMessages tiles.now result }
 {
-    count_of_messages(tiles)
-}
-
-fn count_of_messages(tiles: &[Tile]) -> usize
-    ensures { result ≡ count_by (λ tile. is_message_part (tile_view tile)) tiles.now }
-{
     tiles.iter().filter(|tile| is_message(tile)).count()
 }
 
 /// How many of the tiles of a source are messages or terms.
 pub fn entry_count(tiles: &[Tile]) -> usize
     ensures { CountsEntries tiles.now result }
-{
-    count_of_entries(tiles)
-}
-
-fn count_of_entries(tiles: &[Tile]) -> usize
-    ensures { result ≡ count_by (λ tile. is_entry_part (tile_view tile)) tiles.now }
 {
     tiles.iter().filter(|tile| is_entry(tile)).count()
 }

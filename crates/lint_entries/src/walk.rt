@@ -1,7 +1,7 @@
 //! The walk through a source and its tree.
 #![tactic(auto)]
 
-ghost use Rattle.std.specs.Prelude.{◌≡◌, IfOk, drop, length};
+ghost use Rattle.std.specs.Prelude.{IfOk};
 ghost use Rattle.fluent_ast.specs.Borrowed.{entry_of};
 ghost use Rattle.lint_entries.specs.Walks.{IsNext, Passes, SkipsJunk, StartsAt};
 

@@ -17,7 +17,6 @@ use Rattle.lint_findings.specs.EntryFindings.{entry_findings}
 use Rattle.lint_findings.specs.Finding as f
 use Rattle.lint_findings.specs.Findings.{Rules}
 use Rattle.lint_findings.specs.UnusedTerms.{unused_findings}
-use Rattle.fluent_grammar.specs.Tree as t
 use Rattle.fluent_grammar.specs.Words.{Text}
 use Rattle.lint_finding.specs.PlaceView.{IsPlaceIn}
 use Rattle.lint_entries.specs.Kept.{Part, entry_part}
@@ -83,6 +82,11 @@ pub record IsAt (cursor : Cursor) (text : Text) : Type 0 where
   pub place : IsPlaceIn cursor.file.source.now cursor.place
   pub offset : cursor.place.offset ≡ length cursor.file.source.now - length text
 
+-- The cursor is still in the file.
+pub record StaysIn (old new : Cursor) : Type 0 where
+  pub file : new.file ≡ old.file
+  pub place : IsCursorIn new
+
 pub record MovesTo (old new : Cursor) : Type 0 where
   pub file : new.file ≡ old.file
   pub syntax : new.syntax ≡ old.syntax
@@ -106,11 +110,23 @@ DeclaresTile old new file tile = Declares old new file (tile_view tile)
 abbrev pub found_from : Rules → Cursor → List Declaration → List Part → List f.Finding
 found_from rules cursor before ps = findings_of_parts rules (file_view cursor.file) before (syntax_left cursor) ps
 
+-- how far the findings of a file are made: the cursor, and those before it
+pub record Progress : Type 0 where
+  pub cursor : Cursor
+  pub made : Vec Finding Global
+
+abbrev pub progress : Cursor → Vec Finding Global → Progress
+progress cursor made = record { cursor = cursor; made = made }
+
+-- all findings of a file, if these parts are left of it
+abbrev pub all_found : Rules → Progress → List Declaration → List Part → List f.Finding
+all_found rules at before ps = map finding_view at.made.items ++ found_from rules at.cursor before ps
+
 -- The findings of a tile are added: with those of the parts that are left they are those of all.
-abbrev pub AddsTile : Rules → Cursor → Cursor → Tile → Declarations → Vec Finding Global → Vec Finding Global → Type 0
-AddsTile rules old new tile known had has = (before : List Declaration) → AreFirst known before → (ps : List Part) →
-    map finding_view has.items ++ found_from rules new (before ++ declared_by (file_view old.file) (tile_view tile)) ps
-    ≡ map finding_view had.items ++ found_from rules old before (tile_view tile ∷ ps)
+abbrev pub AddsTile : Rules → Declarations → Tile → Progress → Progress → Type 0
+AddsTile rules known tile old new = (before : List Declaration) → AreFirst known before → (ps : List Part) →
+    all_found rules new (before ++ declared_by (file_view old.cursor.file) (tile_view tile)) ps
+    ≡ all_found rules old before (tile_view tile ∷ ps)
 
 -- ---- tiles
 

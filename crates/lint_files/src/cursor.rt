@@ -1,8 +1,8 @@
 //! The findings of a file.
 #![tactic(auto)]
 
-ghost use Rattle.std.specs.Prelude.{◌≡◌, All, IfOk, OnOk, map};
-ghost use Rattle.lint_files.specs.Pushes.{AddsSyntax, AddsTile, AddsTiles, DeclaresTile, DeclaresTiles, IsAt, IsCursorIn, IsFoundAfter, MovesTo};
+ghost use Rattle.std.specs.Prelude.{All, IfOk, OnOk, map};
+ghost use Rattle.lint_files.specs.Pushes.{AddsSyntax, AddsTile, AddsTiles, DeclaresTile, DeclaresTiles, IsAt, IsCursorIn, IsFoundAfter, MovesTo, StaysIn, progress};
 ghost use Rattle.lint_files.specs.RulesView.{rules_view};
 ghost use Rattle.lint_entries.specs.TileView.{IsReadPart, tile_view};
 
@@ -85,11 +85,10 @@ impl<'s> Cursor<'s> {
     ) -> Result<(), AllocError>
         requires read { IsReadPart (tile_view tile.now) }
         requires place { IsCursorIn self.old }
-        ensures place { OnOk result (IsCursorIn self.new) }
-        ensures file { OnOk result (self.new.file ≡ self.old.file) }
+        ensures cursor { OnOk result (StaysIn self.old self.new) }
         ensures declared { OnOk result (DeclaresTile declarations.old declarations.new self.old.file tile.now) }
-        ensures findings { OnOk result (AddsTile (rules_view rules.now) self.old self.new tile.now
-            declarations.old findings.old findings.new) }
+        ensures findings { OnOk result (AddsTile (rules_view rules.now) declarations.old tile.now
+            (progress self.old findings.old) (progress self.new findings.new)) }
     {
         match tile {
             Tile::Entry(entry, text) => {

@@ -1,7 +1,7 @@
 //! What is wrong, in words.
 #![tactic(auto, using(fluent_tokens::proofs::Counted::cuts))]
 
-ghost use Rattle.std.specs.Prelude.{◌≡◌, Some, option_map};
+ghost use Rattle.std.specs.Prelude.{◌≡◌, Some};
 ghost use Rattle.fluent_grammar.specs.Refusal as r;
 ghost use Rattle.lint_findings.specs.SyntaxErrors as syntax;
 ghost use Rattle.fluent_parsed.specs.ErrorView as told;

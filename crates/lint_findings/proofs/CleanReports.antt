@@ -24,7 +24,7 @@ use Rattle.lint_findings.specs.Occurrences.{Occurrence, occurrences, PatternPlac
 use Rattle.lint_findings.specs.Finding.{Finding}
 use Rattle.lint_findings.specs.FlawHints.{never_ends}
 use Rattle.lint_findings.specs.FlawWords.{flaw_code}
-use Rattle.lint_findings.specs.EntryFindings.{flaw_finding, node_flaws, node_findings, nodes_findings, pattern_findings, attribute_findings, patterns_findings, first_place, pattern_places, entry_findings}
+use Rattle.lint_findings.specs.EntryFindings.{flaw_finding, endless_finding, node_flaws, node_findings, nodes_findings, pattern_findings, attribute_findings, patterns_findings, first_place, pattern_places, entry_findings}
 use Rattle.lint_findings.specs.Files.{File}
 use Rattle.lint_findings.specs.DuplicateIds.{Declaration, duplicate_findings}
 use Rattle.lint_findings.specs.Findings.{Rules, FileFinding, FileTile, findings_in, tiles_in, sources, findings_of_tile, findings_of_tiles, declarations_of_tile, catalog_rules, translation_rules, known_functions, missing_messages}
@@ -135,40 +135,40 @@ module _ (rules : Rules) where
   HasHarmless e = All (λ p. Harmless p.1) (entry_patterns e)
 
   module _ (source : Text) where
-    reference_resolved : (es : Elements) (owner at : Text) (o : Option Unresolved) → HasHarmfulCode o →
-        Clean (map (flaw_finding rules.ids rules.plurals source es owner at) (map unresolved (option_to_list o))) → o ≡ None
-    reference_resolved es owner at None code h = refl
-    reference_resolved es owner at (Some e) code h =
-        let clean : is_among (flaw_code (unresolved e)) harmful_codes ≡ false = All-head HasHarmlessCode (flaw_finding rules.ids rules.plurals source es owner at (unresolved e)) [] h in absurd cc
+    reference_resolved : (owner at : Text) (o : Option Unresolved) → HasHarmfulCode o →
+        Clean (map (flaw_finding rules.ids source owner at) (map unresolved (option_to_list o))) → o ≡ None
+    reference_resolved owner at None code h = refl
+    reference_resolved owner at (Some e) code h =
+        let clean : is_among (flaw_code (unresolved e)) harmful_codes ≡ false = All-head HasHarmlessCode (flaw_finding rules.ids source owner at (unresolved e)) [] h in absurd cc
 
-    default_is_there : (es : Elements) (owner at : Text) (o : Option Elements) → Clean (map (flaw_finding rules.ids rules.plurals source es owner at) (default_flaws o)) → is_some o ≡ true
-    default_is_there es owner at None h =
-        let clean : is_among (codes "no-default") harmful_codes ≡ false = All-head HasHarmlessCode (flaw_finding rules.ids rules.plurals source es owner at (unresolved missing_default)) [] h in absurd cc
-    default_is_there es owner at (Some ds) h = refl
+    default_is_there : (owner at : Text) (o : Option Elements) → Clean (map (flaw_finding rules.ids source owner at) (default_flaws o)) → is_some o ≡ true
+    default_is_there owner at None h =
+        let clean : is_among (codes "no-default") harmful_codes ≡ false = All-head HasHarmlessCode (flaw_finding rules.ids source owner at (unresolved missing_default)) [] h in absurd cc
+    default_is_there owner at (Some ds) h = refl
 
-    node_is_resolved : (es : Elements) (owner at : Text) (node : Node) → Clean (map (flaw_finding rules.ids rules.plurals source es owner at) (node_flaws rules.ids node)) → IsResolved (find rules.ids) node
-    node_is_resolved es owner at (expression i) h = reference_resolved es owner at (reference_error (find rules.ids) i) (reference_code (find rules.ids) i) h
-    node_is_resolved es owner at (select i vs) h = default_is_there es owner at (first_default vs) h
-    node_is_resolved es owner at (repeated_key k) h = tt
+    node_is_resolved : (owner at : Text) (node : Node) → Clean (map (flaw_finding rules.ids source owner at) (node_flaws rules.ids node)) → IsResolved (find rules.ids) node
+    node_is_resolved owner at (expression i) h = reference_resolved owner at (reference_error (find rules.ids) i) (reference_code (find rules.ids) i) h
+    node_is_resolved owner at (select i vs) h = default_is_there owner at (first_default vs) h
+    node_is_resolved owner at (repeated_key k) h = tt
 
-    node_by_findings : (es : Elements) (owner at : Text) (node : Node) → Clean (node_findings rules.ids rules.plurals source es owner at node) → IsResolved (find rules.ids) node
-    node_by_findings es owner at node h =
-        node_is_resolved es owner at node (all_left HasHarmlessCode (map (flaw_finding rules.ids rules.plurals source es owner at) (node_flaws rules.ids node)) _ h)
+    node_by_findings : (owner at : Text) (node : Node) → Clean (node_findings rules.ids rules.plurals source owner at node) → IsResolved (find rules.ids) node
+    node_by_findings owner at node h =
+        node_is_resolved owner at node (all_left HasHarmlessCode (map (flaw_finding rules.ids source owner at) (node_flaws rules.ids node)) _ h)
 
-    nodes_are_resolved : (es : Elements) (owner at : Text) (nodes : List Node) (os : List Occurrence) → Clean (nodes_findings rules.ids rules.plurals source es owner at nodes os) →
+    nodes_are_resolved : (owner at : Text) (nodes : List Node) (os : List Occurrence) → Clean (nodes_findings rules.ids rules.plurals source owner at nodes os) →
         All (IsResolved (find rules.ids)) nodes
-    nodes_are_resolved es owner at [] os h = All-nil (IsResolved (find rules.ids))
-    nodes_are_resolved es owner at (node ∷ nodes) [] h =
-        All-cons (IsResolved (find rules.ids)) node nodes (node_by_findings es owner at node (all_left HasHarmlessCode (node_findings rules.ids rules.plurals source es owner at node) _ h))
-        (nodes_are_resolved es owner at nodes [] (all_right HasHarmlessCode (node_findings rules.ids rules.plurals source es owner at node) _ h))
-    nodes_are_resolved es owner at (node ∷ nodes) (o ∷ os) h =
-        All-cons (IsResolved (find rules.ids)) node nodes (node_by_findings es owner o.at node (all_left HasHarmlessCode (node_findings rules.ids rules.plurals source es owner o.at node) _ h))
-        (nodes_are_resolved es owner at nodes os (all_right HasHarmlessCode (node_findings rules.ids rules.plurals source es owner o.at node) _ h))
+    nodes_are_resolved owner at [] os h = All-nil (IsResolved (find rules.ids))
+    nodes_are_resolved owner at (node ∷ nodes) [] h =
+        All-cons (IsResolved (find rules.ids)) node nodes (node_by_findings owner at node (all_left HasHarmlessCode (node_findings rules.ids rules.plurals source owner at node) _ h))
+        (nodes_are_resolved owner at nodes [] (all_right HasHarmlessCode (node_findings rules.ids rules.plurals source owner at node) _ h))
+    nodes_are_resolved owner at (node ∷ nodes) (o ∷ os) h =
+        All-cons (IsResolved (find rules.ids)) node nodes (node_by_findings owner o.at node (all_left HasHarmlessCode (node_findings rules.ids rules.plurals source owner o.at node) _ h))
+        (nodes_are_resolved owner at nodes os (all_right HasHarmlessCode (node_findings rules.ids rules.plurals source owner o.at node) _ h))
 
     ends : (es : Elements) (owner at : Text) (goes_on is_endless : Bool) → (is_endless ≡ true → goes_on ≡ true) →
-        Clean (if goes_on then flaw_finding rules.ids rules.plurals source es owner at (unresolved cyclic) ∷ [] else []) → All IsHarmless (if is_endless then unresolved cyclic ∷ [] else [])
+        Clean (if goes_on then endless_finding rules.ids source es owner at ∷ [] else []) → All IsHarmless (if is_endless then unresolved cyclic ∷ [] else [])
     ends es owner at true is_endless goes h =
-        let clean : is_among (codes "cyclic-reference") harmful_codes ≡ false = All-head HasHarmlessCode (flaw_finding rules.ids rules.plurals source es owner at (unresolved cyclic)) [] h in absurd cc
+        let clean : is_among (codes "cyclic-reference") harmful_codes ≡ false = All-head HasHarmlessCode (endless_finding rules.ids source es owner at) [] h in absurd cc
     ends es owner at false true goes h = let bad : false ≡ true = goes refl in absurd cc
     ends es owner at false false goes h = All-nil IsHarmless
 
@@ -176,9 +176,9 @@ module _ (rules : Rules) where
     pattern_is_harmless owner place es h =
         let b = never_ends rules.ids es in
         let endless = is_pattern_among es (endless_patterns rules.ids) in
-        let first = all_left HasHarmlessCode (if b then flaw_finding rules.ids rules.plurals source es owner place.name_at (unresolved cyclic) ∷ [] else []) _ h in
-        let others = all_right HasHarmlessCode (if b then flaw_finding rules.ids rules.plurals source es owner place.name_at (unresolved cyclic) ∷ [] else []) _ h in
-        let resolved = elements_resolved (find rules.ids) es (nodes_are_resolved es owner place.pattern_at (elements_nodes es) (occurrences place.pattern_at) others) in
+        let first = all_left HasHarmlessCode (if b then endless_finding rules.ids source es owner place.name_at ∷ [] else []) _ h in
+        let others = all_right HasHarmlessCode (if b then endless_finding rules.ids source es owner place.name_at ∷ [] else []) _ h in
+        let resolved = elements_resolved (find rules.ids) es (nodes_are_resolved owner place.pattern_at (elements_nodes es) (occurrences place.pattern_at) others) in
         All-append IsHarmless (map unresolved (pattern_errors (find rules.ids) es)) _ (errors_are_harmless (find rules.ids) (elements_references es) resolved.0)
         (All-append IsHarmless (flat_map select_flaws (elements_selects es)) _ (selects_are_harmless (elements_selects es) resolved.1) (ends es owner place.name_at b endless (endless_goes_on rules.ids es) first))
 

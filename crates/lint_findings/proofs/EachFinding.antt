@@ -9,7 +9,7 @@ use Rattle.std.proofs.lemmas.List.Elements.{All-nil, All-cons, All-head, All-tai
 use Rattle.fluent_grammar.specs.Words.{Text, is_among}
 use Rattle.fluent_grammar.specs.Refusal.{got}
 use Rattle.fluent_grammar.specs.Tree as t
-use Rattle.fluent_grammar.specs.Tree.{Elements, Variants}
+use Rattle.fluent_grammar.specs.Tree.{Elements}
 use Rattle.fluent_grammar.specs.Ends.{EndsIn}
 use Rattle.fluent_grammar.specs.Reading.{key_at}
 use Rattle.fluent_grammar.proofs.Within.{end-trans}
@@ -25,7 +25,7 @@ use Rattle.lint_findings.specs.FlawWords.{flaw_code}
 use Rattle.lint_findings.specs.Nodes.{Node, expression, select, repeated_key, elements_nodes}
 use Rattle.lint_findings.specs.Occurrences.{Occurrence, occurrences, inline_read, pattern_read, PatternPlace}
 use Rattle.lint_findings.specs.Finding.{Finding}
-use Rattle.lint_findings.specs.EntryFindings.{flaw_finding, category_finding, escape_finding, option_finding, node_flaws, node_categories, node_escapes, node_misuses, node_findings, nodes_findings, pattern_findings, attribute_findings, patterns_findings, pattern_places, entry_findings}
+use Rattle.lint_findings.specs.EntryFindings.{flaw_finding, endless_finding, category_finding, escape_finding, option_finding, node_flaws, node_categories, node_escapes, node_misuses, node_findings, nodes_findings, pattern_findings, attribute_findings, patterns_findings, pattern_places, entry_findings}
 use Rattle.lint_findings.specs.Files.{File}
 use Rattle.lint_findings.specs.DuplicateIds.{Declaration, id_of, duplicate_findings}
 use Rattle.lint_findings.specs.UnusedTerms.{unused_findings}
@@ -114,14 +114,14 @@ module _ (S : Type 0) (rules : Rules) (file : File) where
   mapped make h [] = none
   mapped make h (x ∷ xs) = All-cons IsSound (make x) (map make xs) (h x) (mapped make h xs)
 
-  module _ (es : Elements) (owner : Text) where
+  module _ (owner : Text) where
     -- at an end of the source
     module _ (at : Text) (h : EndsIn at source) where
       of_reference : (i : t.Inline) (rest : Text) → inline_read at ≡ got i rest → (o : Option Unresolved) → reference_error (find rules.ids) i ≡ o →
-          AreSound (map (flaw_finding rules.ids rules.plurals source es owner at) (map unresolved (option_to_list o)))
+          AreSound (map (flaw_finding rules.ids source owner at) (map unresolved (option_to_list o)))
       of_reference i rest read None is = none
       of_reference i rest read (Some e) is =
-          one (flaw_finding rules.ids rules.plurals source es owner at (unresolved e)) (record {
+          one (flaw_finding rules.ids source owner at (unresolved e)) (record {
             unlike_syntax = not_syntax e;
             keeps = record {
               reference = λ c. record { reference = i; rest = rest; error = e; read = ap inline_read (at_offset source at h) ∙ read; missing = is; code = refl; text = refl };
@@ -129,11 +129,11 @@ module _ (S : Type 0) (rules : Rules) (file : File) where
             };
           })
 
-      of_default : (o : Option Elements) → AreSound (map (flaw_finding rules.ids rules.plurals source es owner at) (default_flaws o))
-      of_default None = one (flaw_finding rules.ids rules.plurals source es owner at (unresolved missing_default)) (plain _ refl refl refl)
+      of_default : (o : Option Elements) → AreSound (map (flaw_finding rules.ids source owner at) (default_flaws o))
+      of_default None = one (flaw_finding rules.ids source owner at (unresolved missing_default)) (plain _ refl refl refl)
       of_default (Some ds) = none
 
-      of_key : (key : t.VariantKey) → IsReadAt at (repeated_key key) → IsOfSelects (source_selects source) (repeated_key key) → IsSound (flaw_finding rules.ids rules.plurals source es owner at (duplicate_key key))
+      of_key : (key : t.VariantKey) → IsReadAt at (repeated_key key) → IsOfSelects (source_selects source) (repeated_key key) → IsSound (flaw_finding rules.ids source owner at (duplicate_key key))
       of_key key read known =
           record {
             unlike_syntax = refl;
@@ -153,14 +153,14 @@ module _ (S : Type 0) (rules : Rules) (file : File) where
             };
           }
 
-      of_flaws : (node : Node) → IsReadAt at node → IsOfSelects (source_selects source) node → AreSound (map (flaw_finding rules.ids rules.plurals source es owner at) (node_flaws rules.ids node))
+      of_flaws : (node : Node) → IsReadAt at node → IsOfSelects (source_selects source) node → AreSound (map (flaw_finding rules.ids source owner at) (node_flaws rules.ids node))
       of_flaws (expression i) read known = of_reference i read.0 read.1 (reference_error (find rules.ids) i) refl
       of_flaws (select i vs) read known = of_default (first_default vs)
-      of_flaws (repeated_key key) read known = one (flaw_finding rules.ids rules.plurals source es owner at (duplicate_key key)) (of_key key read known)
+      of_flaws (repeated_key key) read known = one (flaw_finding rules.ids source owner at (duplicate_key key)) (of_key key read known)
 
-      of_node : (node : Node) → IsReadAt at node → IsOfSelects (source_selects source) node → AreSound (node_findings rules.ids rules.plurals source es owner at node)
+      of_node : (node : Node) → IsReadAt at node → IsOfSelects (source_selects source) node → AreSound (node_findings rules.ids rules.plurals source owner at node)
       of_node node read known =
-          both (map (flaw_finding rules.ids rules.plurals source es owner at) (node_flaws rules.ids node)) _ (of_flaws node read known)
+          both (map (flaw_finding rules.ids source owner at) (node_flaws rules.ids node)) _ (of_flaws node read known)
           (both (map (category_finding rules.ids rules.plurals source owner at) (node_categories rules.plurals node)) _
           (mapped (category_finding rules.ids rules.plurals source owner at) (λ c. plain _ refl refl refl) (node_categories rules.plurals node))
           (both (map (escape_finding rules.ids rules.plurals source owner at) (node_escapes node)) _
@@ -168,11 +168,11 @@ module _ (S : Type 0) (rules : Rules) (file : File) where
           (mapped (option_finding rules.ids rules.plurals source owner at) (λ m. plain _ refl refl refl) (node_misuses node))))
 
     of_nodes : (s : Text) → EndsIn s source → (at : Text) (os : List Occurrence) → All (IsReadIn s) os → All (IsOfSelects (source_selects source)) (nodes os) →
-        AreSound (nodes_findings rules.ids rules.plurals source es owner at (nodes os) os)
+        AreSound (nodes_findings rules.ids rules.plurals source owner at (nodes os) os)
     of_nodes s h at [] read known = none
     of_nodes s h at (o ∷ os) read known =
         let here = All-head (IsReadIn s) o os read in
-        both (node_findings rules.ids rules.plurals source es owner o.at o.node) _
+        both (node_findings rules.ids rules.plurals source owner o.at o.node) _
         (of_node o.at (end-trans here.place h) o.node here.read (All-head (IsOfSelects (source_selects source)) o.node (nodes os) known))
         (of_nodes s h at os (All-tail (IsReadIn s) o os read) (All-tail (IsOfSelects (source_selects source)) o.node (nodes os) known))
 
@@ -182,10 +182,10 @@ module _ (S : Type 0) (rules : Rules) (file : File) where
       let os = occurrences place.pattern_at in
       let same : nodes os ≡ elements_nodes es = occurrences_are_the_nodes place.pattern_at es rest read in
       let known = more (elements_selects es) (source_selects source) (elements_nodes es) among (elements_known es) in
-      both (if never_ends rules.ids es then flaw_finding rules.ids rules.plurals source es owner place.name_at (unresolved cyclic) ∷ [] else []) _
-      (if_one (never_ends rules.ids es) (flaw_finding rules.ids rules.plurals source es owner place.name_at (unresolved cyclic)) (plain _ refl refl refl))
-      (subst (λ ns. AreSound (nodes_findings rules.ids rules.plurals source es owner place.pattern_at ns os)) same
-      (of_nodes es owner place.pattern_at h place.pattern_at os (occurrences_are_read place.pattern_at) (subst (All (IsOfSelects (source_selects source))) (sym same) known)))
+      both (if never_ends rules.ids es then endless_finding rules.ids source es owner place.name_at ∷ [] else []) _
+      (if_one (never_ends rules.ids es) (endless_finding rules.ids source es owner place.name_at) (plain _ refl refl refl))
+      (subst (λ ns. AreSound (nodes_findings rules.ids rules.plurals source owner place.pattern_at ns os)) same
+      (of_nodes owner place.pattern_at h place.pattern_at os (occurrences_are_read place.pattern_at) (subst (All (IsOfSelects (source_selects source))) (sym same) known)))
 
   abbrev HasSelects : Owner × Elements → Type 0
   HasSelects p = AreAmong (elements_selects p.1) (source_selects source)

@@ -4,7 +4,7 @@ use Rattle.std.proofs.Common.{refl}
 use Rattle.fluent_grammar.specs.Words.{Text, is_among}
 use Rattle.lint_findings.specs.Comparison.{unknown_variable, unused_variable}
 use Rattle.lint_findings.specs.ComparisonFindings.{difference_hint}
-use Rattle.lint_findings.specs.NearNames.{additions, near_names, nearest, omissions, swaps}
+use Rattle.lint_findings.specs.NearNames.{nearest, omissions, swaps}
 use Rattle.lint_findings.proofs.Computing.{computing_findings, file, Reports, ReportsWithReference}
 
 -- the nearest of these names

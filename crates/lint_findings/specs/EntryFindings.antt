@@ -4,7 +4,7 @@ use Rattle.std.specs.Option.{option_to_list}
 use Rattle.std.specs.List.{list_any}
 use Rattle.fluent_grammar.specs.Words.{Text, is_among}
 use Rattle.fluent_grammar.specs.Tree as t
-use Rattle.fluent_grammar.specs.Tree.{Elements, Inline, Variants}
+use Rattle.fluent_grammar.specs.Tree.{Elements}
 use Rattle.fluent_number.specs.declared.plural.PluralCategory.{PluralCategory}
 use Rattle.fluent_value.specs.Matching.{category_text}
 use Rattle.fluent_errors.specs.Errors.{cyclic}
@@ -13,7 +13,7 @@ use Rattle.fluent_meaning.specs.Choice.{first_default}
 use Rattle.fluent_meaning.specs.Fallback.{with_attribute}
 use Rattle.fluent_plurals.specs.declared.plurals.LanguagePlurals.{LanguagePlurals}
 use Rattle.lint_findings.specs.SyntaxErrors.{in_backticks}
-use Rattle.lint_findings.specs.References.{reference_error}
+use Rattle.lint_findings.specs.References.{elements_references, reference_error}
 use Rattle.lint_findings.specs.Flaws.{Flaw, unresolved, duplicate_key, default_flaws, entry_patterns, Owner}
 use Rattle.lint_findings.specs.Nodes.{Node, expression, select, repeated_key, elements_nodes}
 use Rattle.lint_findings.specs.Occurrences.{Occurrence, occurrences, PatternPlace, entry_places}
@@ -21,7 +21,7 @@ use Rattle.lint_findings.specs.MissingCategories.{missing_categories}
 use Rattle.lint_findings.specs.Escapes.{invalid_escapes, named_escapes}
 use Rattle.lint_findings.specs.NumberOptions.{Misuse, call_misuses, misuse_text}
 use Rattle.lint_findings.specs.Finding.{warning, Finding}
-use Rattle.lint_findings.specs.FlawHints.{never_ends, flaw_hint}
+use Rattle.lint_findings.specs.FlawHints.{never_ends, endless_hint, flaw_hint}
 use Rattle.lint_findings.specs.FlawWords.{flaw_code, flaw_severity, flaw_text}
 
 -- ---- places
@@ -65,25 +65,32 @@ node_misuses _ = []
 
 -- ---- findings of an entry of this source
 
-module _ {F : Type 0} (ids : Ids F) (plurals : Option LanguagePlurals) (source : Text) where
-  -- the offset at which an end of the source begins
-  abbrev pub offset_of : Text → ℕ
-  offset_of s = length source - length s
+-- the offset at which an end of the source begins
+abbrev pub offset_of : Text → Text → ℕ
+offset_of source s = length source - length s
 
-  abbrev pub flaw_finding : Elements → Text → Text → Flaw → Finding
-  flaw_finding es owner at flaw = record {
-    offset = offset_of at;
+module _ {F : Type 0} (ids : Ids F) (source : Text) where
+  -- of a flaw of a node
+  abbrev pub flaw_finding : Text → Text → Flaw → Finding
+  flaw_finding owner at flaw = record {
+    offset = offset_of source at;
     code = flaw_code flaw;
     severity = flaw_severity flaw;
     entry = Some owner;
     text = flaw_text flaw;
-    hint = flaw_hint ids es flaw;
+    hint = flaw_hint ids flaw;
   }
 
+  -- that the references of a pattern never end
+  abbrev pub endless_finding : Elements → Text → Text → Finding
+  endless_finding es owner at =
+      record (flaw_finding owner at (unresolved cyclic)) { hint = endless_hint ids (elements_references es) }
+
+module _ {F : Type 0} (ids : Ids F) (plurals : Option LanguagePlurals) (source : Text) where
   -- a warning without a hint
   abbrev pub plain_warning : Text → Text → Text → Text → Finding
   plain_warning owner at code text =
-      record { offset = offset_of at; code = code; severity = warning; entry = Some owner; text = text; hint = None }
+      record { offset = offset_of source at; code = code; severity = warning; entry = Some owner; text = text; hint = None }
 
   abbrev pub category_finding : Text → Text → PluralCategory → Finding
   category_finding owner at category =
@@ -98,25 +105,25 @@ module _ {F : Type 0} (ids : Ids F) (plurals : Option LanguagePlurals) (source :
   option_finding owner at misuse = plain_warning owner at (codes "unknown-option") (misuse_text misuse)
 
   -- of a node of a pattern, at its place
-  abbrev pub node_findings : Elements → Text → Text → Node → List Finding
-  node_findings es owner at node =
-      map (flaw_finding es owner at) (node_flaws ids node)
+  abbrev pub node_findings : Text → Text → Node → List Finding
+  node_findings owner at node =
+      map (flaw_finding ids source owner at) (node_flaws ids node)
       ++ (map (category_finding owner at) (node_categories plurals node)
       ++ (map (escape_finding owner at) (node_escapes node) ++ map (option_finding owner at) (node_misuses node)))
 
   -- Of nodes in their order, each at the place of the occurrence with the same index. If there were none, it would be
   -- at the pattern; `OccurrencesAreTheNodes` says that there always is one.
-  abbrev pub nodes_findings : Elements → Text → Text → List Node → List Occurrence → List Finding
-  nodes_findings es owner at [] os = []
-  nodes_findings es owner at (node ∷ nodes) [] = node_findings es owner at node ++ nodes_findings es owner at nodes []
-  nodes_findings es owner at (node ∷ nodes) (o ∷ os) =
-      node_findings es owner o.at node ++ nodes_findings es owner at nodes os
+  abbrev pub nodes_findings : Text → Text → List Node → List Occurrence → List Finding
+  nodes_findings owner at [] os = []
+  nodes_findings owner at (node ∷ nodes) [] = node_findings owner at node ++ nodes_findings owner at nodes []
+  nodes_findings owner at (node ∷ nodes) (o ∷ os) =
+      node_findings owner o.at node ++ nodes_findings owner at nodes os
 
   -- of a pattern at its place: whether its references end, and then its nodes
   abbrev pub pattern_findings : Text → PatternPlace → Elements → List Finding
   pattern_findings owner place es =
-      (if never_ends ids es then flaw_finding es owner place.name_at (unresolved cyclic) ∷ [] else [])
-      ++ nodes_findings es owner place.pattern_at (elements_nodes es) (occurrences place.pattern_at)
+      (if never_ends ids es then endless_finding ids source es owner place.name_at ∷ [] else [])
+      ++ nodes_findings owner place.pattern_at (elements_nodes es) (occurrences place.pattern_at)
 
   -- whether the name of an attribute, if it is one, is that of an earlier one
   abbrev pub attribute_findings : Text → List Text → PatternPlace → Option Text → List Finding

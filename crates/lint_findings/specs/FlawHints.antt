@@ -9,7 +9,7 @@ use Rattle.fluent_errors.specs.Errors.{unknown, no_value, missing_default, cycli
 use Rattle.fluent_meaning.specs.Ids.{Ids, Meaning, number_function, function, message, term, find}
 use Rattle.fluent_meaning.specs.Fallback.{inline_fallback}
 use Rattle.lint_findings.specs.SyntaxErrors.{in_backticks}
-use Rattle.lint_findings.specs.References.{elements_references, reference_patterns, next_patterns}
+use Rattle.lint_findings.specs.References.{reference_patterns, next_patterns}
 use Rattle.lint_findings.specs.Endless.{endless_patterns, is_pattern_among}
 use Rattle.lint_findings.specs.Flaws.{Flaw, unresolved, duplicate_key}
 use Rattle.lint_findings.specs.Comparison.{as_message}
@@ -78,11 +78,11 @@ module _ {F : Type 0} (ids : Ids F) where
   unknown_hint (to_term id a) = term_hint ids id (find ids id)
   unknown_hint (to_variable id) = None
 
-  -- for a flaw of this pattern
-  abbrev pub flaw_hint : Elements → Flaw → Option Text
-  flaw_hint es (unresolved (unknown reference)) = unknown_hint reference
-  flaw_hint es (unresolved (no_value id)) = value_hint (as_message (find ids id))
-  flaw_hint es (unresolved missing_default) = Some (codes "write it before a variant, as `*[other]`")
-  flaw_hint es (unresolved cyclic) = endless_hint (elements_references es)
-  flaw_hint es (unresolved too_many_placeables) = None
-  flaw_hint es (duplicate_key k) = None
+  -- For a flaw of a node. That references never end is a flaw of a pattern, and has `endless_hint`.
+  abbrev pub flaw_hint : Flaw → Option Text
+  flaw_hint (unresolved (unknown reference)) = unknown_hint reference
+  flaw_hint (unresolved (no_value id)) = value_hint (as_message (find ids id))
+  flaw_hint (unresolved missing_default) = Some (codes "write it before a variant, as `*[other]`")
+  flaw_hint (unresolved cyclic) = None
+  flaw_hint (unresolved too_many_placeables) = None
+  flaw_hint (duplicate_key k) = None

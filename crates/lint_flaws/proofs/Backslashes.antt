@@ -1,8 +1,8 @@
 -- What stands before the next backslash.
-use Rattle.std.proofs.Common.{◌≡◌, ◌∙◌, ℕ, zero, suc, ◌<◌, ◌≤◌, Bool, true, false, List, [], ◌∷◌, length, drop, get_or, Option, Some, None, refl, sym, ap, arith}
-use Rattle.std.specs.Prelude.{◌==◌, if◌then◌else◌}
+use Rattle.std.proofs.Common.{◌≡◌, ◌∙◌, ℕ, zero, suc, ◌<◌, ◌≤◌, Bool, true, false, [], ◌∷◌, length, drop, get_or, Some, None, refl, arith}
+use Rattle.std.specs.Prelude.{◌==◌}
 use Rattle.memchr.specs.Find.{IsFirstByte, is_byte}
-use Rattle.fluent_grammar.specs.Words.{Text, backslash, begins_with}
+use Rattle.fluent_grammar.specs.Words.{Text, backslash}
 use Rattle.lint_findings.specs.Escapes.{invalid_escapes}
 
 not_true : (b : Bool) → (b ≡ true → ⊥) → b ≡ false

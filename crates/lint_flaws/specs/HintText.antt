@@ -1,10 +1,6 @@
 -- The texts of hints.
-use Rattle.std.specs.Prelude.{◌≡◌, ◌∷◌, ◌++◌, codes, IfOk, Option, option_map, Result, string_bytes}
-use Rattle.fluent_grammar.specs.Tree.{Elements}
+use Rattle.std.specs.Prelude.{◌≡◌, ◌∷◌, ◌++◌, codes, Option, option_map, string_bytes}
 use Rattle.fluent_grammar.specs.Words.{Text, hyphen, dot, dollar}
-use Rattle.fluent_meaning.specs.Ids.{Ids}
-use Rattle.lint_findings.specs.FlawHints.{flaw_hint}
-use Rattle.lint_findings.specs.Flaws.{Flaw}
 use Rattle.lint_findings.specs.SyntaxErrors.{in_backticks}
 use Rattle.lint_flaws.specs.declared.hint.Hint.{Hint}
 use Rattle.lint_flaws.specs.declared.hint.Hint.TheVariants as of
@@ -22,7 +18,3 @@ hint_text of.DefaultMark = codes "write it before a variant, as `*[other]`"
 -- a hint, if there is one, has this text
 abbrev pub IsHint : Option Text → Option Hint → Type 0
 IsHint text hint = option_map hint_text hint ≡ text
-
--- If all went well: this is the hint of a flaw, whatever pattern it is in.
-abbrev pub IsHintOf : {E : Type 0} → Result (Option Hint) E → Ids (Unit {0}) → Flaw → Type 0
-IsHintOf result ids flaw = (es : Elements) → IfOk result (IsHint (flaw_hint ids es flaw))

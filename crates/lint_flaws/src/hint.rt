@@ -2,10 +2,10 @@
 #![tactic(auto)]
 
 ghost use Rattle.std.specs.Prelude.{◌≡◌, IfOk, option_map, Some};
-ghost use Rattle.lint_findings.specs.FlawHints.{is_message, is_term, message_hint, term_hint, value_hint};
+ghost use Rattle.lint_findings.specs.FlawHints.{flaw_hint, is_message, is_term, message_hint, term_hint, value_hint};
 ghost use Rattle.lint_findings.specs.Comparison.{as_message};
 ghost use Rattle.lint_flaws.specs.FlawView.{flaw_view};
-ghost use Rattle.lint_flaws.specs.HintText.{IsHint, IsHintOf, hint_text};
+ghost use Rattle.lint_flaws.specs.HintText.{IsHint, hint_text};
 ghost use Rattle.fluent_ids.specs.IdsView.{ids_view};
 ghost use Rattle.fluent_meaning.specs.Ids.{find};
 
@@ -65,7 +65,7 @@ impl<'a, 's> Flaw<'a, 's> {
         alloc: Global,
         ids: &CatalogIds<'_, 's>,
     ) -> Result<Option<Hint<'s>>, AllocError>
-        ensures { IsHintOf result (ids_view _ ids.now) (flaw_view self.now) }
+        ensures { IfOk result (IsHint (flaw_hint (ids_view _ ids.now) (flaw_view self.now))) }
     {
         match self {
             Flaw::UnknownMessage { id, .. } => message_hint(alloc, ids, id),

@@ -1,7 +1,7 @@
 //! The flaw of a node.
 #![tactic(auto)]
 
-ghost use Rattle.std.specs.Prelude.{◌≡◌, map, not, option_copied, is_some};
+ghost use Rattle.std.specs.Prelude.{◌≡◌, map, option_copied, is_some};
 ghost use Rattle.std.specs.Option.{option_to_list};
 ghost use Rattle.fluent_ast.specs.Borrowed.{attributes_of, inline_of, variants_of};
 ghost use Rattle.lint_findings.specs.EntryFindings.{node_flaws};

@@ -1,9 +1,8 @@
 //! The categories of a language.
 #![tactic(auto)]
 
-ghost use Rattle.std.specs.Prelude.{◌≡◌, ◌||◌, ◌&&◌, codes, IfOk};
+ghost use Rattle.std.specs.Prelude.{◌≡◌, ◌&&◌, IfOk};
 ghost use Rattle.std.specs.List.{list_any, range_with_len};
-ghost use Rattle.std.specs.Str.{bytes_eq};
 ghost use Rattle.fluent_ast.specs.Borrowed.{inline_of, named_of};
 ghost use Rattle.lint_findings.specs.MissingCategories as m;
 ghost use Rattle.lint_findings.specs.MissingCategories.{same_category, whole_category};

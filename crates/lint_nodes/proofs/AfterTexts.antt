@@ -1,8 +1,7 @@
 -- What stands before the next placeable or line.
-use Rattle.std.proofs.Common.{◌≡◌, ◌∙◌, ℕ, zero, suc, ◌<◌, ◌≤◌, Bool, true, false, cond, ◌||◌, List, [], ◌∷◌, length, drop, get_or, Option, Some, None, refl, sym, arith}
+use Rattle.std.proofs.Common.{◌≡◌, ◌∙◌, ℕ, zero, suc, ◌<◌, ◌≤◌, Bool, true, false, cond, ◌||◌, [], ◌∷◌, length, drop, get_or, Some, None, refl, arith}
 use Rattle.std.specs.Prelude.{◌==◌}
-use Rattle.std.proofs.lemmas.Bool.Decides.{nat_tests}
-use Rattle.memchr.specs.Find.{IsFirstByte, Nowhere, Passes, is_byte2}
+use Rattle.memchr.specs.Find.{IsFirstByte, is_byte2}
 use Rattle.fluent_grammar.specs.Words.{Text, begins_with}
 use Rattle.fluent_grammar.specs.Lines.{pattern_ends}
 use Rattle.lint_nodes.specs.Rests.{after_texts, after_lines}

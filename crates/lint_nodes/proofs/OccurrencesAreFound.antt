@@ -1,7 +1,6 @@
 -- The occurrences that the walk through a source lists are those that its tree finds.
 use Rattle.std.proofs.Common.{◌≡◌, ◌∙◌, ℕ, zero, suc, ◌+◌, ◌<◌, ◌≤◌, Bool, true, false, if◌then◌else◌, List, [], ◌∷◌, ◌++◌, length, drop, Option, Some, None, refl, sym, ap, arith, append_assoc, append-nil}
 use Rattle.std.specs.Prelude.{◌&&◌, ◌==◌, is_some}
-use Rattle.std.specs.List.{list_any}
 use Rattle.fluent_grammar.specs.Words.{Text, hyphen, greater, colon, asterisk, open_paren, close_paren, open_bracket, open_brace, skip_blank, skip_spaces, skip_blank_block, skip_separator, begins_with, begins_arrow, begins_crlf, after_line_end}
 use Rattle.fluent_grammar.specs.Refusal.{got}
 use Rattle.fluent_grammar.specs.Tree as t
@@ -15,12 +14,11 @@ use Rattle.fluent_grammar.proofs.Sound.{readers_sound, pattern_sound}
 use Rattle.fluent_grammar.proofs.Strings.{text_complete}
 use Rattle.fluent_grammar.proofs.Words.{key_complete, literal_complete}
 use Rattle.fluent_grammar.proofs.Lengths.{skip_blank-le, skip_spaces-le, skip_blank_block-le, skip_separator-le, crlf-two, line_end-lt, name-shorter, accessor-no_longer, key-shorter, literal-shorter, text-shorter, inline-shorter, placeable-shorter, variant-shorter}
-use Rattle.fluent_meaning.specs.Same.{same_key}
 use Rattle.lint_findings.specs.FlawWords.{key_text}
 use Rattle.lint_findings.specs.Nodes.{expression, select, is_literal}
 use Rattle.lint_findings.specs.Occurrences.{Occurrence, occurrence_at, inline_read, placeable_read, pattern_read, on_rest, on_some, attribute_len, Walkers, walkers, call_occurrences, selector_occurrences, select_occurrences, placeable_occurrences, inline_occurrences, argument_occurrences, arguments_occurrences, first_occurrences, pattern_occurrences, variant_occurrences, key_occurrences, variants_occurrences, pieces_occurrences, line_occurrences, occurrences}
-use Rattle.lint_nodes.specs.Rests.{after_texts, after_lines, after_first_texts, first_placeable, within, after_sign, after_attribute, first_variant, value_of_variant, value_of_argument, inline_rest, inlines_rest, placeable_rest, pattern_rest}
-use Rattle.lint_nodes.specs.TreeOccurrences.{repeated_found, elements_found, expression_found, variants_found, inline_found, maybe_found, arguments_found, inlines_found, nameds_found, pattern_found}
+use Rattle.lint_nodes.specs.Rests.{after_texts, after_lines, after_first_texts, within, after_sign, after_attribute, first_variant, value_of_argument, inline_rest, inlines_rest, placeable_rest, pattern_rest}
+use Rattle.lint_nodes.specs.TreeOccurrences.{repeated_found, elements_found, expression_found, variants_found, inline_found, arguments_found, inlines_found, nameds_found, pattern_found}
 use Rattle.lint_nodes.proofs.AfterTexts.{at_brace}
 use Rattle.lint_nodes.proofs.RestsAreRead.{name_left, attribute_left, key_left, literal_left, blank_after_arrow, texts_over_spaces, after_piece, text_left, crlf_left, none_left, none_follows, placeable_begins, inline_left, placeable_left, variant_left, pattern_left}
 

@@ -1,14 +1,14 @@
 -- The rests of the parts of a pattern are those that reading leaves.
-use Rattle.std.proofs.Common.{◌≡◌, ◌∙◌, ℕ, zero, suc, ◌+◌, Bool, true, false, cond, if◌then◌else◌, List, [], ◌∷◌, ◌++◌, length, drop, Option, Some, None, refl, sym, ap, arith, append_assoc}
+use Rattle.std.proofs.Common.{◌≡◌, ◌∙◌, ℕ, suc, ◌+◌, Bool, true, false, if◌then◌else◌, List, [], ◌∷◌, ◌++◌, length, drop, Option, Some, refl, sym, ap, arith, append_assoc}
 use Rattle.std.specs.Prelude.{◌&&◌, ◌||◌, ◌==◌}
 use Rattle.std.proofs.lemmas.Bool.Decides.{nat_tests}
-use Rattle.fluent_grammar.specs.Words.{Text, space, quote, hyphen, dot, greater, line_feed, carriage_return, colon, asterisk, open_bracket, open_brace, spaces, skip_blank, skip_spaces, skip_blank_block, skip_separator, begins_with, begins_crlf, after_line_end}
+use Rattle.fluent_grammar.specs.Words.{Text, space, quote, hyphen, dot, line_feed, carriage_return, asterisk, open_brace, spaces, skip_blank, skip_spaces, skip_blank_block, skip_separator, begins_with, begins_crlf, after_line_end}
 use Rattle.fluent_grammar.specs.Tree as t
 use Rattle.fluent_grammar.specs.Lines.{Piece, at_line_start, in_line, placed, elements_of, elements_from, without_blank_end, common_indent, is_blank_text, ends_line, pattern_ends}
-use Rattle.fluent_grammar.specs.Lexical.{SpellsName, SpellsDigits, SpellsUnsigned, whole, decimal, SpellsNumber, unsigned, negative, SpellsString, closing_quote, plain_byte, escaped_backslash, escaped_quote, four_digits, six_digits, SpellsAccessor, no_accessor, an_accessor, SpellsKey, number_key, identifier_key, SpellsLiteral, a_string, a_number, SpellsText, to_line_feed, to_brace, to_crlf, to_end, text_byte}
+use Rattle.fluent_grammar.specs.Lexical.{SpellsName, SpellsUnsigned, whole, decimal, SpellsNumber, unsigned, negative, SpellsString, closing_quote, plain_byte, escaped_backslash, escaped_quote, four_digits, six_digits, SpellsAccessor, no_accessor, an_accessor, SpellsKey, number_key, identifier_key, SpellsLiteral, a_string, a_number, SpellsText, to_line_feed, to_brace, to_crlf, to_end, text_byte}
 use Rattle.fluent_grammar.specs.Spelling.{SpellsInline, a_string_literal, a_number_literal, a_variable_reference, a_term_reference, a_message_reference, a_function_reference, a_placeable, SpellsMaybeArguments, no_call, a_call, SpellsArguments, no_more, positional, named, SpellsPlaceable, in_braces, SpellsExpression, an_inline, a_select, SpellsVariants, all_read, lone_mark, a_variant, the_default, SpellsVariant, keyed, SpellsPattern, on_the_line, on_the_next, SpellsPieces, nothing_left, crlf_piece, text_piece, placeable_piece, SpellsLine, only_spaces_left, pattern_over, line_of_text, line_of_placeable, line_of_crlf, SpellsBehindText, next_line, same_line}
 use Rattle.lint_findings.specs.FlawWords.{key_text}
-use Rattle.lint_nodes.specs.Rests.{after_texts, after_lines, after_first_texts, first_placeable, within, after_sign, after_attribute, first_variant, key_of_variant, value_of_variant, value_of_argument, elements_rest, expression_rest, variants_rest, inline_rest, maybe_rest, arguments_rest, inlines_rest, nameds_rest, placeable_rest, pattern_rest}
+use Rattle.lint_nodes.specs.Rests.{after_texts, after_lines, after_first_texts, within, after_sign, after_attribute, first_variant, value_of_variant, elements_rest, expression_rest, variants_rest, inline_rest, maybe_rest, arguments_rest, inlines_rest, nameds_rest, placeable_rest, pattern_rest}
 use Rattle.lint_nodes.proofs.AfterTexts.{at_brace}
 
 -- ---- blanks

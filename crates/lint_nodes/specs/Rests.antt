@@ -1,5 +1,5 @@
 -- What follows the parts of a pattern in its source. The tree says which part is at the front of a text.
-use Rattle.std.specs.Prelude.{◌==◌, if◌then◌else◌, List, [], ◌∷◌, length, drop, Option, Some, None}
+use Rattle.std.specs.Prelude.{◌==◌, if◌then◌else◌, [], ◌∷◌, length, drop, Option, Some, None}
 use Rattle.fluent_grammar.specs.Words.{Text, line_feed, asterisk, open_brace, begins_with, skip_spaces, skip_blank, skip_blank_block, skip_separator, after_line_end}
 use Rattle.fluent_grammar.specs.Lines.{pattern_ends}
 use Rattle.fluent_grammar.specs.Tree as t

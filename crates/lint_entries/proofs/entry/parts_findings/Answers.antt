@@ -1,4 +1,4 @@
-use Rattle.std.proofs.Common.{◌∙◌, ◌-◌, ap, length, drop, map}
+use Rattle.std.proofs.Common.{◌∙◌, ◌-◌, ap, map}
 use Rattle.lint_finding.specs.View.{finding_view}
 use Rattle.lint_findings.specs.Occurrences.{after_equals}
 use Rattle.fluent_ast.specs.Borrowed.{attributes_of}

@@ -1,5 +1,5 @@
 use Rattle.std.proofs.Common.{◌∙◌, ◌+◌, [], ◌∷◌, ◌++◌, map, drop, refl, sym, ap, subst, append-nil}
-use Rattle.fluent_ast.specs.Borrowed.{attribute_of, attributes_of}
+use Rattle.fluent_ast.specs.Borrowed.{attribute_of}
 use Rattle.lint_findings.specs.Occurrences.{pattern_read}
 use Rattle.lint_finding.specs.View.{finding_view}
 use Rattle.lint_entries.specs.AttributePlaces.{AreAttributesAt}

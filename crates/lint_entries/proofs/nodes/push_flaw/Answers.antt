@@ -4,15 +4,14 @@ use Rattle.lint_finding.specs.View.{finding_view}
 use Rattle.lint_flaws.specs.FlawView.{flaw_view}
 use Rattle.fluent_ids.specs.IdsView.{ids_view}
 use Rattle.lint_nodes.specs.NodeView.{node_view}
-use Rattle.lint_entries.specs.Labels.{label_text}
+use Rattle.lint_entries.specs.Made.{flaw_finding}
 use Rattle.lint_entries.proofs.Pushed.{one_flaw, pushed}
 use Rattle.lint_entries.proofs.nodes.push_flaw.Goals as goal
 
 pub returns-in_ok-push : goal.returns-in_ok-push
-returns-in_ok-push c = λ plurals es.
+returns-in_ok-push c =
     let ids = ids_view (Unit {0}) c.args.ids.now in
-    let place = c.args.place.now in
     let flaw = c.in-Some.flaw in
-    let made = e.flaw_finding ids plurals place.source.now es (label_text place.label) place.at.now in
-    pushed c.args.findings.now.items c.push.new.self.items c.in_ok-flaw_finding.field-0 (made (flaw_view flaw)) c.in_ok-push.ensures.items (c.in_ok-flaw_finding.ensures plurals es)
+    let made = flaw_finding ids c.args.place.now in
+    pushed c.args.findings.now.items c.push.new.self.items c.in_ok-flaw_finding.field-0 (made (flaw_view flaw)) c.in_ok-push.ensures.items c.in_ok-flaw_finding.ensures
     ∙ ap (λ l. map finding_view c.args.findings.now.items ++ map made l) (one_flaw c.node_flaw.result flaw (e.node_flaws ids (node_view c.args.node)) c.node_flaw.ensures c.in-Some.is)

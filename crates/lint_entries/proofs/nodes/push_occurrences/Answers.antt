@@ -10,14 +10,14 @@ use Rattle.lint_entries.proofs.Pushed.{first_added, next}
 use Rattle.lint_entries.proofs.nodes.push_occurrences.Goals as goal
 
 pub loop-occurrence-preserved : goal.loop-occurrence-preserved
-loop-occurrence-preserved c = λ es.
+loop-occurrence-preserved c =
     let catalog = c.args.catalog.now in
-    let found = occurrences_found catalog c.args.source.now c.args.label es in
+    let found = occurrences_found catalog c.args.source.now c.args.label in
     let items = c.args.occurrences.now in
     let i = c.loop-occurrence.occurrence-index in
     let item = c.occurrence-item.result in
     first_added (map finding_view c.loop-occurrence.findings.items)
-    (e.node_findings (ids_in catalog) catalog.plurals c.args.source.now es (label_text c.args.label) item.at.now (node_view item.node))
+    (e.node_findings (ids_in catalog) catalog.plurals c.args.source.now (label_text c.args.label) item.at.now (node_view item.node))
     (found (map occurrence_view (drop (i + 1) items)))
-    (c.in_ok-push_node.ensures es) (ap found (next occurrence_view items i item c.loop-occurrence-test.true c.occurrence-item.is))
-    ∙ c.loop-occurrence.invariant es
+    c.in_ok-push_node.ensures (ap found (next occurrence_view items i item c.loop-occurrence-test.true c.occurrence-item.is))
+    ∙ c.loop-occurrence.invariant

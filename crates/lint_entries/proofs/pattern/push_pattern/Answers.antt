@@ -19,4 +19,4 @@ returns-clause-added c =
     pattern_added (ids_in catalog) catalog.plurals name.source.now (label_text name.label) name.at.now es c.args.text.now c.requires.0 c.requires.1 None (ids_in catalog) refl
     (map occurrence_view walked) (ap (map occurrence_view) c.deref-2.ensures.value ∙ c.in_ok-found.ensures.occurrences) (nodes_of c.deref.result.now) (ap nodes_of (c.deref.ensures.value ∙ sym c.deref-2.ensures.value) ∙ nodes_are walked)
     (map finding_view c.args.findings.now.items) (map finding_view c.push_endless.new.findings.items) (map finding_view c.push_occurrences.new.findings.items)
-    c.in_ok-push_endless.ensures (c.in_ok-push_occurrences.ensures es)
+    c.in_ok-push_endless.ensures c.in_ok-push_occurrences.ensures

@@ -1,6 +1,9 @@
-use Rattle.std.proofs.Common.{◌∙◌}
+use Rattle.std.proofs.Common.{◌≡◌, ◌∙◌, count_by, rules}
 use Rattle.lint_entries.proofs.Parts.{messages_counted}
+use Rattle.lint_entries.specs.TileView.{is_message_part, tile_view}
 use Rattle.lint_entries.proofs.tile.message_count.Goals as goal
 
 pub returns : goal.returns
-returns c = λ source same. c.count_of_messages.ensures ∙ messages_counted c.args.tiles.now source same
+returns c = λ source same.
+    let counted : c.count.result ≡ count_by (λ tile. is_message_part (tile_view tile)) c.args.tiles.now = search rules in
+    counted ∙ messages_counted c.args.tiles.now source same

@@ -33,8 +33,8 @@ loop-tile-preserved c =
     let has = map finding_view c.push_tile.new.findings.items in
     let left = map tile_view (drop (i + 1) tiles) in
     let done = declared_by_parts (file_view start.file) (map tile_view (take i tiles)) in (
-      c.in_ok-push_tile.ensures.place,
-      c.in_ok-push_tile.ensures.file ∙ inv.1,
+      c.in_ok-push_tile.ensures.cursor.place,
+      c.in_ok-push_tile.ensures.cursor.file ∙ inv.1,
       λ before first.
           let now = inv.2 before first in
           let more : (before ++ done) ++ declared_by (file_view old.file) (tile_view item) ≡ before ++ declared_by_parts (file_view start.file) (map tile_view (take (i + 1) tiles)) =

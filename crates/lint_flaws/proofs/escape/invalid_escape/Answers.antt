@@ -1,4 +1,4 @@
-use Rattle.std.proofs.Common.{◌≡◌, ◌∙◌, ◌+◌, ◌<◌, ℕ, List, true, false, [], ◌∷◌, take, drop, sym, ap, arith}
+use Rattle.std.proofs.Common.{◌≡◌, ◌∙◌, ◌+◌, true, false, [], ◌∷◌, take, drop, sym, ap, arith}
 use Rattle.std.proofs.lemmas.Grind.{common_steps}
 use Rattle.lint_findings.specs.Escapes.{is_no_character}
 use Rattle.lint_flaws.specs.Escape.{digit_count}

@@ -1,7 +1,7 @@
-use Rattle.std.proofs.Common.{◌≡◌, ◌∙◌, ◌≤◌, ◌<◌, not, ◌&&◌, take, length, sym, ap, arith}
+use Rattle.std.proofs.Common.{◌≡◌, ◌∙◌, ◌≤◌, ◌<◌, not, ◌&&◌, take, sym, ap, arith}
 use Rattle.std.specs.List.{prefix_len, list_all}
 use Rattle.std.proofs.lemmas.Grind.{common_steps}
-use Rattle.fluent_grammar.specs.Words.{is_hex_digit, hex_digits}
+use Rattle.fluent_grammar.specs.Words.{is_hex_digit}
 use Rattle.fluent_grammar.specs.Escapes.{hex_number, is_scalar}
 use Rattle.lint_flaws.proofs.Digits.{hex_cut, front_is_hex, enough, too_few}
 use Rattle.lint_flaws.proofs.escape.is_no_character.Goals as goal

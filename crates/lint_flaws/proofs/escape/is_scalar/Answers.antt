@@ -1,5 +1,5 @@
-use Rattle.std.proofs.Common.{◌≡◌, ◌∙◌, sym, ap}
-use Rattle.fluent_grammar.specs.Escapes.{hex_number, is_scalar}
+use Rattle.std.proofs.Common.{◌∙◌, sym, ap}
+use Rattle.fluent_grammar.specs.Escapes.{is_scalar}
 use Rattle.fluent_tokens.proofs.Escapes.{value_is}
 use Rattle.lint_flaws.proofs.Digits.{made_if_scalar, too_large}
 use Rattle.lint_flaws.proofs.escape.is_scalar.Goals as goal

@@ -1,4 +1,4 @@
-use Rattle.std.proofs.Common.{◌≡◌, Bool, not, ◌&&◌, if◌then◌else◌, List, [], IfOk, ap, subst}
+use Rattle.std.proofs.Common.{◌≡◌, not, ◌&&◌, if◌then◌else◌, List, [], IfOk, ap, subst}
 use Rattle.std.specs.List.{list_any}
 use Rattle.std.proofs.lemmas.List.Elements.{filter_agree}
 use Rattle.fluent_ast.specs.Borrowed.{inline_of, variants_of}
