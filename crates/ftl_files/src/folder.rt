@@ -63,8 +63,9 @@ pub trait Folder {
         ensures same_sources { sources self.new ≡ sources self.old }
         ensures failed { failures self.new ≡ failures_after_file (failures self.old) result };
 
-    /// Why a file of this name can't be read, in words, if that is known: `no such file`, `is a folder` or `no permission`.
-    fn why(&self, name: &str) -> Option<&'static str>;
+    /// Why the last call that failed did, in words, if that is known: `no such file`, `is a folder`, `no permission`,
+    /// `no space left` or `a read-only file system`.
+    fn why(&self) -> Option<&'static str>;
 
     /// Lists the files below a folder whose names end in `.ftl`, by the bytes of their paths, each beginning with the name
     /// of the folder. A name that isn't a folder's is listed alone. Links to folders aren't followed. The files stay as they

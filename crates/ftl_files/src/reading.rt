@@ -130,7 +130,7 @@ fn read_one<F: Folder>(
 {
     match read_source(folder, alloc, name)? {
         Ok(source) => add_read(alloc, name, source, read),
-        Err(failure) => read.add_failure(name, failure, why_of(folder, name, failure)),
+        Err(failure) => read.add_failure(name, failure, why_of(folder, failure)),
     }
 }
 

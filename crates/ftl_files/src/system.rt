@@ -1,12 +1,13 @@
 //! The system's files.
 ghost use Rattle.std.specs.Prelude.{◌≡◌, ◌↔◌, IsTrue, None};
 ghost use Rattle.std.specs.IoError.{error_kind, raw_os_error};
+ghost use Rattle.fluent_serve.specs.Devices.{one_more};
 
 use crate::folder::{FileError, Folder, ReplaceError};
 use crate::listing::list_sources;
 use crate::replacing::replace_file;
 use std::alloc::Global;
-use std::fs::{File, metadata};
+use std::fs::File;
 use std::io;
 use std::io::{ErrorKind, Read};
 use std::rt::Files;
@@ -16,6 +17,10 @@ use std::rt::Files;
 pub struct FromFiles<'a, R> {
     files: &'a R,
     failures: u64,
+    /// Why the last call that failed did.
+    why: Option<&'static str>,
+    /// Why the last folder that could not be listed wasn't.
+    unlisted: Option<&'static str>,
 }
 
 impl<'a, R: Files> FromFiles<'a, R> {
@@ -25,7 +30,38 @@ impl<'a, R: Files> FromFiles<'a, R> {
         ensures sources { ⟦<FromFiles<'a, R> as Folder>⟧.sources result ≡ (λ _. None) }
         ensures failures { ⟦<FromFiles<'a, R> as Folder>⟧.failures result ≡ 0 }
     {
-        FromFiles { files, failures: 0 }
+        FromFiles {
+            files,
+            failures: 0,
+            why: None,
+            unlisted: None,
+        }
+    }
+
+    /// Notes that a call failed.
+    fn note(&mut self, error: &io::Error)
+        ensures { self.new.failures ≡ one_more self.old.failures }
+    {
+        self.failures = self.failures.saturating_add(1);
+        self.why = words_of(error);
+    }
+
+    /// The same of a call that lists a folder.
+    fn note_unlisted(&mut self, error: &io::Error)
+        ensures { self.new.failures ≡ one_more self.old.failures }
+    {
+        self.note(error);
+        self.unlisted = self.why;
+    }
+
+    /// The same of a call that reads a file. A folder is read only if it can't be listed.
+    fn note_unread(&mut self, error: &io::Error)
+        ensures { self.new.failures ≡ one_more self.old.failures }
+    {
+        self.note(error);
+        if error.kind() == ErrorKind::IsADirectory {
+            self.why = self.unlisted.or(self.why);
+        }
     }
 }
 
@@ -40,23 +76,23 @@ impl<R: Files> Folder for FromFiles<'_, R> {
         match read_file(self.files, alloc, name) {
             Ok(bytes) => Ok(bytes),
             Err(error) if is_refused(&error) => Err(FileError::Memory),
-            Err(_) => {
-                self.failures = self.failures.saturating_add(1);
+            Err(error) => {
+                self.note_unread(&error);
                 Err(FileError::Unreadable)
             }
         }
     }
 
-    fn why(&self, name: &str) -> Option<&'static str> {
-        why_unreadable(self.files, name)
+    fn why(&self) -> Option<&'static str> {
+        self.why
     }
 
     fn list(&mut self, alloc: Global, name: &str) -> Result<Vec<String>, FileError> {
         match list_sources(self.files, alloc, name) {
             Ok(names) => Ok(names),
             Err(error) if is_refused(&error) => Err(FileError::Memory),
-            Err(_) => {
-                self.failures = self.failures.saturating_add(1);
+            Err(error) => {
+                self.note_unlisted(&error);
                 Err(FileError::Unreadable)
             }
         }
@@ -66,8 +102,8 @@ impl<R: Files> Folder for FromFiles<'_, R> {
         match replace_file(self.files, alloc, name, bytes) {
             Ok(()) => Ok(()),
             Err(error) if is_refused(&error) => Err(ReplaceError::Memory),
-            Err(_) => {
-                self.failures = self.failures.saturating_add(1);
+            Err(error) => {
+                self.note(&error);
                 Err(ReplaceError::Unwritable)
             }
         }
@@ -81,20 +117,14 @@ fn read_file<R: Files>(files: &R, alloc: Global, name: &str) -> io::Result<Vec<u
     Ok(bytes)
 }
 
-/// Why a file of the system can't be read, if that is known.
-fn why_unreadable<R: Files>(files: &R, name: &str) -> Option<&'static str> {
-    match metadata(files, name) {
-        Ok(found) if found.is_dir() => Some("is a folder"),
-        Ok(_) => File::open(files, name).err().and_then(words_of),
-        Err(error) => words_of(error),
-    }
-}
-
 /// The error of a call on a file, in words, if there are some.
-fn words_of(error: io::Error) -> Option<&'static str> {
+fn words_of(error: &io::Error) -> Option<&'static str> {
     match error.kind() {
         ErrorKind::NotFound => Some("no such file"),
+        ErrorKind::IsADirectory => Some("is a folder"),
         ErrorKind::PermissionDenied => Some("no permission"),
+        ErrorKind::StorageFull | ErrorKind::QuotaExceeded => Some("no space left"),
+        ErrorKind::ReadOnlyFilesystem => Some("a read-only file system"),
         _ => None,
     }
 }

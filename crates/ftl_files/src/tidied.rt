@@ -20,8 +20,8 @@ pub struct TidiedFiles {
 }
 
 impl TidiedFiles {
-    /// Nothing yet.
-    pub(crate) fn new(alloc: Global) -> TidiedFiles
+    /// What is said of no file.
+    pub fn new(alloc: Global) -> TidiedFiles
         ensures { said_view result ≡ nothing_said }
     {
         TidiedFiles {

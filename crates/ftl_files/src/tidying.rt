@@ -99,7 +99,7 @@ pub fn tidy_file<F: Folder>(
 {
     match read_source(folder, alloc, name)? {
         Ok(source) => tidy_read(folder, alloc, check, name, source.as_str()),
-        Err(failure) => Ok(FileEnd::Failed(failure, why_of(folder, name, failure))),
+        Err(failure) => Ok(FileEnd::Failed(failure, why_of(folder, failure))),
     }
 }
 
@@ -142,9 +142,9 @@ pub(crate) fn read_source<F: Folder>(
 }
 
 /// Why a file could not be read, if that is known.
-pub(crate) fn why_of<F: Folder>(folder: &F, name: &str, failure: Failure) -> Option<&'static str> {
+pub(crate) fn why_of<F: Folder>(folder: &F, failure: Failure) -> Option<&'static str> {
     match failure {
-        Failure::Unreadable => folder.why(name),
+        Failure::Unreadable => folder.why(),
         _ => None,
     }
 }
@@ -177,6 +177,6 @@ fn replace<F: Folder>(
     match folder.replace(alloc, name, text.as_bytes()) {
         Ok(()) => Ok(FileEnd::Changed(text)),
         Err(ReplaceError::Memory) => Err(AllocError),
-        Err(ReplaceError::Unwritable) => Ok(FileEnd::Failed(Failure::Unwritable, None)),
+        Err(ReplaceError::Unwritable) => { Ok(FileEnd::Failed(Failure::Unwritable, folder.why())) }
     }
 }
