@@ -1,5 +1,5 @@
 //! The programs that the README, the guide and the reference quote, one a module: each module is what the `main.rt` of such a
-//! program holds, and its `main` is called here.
+//! program holds, and its `main` is called here. That of several languages is `localization` of `example_callers`.
 #![tactic(auto)]
 
 mod bundle;
@@ -7,9 +7,9 @@ mod desk;
 mod edit;
 mod guide;
 mod hello;
-mod localization;
 
 use anyhow::Result;
+use example_callers::localization;
 
 fn main(rt: HostRuntime) -> Result<()> {
     println!(rt; "== hello")?;
