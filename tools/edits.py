@@ -37,7 +37,7 @@ from trying.verdicts import GOAL, REFUSED, judged
 
 BYTES_A_JOB = 3 * 2 ** 30
 # How many edits are tried in one check at most: a few minutes, and then there is something to read.
-MOST_TOGETHER = 12
+MOST_TOGETHER = 40
 
 
 @dataclass
