@@ -1,6 +1,6 @@
 //! What is said after the line of a failure: why, and at which line of which file.
 
-use ftl_command::{Command, Format, Invocation, Tidy, advice, command};
+use ftl_command::{Command, Format, Invocation, Lint, Tidy, TidyFiles, advice, command};
 use ftl_files::{FileEnd, Folder, FromFiles, tidy_source};
 use memchr::memchr;
 use std::alloc::{AllocError, Global};
@@ -26,6 +26,19 @@ pub fn explanation<'words, R: Files>(
     let mut folder = FromFiles::new(rt);
     match (status, command) {
         (1, Command::Tidy(tidy)) => of_tidying(&mut folder, alloc, tidy),
+        (
+            3,
+            Command::Lint(
+                Lint {
+                    references,
+                    files,
+                    ..
+                },
+            ),
+        ) => of_listed(&mut folder, alloc, &references, &files),
+        (3, Command::TidyFiles(TidyFiles { paths, .. })) => {
+            of_listed(&mut folder, alloc, &[], &paths)
+        }
         (3, command) => {
             let files = files_named(alloc, &command)?;
             of_files(&mut folder, alloc, &files)
@@ -44,7 +57,9 @@ fn files_named<'words>(
         | Command::Format(Format { files, .. })
         | Command::Check { files } => Vec::from_slice(alloc, files),
         Command::Tidy(tidy) => tidied_files(alloc, tidy),
-        Command::Lint(_) | Command::TidyFiles(_) => Ok(Vec::new(alloc)),
+        Command::Lint(_) | Command::TidyFiles(_) | Command::TidyInput { .. } => {
+            Ok(Vec::new(alloc))
+        }
     }
 }
 
@@ -82,18 +97,78 @@ fn of_file<F: Folder>(
     alloc: Global,
     file: &str,
 ) -> Result<Option<String>, AllocError> {
-    if let Some(why) = folder.why(file) {
-        return Ok(Some(format!(in alloc; "ftl: {file}: {why}\n")?));
-    }
     let Ok(bytes) = folder.read(alloc, file) else {
+        return of_unreadable(alloc, file, folder.why());
+    };
+    let Some(line) = line_of_bad_byte(&bytes) else {
         return Ok(None);
     };
-    let Err(error) = from_utf8(&bytes) else {
-        return Ok(None);
-    };
-    let line = line_of(&bytes, error.valid_up_to());
     let text = format!(in alloc; "ftl: {file}:{line}: a byte that isn't UTF-8\n")?;
     Ok(Some(text))
+}
+
+/// The number of the line with the first byte that isn't UTF-8, if there is one.
+fn line_of_bad_byte(bytes: &[u8]) -> Option<usize> {
+    let error = from_utf8(bytes).err()?;
+    Some(line_of(bytes, error.valid_up_to()))
+}
+
+/// Why a file can't be read.
+fn of_unreadable(
+    alloc: Global,
+    file: &str,
+    why: Option<&'static str>,
+) -> Result<Option<String>, AllocError> {
+    let Some(why) = why else {
+        return Ok(None);
+    };
+    Ok(Some(format!(in alloc; "ftl: {file}: {why}\n")?))
+}
+
+/// Where each of the files that aren't UTF-8 has the first byte that isn't, of all that these paths stand for.
+fn of_listed<F: Folder>(
+    folder: &mut F,
+    alloc: Global,
+    references: &[&str],
+    paths: &[&str],
+) -> Result<Option<String>, AllocError> {
+    let mut lines = String::new(alloc);
+    for path in references.iter().chain(paths) {
+        push_below(folder, alloc, path, &mut lines)?;
+    }
+    Ok(Some(lines))
+}
+
+/// Appends the lines of those that a path stands for.
+fn push_below<F: Folder>(
+    folder: &mut F,
+    alloc: Global,
+    path: &str,
+    lines: &mut String,
+) -> Result<(), AllocError> {
+    let Ok(files) = folder.list(alloc, path) else {
+        return Ok(());
+    };
+    for file in &files {
+        push_line(folder, alloc, file, lines)?;
+    }
+    Ok(())
+}
+
+/// Appends the line of a file, if it isn't UTF-8.
+fn push_line<F: Folder>(
+    folder: &mut F,
+    alloc: Global,
+    file: &str,
+    lines: &mut String,
+) -> Result<(), AllocError> {
+    let Ok(bytes) = folder.read(alloc, file) else {
+        return Ok(());
+    };
+    match line_of_bad_byte(&bytes) {
+        Some(line) => writeln!(lines, "ftl: {file}:{line}: a byte that isn't UTF-8"),
+        None => Ok(()),
+    }
 }
 
 /// Where the first source that can't be tidied has what stands in the way.

@@ -3,7 +3,7 @@ use Rattle.std.proofs.Common.{◌≡◌, [], ◌∷◌, true, false, Some, None,
 use Rattle.clap.specs.declared.error.kind.ErrorKind.TheVariants.{MissingRequiredArgument, UnknownArgument}
 use Rattle.clap.proofs.OnLiterals.{clap_on_literals}
 use Rattle.lint_findings.specs.Output.{json, terminal, text}
-use Rattle.ftl_arguments.specs.Meaning.{AskForHelpAlone, AskForVersionAlone, check, clean, command_of, faults_of, format, join, lint, run, tidy, tidy_files}
+use Rattle.ftl_arguments.specs.Meaning.{AskForHelpAlone, AskForVersionAlone, check, clean, command_of, faults_of, format, join, lint, run, tidy, tidy_files, tidy_input}
 
 no_file : faults_of (codes "run" ∷ codes "--overriding" ∷ []) ≡ MissingRequiredArgument ∷ []
 unfolding clap_on_literals
@@ -141,3 +141,16 @@ no_such_code = refl
 files_to_check : command_of (codes "tidy" ∷ codes "--check" ∷ codes "." ∷ []) ≡ Some (tidy_files (record { check = true; paths = codes "." ∷ [] }))
 unfolding clap_on_literals
 files_to_check = refl
+
+input_to_tidy : command_of (codes "tidy" ∷ codes "-" ∷ []) ≡ Some (tidy_input false)
+unfolding clap_on_literals
+input_to_tidy = refl
+
+input_to_check : command_of (codes "tidy" ∷ codes "-" ∷ codes "--check" ∷ []) ≡ Some (tidy_input true)
+unfolding clap_on_literals
+input_to_check = refl
+
+a_hyphen_among_files : command_of (codes "tidy" ∷ codes "a" ∷ codes "-" ∷ [])
+    ≡ Some (tidy_files (record { check = false; paths = codes "a" ∷ codes "-" ∷ [] }))
+unfolding clap_on_literals
+a_hyphen_among_files = refl

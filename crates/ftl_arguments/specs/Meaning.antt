@@ -8,7 +8,7 @@ use Rattle.fluent_serve.specs.Requests.{Request, request_of_parts}
 use Rattle.ftl_arguments.specs.Commands.{program_app}
 use Rattle.ftl_arguments.specs.Found.{is_given, values_in, locale_in, file_in, files_in}
 use Rattle.ftl_arguments.specs.Linting.{Lint, lint_in}
-use Rattle.ftl_arguments.specs.TidyFiles.{TidyFiles, tidy_files_in}
+use Rattle.ftl_arguments.specs.TidyFiles.{TidyFiles, is_input, tidy_files_in}
 
 -- answer the request lines of standard input, from the sources in these files
 pub record Run : Type 0 where
@@ -44,6 +44,8 @@ pub data Asked : Type 0 where
   check : List Text → Asked
   lint : Lint → Asked
   tidy_files : TidyFiles → Asked
+  -- tidy standard input to standard output, or only check it
+  tidy_input : Bool → Asked
   tidy : Tidy → Asked
 
 -- ---- what was found for a command
@@ -83,6 +85,10 @@ format_with rows request = record {
 abbrev pub format_in : List Row → Option Format
 format_in rows = option_map (format_with rows) (request_in rows)
 
+-- `tidy`, of files in place or of standard input
+abbrev pub tidy_in : TidyFiles → Asked
+tidy_in t = if is_input t.paths then tidy_input t.check else tidy_files t
+
 -- a command on one file
 abbrev pub on_file : (Text → Tidy) → List Row → Option Asked
 on_file command rows = option_map (λ file. tidy (command file)) (file_in rows)
@@ -104,7 +110,7 @@ asked_by found =
     else if bytes_eq found.0 (codes "format") then option_map format (format_in found.1)
     else if bytes_eq found.0 (codes "check") then Some (check (files_in found.1))
     else if bytes_eq found.0 (codes "lint") then option_map lint (lint_in found.1)
-    else if bytes_eq found.0 (codes "tidy") then Some (tidy_files (tidy_files_in found.1))
+    else if bytes_eq found.0 (codes "tidy") then Some (tidy_in (tidy_files_in found.1))
     else tidying_by found
 
 abbrev pub asked_of : Option (Text × List Row) → Option Asked

@@ -1,5 +1,6 @@
 -- What `tidy` is asked for.
-use Rattle.std.specs.Prelude.{Bool, List, codes}
+use Rattle.std.specs.Prelude.{Bool, false, List, [], ◌∷◌, codes}
+use Rattle.std.specs.Str.{bytes_eq}
 use Rattle.clap.specs.Words.{Row, Text}
 use Rattle.ftl_arguments.specs.Found.{is_given, values_in}
 
@@ -11,3 +12,9 @@ pub record TidyFiles : Type 0 where
 
 abbrev pub tidy_files_in : List Row → TidyFiles
 tidy_files_in rows = record { check = is_given (codes "check") rows; paths = values_in (codes "PATH") rows }
+
+-- whether standard input is meant, and no file: a hyphen alone
+abbrev pub is_input : List Text → Bool
+is_input [] = false
+is_input (path ∷ []) = bytes_eq path (codes "-")
+is_input (path ∷ other ∷ others) = false

@@ -1,9 +1,10 @@
 //! What is wrong with command-line arguments, in words.
 
+use crate::linting::{colours_named, format_named, is_code};
 use crate::program::program;
 use crate::reading::{WordsError, command};
-use clap::Error;
 use clap::error::ErrorKind;
+use clap::{ArgMatches, Error};
 use std::alloc::{AllocError, Global};
 
 /// The commands that have help of their own.
@@ -51,7 +52,7 @@ fn are_bad<'words>(alloc: Global, words: &'words [&'words str]) -> bool {
 /// Why they aren't.
 fn reason<'words>(alloc: Global, words: &'words [&'words str]) -> Result<String, AllocError> {
     match program(alloc)?.try_get_matches_from(words) {
-        Ok(_matches) => String::from_str(alloc, refused_value(words)),
+        Ok(matches) => reason_by(alloc, refused_value(&matches)),
         Err(error) => reason_of(alloc, &error),
     }
 }
@@ -64,15 +65,67 @@ fn reason_of(alloc: Global, error: &Error) -> Result<String, AllocError> {
     }
 }
 
-/// What `clap` lets pass, and the program doesn't.
-fn refused_value(words: &[&str]) -> &'static str {
-    match words.first() {
-        Some(&"lint") => {
-            "--format takes text, line, json or github, --color auto, always or never, and --ignore the code of a finding;"
-        }
-        Some(&"format") => "--argument takes NAME=VALUE;",
-        _ => "that isn't understood;",
+/// A value that `clap` lets pass, and the program doesn't.
+struct RefusedValue<'words> {
+    option: &'static str,
+    /// What the option takes.
+    choices: &'static str,
+    value: &'words str,
+}
+
+/// The reason that such a value is, if it is one.
+fn reason_by(alloc: Global, refused: Option<RefusedValue>) -> Result<String, AllocError> {
+    match refused {
+        Some(
+            RefusedValue {
+                option,
+                choices,
+                value,
+            },
+        ) => format!(in alloc; "{option} takes {choices}, and not '{value}';"),
+        None => String::from_str(alloc, "that isn't understood;"),
     }
+}
+
+/// The first value of a command that the program doesn't let pass.
+fn refused_value<'words>(matches: &ArgMatches<'words>) -> Option<RefusedValue<'words>> {
+    match matches.subcommand()? {
+        ("lint", found) => refused_by_lint(found),
+        ("format", found) => refused_by_format(found),
+        _ => None,
+    }
+}
+
+/// That of `lint`.
+fn refused_by_lint<'words>(found: &ArgMatches<'words>) -> Option<RefusedValue<'words>> {
+    let format = found.get_str("format")?;
+    let colours = found.get_str("color")?;
+    let (option, choices, value) = if format_named(format).is_none() {
+        ("--format", "text, line, json or github", format)
+    } else if colours_named(colours).is_none() {
+        ("--color", "auto, always or never", colours)
+    } else {
+        let code = found.get_raw("ignore")?.iter().find(|code| !is_code(code))?;
+        ("--ignore", "the code of a finding", *code)
+    };
+    Some(RefusedValue {
+        option,
+        choices,
+        value,
+    })
+}
+
+/// That of `format`.
+fn refused_by_format<'words>(found: &ArgMatches<'words>) -> Option<RefusedValue<'words>> {
+    let argument = found
+        .get_raw("argument")?
+        .iter()
+        .find(|argument| !argument.contains('='))?;
+    Some(RefusedValue {
+        option: "--argument",
+        choices: "NAME=VALUE",
+        value: *argument,
+    })
 }
 
 /// The reason in the text of an error of `clap`: its first paragraph, and what is near.

@@ -40,6 +40,11 @@ pub enum Command<'words> {
     Lint(Lint<'words>),
     /// Tidy files in place.
     TidyFiles(TidyFiles<'words>),
+    /// Tidy standard input to standard output.
+    TidyInput {
+        /// Whether it is only checked.
+        check: bool,
+    },
     /// Write what sources are tidied into.
     Tidy(Tidy<'words>),
 }

@@ -93,7 +93,7 @@ fn are_codes(names: &[&str]) -> bool
 }
 
 /// Whether findings have this code.
-fn is_code(name: &str) -> bool
+pub(crate) fn is_code(name: &str) -> bool
     ensures { result ≡ is_code name.now }
 {
     CODES.contains(&name)
@@ -123,7 +123,7 @@ fn colours_in(found: &ArgMatches<'_>) -> Option<bool>
 }
 
 /// Whether this choice asks for colours, if there is such a one.
-fn colours_named(name: &str) -> Option<bool>
+pub(crate) fn colours_named(name: &str) -> Option<bool>
     ensures { result ≡ colours_named name.now }
 {
     match name {
@@ -144,7 +144,7 @@ fn format_by(format: ReportFormat, colours: bool) -> ReportFormat
 }
 
 /// The format of a name.
-fn format_named(name: &str) -> Option<ReportFormat>
+pub(crate) fn format_named(name: &str) -> Option<ReportFormat>
     ensures { option_map format_view result ≡ format_named name.now }
 {
     match name {

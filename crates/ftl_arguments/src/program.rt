@@ -173,7 +173,7 @@ fn lint<'a>(alloc: Global) -> Result<Command<'a>, AllocError>
 {
     reporting(alloc)?
         .after_help("Example: ftl lint --reference locales/en locales/de")
-        .arg(paths(alloc))
+        .arg(paths(alloc, "Files, and folders with each `.ftl` file below them"))
 }
 
 /// The command `lint` without its paths.

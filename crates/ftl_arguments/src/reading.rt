@@ -11,7 +11,7 @@ use crate::commands::{Command, Invocation, Tidy};
 use crate::formatting::format_in;
 use crate::linting::lint_in;
 use crate::program::program;
-use crate::tidying::tidy_files_in;
+use crate::tidying::tidy_in;
 use crate::version::version_line;
 use clap::error::ErrorKind;
 use clap::{ArgMatches, Error};
@@ -111,7 +111,7 @@ fn command_named<'words>(
             files: files_in(alloc, found)?,
         }),
         "lint" => Ok(Command::Lint(lint_in(alloc, found)?)),
-        "tidy" => Ok(Command::TidyFiles(tidy_files_in(alloc, found)?)),
+        "tidy" => Ok(tidy_in(alloc, found)?),
         _ => tidying_named(alloc, name, found),
     }
 }

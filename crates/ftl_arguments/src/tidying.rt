@@ -1,15 +1,20 @@
 //! What `tidy` is asked for.
 ghost use Rattle.std.specs.Prelude.{◌≡◌, IfOk, codes};
 ghost use Rattle.clap.specs.Words.{app_of, with_subcommand};
-ghost use Rattle.ftl_arguments.specs.CommandView.{found_rows, tidy_files_view};
+ghost use Rattle.ftl_arguments.specs.CommandView.{command_view, found_rows, tidy_files_view};
 ghost use Rattle.ftl_arguments.specs.Commands.{IsLocal, IsShaped, paths_rule, tidy_shape};
-ghost use Rattle.ftl_arguments.specs.TidyFiles.{tidy_files_in};
+ghost use Rattle.ftl_arguments.specs.Meaning.{texts, tidy_in};
+ghost use Rattle.ftl_arguments.specs.TidyFiles.{is_input, tidy_files_in};
 
-use crate::commands::TidyFiles;
+use crate::commands::{Command as Meant, TidyFiles};
 use crate::program::flag;
 use crate::reading::{is_given, values_in};
 use clap::{Arg, ArgMatches, Command};
 use std::alloc::{AllocError, Global};
+
+/// What the paths of `tidy` are.
+const PATHS: &str =
+    "Files, and folders with each `.ftl` file below them; `-` alone: standard input, to standard output";
 
 /// The program with the command `tidy`, too.
 pub(crate) fn with_tidy<'a>(alloc: Global, program: Command<'a>) -> Result<Command<'a>, AllocError>
@@ -29,24 +34,49 @@ fn tidy<'a>(alloc: Global) -> Result<Command<'a>, AllocError>
         .about("Tidy files in place, and those below folders")
         .arg(check)?
         .after_help("Example: ftl tidy --check locales")
-        .arg(paths(alloc))
+        .arg(paths(alloc, PATHS))
 }
 
-/// The files and folders that a command is on.
-pub(crate) fn paths<'a>(alloc: Global) -> Arg<'a>
+/// The files and folders that a command is on, and what help says of them.
+pub(crate) fn paths<'a>(alloc: Global, help: &'a str) -> Arg<'a>
     ensures { IsLocal paths_rule result }
 {
     Arg::new(alloc, "PATH")
         .required(true)
         .num_args(1..)
-        .help("Files, and folders with each `.ftl` file below them")
+        .help(help)
 }
 
-/// What was found for `tidy`.
+/// What was found for `tidy`: files, or a hyphen alone for standard input.
 ///
 /// # Errors
 /// [`AllocError`] if memory runs out; nothing is kept.
-pub(crate) fn tidy_files_in<'words>(
+pub(crate) fn tidy_in<'words>(
+    alloc: Global,
+    found: &ArgMatches<'words>,
+) -> Result<Meant<'words>, AllocError>
+    ensures { IfOk result (λ meant. tidy_in (tidy_files_in (found_rows found.now)) ≡ command_view meant) }
+{
+    let tidy = tidy_files_in(alloc, found)?;
+    if is_input(&tidy.paths) {
+        Ok(Meant::TidyInput { check: tidy.check })
+    } else {
+        Ok(Meant::TidyFiles(tidy))
+    }
+}
+
+/// Whether standard input is meant, and no file.
+fn is_input(paths: &[&str]) -> bool
+    ensures { result ≡ is_input (texts paths.now) }
+{
+    match paths {
+        [path] => *path == "-",
+        _ => false,
+    }
+}
+
+/// The files that were found.
+fn tidy_files_in<'words>(
     alloc: Global,
     found: &ArgMatches<'words>,
 ) -> Result<TidyFiles<'words>, AllocError>

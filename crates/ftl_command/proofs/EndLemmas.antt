@@ -14,7 +14,7 @@ use Rattle.ftl_arguments.specs.declared.commands.Invocation.TheVariants as of
 use Rattle.clap.specs.Words.{IsAmong, subcommand_of}
 use Rattle.clap.specs.declared.error.kind.ErrorKind.{ErrorKind}
 use Rattle.clap.specs.declared.error.kind.ErrorKind.TheVariants.{DisplayHelp, DisplayVersion}
-use Rattle.ftl_arguments.specs.Meaning.{AskForHelp, AskForText, AskForVersion, AskForVersionAlone, Asked, asked_of, command_of, faults_of, without_faults, run, format, check, lint, tidy_files, tidy}
+use Rattle.ftl_arguments.specs.Meaning.{AskForHelp, AskForText, AskForVersion, AskForVersionAlone, Asked, asked_of, command_of, faults_of, without_faults, run, format, check, lint, tidy_files, tidy_input, tidy}
 use Rattle.ftl_command.specs.Ends.{seen, IsUntouched}
 use Rattle.ftl_command.specs.Faults.{SaysUnknown, status_of}
 use Rattle.ftl_command.proofs.RunLemmas.{other_by}
@@ -38,6 +38,7 @@ without_input (Some (format x)) f p = f p
 without_input (Some (check files)) f p = f p
 without_input (Some (lint l)) f p = f p
 without_input (Some (tidy_files t)) f p = f p
+without_input (Some (tidy_input checked)) f p = tt
 without_input (Some (tidy t)) f p = f p
 
 -- a locale without plural rules is asked for
@@ -48,6 +49,7 @@ refused_run (Some (format f)) tag named unknown = ap plurals_asked named ∙ ap 
 refused_run (Some (check files)) tag named unknown = absurd cc
 refused_run (Some (lint l)) tag named unknown = ap language_asked named ∙ ap (option_map Some) unknown
 refused_run (Some (tidy_files t)) tag named unknown = absurd cc
+refused_run (Some (tidy_input checked)) tag named unknown = absurd cc
 refused_run (Some (tidy t)) tag named unknown = absurd cc
 
 -- words with status 2 are refused

@@ -1,7 +1,7 @@
 -- What becomes of files if nothing was done.
 use Rattle.std.proofs.Common.{Option, None, Some, Err, refl}
 use Rattle.fluent_serve.specs.Text.{Text}
-use Rattle.ftl_arguments.specs.Meaning.{Asked, run, format, check, lint, tidy_files, tidy}
+use Rattle.ftl_arguments.specs.Meaning.{Asked, run, format, check, lint, tidy_files, tidy_input, tidy}
 use Rattle.ftl_files.specs.Files.{State}
 use Rattle.ftl_files.specs.Tidying.{at_start}
 use Rattle.ftl_command.specs.InPlace.{FilesEnd}
@@ -19,4 +19,5 @@ none_tidied (Some (tidy_files t)) files held held_after = record {
   memory = λ is. record { names = _; said = _; middle = files; there = files; listed = refl; through = at_start; stopped = refl };
   output = λ is. absurd cc;
 }
+none_tidied (Some (tidy_input checked)) files held held_after = refl
 none_tidied (Some (tidy t)) files held held_after = tt

@@ -2,6 +2,7 @@ pub mod EndLemmas
 pub mod FaultLemmas
 pub mod FormatLemmas
 pub mod InPlaceLemmas
+pub mod InputLemmas
 pub mod LintLemmas
 pub mod Refusals
 pub mod RunLemmas

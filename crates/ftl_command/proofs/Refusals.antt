@@ -1,12 +1,12 @@
 -- What is so of a fault, by how it came.
-use Rattle.std.proofs.Common.{◌≡◌, ◌≢◌, ◌⊎◌, Option, None, Some, Result, Ok, Err, IfErr, OnErr, OnOk, inl, inr, refl}
+use Rattle.std.proofs.Common.{◌≡◌, ◌≢◌, ◌⊎◌, Bool, Option, None, Some, Result, Ok, Err, IfErr, OnErr, OnOk, inl, inr, refl}
 use Rattle.std.proofs.lemmas.Result.{IfErr-weaker, on_ok_weaker}
 use Rattle.fluent_serve.proofs.Outcomes.{on_ok_always}
 use Rattle.fluent_serve.specs.Text.{Text}
 use Rattle.fluent_serve.specs.Devices.{HasFailed}
 use Rattle.fluent_serve.specs.declared.stream.Sink.{Ghosts as SinkGhosts}
 use Rattle.fluent_serve.specs.declared.stream.Source.{Ghosts as SourceGhosts}
-use Rattle.ftl_arguments.specs.Meaning.{Asked, Format, Tidy, run, format, check, lint, tidy_files, tidy}
+use Rattle.ftl_arguments.specs.Meaning.{Asked, Format, Tidy, run, format, check, lint, tidy_files, tidy_input, tidy}
 use Rattle.ftl_arguments.specs.Linting.{Lint}
 use Rattle.ftl_arguments.specs.TidyFiles.{TidyFiles}
 use Rattle.fluent_serve.specs.Exchange.{GivesUp}
@@ -20,7 +20,7 @@ use Rattle.fluent_tidy.specs.declared.error.ImportError.{ImportError}
 use Rattle.fluent_tidy.specs.declared.error.ImportError.TheVariants as import
 use Rattle.ftl_command.specs.Faults.{IsBeforeInput, IsFaultOfFiles, IsOfLocale, SaysOfFiles, SaysUnknown, clean_fault, import_fault, normalize_fault, run_fault}
 use Rattle.ftl_command.specs.Program.{UnlessListed, files_named, locale_named}
-use Rattle.ftl_command.specs.Refusals.{DevicesEnd, HaveNoNormalText, HoldNoTree, HoldReturn, IsDeviceFault, IsEarlyFault, IsFaultOf, IsRight, IsRightOf, IsTextFault, RefusesNothing, SaysNoMessage, TextWorks}
+use Rattle.ftl_command.specs.Refusals.{DevicesEnd, HaveNoNormalText, HoldNoTree, HoldReturn, IsDeviceFault, IsEarlyFault, IsFaultOf, IsOfStreams, IsRight, IsRightOf, IsTextFault, RefusesNothing, SaysNoMessage, TextWorks}
 use Rattle.ftl_command.specs.declared.fault.Fault.{Fault}
 use Rattle.ftl_command.specs.declared.fault.Fault.TheVariants.{CarriageReturn, NotNormal, NotTree, NotJson, NoMessage, CommandLine, UnknownLocale, FileUnreadable, FileNotUtf8, Input, Output, Memory}
 use Rattle.ftl_command.specs.declared.ended.Ended.{Ended}
@@ -47,6 +47,7 @@ module _ (contents : Text → Option Text) where
   right_by (Some (check files)) fault nothing = nothing
   right_by (Some (lint l)) fault nothing = nothing
   right_by (Some (tidy_files t)) fault nothing = nothing
+  right_by (Some (tidy_input checked)) fault nothing = nothing
   right_by (Some (tidy t)) fault nothing = nothing_of_tidying t fault nothing
 
 -- what is so of any command is so of those that don't list folders
@@ -57,6 +58,7 @@ of_any (Some (format f)) p = p
 of_any (Some (check files)) p = p
 of_any (Some (lint l)) p = tt
 of_any (Some (tidy_files t)) p = tt
+of_any (Some (tidy_input checked)) p = p
 of_any (Some (tidy t)) p = p
 
 -- a fault of memory or a device
@@ -299,6 +301,29 @@ module _ {F : Type 0} (folders : FolderGhosts F) (before after : F) (t : TidyFil
     fault = IfErr-weaker result _ _ in_place_fault fault;
     stops = IfErr-weaker result _ _ (unread_device source sink reader writer writer') stops;
   }
+
+-- ---- standard input that is tidied
+
+module _ {F : Type 0} (folders : FolderGhosts F) (folder : F) (checked : Bool) where
+  input_fault : (fault : Fault) → IsOfStreams fault → IsFaultOf folders folder folder (Some (tidy_input checked)) fault
+  input_fault fault (inl is) = rw is (of_device folders folder folder (Some (tidy_input checked)) Memory tt refl)
+  input_fault fault (inr (inl is)) = rw is (of_device folders folder folder (Some (tidy_input checked)) Input tt refl)
+  input_fault fault (inr (inr is)) = rw is (of_device folders folder folder (Some (tidy_input checked)) Output tt refl)
+
+  -- no file was read or written
+  pub input_devices : {R W : Type 0} (source : SourceGhosts R) (sink : SinkGhosts W) (reader reader' : R) (writer writer' : W) (result : Result Ended Fault) →
+      OnOk result (source.failures reader' ≡ source.failures reader) → OnOk result (sink.failures writer' ≡ sink.failures writer) → IfErr result IsOfStreams →
+      IfErr result (IsDeviceFault source reader reader' sink writer writer') →
+      DevicesEnd folders folder folder source reader reader' sink writer writer' (Some (tidy_input checked)) result
+  input_devices source sink reader reader' writer writer' result reads writes fault stops = record {
+    opens = on_ok_always result refl;
+    reads = reads;
+    writes = writes;
+    fault = IfErr-weaker result _ _ input_fault fault;
+    stops = stops;
+  }
+
+-- ---- a catalog that is linted
 
 module _ {F : Type 0} (folders : FolderGhosts F) (before after : F) (l : Lint) where
   lint_fault : (fault : Fault) → IsOfListed fault → IsFaultOf folders before after (Some (lint l)) fault

@@ -1,10 +1,10 @@
 -- What becomes of files that are tidied in place.
-use Rattle.std.specs.Prelude.{◌≡◌, ℕ, ◌||◌, if◌then◌else◌, ⊤, true, List, Option, None, Some, Result, IfOk, IsErrOf}
+use Rattle.std.specs.Prelude.{◌≡◌, ⊤, List, Option, None, Some, Result, IfOk, IsErrOf}
 use Rattle.std.specs.Io.KnownBytes.{Appends}
 use Rattle.fluent_serve.specs.Text.{Text}
 use denote.Ref.{Bor}
 use Rattle.ftl_arguments.specs.CommandView.{command_view, lint_view, tidy_files_view}
-use Rattle.ftl_arguments.specs.Meaning.{Asked, command_of, run, format, check, lint, texts, tidy_files, tidy}
+use Rattle.ftl_arguments.specs.Meaning.{Asked, command_of, run, format, check, lint, texts, tidy_files, tidy_input, tidy}
 use Rattle.ftl_arguments.specs.declared.commands.Command.{Command}
 use Rattle.ftl_arguments.specs.declared.commands.Lint as linted
 use Rattle.ftl_arguments.specs.declared.commands.TidyFiles as code
@@ -14,23 +14,14 @@ use Rattle.ftl_files.specs.Files.{State}
 use Rattle.ftl_files.specs.States.{state_of}
 use Rattle.ftl_files.specs.declared.folder.Folder.{Ghosts as FolderGhosts}
 use Rattle.ftl_files.specs.Tidying.{AreTidied, AreTidiedFirst, Said}
-use Rattle.ftl_command.specs.Faults.{end_status}
 use Rattle.ftl_command.specs.Linted.{LintEnds, Lints, LintsBy}
-use Rattle.ftl_command.specs.Program.{WritesFront, errors_in}
+use Rattle.ftl_command.specs.Program.{WritesFront}
+use Rattle.ftl_command.specs.Reported.{EndsBy}
 use Rattle.ftl_command.specs.declared.ended.Ended.{Ended}
 use Rattle.ftl_command.specs.declared.fault.Fault.{Fault}
 use Rattle.ftl_command.specs.declared.linting.Linted.{Linted}
 use Rattle.fluent_plurals.specs.declared.plurals.LanguagePlurals.{LanguagePlurals}
 use Rattle.ftl_command.specs.declared.fault.Fault.TheVariants.{Output, Memory}
-
--- 3 if a file could not be read or written, or else 1 if one was refused, or was checked and isn't tidy
-abbrev pub tidy_status : Said → ℕ
-tidy_status said = if said.has_failed then 3 else if said.has_found then 1 else 0
-
--- an end has that status, and reports what is said of files
-pub record EndsBy (said : Said) (end : Ended) : Type 0 where
-  pub status : end_status end ≡ tidy_status said
-  pub reports : said.has_failed || said.has_found ≡ true → errors_in end ≡ said.reports
 
 -- the files are tidied, and the outcome holds of what is said of them
 pub record TidiesInPlace (t : TidyFiles) (before after : State) (Outcome : Said → Type 0) : Type 0 where
@@ -46,7 +37,8 @@ pub record InPlaceEnds (t : TidyFiles) (before after : State) (held held_after :
   -- all are, and a front of their names is written
   pub output : IsErrOf result Output → TidiesInPlace t before after (λ said. WritesFront held held_after said.names)
 
--- So it is of whatever the words ask for, and of a catalog that is linted. Of the files that other commands read, it says nothing.
+-- So it is of whatever the words ask for, and of a catalog that is linted; to tidy standard input no file is read or
+-- written. Of the files that other commands read, it says nothing.
 abbrev pub FilesEnd : Option Asked → State → State → Option Text → Option Text → Result Ended Fault → Type 0
 FilesEnd None before after held held_after result = ⊤
 FilesEnd (Some (run r)) before after held held_after result = ⊤
@@ -54,6 +46,7 @@ FilesEnd (Some (format f)) before after held held_after result = ⊤
 FilesEnd (Some (check files)) before after held held_after result = ⊤
 FilesEnd (Some (lint l)) before after held held_after result = LintEnds l before after held held_after result
 FilesEnd (Some (tidy_files t)) before after held held_after result = InPlaceEnds t before after held held_after result
+FilesEnd (Some (tidy_input checked)) before after held held_after result = after ≡ before
 FilesEnd (Some (tidy t)) before after held held_after result = ⊤
 
 -- the same on a folder and a writer, by what is known of them

@@ -8,3 +8,5 @@ pub mod Program
 pub mod Refusals
 pub mod Shown
 pub mod FormatView
+pub mod Input
+pub mod Reported

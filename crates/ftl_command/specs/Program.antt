@@ -1,5 +1,5 @@
 -- What the program does for its words, and how far it came before a fault.
-use Rattle.std.specs.Prelude.{◌≡◌, ℕ, List, [], ◌∷◌, ◌++◌, ⊤, false, Option, Some, None, IfSome, IsSomeAnd, option_map, Result, IfOk, OnOk, IsErrOf, string_bytes}
+use Rattle.std.specs.Prelude.{◌≡◌, ℕ, Bool, List, [], ◌∷◌, ◌++◌, ⊤, false, Option, Some, None, IfSome, IsSomeAnd, option_map, Result, IfOk, OnOk, IsErrOf, string_bytes}
 use Rattle.std.specs.List.{flat_map, list_any}
 use Rattle.std.specs.Io.KnownBytes.{Appends, IsAtEnd}
 use Rattle.fluent_value.specs.declared.function.NoFunction.{NoFunction}
@@ -29,13 +29,16 @@ use Rattle.ftl_command.specs.Shown.{error_line, reply_asked}
 use Rattle.ftl_command.specs.declared.message.Formatted.{Formatted}
 use Rattle.fluent_check.specs.Report.{report_text}
 use Rattle.ftl_arguments.specs.Version.{version_line}
-use Rattle.ftl_arguments.specs.Meaning.{Asked, Run, Format, Tidy, run, format, check, lint, tidy_files, tidy, clean, normalize, join, export, import}
+use Rattle.ftl_arguments.specs.Meaning.{Asked, Run, Format, Tidy, run, format, check, lint, tidy_files, tidy_input, tidy, clean, normalize, join, export, import}
 use Rattle.ftl_command.specs.Files.{OnFile, OnTexts}
 use Rattle.ftl_command.specs.Faults.{end_status}
+use Rattle.ftl_files.specs.Tidying.{FileEnd}
+use Rattle.ftl_command.specs.Input.{OnBytes, OnInput, said_of, written_of}
 use Rattle.ftl_command.specs.Plurals.{Rules, category_in, language_asked, plurals_asked, rules_asked}
 use Rattle.ftl_command.specs.declared.ended.Ended.{Ended}
 use Rattle.ftl_command.specs.declared.running.RunOptions.{RunOptions}
-use Rattle.ftl_command.specs.declared.ended.Ended.TheVariants.{Done, Found, Incomplete, Partial}
+use Rattle.ftl_command.specs.declared.ended.Ended.TheVariants.{Done, Found}
+pub use Rattle.ftl_command.specs.Reported.{EndsBy, errors_in}
 use Rattle.ftl_command.specs.declared.fault.Fault.{Fault}
 use Rattle.ftl_command.specs.declared.fault.Fault.TheVariants.{Input, Output, Memory}
 use Rattle.ftl_files.specs.declared.folder.Folder.{Ghosts as FolderGhosts}
@@ -154,13 +157,6 @@ IsFound contents f formatted = OnFound contents f (λ found. IsWrittenAs found f
 abbrev pub OnReply : (Text → Option Text) → Format → (Reply → Type 0) → Type 0
 OnReply contents f Outcome = OnFound contents f (λ found. IsSomeAnd found Outcome)
 
--- the lines of errors that an end reports
-abbrev pub errors_in : Ended → Text
-errors_in Done = []
-errors_in Found = []
-errors_in (Incomplete errors) = string_bytes errors
-errors_in (Partial errors) = string_bytes errors
-
 -- the status of a text with these errors, or with these lines of them: 0 if there are none
 abbrev pub status_by : {X : Type 0} → List X → ℕ
 status_by [] = 0
@@ -224,6 +220,50 @@ pub record TidyEnds {F W : Type 0} (folders : FolderGhosts F) (folder : F) (t : 
   -- a front of the text is written
   pub output : IsErrOf result Output → Tidied (folders.contents folder) t (WritesFront (sink.contents writer) (sink.contents writer'))
 
+-- ---- standard input that is tidied
+
+-- what became of bytes is written, by how that ended
+pub record WritesEnd (checked : Bool) (bytes : Text) (end : FileEnd) (held held_after : Option Text) (result : Result Ended Fault) : Type 0 where
+  pub ended : IfOk result (EndsBy (said_of checked end))
+  pub written : OnOk result (Appends held held_after (written_of checked bytes end))
+  -- a front of it is
+  pub front : IsErrOf result Output → WritesFront held held_after (written_of checked bytes end)
+
+-- so it is on a writer, by what is known of it
+abbrev pub WritesEndOn : {W : Type 0} → SinkGhosts W → W → W → Bool → Text → FileEnd → Result Ended Fault → Type 0
+WritesEndOn sink writer writer' checked bytes end result = WritesEnd checked bytes end (sink.contents writer) (sink.contents writer') result
+
+-- bytes are tidied to a writer, by how that ended
+pub record BytesEnd (checked : Bool) (bytes : Text) (held held_after : Option Text) (result : Result Ended Fault) : Type 0 where
+  pub done : IfOk result (λ end. OnBytes checked bytes (λ text said. Appends held held_after text × EndsBy said end))
+  -- a front of the text is written
+  pub output : IsErrOf result Output → OnBytes checked bytes (λ text said. WritesFront held held_after text)
+
+-- so it is on a writer, by what is known of it
+abbrev pub BytesEndOn : {W : Type 0} → SinkGhosts W → W → W → Bool → Text → Result Ended Fault → Type 0
+BytesEndOn sink writer writer' checked bytes result = BytesEnd checked bytes (sink.contents writer) (sink.contents writer') result
+
+-- all of the input is read, and its tidy text or, if it is checked, what is said of it is written
+abbrev pub TidiesInput : Devices → Bool → Ended → Type 0
+TidiesInput d checked end = OnInput d.left_before d.left_after checked (λ text said. Writes d text × EndsBy said end)
+
+-- a front of that is written
+abbrev pub TidiesInputFirst : Devices → Bool → Type 0
+TidiesInputFirst d checked = OnInput d.left_before d.left_after checked (λ text said. WritesFront d.held_before d.held_after text)
+
+-- what became of the input, by how it ended
+pub record InputEnds (d : Devices) (checked : Bool) (result : Result Ended Fault) : Type 0 where
+  pub done : IfOk result (TidiesInput d checked)
+  -- nothing is written
+  pub memory : IsErrOf result Memory → d.held_after ≡ d.held_before
+  pub input : IsErrOf result Input → d.held_after ≡ d.held_before
+  pub output : IsErrOf result Output → TidiesInputFirst d checked
+
+-- so it is on a reader and a writer, by what is known of them
+abbrev pub InputEndsOn : {R W : Type 0} → SourceGhosts R → R → R → SinkGhosts W → W → W → Bool → Result Ended Fault → Type 0
+InputEndsOn source reader reader' sink writer writer' checked result =
+    InputEnds (devices source.remaining reader reader' sink.contents writer writer') checked result
+
 -- ---- what the words ask for; with nothing asked for, help or the version is shown
 
 -- it is done, and the program ends so
@@ -235,6 +275,7 @@ IsDone contents d (Some (check files)) end = OnReport contents files (λ text. W
 -- of these `InPlace.FilesEnd` says what became
 IsDone contents d (Some (lint l)) end = ⊤
 IsDone contents d (Some (tidy_files t)) end = ⊤
+IsDone contents d (Some (tidy_input checked)) end = TidiesInput d checked end
 IsDone contents d (Some (tidy t)) end = (end ≡ Done) × Tidied contents t (Writes d)
 
 -- a run is answered alike from tidied sources
@@ -245,6 +286,7 @@ IsDoneAlike contents d (Some (format f)) = ⊤
 IsDoneAlike contents d (Some (check files)) = ⊤
 IsDoneAlike contents d (Some (lint l)) = ⊤
 IsDoneAlike contents d (Some (tidy_files t)) = ⊤
+IsDoneAlike contents d (Some (tidy_input checked)) = ⊤
 IsDoneAlike contents d (Some (tidy t)) = ⊤
 
 -- the first lines of a run are answered by these rules; if the locale has none, nothing is written
@@ -260,9 +302,11 @@ AfterMemory contents d (Some (format f)) = d.held_after ≡ d.held_before
 AfterMemory contents d (Some (check files)) = d.held_after ≡ d.held_before
 AfterMemory contents d (Some (lint l)) = d.held_after ≡ d.held_before
 AfterMemory contents d (Some (tidy_files t)) = d.held_after ≡ d.held_before
+AfterMemory contents d (Some (tidy_input checked)) = d.held_after ≡ d.held_before
 AfterMemory contents d (Some (tidy t)) = d.held_after ≡ d.held_before
 
--- the input failed, or came to no end: all whole lines of a run are answered; another command reads no input
+-- the input failed, or came to no end: all whole lines of a run are answered, and nothing is written if it is to be tidied; another
+-- command reads no input
 abbrev pub AfterInput : (Text → Option Text) → Devices → Type 0 → Option Asked → Type 0
 AfterInput contents d Failed None = ⊥
 AfterInput contents d Failed (Some (run r)) = OnRun contents r (λ line. AnswersWhole d line Failed 4294967296)
@@ -270,6 +314,7 @@ AfterInput contents d Failed (Some (format f)) = ⊥
 AfterInput contents d Failed (Some (check files)) = ⊥
 AfterInput contents d Failed (Some (lint l)) = ⊥
 AfterInput contents d Failed (Some (tidy_files t)) = ⊥
+AfterInput contents d Failed (Some (tidy_input checked)) = d.held_after ≡ d.held_before
 AfterInput contents d Failed (Some (tidy t)) = ⊥
 
 -- the output failed: a front of what was to be written is
@@ -280,6 +325,7 @@ AfterOutput contents d (Some (format f)) = OnReply contents f (λ reply. WritesF
 AfterOutput contents d (Some (check files)) = OnReport contents files (WritesFront d.held_before d.held_after)
 AfterOutput contents d (Some (lint l)) = ⊤
 AfterOutput contents d (Some (tidy_files t)) = ⊤
+AfterOutput contents d (Some (tidy_input checked)) = TidiesInputFirst d checked
 AfterOutput contents d (Some (tidy t)) = Tidied contents t (WritesFront d.held_before d.held_after)
 
 -- What became of a command, by how it ended. `failed` says that the input failed.
@@ -304,6 +350,7 @@ WithoutInput (Some (format f)) Fact = Fact
 WithoutInput (Some (check files)) Fact = Fact
 WithoutInput (Some (lint l)) Fact = Fact
 WithoutInput (Some (tidy_files t)) Fact = Fact
+WithoutInput (Some (tidy_input checked)) Fact = ⊤
 WithoutInput (Some (tidy t)) Fact = Fact
 
 -- a fact about commands that stop at the first file that can't be read: those that don't list folders
@@ -314,6 +361,7 @@ UnlessListed (Some (format f)) Fact = Fact
 UnlessListed (Some (check files)) Fact = Fact
 UnlessListed (Some (lint l)) Fact = ⊤
 UnlessListed (Some (tidy_files t)) Fact = ⊤
+UnlessListed (Some (tidy_input checked)) Fact = Fact
 UnlessListed (Some (tidy t)) Fact = Fact
 
 -- ---- the files that the words name
@@ -332,6 +380,7 @@ files_named (Some (format f)) = f.files
 files_named (Some (check files)) = files
 files_named (Some (lint l)) = []
 files_named (Some (tidy_files t)) = []
+files_named (Some (tidy_input checked)) = []
 files_named (Some (tidy t)) = files_of t
 
 -- ---- the locale that they name
@@ -343,6 +392,7 @@ locale_named (Some (format f)) = f.locale
 locale_named (Some (check files)) = None
 locale_named (Some (lint l)) = l.locale
 locale_named (Some (tidy_files t)) = None
+locale_named (Some (tidy_input checked)) = None
 locale_named (Some (tidy t)) = None
 
 -- nothing is asked for, or a run, a message or a catalog by a locale without plural rules
@@ -353,4 +403,5 @@ IsRefused (Some (format f)) = plurals_asked f.locale ≡ None
 IsRefused (Some (check files)) = ⊥
 IsRefused (Some (lint l)) = language_asked l.locale ≡ None
 IsRefused (Some (tidy_files t)) = ⊥
+IsRefused (Some (tidy_input checked)) = ⊥
 IsRefused (Some (tidy t)) = ⊥

@@ -1,5 +1,5 @@
 -- What is so of the fault that a command ends with.
-use Rattle.std.specs.Prelude.{◌≡◌, ◌≢◌, Option, None, Some, Result, IfErr, IsErrOf, IsTrue, List, OnOk}
+use Rattle.std.specs.Prelude.{◌≡◌, ◌≢◌, ◌⊎◌, Option, None, Some, Result, IfErr, IsErrOf, IsTrue, List, OnOk}
 use Rattle.std.specs.List.{list_any}
 use Rattle.serde_json.specs.Read.{read as read_text}
 use Rattle.fluent_serve.specs.Text.{Text}
@@ -11,7 +11,7 @@ use Rattle.fluent_tidy_laws.specs.Normal.{HasNoNormalText}
 use Rattle.fluent_json.specs.Json.{HasNoTree}
 use Rattle.fluent_tidy.specs.Sources.{holds_return}
 use Rattle.fluent_tidy.specs.Trees.{IsNotImported}
-use Rattle.ftl_arguments.specs.Meaning.{AskForHelpAlone, AskForText, AskForVersionAlone, Asked, Format, Tidy, command_of, run, format, check, lint, tidy_files, tidy, clean, normalize, join, export, import}
+use Rattle.ftl_arguments.specs.Meaning.{AskForHelpAlone, AskForText, AskForVersionAlone, Asked, Format, Tidy, command_of, run, format, check, lint, tidy_files, tidy_input, tidy, clean, normalize, join, export, import}
 use Rattle.ftl_command.specs.Files.{OnFile, OnTexts}
 use Rattle.ftl_command.specs.Faults.{IsBeforeInput, IsOfLocale, SaysOfFiles, SaysUnknown}
 use Rattle.ftl_command.specs.Program.{OnFound, OnValue, ShowsVersionOn, UnlessListed, files_named, locale_named}
@@ -106,6 +106,7 @@ IsRight contents (Some (format f)) fault = SaysNoMessage contents f fault
 IsRight contents (Some (check files)) fault = RefusesNothing fault
 IsRight contents (Some (lint l)) fault = RefusesNothing fault
 IsRight contents (Some (tidy_files t)) fault = RefusesNothing fault
+IsRight contents (Some (tidy_input checked)) fault = RefusesNothing fault
 IsRight contents (Some (tidy t)) fault = IsRightOf contents t fault
 
 -- ---- a fault, by what the words ask for, and by what is known of the devices before and after
@@ -139,6 +140,10 @@ pub record IsDeviceFault {R W : Type 0} (source : SourceGhosts R) (reader reader
   -- the device that is at fault failed, or the input came to no end
   pub given_up : fault ≡ Input → GivesUp source reader reader' 4294967296
   pub failed : fault ≡ Output → HasFailed (sink.failures writer) (sink.failures writer')
+
+-- memory ran out, or the input or the output failed
+abbrev pub IsOfStreams : Fault → Type 0
+IsOfStreams fault = (fault ≡ Memory) ⊎ ((fault ≡ Input) ⊎ (fault ≡ Output))
 
 -- without a fault no call of a folder or a writer failed
 pub record TextWorks {F W : Type 0} (folders : FolderGhosts F) (before after : F) (sink : SinkGhosts W) (writer writer' : W) : Type 0 where

@@ -12,6 +12,7 @@ use crate::ended::Ended;
 use crate::fault::Fault;
 use crate::formatting::write_formatted;
 use crate::in_place::tidy_in_place;
+use crate::input::tidy_input;
 use crate::linting::lint_files;
 use crate::output::write_asked;
 use crate::running::{RunOptions, run_files};
@@ -83,7 +84,7 @@ pub fn program_on<F: Folder, I: Source, O: Sink, T: Sink>(
 }
 
 /// Does what the command-line arguments ask for. They are read first, then a run's locale is looked up, then the
-/// files are read in their order, and for a run then the request lines that `reader` gives: see
+/// files are read in their order, and for a run then the request lines that `reader` gives, or for `tidy -` its source: see
 /// `docs/reference/protocol.md`. If the words ask for help or for the version, that is written.
 ///
 /// # Errors
@@ -156,6 +157,7 @@ fn do_command<'words, F: Folder, I: Source, O: Sink>(
         Command::Check { files } => check_files(folder, alloc, files, writer),
         Command::Lint(lint) => lint_files(folder, alloc, lint, writer),
         Command::TidyFiles(tidy) => tidy_in_place(folder, alloc, tidy, writer),
+        Command::TidyInput { check } => tidy_input(alloc, *check, reader, writer),
         Command::Tidy(tidy) => write_tidied(folder, alloc, tidy, writer),
     }
 }

@@ -1,8 +1,9 @@
 //! Files that are tidied in place.
 ghost use Rattle.std.specs.Prelude.{◌≡◌, ◌⊎◌, IfErr, OnOk};
 ghost use Rattle.ftl_files.specs.TidyView.{said_view};
-ghost use Rattle.ftl_command.specs.InPlace.{EndsBy, InPlaceEndsOn};
+ghost use Rattle.ftl_command.specs.InPlace.{InPlaceEndsOn};
 ghost use Rattle.ftl_command.specs.Refusals.{IsTextFault};
+ghost use Rattle.ftl_command.specs.Reported.{EndsBy};
 
 use crate::ended::Ended;
 use crate::fault::Fault;
@@ -35,7 +36,7 @@ pub fn tidy_in_place<'words, F: Folder, O: Sink>(
 }
 
 /// The end of files of which this is said.
-fn end_of(tidied: TidiedFiles) -> Ended
+pub(crate) fn end_of(tidied: TidiedFiles) -> Ended
     ensures { EndsBy (said_view tidied) result }
 {
     let TidiedFiles {

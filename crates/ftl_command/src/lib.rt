@@ -16,6 +16,7 @@ pub mod fault;
 pub mod files;
 pub mod formatting;
 pub mod in_place;
+pub mod input;
 pub mod linting;
 mod message;
 mod message_errors;

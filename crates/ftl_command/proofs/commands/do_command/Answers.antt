@@ -2,7 +2,7 @@ use Rattle.std.proofs.lemmas.Result.{IfErr-weaker}
 use Rattle.std.proofs.Common.{ap}
 use Rattle.fluent_serve.proofs.Outcomes.{on_ok_always}
 use Rattle.ftl_arguments.specs.CommandView.{command_view}
-use Rattle.ftl_command.proofs.Refusals.{in_place_devices, lint_devices, text_devices}
+use Rattle.ftl_command.proofs.Refusals.{in_place_devices, input_devices, lint_devices, text_devices}
 use Rattle.ftl_command.proofs.RunLemmas.{done_by, if_ok_any, first_by, kept_by, never_by}
 use Rattle.ftl_command.specs.declared.fault.Fault.TheVariants.{Input, Memory}
 use Rattle.std.specs.Prelude.{Some}
@@ -110,3 +110,18 @@ returns-in-TidyFiles-clause-devices g c =
 
 pub returns-in-TidyFiles-clause-files : goal.returns-in-TidyFiles-clause-files
 returns-in-TidyFiles-clause-files g c = rw c.in-TidyFiles.is c.tidy_in_place.ensures.ended
+
+pub returns-in-TidyInput-clause-ended : goal.returns-in-TidyInput-clause-ended
+returns-in-TidyInput-clause-ended g c =
+    rw c.in-TidyInput.is (record {
+      done = c.tidy_input.ensures.ended.done;
+      tidied = on_ok_always c.tidy_input.result tt;
+      memory = c.tidy_input.ensures.ended.memory;
+      input = c.tidy_input.ensures.ended.input;
+      output = c.tidy_input.ensures.ended.output;
+    })
+
+pub returns-in-TidyInput-clause-devices : goal.returns-in-TidyInput-clause-devices
+returns-in-TidyInput-clause-devices g c =
+    rw c.in-TidyInput.is (input_devices g.F.Folder c.args.folder.now _ g.I.Source g.O.Sink c.args.reader.now c.tidy_input.new.reader c.args.writer.now c.tidy_input.new.writer
+    c.tidy_input.result c.tidy_input.ensures.reads c.tidy_input.ensures.writes c.tidy_input.ensures.fault c.tidy_input.ensures.stops)
