@@ -49,7 +49,7 @@ static const struct Row ROWS[] = {
     {"no files", NO_FILE, NO_FILE, NO_FUNCTION, NONE, false, false, FLUENT_READ, NONE},
     {"nothing wrong", {FILE_OF("a.ftl", "a = b\n"), FILE_OF("", "")}, NO_FILE, NO_FUNCTION, NONE, true, true, FLUENT_READ, NONE},
     {"an error", {FILE_OF("a.ftl", "key1=Value 1\ng@Rb@ge\nkey2 = x\n")}, NO_FILE, NO_FUNCTION, NONE, false, false, FLUENT_HAS_ERRORS,
-     BYTES("{\"code\":\"syntax\",\"column\":2,\"entry\":\"g\",\"file\":\"a.ftl\",\"hint\":\"a line that continues the text above begins "
+     BYTES("{\"code\":\"syntax\",\"column\":2,\"entry\":\"g\",\"file\":\"a.ftl\",\"hint\":\"a line that continues a text begins "
            "with at least one space\",\"line\":2,\"offset\":14,\"severity\":\"error\",\"text\":\"expected `=` after `g`, found `@`\"}\n")},
     {"an id of another file", {FILE_OF("a.ftl", "a = b\n"), FILE_OF("b.ftl", "a = { -t }\n")}, NO_FILE, NO_FUNCTION, NONE, false, false,
      FLUENT_HAS_ERRORS,

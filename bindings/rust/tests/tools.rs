@@ -24,7 +24,7 @@ fn reports() {
     assert_eq!(report.findings[1].hint, None);
     assert_eq!(
         report.findings[3].hint.as_deref(),
-        Some("a line that continues the text above begins with at least one space")
+        Some("a line that continues a text begins with at least one space")
     );
 }
 

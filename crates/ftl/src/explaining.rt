@@ -146,10 +146,10 @@ fn push_below<F: Folder>(
     path: &str,
     lines: &mut String,
 ) -> Result<(), AllocError> {
-    let Ok(files) = folder.list(alloc, path) else {
+    let Ok(listing) = folder.list(alloc, path) else {
         return Ok(());
     };
-    for file in &files {
+    for file in &listing.sources {
         push_line(folder, alloc, file, lines)?;
     }
     Ok(())

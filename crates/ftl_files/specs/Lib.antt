@@ -1,4 +1,5 @@
 pub mod Files
+pub mod Listing
 pub mod States
 pub mod ErrorTexts
 pub mod Depth

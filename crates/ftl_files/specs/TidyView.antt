@@ -7,6 +7,8 @@ use Rattle.fluent_serve.specs.Texts.{texts}
 use Rattle.ftl_files.specs.Files.{OnFile, State}
 use Rattle.ftl_files.specs.States.{state_of}
 use Rattle.ftl_files.specs.declared.folder.Folder.{Ghosts as FolderGhosts}
+use Rattle.ftl_files.specs.declared.folder.Listing.{Listing}
+use Rattle.ftl_files.specs.Listing.{listed_names}
 use Rattle.lint_findings.specs.Files.{File}
 use Rattle.ftl_files.specs.Reading as reading
 use Rattle.ftl_files.specs.Tidying as tidying
@@ -84,9 +86,9 @@ module _ {F : Type 0} (folders : FolderGhosts F) where
   GoesThroughOn check names before after tidied =
       tidying.GoesThrough check (state_of folders before) (map string_bytes names) (said_view tidied) (state_of folders after)
 
-  -- a path is listed as these names, and several are
-  abbrev pub IsListedOn : Text → F → F → Vec (String Global) → Type 0
-  IsListedOn path before after names = tidying.IsListedAs path (map string_bytes names.items) (state_of folders before) (state_of folders after)
+  -- a path is listed so, and several are as these names
+  abbrev pub IsListedOn : Text → F → F → Listing → Type 0
+  IsListedOn path before after listing = tidying.IsListedAs path (listed_names listing) (state_of folders before) (state_of folders after)
 
   abbrev pub AreListedOn : List (Bor Text) → F → F → Vec (String Global) → Type 0
   AreListedOn paths before after names = tidying.AreListed (state_of folders before) (texts paths) (map string_bytes names.items) (state_of folders after)

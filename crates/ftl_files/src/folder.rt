@@ -2,8 +2,9 @@
 //!
 //! Contracts see what the files of a `Folder` hold and which files lie below a name, if that is known, and how many of
 //! its calls have failed. `FromFiles` makes one of the system's files, of which nothing is known.
-ghost use Rattle.std.specs.Prelude.{◌≡◌, ℕ, List, Option, IfOk, IfSome, OnOk, OnErr, map, string_bytes};
+ghost use Rattle.std.specs.Prelude.{◌≡◌, ℕ, List, [], Option, IfOk, IfSome, OnOk, OnErr};
 ghost use Rattle.ftl_files.specs.Files.{IsListed, IsReplaced, failures_after_file, failures_after_replace};
+ghost use Rattle.ftl_files.specs.Listing.{listed_names};
 
 use std::alloc::Global;
 
@@ -39,12 +40,34 @@ pub enum ReplaceError {
     Unwritable,
 }
 
+/// What a name stands for.
+#[derive(Debug, Drop)]
+pub struct Listing {
+    /// The sources below a folder, or the name alone, if it isn't a folder's.
+    pub sources: Vec<String>,
+    /// The folders below that can't be listed.
+    pub unlisted: Vec<String>,
+}
+
+impl Listing {
+    /// Nothing.
+    pub fn new(alloc: Global) -> Listing
+        ensures { listed_names result ≡ [] }
+    {
+        Listing {
+            sources: Vec::new(alloc),
+            unlisted: Vec::new(alloc),
+        }
+    }
+}
+
 /// Files by their names.
 pub trait Folder {
     /// The bytes that the file of a name holds, if they are known.
     ghost contents: { Self → List ℕ → Option (List ℕ) };
 
-    /// The names of the sources below a folder of this name, and of anything else the name alone, if they are known.
+    /// The names of the sources below a folder of this name, and then those of the folders below it that can't be listed;
+    /// of anything else the name alone; if they are known.
     ghost sources: { Self → List ℕ → Option (List (List ℕ)) };
 
     /// How many reads, lists and replacements have failed, not counting those for which memory ran out. At the greatest
@@ -68,16 +91,16 @@ pub trait Folder {
     fn why(&self) -> Option<&'static str>;
 
     /// Lists the files below a folder whose names end in `.ftl`, by the bytes of their paths, each beginning with the name
-    /// of the folder. A name that isn't a folder's is listed alone. Links to folders aren't followed. The files stay as they
-    /// are.
+    /// of the folder, and the folders below it that can't be listed. A name that isn't a folder's is listed alone. Links to
+    /// folders aren't followed. The files stay as they are.
     ///
     /// # Errors
-    /// [`FileError::Memory`] if memory runs out; nothing is kept. [`FileError::Unreadable`] if the folder, or one below
-    /// it, can't be listed.
-    fn list(&mut self, alloc: Global, name: &str) -> Result<Vec<String>, FileError>
-        ensures listed { IfOk result (λ names.
-            IfSome (sources self.old name.now) (λ all. map string_bytes names.items ≡ all)) }
-        ensures shape { IfOk result (λ names. IsListed name.now names.items) }
+    /// [`FileError::Memory`] if memory runs out; nothing is kept. [`FileError::Unreadable`] if the folder itself can't be
+    /// listed.
+    fn list(&mut self, alloc: Global, name: &str) -> Result<Listing, FileError>
+        ensures listed { IfOk result (λ listing.
+            IfSome (sources self.old name.now) (λ all. listed_names listing ≡ all)) }
+        ensures shape { IfOk result (λ listing. IsListed name.now listing.sources.items) }
         ensures kept { contents self.new ≡ contents self.old }
         ensures same_sources { sources self.new ≡ sources self.old }
         ensures failed { failures self.new ≡ failures_after_file (failures self.old) result };

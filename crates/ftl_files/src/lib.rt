@@ -4,6 +4,7 @@
 //! files, and those below folders. [`tidy_files`] tidies them in place, as `ftl tidy` does.
 #![tactic(auto)]
 
+mod causes;
 mod depth;
 mod ends;
 mod errors;
@@ -17,7 +18,7 @@ mod tidied;
 mod tidying;
 
 pub use ends::{Failure, FileEnd};
-pub use folder::{FileError, Folder, ReplaceError};
+pub use folder::{FileError, Folder, Listing, ReplaceError};
 pub use reading::{ReadSources, SourceFile, read_sources};
 pub use system::FromFiles;
 pub use tidied::TidiedFiles;

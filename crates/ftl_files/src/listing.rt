@@ -1,28 +1,36 @@
 //! The sources below a folder.
-ghost use Rattle.std.specs.Prelude.{◌≡◌, ◌∷◌, [], IfOk, OnOk, IsTrue, map, string_bytes};
+ghost use Rattle.std.specs.Prelude.{◌≡◌, ◌∷◌, [], IfOk, IsTrue, map, string_bytes};
 ghost use Rattle.ftl_files.specs.Files.{AreNamed, AreSources, IsListed, is_source_name};
+ghost use Rattle.ftl_files.specs.Listing.{StaysNamed};
 
+use crate::causes::{is_refused, words_of};
+use crate::folder::Listing;
 use std::alloc::{AllocError, Global};
 use std::fs::{DirEntry, FileType, metadata, read_dir};
 use std::io;
 use std::io::ErrorKind;
 use std::rt::Files;
 
-/// The files below a folder whose names end in `.ftl`, by the bytes of their paths; of anything else the name alone.
+/// The files below a folder whose names end in `.ftl`, and the folders below it that can't be listed, each by the bytes of
+/// their paths; of anything else the name alone. If a folder below can't be listed, `why` becomes the reason, in words.
 ///
 /// # Errors
-/// What the system says of a folder that can't be listed, or that memory ran out; nothing is kept.
+/// What the system says of a folder that can't be listed itself, or that memory ran out; nothing is kept.
 pub(crate) fn list_sources<R: Files>(
     files: &R,
     alloc: Global,
     name: &str,
-) -> io::Result<Vec<String>>
-    ensures { IfOk result (λ names. IsListed name.now names.items) }
+    why: &mut Option<&'static str>,
+) -> io::Result<Listing>
+    ensures { IfOk result (λ listing. IsListed name.now listing.sources.items) }
 {
     if is_folder(files, name) {
-        list_below(files, alloc, name)
+        list_below(files, alloc, name, why)
     } else {
-        Ok(alone(alloc, name)?)
+        Ok(Listing {
+            sources: alone(alloc, name)?,
+            unlisted: Vec::new(alloc),
+        })
     }
 }
 
@@ -40,51 +48,78 @@ fn alone(alloc: Global, name: &str) -> Result<Vec<String>, AllocError>
     Ok(names)
 }
 
-/// The folders that are still to be listed, and the sources of the others.
+/// What was found below a folder, and the folders that are still to be listed.
 #[derive(Drop)]
-struct Listing {
+struct Walk {
     folders: Vec<String>,
-    sources: Vec<String>,
+    listing: Listing,
 }
 
-/// The sources below a folder, by the bytes of their paths.
-fn list_below<R: Files>(files: &R, alloc: Global, name: &str) -> io::Result<Vec<String>>
-    ensures { IfOk result (λ names. AreSources names.items) }
+/// The sources below a folder, and the folders that can't be listed, by the bytes of their paths.
+fn list_below<R: Files>(
+    files: &R,
+    alloc: Global,
+    name: &str,
+    why: &mut Option<&'static str>,
+) -> io::Result<Listing>
+    ensures { IfOk result (λ listing. AreSources listing.sources.items) }
 {
-    let mut sources = find_below(files, alloc, name)?;
-    sources.sort()?;
-    Ok(sources)
+    let mut listing = find_below(files, alloc, name, why)?;
+    listing.sources.sort()?;
+    listing.unlisted.sort()?;
+    Ok(listing)
 }
 
-/// The sources below a folder, as the system lists them.
-fn find_below<R: Files>(files: &R, alloc: Global, name: &str) -> io::Result<Vec<String>>
-    ensures { IfOk result (λ names. AreNamed names.items) }
+/// The same as the system lists them.
+fn find_below<R: Files>(
+    files: &R,
+    alloc: Global,
+    name: &str,
+    why: &mut Option<&'static str>,
+) -> io::Result<Listing>
+    ensures { IfOk result (λ listing. AreNamed listing.sources.items) }
 {
-    let mut listing = Listing {
-        folders: alone(alloc, name)?,
-        sources: Vec::new(alloc),
+    let mut walk = Walk {
+        folders: Vec::new(alloc),
+        listing: Listing::new(alloc),
     };
+    push_folder(files, alloc, name, &mut walk)?;
     for _ in 0..u64::MAX {
-        let Some(folder) = listing.folders.pop() else {
+        let Some(folder) = walk.folders.pop() else {
             break;
         };
-        push_folder(files, alloc, folder.as_str(), &mut listing)?;
+        push_below(files, alloc, folder, &mut walk, why)?;
     }
-    Ok(listing.sources)
+    Ok(walk.listing)
+}
+
+/// Adds what lies in a folder, or the folder if it can't be listed: then `why` becomes the reason.
+fn push_below<R: Files>(
+    files: &R,
+    alloc: Global,
+    folder: String,
+    walk: &mut Walk,
+    why: &mut Option<&'static str>,
+) -> io::Result<()>
+    ensures { StaysNamed walk.old walk.new }
+{
+    match push_folder(files, alloc, folder.as_str(), walk) {
+        Err(error) if !is_refused(&error) => {
+            *why = words_of(&error);
+            walk.listing.unlisted.push(folder)?;
+            Ok(())
+        }
+        ended => ended,
+    }
 }
 
 /// Adds what lies in a folder.
-fn push_folder<R: Files>(
-    files: &R,
-    alloc: Global,
-    folder: &str,
-    listing: &mut Listing,
-) -> io::Result<()>
-    ensures { OnOk result (AreNamed listing.old.sources.items → AreNamed listing.new.sources.items) }
+fn push_folder<R: Files>(files: &R, alloc: Global, folder: &str, walk: &mut Walk) -> io::Result<()>
+    ensures { StaysNamed walk.old walk.new }
 {
     for entry in read_dir(&(files, alloc), folder)? {
         match entry {
-            Ok(entry) => push_entry(alloc, &entry, listing)?,
+            Ok(entry) => push_entry(alloc, &entry, walk)?,
             // A name that isn't UTF-8 can't be given on a command line either.
             Err(error) if error.kind() == ErrorKind::InvalidFilename => {}
             Err(error) => return Err(error),
@@ -97,16 +132,16 @@ fn push_folder<R: Files>(
 fn push_entry<R: Files>(
     alloc: Global,
     entry: &DirEntry<R, Global>,
-    listing: &mut Listing,
+    walk: &mut Walk,
 ) -> io::Result<()>
-    ensures { OnOk result (AreNamed listing.old.sources.items → AreNamed listing.new.sources.items) }
+    ensures { StaysNamed walk.old walk.new }
 {
     let kind = entry.file_type()?;
     let path = String::from_str(alloc, entry.path().as_str())?;
     if kind.is_dir() {
-        listing.folders.push(path)?;
+        walk.folders.push(path)?;
     } else if is_text_file(kind) && is_source_name(path.as_str()) {
-        listing.sources.push(path)?;
+        walk.listing.sources.push(path)?;
     }
     Ok(())
 }

@@ -1,9 +1,9 @@
 //! The system's files.
-ghost use Rattle.std.specs.Prelude.{◌≡◌, ◌↔◌, IsTrue, None};
-ghost use Rattle.std.specs.IoError.{error_kind, raw_os_error};
+ghost use Rattle.std.specs.Prelude.{◌≡◌, None};
 ghost use Rattle.fluent_serve.specs.Devices.{one_more};
 
-use crate::folder::{FileError, Folder, ReplaceError};
+use crate::causes::{is_refused, words_of};
+use crate::folder::{FileError, Folder, Listing, ReplaceError};
 use crate::listing::list_sources;
 use crate::replacing::replace_file;
 use std::alloc::Global;
@@ -46,14 +46,6 @@ impl<'a, R: Files> FromFiles<'a, R> {
         self.why = words_of(error);
     }
 
-    /// The same of a call that lists a folder.
-    fn note_unlisted(&mut self, error: &io::Error)
-        ensures { self.new.failures ≡ one_more self.old.failures }
-    {
-        self.note(error);
-        self.unlisted = self.why;
-    }
-
     /// The same of a call that reads a file. A folder is read only if it can't be listed.
     fn note_unread(&mut self, error: &io::Error)
         ensures { self.new.failures ≡ one_more self.old.failures }
@@ -87,12 +79,13 @@ impl<R: Files> Folder for FromFiles<'_, R> {
         self.why
     }
 
-    fn list(&mut self, alloc: Global, name: &str) -> Result<Vec<String>, FileError> {
-        match list_sources(self.files, alloc, name) {
-            Ok(names) => Ok(names),
+    fn list(&mut self, alloc: Global, name: &str) -> Result<Listing, FileError> {
+        match list_sources(self.files, alloc, name, &mut self.unlisted) {
+            Ok(listing) => Ok(listing),
             Err(error) if is_refused(&error) => Err(FileError::Memory),
             Err(error) => {
-                self.note_unlisted(&error);
+                self.note(&error);
+                self.unlisted = self.why;
                 Err(FileError::Unreadable)
             }
         }
@@ -115,24 +108,4 @@ fn read_file<R: Files>(files: &R, alloc: Global, name: &str) -> io::Result<Vec<u
     let mut bytes = Vec::new(alloc);
     File::open(files, name)?.read_to_end(&mut bytes)?;
     Ok(bytes)
-}
-
-/// The error of a call on a file, in words, if there are some.
-fn words_of(error: &io::Error) -> Option<&'static str> {
-    match error.kind() {
-        ErrorKind::NotFound => Some("no such file"),
-        ErrorKind::IsADirectory => Some("is a folder"),
-        ErrorKind::PermissionDenied => Some("no permission"),
-        ErrorKind::StorageFull | ErrorKind::QuotaExceeded => Some("no space left"),
-        ErrorKind::ReadOnlyFilesystem => Some("a read-only file system"),
-        _ => None,
-    }
-}
-
-/// Whether an error is a refused allocation, and not one of the system.
-fn is_refused(error: &io::Error) -> bool
-    ensures { IsTrue result
-        ↔ ((error_kind error.now ≡ ErrorKind.OutOfMemory) × (raw_os_error error.now ≡ None)) }
-{
-    error.kind() == ErrorKind::OutOfMemory && error.raw_os_error().is_none()
 }

@@ -4,7 +4,7 @@ ghost use Rattle.ftl_files.specs.TidyView.{AreListedOn, AreTidiedFirstOn, AreTid
 ghost use Rattle.ftl_files.specs.Tidying.{IsSourceEnd};
 
 use crate::ends::{Failure, FileEnd};
-use crate::folder::{FileError, Folder, ReplaceError};
+use crate::folder::{FileError, Folder, Listing, ReplaceError};
 use crate::refusals::refusal_report;
 use crate::tidied::TidiedFiles;
 use fluent_tidy::tidy;
@@ -28,7 +28,7 @@ pub fn tidy_files<F: Folder>(
     tidy_all(folder, alloc, check, &names)
 }
 
-/// The names of the files that paths stand for, in their order.
+/// The names of the files that paths stand for, in their order, each with the folders below that can't be listed.
 pub(crate) fn list_paths<F: Folder>(
     folder: &mut F,
     alloc: Global,
@@ -39,28 +39,25 @@ pub(crate) fn list_paths<F: Folder>(
 {
     let mut names = Vec::new(alloc);
     for path in paths {
-        let mut below = list_path(folder, alloc, path)?;
-        names.append(&mut below)?;
+        let mut listing = list_path(folder, alloc, path)?;
+        names.append(&mut listing.sources)?;
+        names.append(&mut listing.unlisted)?;
     }
     Ok(names)
 }
 
-/// The names of the files that a path stands for; if it can't be listed, the path itself, which can't be read either.
-fn list_path<F: Folder>(
-    folder: &mut F,
-    alloc: Global,
-    path: &str,
-) -> Result<Vec<String>, AllocError>
+/// What a path stands for. One that can't be listed itself is listed as a folder below that can't be.
+fn list_path<F: Folder>(folder: &mut F, alloc: Global, path: &str) -> Result<Listing, AllocError>
     ensures listed { IfOk result (IsListedOn F.Folder path.now folder.old folder.new) }
     ensures kept { F.contents folder.new ≡ F.contents folder.old }
 {
     match folder.list(alloc, path) {
-        Ok(names) => Ok(names),
+        Ok(listing) => Ok(listing),
         Err(FileError::Memory) => Err(AllocError),
         Err(FileError::Unreadable) => {
-            let mut names = Vec::with_capacity(alloc, 1)?;
-            names.push(String::from_str(alloc, path)?)?;
-            Ok(names)
+            let mut listing = Listing::new(alloc);
+            listing.unlisted.push(String::from_str(alloc, path)?)?;
+            Ok(listing)
         }
     }
 }

@@ -111,19 +111,19 @@ abbrev pub found_from : Rules → Cursor → List Declaration → List Part → 
 found_from rules cursor before ps = findings_of_parts rules (file_view cursor.file) before (syntax_left cursor) ps
 
 -- how far the findings of a file are made: the cursor, and those before it
-pub record Progress : Type 0 where
+pub record FoundSoFar : Type 0 where
   pub cursor : Cursor
   pub made : Vec Finding Global
 
-abbrev pub progress : Cursor → Vec Finding Global → Progress
-progress cursor made = record { cursor = cursor; made = made }
+abbrev pub found_so_far : Cursor → Vec Finding Global → FoundSoFar
+found_so_far cursor made = record { cursor = cursor; made = made }
 
 -- all findings of a file, if these parts are left of it
-abbrev pub all_found : Rules → Progress → List Declaration → List Part → List f.Finding
+abbrev pub all_found : Rules → FoundSoFar → List Declaration → List Part → List f.Finding
 all_found rules at before ps = map finding_view at.made.items ++ found_from rules at.cursor before ps
 
 -- The findings of a tile are added: with those of the parts that are left they are those of all.
-abbrev pub AddsTile : Rules → Declarations → Tile → Progress → Progress → Type 0
+abbrev pub AddsTile : Rules → Declarations → Tile → FoundSoFar → FoundSoFar → Type 0
 AddsTile rules known tile old new = (before : List Declaration) → AreFirst known before → (ps : List Part) →
     all_found rules new (before ++ declared_by (file_view old.cursor.file) (tile_view tile)) ps
     ≡ all_found rules old before (tile_view tile ∷ ps)

@@ -2,7 +2,7 @@
 #![tactic(auto)]
 
 ghost use Rattle.std.specs.Prelude.{All, IfOk, OnOk, map};
-ghost use Rattle.lint_files.specs.Pushes.{AddsSyntax, AddsTile, AddsTiles, DeclaresTile, DeclaresTiles, IsAt, IsCursorIn, IsFoundAfter, MovesTo, StaysIn, progress};
+ghost use Rattle.lint_files.specs.Pushes.{AddsSyntax, AddsTile, AddsTiles, DeclaresTile, DeclaresTiles, IsAt, IsCursorIn, IsFoundAfter, MovesTo, StaysIn, found_so_far};
 ghost use Rattle.lint_files.specs.RulesView.{rules_view};
 ghost use Rattle.lint_entries.specs.TileView.{IsReadPart, tile_view};
 
@@ -88,7 +88,7 @@ impl<'s> Cursor<'s> {
         ensures cursor { OnOk result (StaysIn self.old self.new) }
         ensures declared { OnOk result (DeclaresTile declarations.old declarations.new self.old.file tile.now) }
         ensures findings { OnOk result (AddsTile (rules_view rules.now) declarations.old tile.now
-            (progress self.old findings.old) (progress self.new findings.new)) }
+            (found_so_far self.old findings.old) (found_so_far self.new findings.new)) }
     {
         match tile {
             Tile::Entry(entry, text) => {

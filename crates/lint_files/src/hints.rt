@@ -76,7 +76,7 @@ fn hint_for_equals(junk: &str, at: &str) -> Option<&'static str>
         [b'.', ..] => Some("an identifier has only letters, digits, `-` and `_`"),
         [b':', ..] => Some("write `=` before the value"),
         _ if begins_attribute(junk) => None,
-        _ => Some("a line that continues the text above begins with at least one space"),
+        _ => Some("a line that continues a text begins with at least one space"),
     }
 }
 

@@ -26,7 +26,7 @@ unfolding computing_findings file Writes
 in_colours = refl
 
 in_json : Writes json (file (codes "a.ftl") (codes "key1=Value 1\ng@Rb@ge\nkey2 = x\n") ∷ [])
-    (codes "{\"code\":\"syntax\",\"column\":2,\"entry\":\"g\",\"file\":\"a.ftl\",\"hint\":\"a line that continues the text above begins with at least one space\",\"line\":2,\"offset\":14,\"severity\":\"error\",\"text\":\"expected `=` after `g`, found `@`\"}\n")
+    (codes "{\"code\":\"syntax\",\"column\":2,\"entry\":\"g\",\"file\":\"a.ftl\",\"hint\":\"a line that continues a text begins with at least one space\",\"line\":2,\"offset\":14,\"severity\":\"error\",\"text\":\"expected `=` after `g`, found `@`\"}\n")
 unfolding computing_findings serde_json_on_literals file Writes
 in_json = refl
 

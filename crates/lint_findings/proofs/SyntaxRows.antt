@@ -9,7 +9,7 @@ unfolding computing_findings file Reports
 nothing_is_found = refl
 
 no_equals_sign : Reports [] (file (codes "a.ftl") (codes "key1=Value 1\ng@Rb@ge\nkey2 = x\n") ∷ [])
-    (codes "a.ftl:2:2: error: g: expected `=` after `g`, found `@` [syntax]\n2 | g@Rb@ge\n  |  ^\n  = a line that continues the text above begins with at least one space\n")
+    (codes "a.ftl:2:2: error: g: expected `=` after `g`, found `@` [syntax]\n2 | g@Rb@ge\n  |  ^\n  = a line that continues a text begins with at least one space\n")
 unfolding computing_findings file Reports
 no_equals_sign = refl
 
@@ -39,7 +39,7 @@ unfolding computing_findings file Reports
 a_tab_at_a_continued_text = refl
 
 a_line_that_is_not_indented : Reports [] (file (codes "a.ftl") (codes "a =\n    one\ntwo three\n") ∷ [])
-    (codes "a.ftl:3:5: error: two: expected `=` after `two`, found `t` [syntax]\n3 | two three\n  |     ^\n  = a line that continues the text above begins with at least one space\n")
+    (codes "a.ftl:3:5: error: two: expected `=` after `two`, found `t` [syntax]\n3 | two three\n  |     ^\n  = a line that continues a text begins with at least one space\n")
 unfolding computing_findings file Reports
 a_line_that_is_not_indented = refl
 

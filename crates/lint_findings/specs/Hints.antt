@@ -45,7 +45,7 @@ abbrev pub hints_for_equals : Text → Text → List (Bool × Text)
 hints_for_equals s at =
     (begins_with dot at, codes "an identifier has only letters, digits, `-` and `_`")
     ∷ (begins_with colon at, codes "write `=` before the value")
-    ∷ (not (begins_attribute s), codes "a line that continues the text above begins with at least one space") ∷ []
+    ∷ (not (begins_attribute s), codes "a line that continues a text begins with at least one space") ∷ []
 
 -- if a placeable isn't closed
 abbrev pub hints_for_brace : Text → List (Bool × Text)

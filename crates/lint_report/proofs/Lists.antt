@@ -2,7 +2,6 @@
 use Rattle.std.proofs.Common.{◌≡◌, ◌∙◌, ℕ, ◌+◌, ◌<◌, ◌≤◌, List, [], ◌∷◌, ◌++◌, length, take, get_or, map, refl, sym, ap, append_assoc}
 use Rattle.std.proofs.lemmas.List.{map-append, take_more, take_all}
 use Rattle.lint_findings.specs.Summary as counted
-use Rattle.lint_findings.specs.Summary.{catalog_summary, finding_count, message_count, reference_summary}
 use Rattle.lint_findings.specs.Files as files
 use Rattle.lint_finding.specs.View.{file_view}
 use Rattle.lint_report.specs.ReportView.{summary_view}

@@ -6,5 +6,5 @@ use Rattle.ftl_files.proofs.listing.list_below.Goals as goal
 pub returns : goal.returns
 returns g c =
     let named : AreNamed c.sort.new.self.items =
-    All-permutation (λ name. IsTrue (is_source_name (string_bytes name))) _ _ c.sort.ensures.permutation c.in_ok-sources.ensures in
+    All-permutation (λ name. IsTrue (is_source_name (string_bytes name))) _ _ c.sort.ensures.permutation c.in_ok-listing.ensures in
     search rules
