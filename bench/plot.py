@@ -5,11 +5,13 @@
 
 A result has the keys `what`, `least` and `most`, the ratios between which several runs lay: Rust's time by ours. If peak
 memory was measured, `megabytes` has ours and Rust's. `bar` is its name in the chart, which has only results with one.
+`kind` is the name under which pages speak of it.
 
 Writes the chart docs/images/speed.svg and the table of docs/inside/speed.md. `--check` writes nothing, and ends with 1 if
-either isn't that of the results.
+either isn't that of the results, or a page says another range of a kind.
 """
 import json
+import re
 import sys
 from html import escape
 from pathlib import Path
@@ -18,6 +20,14 @@ ROOT = Path(__file__).resolve().parents[1]
 RESULTS = ROOT / 'bench/results.json'
 CHART = ROOT / 'docs/images/speed.svg'
 PAGE = ROOT / 'docs/inside/speed.md'
+# How pages say the range of a kind, and which pages do.
+SAID = {
+    'reading': r'real files are read ([\d.]+) to ([\d.]+) times as fast',
+    'formatting from Rust': r'formatting (?:a text is )?\[?([\d.]+) to ([\d.]+) times(?:\]\([^)]*\))? as fast(?: from Rust)?,',
+    'adding from Rust': r'adding a resource ([\d.]+) times',
+    'formatting in Rattle': r'formatting (?:is )?([\d.]+) to ([\d.]+) times as fast',
+}
+SAYING = {'README.md': [*SAID], 'docs/compared-with.md': [*SAID][1:]}
 TABLE_HEAD = '| What | Ratio | Peak memory, ours and Rust\'s, MB |\n|---|---|---|\n'
 # Lengths in the chart, in pixels: the column of names, one time Rust's speed, a row, a bar, what is above the first row.
 NAMES, UNIT, ROW, BAR, HEAD = 250, 130, 26, 14, 40
@@ -86,13 +96,45 @@ def made(results):
     return {CHART: chart(results), PAGE: page[:start] + table(results) + page[end:]}
 
 
+def rounded(ratio, said):
+    """A ratio with as many decimals as a page says."""
+    return f'{ratio:.{len(said.partition(".")[2])}f}'
+
+
+def wrong_range(page, kind, results):
+    """What a page says wrong of a kind, or nothing."""
+    text = ' '.join((ROOT / page).read_text().split())
+    said = re.search(SAID[kind], text)
+    if not said:
+        return f'{page} says no range of {kind}'
+    ends = [result[end] for result in results if result.get('kind') == kind for end in ('least', 'most')]
+    right = [rounded(end, word) for end, word in zip((min(ends), max(ends)), said.groups())]
+    return '' if [*said.groups()] == right else f'{page} says {" to ".join(said.groups())} of {kind}: {" to ".join(right)}'
+
+
+def wrong_files(files):
+    """The files that aren't what the results make them."""
+    for file, text in files.items():
+        if not file.exists() or file.read_text() != text:
+            yield f'{file.relative_to(ROOT)} is not that of the results: run bench/plot.py'
+
+
+def check(results):
+    """Ends with 1 if a file or a range isn't that of the results."""
+    files = made(results)
+    wrong = [*wrong_files(files)]
+    told_ranges = [wrong_range(page, kind, results) for page, kinds in SAYING.items() for kind in kinds]
+    wrong += filter(None, told_ranges)
+    print(*wrong, sep='\n', end='\n' if wrong else '')
+    print(f'{len(files) + len(told_ranges) - len(wrong)} passed, {len(wrong)} failed')
+    sys.exit(bool(wrong))
+
+
 def main():
-    files = made(json.loads(RESULTS.read_text()))
+    results = json.loads(RESULTS.read_text())
     if sys.argv[1:] == ['--check']:
-        wrong = [file for file, text in files.items() if not file.exists() or file.read_text() != text]
-        print(*(f'{file.relative_to(ROOT)} is not that of the results: run bench/plot.py' for file in wrong), sep='\n')
-        print(f'{len(files) - len(wrong)} passed, {len(wrong)} failed')
-        sys.exit(bool(wrong))
+        check(results)
+    files = made(results)
     for file, text in files.items():
         file.parent.mkdir(exist_ok=True)
         file.write_text(text)

@@ -11,7 +11,8 @@ docs/style.md leaves out, and no comment of the code, its definitions and its pr
 shell block of a page prints what follows it there; each public call that can fail says how, under `# Errors`; no clause is
 longer than 200 characters, and at most 33 are longer than 120; each file that names the version names the same one, and each
 that lists the codes of findings lists the same ones; the counts of crates and functions in the pages on proofs are those of the
-sources; and each law, function and clause that a row of `proved.md` names is in the row's crates.
+sources; the figures that a file of results has are those of the pages; and each law, function and clause that a row of
+`proved.md` names is in the row's crates.
 
 Prints what isn't so, then how many of these checks passed and failed, and ends with 1 if one failed. The calls of shell
 blocks need the built program, `crates/ftl/out/ftl`: without it they are skipped. `--calls` runs them alone, and `--sources`
@@ -62,6 +63,15 @@ COUNTED = [
     ('#[cycle(parser)', 'fluent_parser/src/*.rt', r'(\w+) readers call each other'),
     ('#[cycle(resolving)', 'fluent_resolver/src/*.rt', r'(?:first of|each of the) (\w+) functions'),
     ('impl From<', 'fluent_number/src/*_integers.rt', r'(\w+) conversions'),
+]
+# The figures of pages that a file has: the page and how it says one, and the file and the lines whose numbers are added up.
+FIGURES = [
+    ('docs/inside/proved.md', r'Each of ([\d,]+) prefixes', 'tests/more_rows/stdout', r'^(?:syntax|prefixes)\.jsonl: (\d+) prefixes'),
+    ('docs/inside/proved.md', r'([\d,]+) samples of CLDR', 'tests/more_rows/stdout', r'^plurals\.txt: (\d+) rows'),
+    ('docs/inside/proved.md', r'([\d,]+) tags with Intl', 'tests/more_rows/stdout', r'^likely\.txt: (\d+) rows'),
+    ('docs/inside/proved.md', r'([\d,]+) negotiations with the answers', 'tests/more_rows/stdout', r'^negotiation\.txt: (\d+) rows'),
+    ('docs/inside/proved.md', r'([\d,]+) texts of `Intl', 'tests/more_rows/stdout', r'^numerals\.txt: (\d+) rows'),
+    ('docs/inside/validation.md', r'calls of `fluent_c` \| ([\d,]+)', 'bindings/c/tests/expected', r'^refused allocations: (\d+) tried'),
 ]
 NUMBERS = """zero one two three four five six seven eight nine ten eleven twelve thirteen fourteen fifteen sixteen seventeen
     eighteen nineteen twenty""".split()
@@ -442,6 +452,18 @@ def wrong_counts():
                 yield f'{place_of(page)}: {word} is the count of {counted}, and the sources have {count}'
 
 
+def wrong_figures():
+    """Figures of pages that the files of results don't have."""
+    for name, words, file, lines in FIGURES:
+        page = ROOT / name
+        said = re.search(words, ' '.join(page.read_text().split()))
+        figure = sum(map(int, re.findall(lines, (ROOT / file).read_text(), re.M)))
+        if not said:
+            yield f'{place_of(page)}: no figure for {words}, and {file} has {figure:,}'
+        elif said[1] != f'{figure:,}':
+            yield f'{place_of(page)}: {said[1]} is {figure:,} in {file}'
+
+
 def declared(crates):
     """The functions of these crates, and all words of theirs that a row may name: types, traits, clauses and definitions."""
     folders = [ROOT / 'crates' / crate for crate in crates]
@@ -476,7 +498,7 @@ def checks():
     """The checks that are asked for."""
     if '--calls' not in OPTIONS:
         yield from (wrong_quotes, types_without_examples, wrong_links, wide_prose, wrong_words, wrong_comments,
-                    silent_calls, long_clauses, other_versions, other_codes, wrong_counts, wrong_rows)
+                    silent_calls, long_clauses, other_versions, other_codes, wrong_counts, wrong_figures, wrong_rows)
     if '--sources' in OPTIONS:
         return
     if PROGRAM.exists():
