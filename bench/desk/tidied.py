@@ -1,13 +1,17 @@
 #!/usr/bin/env python3
 """Tidies a copy of a folder in place by `ftl tidy`, and compares what `ftl run` answers from each file, before and after.
 
-    bench/desk/tidied.py FOLDER [PROGRAM]
+    bench/desk/tidied.py [--line-ends crlf|mixed|spaced] FOLDER [PROGRAM]
 
 Each message and attribute of a file is asked for, without arguments and with its variables set to a few values. Prints how many
 files were changed and how many weren't touched, what differs, and the seconds of a processor that both calls of `tidy` took. Ends
 with 1 if an answer differs, if a second call changes anything, or if a file that isn't tidy afterwards wasn't reported.
+
+`--line-ends` gives the copies other line ends before anything is asked: CR LF, or CR LF on every other line, or CR LF with spaces
+on each blank line.
 """
 
+import argparse
 import os
 import re
 import shutil
@@ -18,6 +22,11 @@ from pathlib import Path
 
 PROGRAM = Path(__file__).resolve().parents[2] / "crates/ftl/out/ftl"
 VALUES = (None, "1", "2.50", "Jane")
+LINE_ENDS = {
+    "crlf": lambda line, number: line + b"\r\n",
+    "mixed": lambda line, number: line + (b"\r\n" if number % 2 else b"\n"),
+    "spaced": lambda line, number: (line if line.strip(b" ") else b" " * (number % 7)) + b"\r\n",
+}
 ID = rb"[a-zA-Z][a-zA-Z0-9_-]*"
 NAMED = re.compile(rb"^(" + ID + rb") *=|^ +\.(" + ID + rb") *=", re.M)
 
@@ -49,20 +58,33 @@ def tidied(program: Path, folder: Path) -> tuple[list[bytes], bytes, float]:
     return ran.stdout.splitlines(), ran.stderr, seconds
 
 
-def copied(folder: Path, scratch: Path) -> list[Path]:
-    """The paths of the copies of all files below a folder."""
+def with_line_ends(source: bytes, line_ends: str) -> bytes:
+    """A source whose lines end otherwise. What comes after the last line end stays."""
+    *lines, rest = source.split(b"\n")
+    return b"".join(map(LINE_ENDS[line_ends], lines, range(len(lines)))) + rest
+
+
+def copied(folder: Path, scratch: Path, line_ends: str | None) -> list[Path]:
+    """The paths of the copies of all files below a folder, with other line ends if these are named."""
     files = []
     for file in sorted(folder.rglob("*.ftl")):
         copy = scratch / file.relative_to(folder)
         copy.parent.mkdir(parents=True, exist_ok=True)
         files.append(Path(shutil.copyfile(file, copy)))
+        if line_ends:
+            copy.write_bytes(with_line_ends(file.read_bytes(), line_ends))
     return files
 
 
-def main(folder: str, program: str = str(PROGRAM)) -> int:
-    command = Path(program).resolve()
+def main() -> int:
+    words = argparse.ArgumentParser()
+    words.add_argument("--line-ends", choices=LINE_ENDS)
+    words.add_argument("folder", type=Path)
+    words.add_argument("program", type=Path, nargs="?", default=PROGRAM)
+    given = words.parse_args()
+    command = given.program.resolve()
     with tempfile.TemporaryDirectory() as scratch:
-        files = copied(Path(folder), Path(scratch))
+        files = copied(given.folder, Path(scratch), given.line_ends)
         sources = [file.read_bytes() for file in files]
         asked = [requests_of(source) for source in sources]
         before = [answers(command, *each) for each in zip(files, asked)]
@@ -84,4 +106,4 @@ def main(folder: str, program: str = str(PROGRAM)) -> int:
 
 
 if __name__ == "__main__":
-    sys.exit(main(*sys.argv[1:]))
+    sys.exit(main())
