@@ -4,7 +4,7 @@
 # The last line is 'N passed, M failed', and the status is 1 if anything failed.
 set -uo pipefail
 root=$(cd "$(dirname "$0")/.." && pwd)
-. "$root/tools/kit.sh"
+. "$root/tools/kit.sh" || exit
 
 passed=0 failed=0
 room=$(mktemp -d)
@@ -65,7 +65,7 @@ PYTHON
 # A folder of the commands that the script uses, without the one that is named.
 commands_without() {
     mkdir "$room/without $1"
-    for command in rt python3 sh awk cat date df dirname find grep head kill mktemp nproc readlink rm sed sleep wc; do
+    for command in rt python3 bash sh awk cat date df dirname find grep head kill mktemp nproc readlink rm sed sleep wc; do
         [[ $command == "$1" ]] || ln -s "$(type -P "$command")" "$room/without $1"
     done
     echo "$room/without $1"
@@ -75,6 +75,11 @@ without_rt() {
     commands=$(commands_without rt)
     ends 126 '' "ftl: the unproved program isn't built, $missing rt on the path to build it: README.md, 'Set up'" --unproved a &&
         ends 126 '' "ftl: the program isn't built, $missing rt on the path to build it: README.md, 'Set up'" a
+}
+
+gate_without_rt() {
+    commands="$room/without rt" script=$root/tools/test.sh
+    ends 126 '' "$script: there is no rt, the command of the toolchain, on the path: README.md, 'Set up'"
 }
 
 without_python() {
@@ -129,6 +134,7 @@ $("$root/crates/ftl/out/unproved/ftl" --no-such-option 2>&1)" --unproved --no-su
 
 make_repository
 step 'without rt it says so' without_rt
+step 'without rt the gate says so too' gate_without_rt
 step 'without python3 it says so' without_python
 step 'a build that is refused is shown' refused
 step 'it builds the unproved program once, and says each time that it is unproved' builds_once

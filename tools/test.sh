@@ -7,7 +7,7 @@
 # Its last line is 'N passed, M failed', and it ends with 1 if anything failed.
 set -uo pipefail
 cd "$(dirname "$0")/.." || exit
-. tools/kit.sh
+. tools/kit.sh || exit
 
 passed=0 failed=0 skipped=0 building=
 log=$(mktemp)
