@@ -1,14 +1,17 @@
 #!/bin/sh
-# Runs the proved program `ftl` on these words, in the caller's folder and on its streams, and ends with its status.
-# Takes the program that this script, `rt run` or the gate built. If there is none, or a source of it is younger, says so,
-# proves and builds it, and says on a terminal how far that is. Ends with 126 if that fails. With `--no-build` as its first
-# word it takes the program as it is.
+# Runs the program `ftl` on these words, in the caller's folder and on its streams, and ends with its status.
+#
+# Takes the proved program that this script, `rt run` or the gate built. If there is none, or a source of it is younger, says
+# so, proves and builds it, and says on a terminal how far that is. Its first word may be
+#
+#   --unproved    takes another program, which it builds without proofs, and says each time that nothing of it is proved
+#   --no-build    takes the proved program as it is
+#
+# Ends with 126 if the program can't be built.
 set -eu
 
 root=$(dirname -- "$(readlink -f -- "$0")")
 crate=$root/crates/ftl
-program=$crate/out/ftl
-built=$crate/out/ftl.built # as old as the sources from which this script built the program
 
 # What proving takes: memory for each crate that is proved at a time, and disk, in GB.
 memory_needed=3
@@ -34,19 +37,20 @@ crates() {
         }' "$root/crates.txt"
 }
 
-# Why the program has to be built: there is none, or a source of its crates is younger. Nothing if it needn't be.
+# why_build NAME FILE SINCE FOLDER..: why the program that the file has must be built: there is none, or a source in these
+# folders of its crates is younger than SINCE. Nothing if it needn't be.
 why_build() (
     cd "$root/crates"
-    if [ ! -x "$program" ]; then
-        echo "the program isn't built"
+    name=$1 file=$2 since=$3
+    shift 3
+    if [ ! -x "$file" ]; then
+        echo "the $name isn't built"
         return
     fi
-    since=$built
-    [ -e "$since" ] || since=$program
     # shellcheck disable=SC2046 # no name of a crate has a space
-    set -- $(crates | sed 's|.*|&/src &/specs &/proofs|')
+    set -- $(for part; do crates | sed "s|\$|/$part|"; done)
     younger=$(find ../crates.txt "$@" -newer "$since" 2>/dev/null | head -n 1)
-    [ -z "$younger" ] || echo "crates/$younger is younger than the program" | sed 's|^crates/\.\./||'
+    [ -z "$younger" ] || echo "crates/$younger is younger than the $name" | sed 's|^crates/\.\./||'
 )
 
 memory_left() {
@@ -65,54 +69,27 @@ jobs() {
     echo $((at_once < bearable ? at_once : bearable))
 }
 
-# Proves and builds the program, and tries it on the run that is stored next to it.
-build() (
-    cd "$crate"
-    mkdir -p out && : >"$built.new"
-    rt all check --jobs "$(jobs)" && rt run -- run data/hello.ftl <stdin && mv -f "$built.new" "$built"
-)
-
-# Says how far the build is that writes this log, until the script ends or is done with it.
-watch() {
-    begun=$(date +%s)
-    while kill -0 "$$" 2>/dev/null; do
-        proved=$(grep '^== ' "$1" | grep -cv summary || :)
-        minutes=$((($(date +%s) - begun) / 60))
-        printf '\rftl: %s of %s crates, %s minutes ' "$proved" "$2" "$minutes"
-        sleep 1
+# need WHY COMMANDS: ends the script if one of the commands is missing that it builds the program with, for this reason.
+need() {
+    for command in $2; do
+        command -v "$command" >/dev/null || fail "$1, and there is no $command on the path to build it: README.md, 'Set up'"
     done
 }
 
-# Proves and builds the program, for this reason, if there is room for it.
-provide() {
-    count=$(crates | wc -l)
-    command -v rt >/dev/null ||
-        fail "$1, and there is no command rt to prove its $count crates; a release has the program itself: README.md, 'Get it'"
-    memory=$(memory_left) disk=$(disk_left)
-    if [ "$memory" -lt "$memory_needed" ] || [ "$disk" -lt "$disk_needed" ]; then
-        fail "$1; to prove its $count crates takes $memory_needed GB of memory and $disk_needed GB of disk," \
-            "and $memory and $disk are free; a first look takes two minutes, without the proofs: README.md, 'Get it'"
-    fi
-
-    log=$(mktemp)
+# build KIND: builds by the function build_KIND, and shows what that printed if it fails. On a terminal says each second by the
+# function far_KIND how far it is.
+build() {
     watcher=
-    trap 'rm -f "$log"; [ -z "$watcher" ] || kill "$watcher" 2>/dev/null' EXIT
+    trap 'rm -f "$log"; unwatch' EXIT
     trap 'exit 130' INT
     trap 'exit 143' TERM
-    echo "ftl: $1, so its $count crates are proved first, once; the log is $log" >&2
-    echo "ftl: a first look without the proofs takes two minutes: README.md, 'Get it'" >&2
-    [ ! -x "$program" ] || echo "ftl: with --no-build as its first word, ftl takes the program as it is" >&2
     if [ -t 2 ]; then
-        watch "$log" "$count" >&2 &
+        watch "far_$1" >&2 &
         watcher=$!
     fi
     status=0
-    build >"$log" 2>&1 || status=$?
-    if [ -n "$watcher" ]; then
-        kill "$watcher" 2>/dev/null
-        watcher=
-        echo >&2
-    fi
+    "build_$1" >"$log" 2>&1 || status=$?
+    unwatch
     if [ "$status" -ne 0 ]; then
         cat "$log" >&2
         fail 'the program was not built'
@@ -121,13 +98,88 @@ provide() {
     trap - EXIT INT TERM
 }
 
-if [ "${1-}" = --no-build ]; then
+# Says each second how far the build is, until the script ends or is done with it.
+watch() {
+    begun=$(date +%s)
+    while kill -0 "$$" 2>/dev/null; do
+        printf '\rftl: %s ' "$("$1" $(($(date +%s) - begun)))"
+        sleep 1
+    done
+}
+
+unwatch() {
+    [ -n "$watcher" ] || return 0
+    kill "$watcher" 2>/dev/null || :
+    watcher=
+    echo >&2
+}
+
+# Proves and builds the program, and tries it on the run that is stored next to it.
+build_proved() (
+    cd "$crate"
+    mkdir -p out && : >"$built.new"
+    rt all check --jobs "$(jobs)" && rt run -- run data/hello.ftl <stdin && mv -f "$built.new" "$built"
+)
+
+far_proved() {
+    echo "$(grep '^== ' "$log" | grep -cv summary || :) of $count crates, $(($1 / 60)) minutes"
+}
+
+build_unproved() {
+    python3 -B "$root/tools/unproved.py" "$program"
+}
+
+far_unproved() {
+    echo "$1 seconds"
+}
+
+# Takes the proved program, which is proved and built first if it has to be and there is room for it.
+take_proved() {
+    program=$crate/out/ftl
+    built=$crate/out/ftl.built # as old as the sources from which this script built the program
+    since=$built
+    [ -e "$since" ] || since=$program
+    why=$(why_build program "$program" "$since" src specs proofs)
+    [ -n "$why" ] || return 0
+
+    need "$why" rt
+    count=$(crates | wc -l) memory=$(memory_left) disk=$(disk_left)
+    if [ "$memory" -lt "$memory_needed" ] || [ "$disk" -lt "$disk_needed" ]; then
+        fail "$why; to prove its $count crates takes $memory_needed GB of memory and $disk_needed GB of disk," \
+            "and $memory and $disk are free; --unproved as the first word takes a program without proofs"
+    fi
+    log=$(mktemp)
+    echo "ftl: $why, so its $count crates are proved first, once; the log is $log" >&2
+    echo 'ftl: --unproved as its first word takes a program without proofs, which is built in two to three minutes' >&2
+    [ ! -x "$program" ] || echo "ftl: with --no-build as its first word, ftl takes the program as it is" >&2
+    build proved
+}
+
+# Takes the program without proofs, which is built first if it has to be.
+take_unproved() {
+    program=$crate/out/unproved/ftl
+    why=$(why_build 'unproved program' "$program" "$program" src)
+    if [ -n "$why" ]; then
+        need "$why" 'rt python3'
+        log=$(mktemp)
+        echo "ftl: $why, so it is built first, once, in two to three minutes" >&2
+        build unproved
+    fi
+    echo 'ftl: unproved: this program was built without its proofs' >&2
+}
+
+case ${1-} in
+--no-build)
     shift
-    [ -x "$program" ] || fail "the program isn't built; a first look takes two minutes, without the proofs: README.md, 'Get it'"
-else
-    why=$(why_build)
-    [ -z "$why" ] || provide "$why"
-fi
+    program=$crate/out/ftl
+    [ -x "$program" ] || fail "the program isn't built; --unproved as the first word takes a program without proofs"
+    ;;
+--unproved)
+    shift
+    take_unproved
+    ;;
+*) take_proved ;;
+esac
 
 # Placeables that nest deep take stack: as much of it as the system lets this process have.
 ulimit -s "$(ulimit -H -s)" 2>/dev/null || :

@@ -5,7 +5,7 @@
 # `rt lib` proves first what it stands on and hasn't been built, which takes up to an hour.
 set -eu
 root=$(cd "$(dirname "$0")/.." && pwd)
-kit=$(dirname "$(dirname "$(readlink -f "$(command -v rt)")")")
+. "$root/tools/kit.sh"
 cd "$root/crates/fluent_c"
 mkdir -p out
 set -- --crate-name fluent_c --crate-type staticlib -o out/libfluent_c.a

@@ -1,5 +1,5 @@
 #!/bin/sh
-# Builds the static library without any proof, for a first look at the bindings: some two minutes in the place of an hour.
+# Builds the static library without any proof, for a first look at the bindings: two to three minutes in the place of an hour.
 #
 #   first_look.sh [OUT]      OUT is the folder that gets libfluent_c.a; without it, crates/fluent_c/out/unproved
 #
@@ -8,6 +8,6 @@
 set -eu
 root=$(cd "$(dirname "$0")/.." && pwd)
 out=${1:-$root/crates/fluent_c/out/unproved}
-python3 "$root/bindings/unproved.py" "$out"
+python3 -B "$root/bindings/unproved.py" "$out"
 echo "unproved: $out/libfluent_c.a"
 echo "try it: FLUENT_C_LIB=$out bindings/c/run.sh"

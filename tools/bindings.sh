@@ -1,6 +1,8 @@
 #!/usr/bin/env bash
-# Builds the static library over the libraries that the gate left, and runs the tests of bindings/ and examples/ over it, and
-# that of calls whose allocations are refused.
+# Runs the tests of bindings/ and examples/ over the static library, and that of calls whose allocations are refused.
+#
+#   tools/bindings.sh [LIBRARY]      LIBRARY is the folder of libfluent_c.a; without it, the library is built over the
+#                                    libraries that the gate left
 # Its last lines are 'K skipped', if a program was missing, and 'N passed, M failed'. It ends with 1 if anything failed.
 set -uo pipefail
 cd "$(dirname "$0")/.."
@@ -28,8 +30,12 @@ run_with() {
 
 # The library of the gate's own run: without FLUENT_C_LIB, that of this repository is taken.
 unset FLUENT_C_LIB
-run_with rt bindings/build.sh
-if ((passed == 1)); then
+if [[ -n ${1-} ]]; then
+    export FLUENT_C_LIB=$1
+else
+    run_with rt bindings/build.sh
+fi
+if ((failed + skipped == 0)); then
     run_with cc bindings/c/run.sh
     run_with 'cc cargo' bindings/rust/run.sh
     run_with 'cc python3' bindings/python/run.sh

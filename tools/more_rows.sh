@@ -6,6 +6,7 @@
 # counts must come.
 set -euo pipefail
 top=$(cd "$(dirname "$0")/.." && pwd)
+. "$top/tools/kit.sh"
 work=$(mktemp -d)
 trap 'rm -rf "$work"' EXIT
 

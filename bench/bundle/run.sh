@@ -13,6 +13,7 @@ set -eu
 here=$(cd "$(dirname "$0")" && pwd)
 root=$(cd "$here/../.." && pwd)
 vendor=$(cd "$1" && pwd)
+. "$root/tools/kit.sh"
 . "$root/bench/scratch.sh"
 built=$(mktemp -d)
 trap 'rm -rf "$built"' EXIT

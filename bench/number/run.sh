@@ -5,7 +5,7 @@
 set -eu
 here=$(cd "$(dirname "$0")" && pwd)
 root=$(cd "$here/../.." && pwd)
-kit=$(dirname "$(dirname "$(readlink -f "$(command -v rt)")")")
+. "$root/tools/kit.sh"
 . "$root/bench/scratch.sh"
 built=$(mktemp -d)
 trap 'rm -rf "$built"' EXIT

@@ -15,6 +15,7 @@ here=$(cd "$(dirname "$0")" && pwd)
 crate=$(cd "$here/../../crates/$1" && pwd)
 program=$crate/out/$1
 shift
+. "$here/../../tools/kit.sh"
 # What rt run runs lacks the files of data, so only that it was built counts.
 [ -n "${BUILT:-}" ] || rm -f "$program"
 [ -x "$program" ] || (cd "$crate" && rt run </dev/null >/dev/null) || [ -x "$program" ]

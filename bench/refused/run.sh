@@ -12,6 +12,7 @@ here=$(cd "$(dirname "$0")" && pwd)
 crate=$here/../../crates/$1
 program=$crate/out/$1
 shift
+. "$here/../../tools/kit.sh"
 # What rt run runs lacks the files of data, so only that it was built counts.
 [ -n "${BUILT:-}" ] || rm -f "$program"
 [ -x "$program" ] || (cd "$crate" && rt run </dev/null >/dev/null) || [ -x "$program" ]

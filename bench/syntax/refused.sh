@@ -9,7 +9,7 @@ set -eu
 [ $# -ge 1 ] || { sed -n '2,7s/^# \{0,1\}//p' "$0" >&2; exit 2; }
 here=$(cd "$(dirname "$0")" && pwd)
 crate=$here/../../crates/fluent_c
-kit=$(dirname "$(dirname "$(readlink -f "$(command -v rt)")")")
+. "$here/../../tools/kit.sh"
 (cd "$crate" && rt lib >/dev/null)
 built=$(mktemp -d)
 trap 'rm -rf "$built"' EXIT

@@ -13,7 +13,7 @@ set -eu
 here=$(cd "$(dirname "$0")" && pwd)
 vendor=$(cd "$1" && pwd)
 crate=$here/../../crates/fluent_c
-kit=$(dirname "$(dirname "$(readlink -f "$(command -v rt)")")")
+. "$here/../../tools/kit.sh"
 (cd "$crate" && rt lib >/dev/null)
 built=$(mktemp -d)
 trap 'rm -rf "$built"' EXIT

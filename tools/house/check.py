@@ -1,7 +1,7 @@
 #!/usr/bin/env python3
 """Holds the pages and the doc comments against the sources.
 
-    tools/house/check.py [--sources|--calls] [ROOT]
+    tools/house/check.py [--sources|--calls] [--program PROGRAM] [ROOT]
 
 Each block of code in a page is cut from an example, and each in the doc comment of a public crate from an example or another
 crate that the gate proves or tries, unless its fence is `no_run`: such a block was only tried once. Each public type that
@@ -15,19 +15,32 @@ sources; the figures that a file of results has are those of the pages; and each
 `proved.md` names is in the row's crates.
 
 Prints what isn't so, then how many of these checks passed and failed, and ends with 1 if one failed. The calls of shell
-blocks need the built program, `crates/ftl/out/ftl`: without it they are skipped. `--calls` runs them alone, and `--sources`
-all other checks, which need no build.
+blocks need a built program, which is `crates/ftl/out/ftl` if no other is named: without it they are skipped. `--calls` runs
+them alone, and `--sources` all other checks, which need no build. `./ftl --unproved` is the script's in any case.
 """
+import argparse
 import re
+import shlex
 import shutil
 import subprocess
 import sys
 import tempfile
 from pathlib import Path
 
-OPTIONS = [word for word in sys.argv[1:] if word.startswith('--')]
-FOLDERS = [word for word in sys.argv[1:] if not word.startswith('--')]
-ROOT = Path(FOLDERS[0] if FOLDERS else Path(__file__).parents[2]).resolve()
+
+
+def arguments():
+    parser = argparse.ArgumentParser(allow_abbrev=False)
+    part = parser.add_mutually_exclusive_group()
+    part.add_argument('--sources', action='store_true')
+    part.add_argument('--calls', action='store_true')
+    parser.add_argument('--program', type=Path)
+    parser.add_argument('root', metavar='ROOT', nargs='?', type=Path, default=Path(__file__).parents[2])
+    return parser.parse_args()
+
+
+ARGUMENTS = arguments()
+ROOT = ARGUMENTS.root.resolve()
 PAGES = [page for files in ('*.md', 'docs/**/*.md', 'bindings/**/*.md', 'crates/*/CALLING.md', 'tests/*/README.md', 'tools/*/README.md')
          for page in sorted(ROOT.glob(files))]
 SOURCES = sorted(ROOT.glob('crates/*/src/**/*.rt'))
@@ -42,7 +55,12 @@ CODES = {
     'tools/release/help.py': r"^CODES = '''(.*?)'''",
 }
 WIDEST = 120
-PROGRAM = ROOT / 'crates/ftl/out/ftl'
+PROGRAM = (ARGUMENTS.program or ROOT / 'crates/ftl/out/ftl').resolve()
+# What `./ftl` is in a page.
+SCRIPT = """#!/bin/sh
+[ "${{1-}}" = --unproved ] && exec {script} "$@"
+exec {program} "$@"
+"""
 STYLE = ROOT / 'docs/style.md'
 # The crates that programs call, with those whose types they pass on, and the types of these that only crates of this
 # repository use.
@@ -330,10 +348,14 @@ def wrong_calls(page, folder):
 
 
 def wrong_outputs():
+    script, program = (shlex.quote(str(path)) for path in (ROOT / 'ftl', PROGRAM))
+    # So that no call shows how the unproved program is built.
+    subprocess.run([ROOT / 'ftl', '--unproved', '--version'], capture_output=True)
     for page in PAGES:
         with tempfile.TemporaryDirectory() as name:
             folder = Path(name)
-            (folder / 'ftl').symlink_to(PROGRAM)
+            (folder / 'ftl').write_text(SCRIPT.format(script=script, program=program))
+            (folder / 'ftl').chmod(0o755)
             shutil.copytree(ROOT / 'examples', folder / 'examples')
             yield from wrong_calls(page, folder)
 
@@ -496,20 +518,18 @@ def wrong_rows():
 
 def checks():
     """The checks that are asked for."""
-    if '--calls' not in OPTIONS:
+    if not ARGUMENTS.calls:
         yield from (wrong_quotes, types_without_examples, wrong_links, wide_prose, wrong_words, wrong_comments,
                     silent_calls, long_clauses, other_versions, other_codes, wrong_counts, wrong_figures, wrong_rows)
-    if '--sources' in OPTIONS:
+    if ARGUMENTS.sources:
         return
     if PROGRAM.exists():
         yield wrong_outputs
     else:
-        print(f'{place_of(PROGRAM)} is not built: the calls of shell blocks are skipped')
+        print(f'{PROGRAM} is not built: the calls of shell blocks are skipped')
 
 
 def main():
-    if set(OPTIONS) - {'--calls', '--sources'}:
-        sys.exit(f'usage: {Path(__file__).name} [--sources|--calls] [ROOT]')
     passed, failed = 0, 0
     for check in checks():
         faults = list(check())

@@ -4,6 +4,7 @@
 set -eu
 here=$(cd "$(dirname "$0")" && pwd)
 crate=$here/../../crates/fluent_languages
+. "$here/../kit.sh"
 data=$(ls -d "$here"/cldr-* | sort -V | tail -n 1)
 python3 -B "$here/generate.py" "$data" "$crate"
 cp "$data/LICENSE-UNICODE" "$crate/LICENSE-UNICODE"

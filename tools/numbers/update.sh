@@ -5,6 +5,7 @@
 set -eu
 here=$(cd "$(dirname "$0")" && pwd)
 top=$here/../..
+. "$top/tools/kit.sh"
 data=$(ls -d "$here"/cldr-* | sort -V | tail -n 1)
 rows=$top/tests/more_rows/data/numerals.txt
 python3 -B "$here/generate.py" "$data/numbers.json" "$top/crates/fluent_numerals"

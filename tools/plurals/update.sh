@@ -4,6 +4,7 @@
 set -eu
 here=$(cd "$(dirname "$0")" && pwd)
 top=$here/../..
+. "$top/tools/kit.sh"
 data=$(ls -d "$here"/cldr-* | sort -V | tail -n 1)
 rows=$top/tests/more_rows/data/plurals.txt
 python3 -B "$here/generate.py" "$data" "${data##*cldr-}" "$top/crates/fluent_plurals"
