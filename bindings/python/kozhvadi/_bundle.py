@@ -18,7 +18,7 @@ from . import _library as c
 from ._answers import Answer, resolver_errors
 from ._errors import FluentError, FluentWarning, MissingMessageError, SourceError, UnknownLocaleError
 from ._extension import calls_type
-from ._functions import Functions, answer_to, functions_of
+from ._functions import Answers, Functions, functions_of
 from ._locks import new_lock
 from ._reports import Sources, source_errors, too_deep
 from ._values import Formatter, arguments_of, encoded
@@ -64,7 +64,10 @@ class Bundle:
     `functions` are those that messages call, by their names: `functions={"PLATFORM": lambda: sys.platform}` for
     `{ PLATFORM() }`. A function gets texts as `str`, numbers as `int` or `Decimal`, and `None` for what has no value; it
     gives a text, a number, what the formatter takes, or `None` for no value. It is called once for each different call
-    that an answer meets, so it has to give the same for the same arguments. What it raises, `format` raises.
+    that an answer meets, so it has to give the same for the same arguments. If it raises an `Exception`, as for arguments
+    that it doesn't take, the call has no value, and the answer a `ResolverError` of the kind "raised". `ValueError` is
+    raised for a name that no message calls: `NUMBER` comes with the library, and others begin with a capital letter and
+    have capital letters, digits, `_` and `-`.
 
     `stack` is how many bytes of the machine's stack a message or a term may take when it is read, and an answer: the
     usual 1.5 MB suit a thread with 2 MB. A source that nests deeper is left out, which is one of the `errors`, and such
@@ -245,13 +248,13 @@ class Bundle:
         key = encoded(id, "the id")
         name = b"" if attribute is None else encoded(attribute, "the name of the attribute")
         array, count = arguments_of(arguments, formatter)
-        answers: list[c.FluentArgument] = []
+        answers = Answers(self._functions, formatter)
         try:
             texts = self._spare.pop()
         except IndexError:
             texts = _Texts()
         while True:
-            given, number = c.arguments(answers)
+            given, number = c.arguments(answers.given)
             with self._lock:
                 answered: int = c.library.fluent_bundle_call(
                     self._handle, key, len(key), name, len(name), array, count, given, number,
@@ -260,11 +263,11 @@ class Bundle:
             if answered != c.CALL:
                 break
             # A function may ask the bundle.
-            answers.append(answer_to(c.string_of(texts.call), self._functions, formatter))
+            answers.add(c.string_of(texts.call))
         if answered != c.READ:
             return answered
         errors = resolver_errors(c.string_of(texts.errors)) if texts.errors.held else []
-        answer = Answer(c.string_of(texts.text), errors)
+        answer = Answer(c.string_of(texts.text), answers.errors + errors)
         self._spare.append(texts)
         return answer
 
@@ -374,8 +377,9 @@ class Bundle:
         self._warns = False
 
     def _warn(self) -> None:
-        """Warns of the errors of the sources, at which nobody has looked."""
-        errors = self.errors
+        """Warns of the errors of the sources, at which nobody has looked. Of the threads that ask at first one warns."""
+        with self._lock:
+            errors = self.errors if self._warns else []
         if self._overriding:
             errors = [error for error in errors if error.kind != "Overriding"]
         if errors:

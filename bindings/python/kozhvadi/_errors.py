@@ -2,6 +2,13 @@
 
 from __future__ import annotations
 
+import re
+from typing import Any
+
+
+# How the line of an error begins for what a function raised.
+_RAISED = re.compile(r"([A-Z][A-Z0-9_-]*)\(\) raised ")
+
 
 class FluentError(Exception):
     """What a bundle can't do, and what is wrong with a message or a source."""
@@ -36,8 +43,9 @@ class ResolverError(_Told):
     """An error that came up while a message was formatted, as in `Unknown variable: $name`. You get the text too.
 
     `kind` is "variable", "message", "term" or "function" if what is referred to isn't there, "value" if a message has
-    none, "default" if no variant of a select was chosen, "cycle" if a message refers to itself, and "placeables" if
-    there are too many. `id` is the name, without `$` or `-`, and `attribute` that of an attribute.
+    none, "default" if no variant of a select was chosen, "cycle" if a message refers to itself, "placeables" if there
+    are too many, and "raised" if a function raised an exception, which is the `__cause__` of the error. `id` is the
+    name, without `$` or `-`, and `attribute` that of an attribute.
 
     >>> error = ResolverError("Unknown attribute: -brand.gender")
     >>> error.kind, error.id, error.attribute
@@ -52,7 +60,9 @@ class ResolverError(_Told):
         super().__init__(line)
         head, _, name = line.partition(": ")
         self.id, self.attribute = None, None
-        if head == "No value":
+        if raised := _RAISED.match(line):
+            self.kind, self.id = "raised", raised[1]
+        elif head == "No value":
             self.kind, self.id = "value", name
         elif name:
             id, _, attribute = name.partition(".")
@@ -62,6 +72,23 @@ class ResolverError(_Told):
             self.id, self.attribute = id.lstrip("$-").removesuffix("()"), attribute or None
         else:
             self.kind = {"No default": "default", "Too many placeables": "placeables"}.get(line, "cycle")
+
+
+def raised_by(function: str, error: Exception) -> ResolverError:
+    """The error of an answer whose function of this name raised an exception."""
+    told = ResolverError(f"{function}() raised {_shown(error)}")
+    told.__cause__ = error
+    return told
+
+
+def _shown(error: Exception) -> str:
+    """The kind of an exception, and its text if it has one."""
+    kind = type(error).__name__
+    try:
+        text = str(error)
+    except Exception:
+        return kind
+    return f"{kind}: {text}" if text else kind
 
 
 class SourceError(_Told):
@@ -78,3 +105,7 @@ class SourceError(_Told):
     ) -> None:
         super().__init__(text)
         self.kind, self.file, self.line, self.column = kind, file, line, column
+
+    def __reduce__(self) -> tuple[Any, ...]:
+        # The attributes have the place.
+        return type(self), (str(self), self.kind), self.__dict__

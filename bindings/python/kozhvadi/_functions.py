@@ -3,11 +3,14 @@
 from __future__ import annotations
 
 import json
+import re
+import threading
 from collections.abc import Callable, Mapping
 from decimal import Decimal
 from typing import Any, Union
 
 from . import _library as c
+from ._errors import ResolverError, raised_by
 from ._values import Formatter, encoded, kind_and_text
 
 # What functions are called with: texts, numbers, and `None` for what has no value.
@@ -16,26 +19,76 @@ Argument = Union[str, int, Decimal, None]
 Functions = Mapping[str, Callable[..., Any]]
 
 
+# A name that a message can call.
+_NAME = re.compile(r"[A-Z][A-Z0-9_-]*")
+
+
+class _Nesting(threading.local):
+    """How many functions of a thread are being called, each by a message that the one before it asked for."""
+
+    depth = 0
+
+
+_nesting = _Nesting()
+
+
 def functions_of(given: Functions | None) -> dict[str, Callable[..., Any]]:
-    """Functions by their names."""
+    """Functions by their names.
+
+    Raises `TypeError` if a name isn't a text or a function can't be called, and `ValueError` if no message would call it.
+    """
     functions = dict(given or {})
     for name, function in functions.items():
         encoded(name, "the name of a function")
         if not callable(function):
             raise TypeError(f"the function {name!r} can't be called: {type(function).__name__}")
+        reason = never_called(name)
+        if reason:
+            raise ValueError(reason)
     return functions
 
 
-def answer_to(call: str, functions: Functions, formatter: Formatter) -> c.FluentArgument:
-    """The answer to a call, by its text. The functions are those of the bundle that met it."""
-    name, positional, named = json.loads(call)
-    value = functions[name](*map(_argument, positional), **{key: _argument(value) for key, value in named.items()})
-    key = call.encode()
-    if value is None:
-        return c.FluentArgument(key, len(key), b"", 0, 0, 0, c.NO_VALUE)
-    kind, text = kind_and_text(f"{name}()", value, formatter)
-    data = encoded(text, "the answer of", f"{name}()")
-    return c.FluentArgument(key, len(key), data, len(data), 0, 0, kind)
+def never_called(name: str) -> str | None:
+    """Why no message calls a function of this name, or `None` if messages can."""
+    if name == "NUMBER":
+        return "the function NUMBER comes with the library, so another of this name is never called"
+    if not _NAME.fullmatch(name):
+        return f"no message can call the function {name!r}: a name has capital letters, and then digits, `_` and `-` too"
+    return None
+
+
+class Answers:
+    """The answers to the calls that a message met, and the errors of those whose function raised something."""
+
+    def __init__(self, functions: Functions, formatter: Formatter) -> None:
+        self._functions, self._formatter = functions, formatter
+        self.given: list[c.FluentArgument] = []
+        self.errors: list[ResolverError] = []
+
+    def add(self, call: str) -> None:
+        """Calls the function of a call, by its text. A call has no value if there is no answer that can be shown."""
+        key, (name, positional, named) = call.encode(), json.loads(call)
+        kind, data = c.NO_VALUE, b""
+        _nesting.depth += 1
+        try:
+            kind, data = self._answer(name, positional, named)
+        except Exception as error:
+            # Functions that ask for each other's messages without end: the first of them has the error.
+            if isinstance(error, RecursionError) and _nesting.depth > 1:
+                raise
+            self.errors.append(raised_by(name, error))
+        finally:
+            _nesting.depth -= 1
+        self.given.append(c.FluentArgument(key, len(key), data, len(data), 0, 0, kind))
+
+    def _answer(self, name: str, positional: list[Any], named: dict[str, Any]) -> tuple[int, bytes]:
+        """The kind of an answer and its text in UTF-8."""
+        given = {key: _argument(value) for key, value in named.items()}
+        value = self._functions[name](*map(_argument, positional), **given)
+        if value is None:
+            return c.NO_VALUE, b""
+        kind, text = kind_and_text(f"{name}()", value, self._formatter)
+        return kind, encoded(text, "the answer of", f"{name}()")
 
 
 def _argument(value: Any) -> Argument:

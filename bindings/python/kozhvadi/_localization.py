@@ -10,6 +10,7 @@ from typing import NamedTuple
 
 from ._bundle import Bundle
 from ._errors import FluentError, MissingMessageError, ResolverError, SourceError, UnknownLocaleError
+from ._functions import Functions, functions_of
 from ._languages import negotiate_languages, system_languages
 from ._locks import new_lock
 from ._values import Formatter
@@ -34,8 +35,8 @@ class Localization:
     ('Hallo', 'en')
 
     A bundle is made when it is first asked. In a locale without plural rules each number is `other`, and is written
-    plainly. `numbers`, `isolating`, `overriding` and `formatter` are those of `Bundle`. Raises `UnknownLocaleError` for
-    a locale that is no language tag.
+    plainly. `numbers`, `isolating`, `overriding`, `formatter` and `functions` are those of `Bundle`. Raises
+    `UnknownLocaleError` for a locale that is no language tag.
     """
 
     def __init__(
@@ -46,9 +47,11 @@ class Localization:
         isolating: bool = True,
         overriding: bool = False,
         formatter: Formatter = str,
+        functions: Functions | None = None,
     ) -> None:
         texts = {locale: [given] if isinstance(given, str) else list(given) for locale, given in sources.items()}
-        self._keep(texts, Bundle, numbers=numbers, isolating=isolating, overriding=overriding, formatter=formatter)
+        settings = {"numbers": numbers, "isolating": isolating, "overriding": overriding, "formatter": formatter}
+        self._keep(texts, Bundle, functions=functions_of(functions), **settings)
 
     @classmethod
     def load(
@@ -62,6 +65,7 @@ class Localization:
         isolating: bool = True,
         overriding: bool = False,
         formatter: Formatter = str,
+        functions: Functions | None = None,
     ) -> Localization:
         """The files `FOLDER/LOCALE/FILE` of the locales that suit those that are asked for: the system's if none are named.
 
@@ -83,7 +87,7 @@ class Localization:
         texts = cls.__new__(cls)
         paths = {locale: available[locale] for locale in used}
         settings = {"numbers": numbers, "isolating": isolating, "overriding": overriding, "formatter": formatter}
-        texts._keep(paths, Bundle.from_files, **settings)
+        texts._keep(paths, Bundle.from_files, functions=functions_of(functions), **settings)
         return texts
 
     def _keep(self, sources: Mapping[str, list[str]], make: Callable[..., Bundle], **settings: object) -> None:
@@ -137,10 +141,9 @@ class Localization:
         return {locale: errors for locale, errors in told.items() if errors}
 
     def close(self) -> None:
-        """Frees the bundles. They are made again if they are asked."""
+        """Frees the bundles. They are made again if they are asked. One that a thread is asking is freed after its answer."""
         with self._lock:
-            while self._bundles:
-                self._bundles.popitem()[1].close()
+            self._bundles.clear()
 
     def __enter__(self) -> Localization:
         return self

@@ -5,7 +5,9 @@ from __future__ import annotations
 import os
 import threading
 import weakref
+from itertools import chain
 
+# Under this one locks are made, and a thread forks.
 _all = threading.RLock()
 _locks: weakref.WeakSet[threading.RLock] = weakref.WeakSet()
 _taken: list[threading.RLock] = []
@@ -20,17 +22,32 @@ def new_lock() -> threading.RLock:
 
 
 def _take_all() -> None:
-    # A thread that holds one of these locks doesn't wait for another.
-    _all.acquire()
-    _taken.extend(_locks)
-    for lock in _taken:
-        lock.acquire()
+    """Takes the locks. It waits for one while it holds none, since the thread that has it may wait for any other."""
+    busy = _all
+    while True:
+        busy.acquire()
+        taken = [busy]
+        # The others are looked up once `_all` is taken.
+        for lock in chain((_all,), _locks):
+            if not lock.acquire(blocking=False):
+                break
+            taken.append(lock)
+        else:
+            _taken.extend(taken)
+            return
+        busy = lock
+        _free(taken)
+
+
+def _free(locks: list[threading.RLock]) -> None:
+    for lock in reversed(locks):
+        lock.release()
 
 
 def _free_all() -> None:
-    while _taken:
-        _taken.pop().release()
-    _all.release()
+    taken = _taken.copy()
+    _taken.clear()
+    _free(taken)
 
 
 os.register_at_fork(before=_take_all, after_in_parent=_free_all, after_in_child=_free_all)

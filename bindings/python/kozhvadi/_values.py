@@ -63,9 +63,12 @@ def _rounded(value: Decimal) -> str | None:
     return format(value, "f") if abs(value) < _TOO_LARGE else None
 
 
-def _real(value: float) -> str | None:
-    """The digits of a float, as Python shows them: those of 1.0 are "1"."""
-    shown = repr(value)
+def _real(value: float | numbers.Real) -> str | None:
+    """The digits of a float, as Python shows them: those of 1.0 are "1". `None` if it is too large or isn't a number."""
+    try:
+        shown = repr(float(value))
+    except OverflowError:
+        return None
     # Most floats are shown without an exponent, and so few characters have at most 18 digits after the point.
     if len(shown) <= 20 and "e" not in shown and shown[-1].isdigit():
         return shown.removesuffix(".0")
@@ -73,7 +76,7 @@ def _real(value: float) -> str | None:
     return text.rstrip("0").rstrip(".") if text and "." in text else text
 
 
-def _number(value: object) -> tuple[int, str] | None:
+def _number(name: str, value: object) -> tuple[int, str] | None:
     """The kind of a number and its text, or `None` for another object. One that is too large is a text."""
     if isinstance(value, Decimal):
         text = _rounded(value)
@@ -81,10 +84,19 @@ def _number(value: object) -> tuple[int, str] | None:
         integer = int(value)
         text = str(integer) if abs(integer) < _TOO_LARGE else None
     elif isinstance(value, (float, numbers.Real)):
-        text = _real(float(value))
+        text = _real(value)
     else:
         return None
-    return (c.TEXT, str(value)) if text is None else (c.DECIMAL, text)
+    return (c.TEXT, _shown(name, value)) if text is None else (c.DECIMAL, text)
+
+
+def _shown(name: str, value: object) -> str:
+    """A number that is too large for the library, as `str` shows it."""
+    try:
+        return str(value)
+    except ValueError as error:
+        # Python has a bound on the digits of an integer that it writes.
+        raise ValueError(f"the argument {name!r} has too many digits to be shown: {error}") from error
 
 
 def _text(name: str, value: str) -> tuple[int, str]:
@@ -100,13 +112,13 @@ def kind_and_text(name: str, value: object, formatter: Formatter) -> tuple[int, 
     """The kind of a value and its text. The formatter makes a value of what is neither a text nor a number."""
     if isinstance(value, str):
         return _text(name, value)
-    found = _number(value)
+    found = _number(name, value)
     if found is not None:
         return found
     made = formatter(value)
     if isinstance(made, str):
         return _text(name, made)
-    found = _number(made)
+    found = _number(name, made)
     if found is None:
         what = f"neither a text nor a number of the argument {name!r}"
         raise TypeError(f"the formatter made {what}: {type(made).__name__}")

@@ -5,21 +5,25 @@
 >>> bundle.format_pattern(bundle.get_message("welcome").value, {"name": "Jane"})
 ('Welcome, Jane!', [])
 
-A number is shown without grouping, and a date as `str` shows it. Functions of the program's own get texts and numbers: a
-date comes as its text. There is no `DATETIME` but one of your own, and of the options of `fluent_number` there is `minimumFractionDigits`: what isn't there raises
-`NotImplementedError`.
+A number is written as the locale does, such as `1,234.5` in English, and a date as `str` shows it. Functions of the
+program's own get texts and numbers: a date comes as its text. `NUMBER` is always that of the library: a `FluentWarning`
+says so if the program has another. There is no `DATETIME` but one of your own, and of the options of `fluent_number`
+there is `minimumFractionDigits`: what isn't there raises `NotImplementedError`. Any thread may ask.
 """
 
 from __future__ import annotations
 
 import os
-import threading
+import warnings
 from collections.abc import Callable, Generator, Iterable, Iterator, Mapping
 from decimal import Decimal
+from itertools import count, islice
 from typing import Any, NoReturn
 
 from ._bundle import Bundle
-from ._errors import ResolverError, UnknownLocaleError
+from ._errors import FluentWarning, ResolverError, UnknownLocaleError
+from ._functions import never_called
+from ._locks import new_lock
 from ._values import Number, encoded
 
 __all__ = [
@@ -112,18 +116,12 @@ class Message:
         self.value, self.attributes = value, attributes
 
 
-class _Raised(threading.local):
-    """What functions raised while an answer was made, in each thread."""
-
-    def __init__(self) -> None:
-        self.errors: list[Exception] = []
-
-
 class FluentBundle:
     """Messages and terms of resources, for the first of these locales that has plural rules.
 
     The resources are read at the first question after one was added. What a function raises is among the errors of the
-    answer, and the text has the call, such as `NAME()`.
+    answer, and the text has the call, such as `NAME()`. A function that no message calls is left out with a
+    `FluentWarning`: a `NUMBER` that isn't `fluent_number`, and one whose name isn't in capital letters.
     """
 
     def __init__(
@@ -134,8 +132,8 @@ class FluentBundle:
     ) -> None:
         self.locales = [locales] if isinstance(locales, str) else list(locales)
         self.use_isolating = use_isolating
-        self._functions = {name: self._caught(function) for name, function in (functions or {}).items()}
-        self._raised = _Raised()
+        self._functions = _called(functions or {})
+        self._lock = new_lock()
         self._resources: list[tuple[str, bool]] = []
         self._made: Bundle | None = None
 
@@ -144,8 +142,9 @@ class FluentBundle:
 
         Of an id that one resource has twice the first entry counts.
         """
-        self._resources.append((resource.source, allow_overrides))
-        self._made = None
+        with self._lock:
+            self._resources.append((resource.source, allow_overrides))
+            self._made = None
 
     def has_message(self, message_id: str) -> bool:
         """Whether there is a message of this id."""
@@ -163,24 +162,8 @@ class FluentBundle:
         self, pattern: Pattern, args: Mapping[str, Any] | None = None
     ) -> tuple[str, list[Exception]]:
         """The text of a pattern, and its errors: first those that functions raised."""
-        before, self._raised.errors = self._raised.errors, []
-        try:
-            text, errors = pattern._bundle.format(pattern._id, pattern._attribute, **dict(args or {}))
-            return text, [*self._raised.errors, *map(_error_of, errors)]
-        finally:
-            self._raised.errors = before
-
-    def _caught(self, function: Callable[..., Any]) -> Callable[..., Any]:
-        """A function that has no value in the place of an error."""
-
-        def call(*positional: Any, **named: Any) -> Any:
-            try:
-                return function(*positional, **named)
-            except Exception as error:
-                self._raised.errors.append(error)
-                return None
-
-        return call
+        text, errors = pattern._bundle.format(pattern._id, pattern._attribute, **dict(args or {}))
+        return text, [_error_of(error) for error in errors]
 
     def _sources(self) -> list[str]:
         """The sources in the order in which the first entry of an id counts."""
@@ -188,9 +171,10 @@ class FluentBundle:
         return over + [source for source, overrides in self._resources if not overrides]
 
     def _bundle(self) -> Bundle:
-        if self._made is None:
-            self._made = self._read()
-        return self._made
+        with self._lock:
+            if self._made is None:
+                self._made = self._read()
+            return self._made
 
     def _read(self) -> Bundle:
         for locale in self.locales:
@@ -205,8 +189,19 @@ class FluentBundle:
         return bundle
 
 
-def _error_of(error: ResolverError) -> FluentFormatError:
-    """The error of `fluent.runtime` that one of the library stands for."""
+def _called(functions: Mapping[str, Callable[..., Any]]) -> dict[str, Callable[..., Any]]:
+    """The functions that messages may call. It warns of the others, but not of the `NUMBER` that is there anyway."""
+    reasons = {name: never_called(name) for name in functions}
+    for name, reason in reasons.items():
+        if reason and (name, functions[name]) != ("NUMBER", fluent_number):
+            warnings.warn(reason, FluentWarning, stacklevel=3)
+    return {name: function for name, function in functions.items() if not reasons[name]}
+
+
+def _error_of(error: ResolverError) -> Exception:
+    """What a function raised, or the error of `fluent.runtime` that one of the library stands for."""
+    if isinstance(error.__cause__, Exception):
+        return error.__cause__
     if error.kind == "variable":
         return FluentReferenceError(f"Unknown external: {error.id}")
     if error.kind in ("message", "term", "function"):
@@ -247,7 +242,7 @@ def _read_text(path: str) -> str:
 
 
 class FluentLocalization:
-    """Texts in the first of the locales that has them. A bundle is made when it is first asked."""
+    """Texts in the first of the locales that has them. A bundle is made when it is first asked, by one thread at a time."""
 
     def __init__(
         self,
@@ -260,8 +255,9 @@ class FluentLocalization:
     ) -> None:
         self.locales, self.resource_ids, self.resource_loader = locales, resource_ids, resource_loader
         self.use_isolating, self.bundle_class, self.functions = use_isolating, bundle_class, functions
+        self._lock = new_lock()
         self._bundle_cache: list[FluentBundle] = []
-        self._bundle_it = self._iterate_bundles()
+        self._bundle_it: Iterator[FluentBundle] = self._iterate_bundles()
 
     def format_value(self, msg_id: str, args: Mapping[str, Any] | None = None) -> str:
         """The text of a message's value in the first locale that has it, or the id if none has."""
@@ -276,10 +272,26 @@ class FluentLocalization:
         return self.bundle_class(locales, functions=self.functions, use_isolating=self.use_isolating)
 
     def _bundles(self) -> Generator[FluentBundle, None, None]:
-        yield from self._bundle_cache
-        for bundle in self._bundle_it:
-            self._bundle_cache.append(bundle)
+        for number in count():
+            bundle = self._nth_bundle(number)
+            if bundle is None:
+                return
             yield bundle
+
+    def _nth_bundle(self, number: int) -> FluentBundle | None:
+        """The bundle of a number, which is made if it is the next one, or `None` if there are no more."""
+        with self._lock:
+            if number < len(self._bundle_cache):
+                return self._bundle_cache[number]
+            try:
+                bundle = next(self._bundle_it, None)
+            except BaseException:
+                # A generator that raised is at its end, and the bundles after the failure are still to come.
+                self._bundle_it = islice(self._iterate_bundles(), number, None)
+                raise
+            if bundle is not None:
+                self._bundle_cache.append(bundle)
+            return bundle
 
     def _iterate_bundles(self) -> Generator[FluentBundle, None, None]:
         for first, locale in enumerate(self.locales):

@@ -1,11 +1,14 @@
 """Tests of functions that messages call."""
 
+import tempfile
 import threading
 import unittest
+import warnings
 from decimal import Decimal
+from pathlib import Path
 
-from kozhvadi import Bundle, MissingMessageError, Number
-from kozhvadi.runtime import FluentBundle, FluentReferenceError, FluentResource
+from kozhvadi import Bundle, FluentError, FluentWarning, Localization, MissingMessageError, Number
+from kozhvadi.runtime import FluentBundle, FluentReferenceError, FluentResource, fluent_number
 
 SOURCE = """\
 settings = { PLATFORM() ->
@@ -73,13 +76,89 @@ class FunctionsTest(unittest.TestCase):
         answer = self.bundle(SHOW=repr).format("settings")
         self.assertEqual((answer.text, [str(error) for error in answer.errors]), ("{PREFERENCES()}", ["Unknown function: PREFERENCES()"]))
 
-    def test_errors(self):
-        with self.assertRaises(ZeroDivisionError):
-            self.bundle(SHOW=lambda _: 1 // 0).format("gone")
-        with self.assertRaisesRegex(TypeError, "'SHOW'.*str"):
-            self.bundle(SHOW="show")
-        with self.assertRaises(ValueError):
-            self.bundle(SHOW=lambda _: "\ud800").format("gone")
+    def test_what_a_function_raises_is_an_error_of_the_answer(self):
+        class Silent(Exception):
+            def __str__(self):
+                raise self
+
+        def raises(error):
+            raise error
+
+        source = 'a = before { F(1, z: 2) } after { $gone }\nb = { F("x") ->\n    [x] x\n   *[other] other\n}\n    .c = { F(F(3)) }\n'
+        for function, told in [
+            (lambda x: x, r"F\(\) raised TypeError: .*unexpected keyword argument 'z'"),
+            (lambda: 1, r"F\(\) raised TypeError: .*"),
+            (lambda *_, **__: raises(ValueError("a bad date")), r"F\(\) raised ValueError: a bad date"),
+            (lambda *_, **__: raises(LookupError()), r"F\(\) raised LookupError"),
+            (lambda *_, **__: raises(Silent()), r"F\(\) raised Silent"),
+            (lambda *_, **__: raises(MissingMessageError("b")), r"F\(\) raised MissingMessageError: b"),
+            (lambda *_, **__: raises(MemoryError("full")), r"F\(\) raised MemoryError: full"),
+            (lambda *_, **__: "\ud800", r"F\(\) raised ValueError: the answer of 'F\(\)' can't be written in UTF-8.*"),
+        ]:
+            with Bundle(source, isolating=False, functions={"F": function}) as bundle:
+                asked = [bundle, Localization({"de": "", "en": source}, isolating=False, functions={"F": function})]
+                for texts in asked:
+                    text, (error, missing) = texts.format("a")[:2]
+                    self.assertEqual((text, missing.kind), ("before F() after {$gone}", "variable"))
+                    self.assertRegex(str(error), f"^{told}$")
+                    self.assertEqual((error.kind, error.id, error.attribute), ("raised", "F", None))
+                    self.assertIsInstance(error, FluentError)
+                    self.assertIn(type(error.__cause__).__name__, str(error))
+        with Bundle(source, isolating=False, functions={"F": lambda x: raises(ValueError(x))}) as bundle:
+            self.assertEqual(bundle.format("b").text, "other")
+            text, errors = bundle.format("b", "c")
+            self.assertEqual((text, [str(error) for error in errors]), ("F()", ["F() raised ValueError: 3", "F() raised ValueError: None"]))
+            # The exception says where it was raised.
+            self.assertEqual(errors[0].__cause__.__traceback__.tb_next.tb_next.tb_next.tb_frame.f_code.co_name, "raises")
+
+    def test_what_ends_the_program_is_raised(self):
+        for kind in (KeyboardInterrupt, SystemExit, GeneratorExit):
+
+            def raises(_, kind=kind):
+                raise kind
+
+            bundle = self.bundle(SHOW=raises)
+            with self.assertRaises(kind):
+                bundle.format("gone")
+            with Localization({"en": SOURCE}, functions={"SHOW": raises}) as texts, self.assertRaises(kind):
+                texts.format("gone")
+            self.assertEqual(bundle.format("plain", n=1).text, "Plain 1")
+
+    def test_a_message_that_asks_for_itself_is_an_error_of_the_first_answer(self):
+        asked = []
+
+        def ask(number):
+            asked.append(number)
+            return bundle.format("a").text
+
+        with Bundle("a = { ASK(1) } { ASK(2) }\n", isolating=False, functions={"ASK": ask}) as bundle:
+            text, errors = bundle.format("a")
+            self.assertEqual(text, "ASK() ASK()")
+            self.assertEqual([type(error.__cause__) for error in errors], [RecursionError] * 2)
+            self.assertLess(len(asked), 5_000)
+
+    def test_names_that_no_message_calls(self):
+        for name in ["NUMBER", "f", "", "lower case", "_F", "1F", "F.G", "É", "F\n"]:
+            for make in [Bundle, lambda source, functions: Localization({"en": source}, functions=functions)]:
+                with self.assertRaisesRegex(ValueError, "NUMBER comes with the library" if name == "NUMBER" else "no message can call"):
+                    make("a = b\n", functions={name: repr})
+        with Bundle("a = { F-1_X() }\n", isolating=False, functions={"F-1_X": lambda: "x", "N": lambda: "n"}) as bundle:
+            self.assertEqual(bundle.format("a"), ("x", []))
+        for make in [Bundle, lambda source, functions: Localization({"en": source}, functions=functions)]:
+            with self.assertRaisesRegex(TypeError, "'SHOW'.*str"):
+                make(SOURCE, functions={"SHOW": "show"})
+            with self.assertRaisesRegex(TypeError, "the name of a function isn't a text: int"):
+                make(SOURCE, functions={1: repr})
+
+    def test_languages(self):
+        sources = {"de": "day = { DAY($n) }\n", "en": "day = the { DAY($n) }\nother = { DAY(2) }\n", "tt": "third = { DAY(3) }\n"}
+        with Localization(sources, isolating=False, functions={"DAY": lambda n: f"day {n}"}) as texts:
+            self.assertEqual([texts.format(id, n=1).text for id in ("day", "other", "third")], ["day 1", "day 2", "day 3"])
+        with tempfile.TemporaryDirectory() as folder:
+            (Path(folder) / "de").mkdir()
+            (Path(folder) / "de" / "main.ftl").write_text(sources["de"], encoding="utf-8")
+            with Localization.load(folder, "main.ftl", ["de"], isolating=False, functions={"DAY": lambda n: n + 1}) as texts:
+                self.assertEqual(texts.format("day", n=1).text, "2")
 
     def test_a_function_asks_the_bundle(self):
         bundle = self.bundle(SHOW=lambda _: bundle.format("plain", n=bundle.format("settings").text).text, PLATFORM=lambda: "windows")
@@ -110,3 +189,17 @@ class FunctionsTest(unittest.TestCase):
         self.assertEqual(text, "SHOW()")
         self.assertEqual([type(error) for error in errors], [ZeroDivisionError, FluentReferenceError])
         self.assertEqual(bundle.format_pattern(bundle.get_message("plain").value, {"n": 1}), ("Plain 1", []))
+
+    def test_runtime_has_the_number_of_the_library(self):
+        def text(functions):
+            bundle = FluentBundle(["en"], functions=functions, use_isolating=False)
+            bundle.add_resource(FluentResource("a = { NUMBER($n, minimumFractionDigits: 1) }\n"))
+            return bundle.format_pattern(bundle.get_message("a").value, {"n": 1234})[0]
+
+        for name, told in [("NUMBER", "NUMBER comes with the library"), ("f", "no message can call the function 'f'")]:
+            with self.assertWarnsRegex(FluentWarning, told) as warned:
+                self.assertEqual(text({name: lambda n, **_: "mine", "OTHER": repr}), "1,234.0")
+            self.assertEqual(warned.filename, __file__)
+        with warnings.catch_warnings():
+            warnings.simplefilter("error")
+            self.assertEqual(text({"NUMBER": fluent_number}), "1,234.0")

@@ -149,8 +149,19 @@ impl<R: Borrow<FluentResource>> FluentBundle<R> {
     /// assert_eq!(bundle.format_pattern(pattern, None, &mut vec![]), "On linux");
     /// ```
     ///
+    /// For no value it returns [`FluentValue::Error`] or [`FluentValue::None`]: then the call is shown as `PLATFORM()`. A
+    /// panic of the function goes through the call that asked for the text, and the bundle can be asked again.
+    ///
     /// # Errors
-    /// [`FluentError::Overriding`] if the id was there; the function is dropped.
+    /// [`FluentError::Overriding`] if the id was there; the function is dropped. `NUMBER` is in each bundle, so leave out
+    /// what would add it, and add a function that writes numbers in another way under another name:
+    ///
+    /// ```
+    /// # use kozhvadi::{EntryKind, FluentBundle, FluentError, FluentResource, FluentValue};
+    /// let mut bundle: FluentBundle = FluentBundle::new(vec!["en"]);
+    /// let overriding = FluentError::Overriding { kind: EntryKind::Function, id: "NUMBER".to_string() };
+    /// assert_eq!(bundle.add_function("NUMBER", |_, _| FluentValue::None), Err(overriding));
+    /// ```
     pub fn add_function<F>(&mut self, id: &str, function: F) -> Result<(), FluentError>
     where
         F: for<'a> Fn(&[FluentValue<'a>], &FluentArgs<'_>) -> FluentValue<'a> + Send + Sync + 'static,

@@ -1,6 +1,7 @@
 //! Functions of the program.
 
 use kozhvadi::{fluent_args, FluentArgs, FluentBundle, FluentError, FluentResource, FluentValue};
+use std::panic::{catch_unwind, AssertUnwindSafe};
 use std::sync::atomic::{AtomicUsize, Ordering};
 use std::sync::Arc;
 
@@ -91,9 +92,35 @@ fn ids_are_shared() {
     for id in ["SHOW", "NUMBER", "plain"] {
         let error = bundle.add_function(id, show).unwrap_err();
         assert!(matches!(&error, FluentError::Overriding { id: other, .. } if other == id), "{error} {}", taken(id));
+        assert_eq!(error.to_string(), taken(id));
     }
     assert_eq!(shown(&bundle, "plain", &fluent_args![]).0, "Plain");
     assert!(bundle.get_message("SHOW").is_none());
+}
+
+#[test]
+fn no_value_is_shown_as_the_call() {
+    for value in [FluentValue::None, FluentValue::Error] {
+        let mut bundle = bundle();
+        bundle.add_function("SHOW", move |_, _| value.into_owned()).unwrap();
+        let (text, errors) = shown(&bundle, "gone", &fluent_args!["gone" => 1]);
+        assert_eq!((text.as_str(), errors.len()), ("SHOW()", 0));
+    }
+}
+
+#[test]
+fn a_panic_goes_through_and_the_bundle_can_be_asked_again() {
+    let mut bundle = bundle();
+    bundle
+        .add_function("SHOW", |positional, _| match positional {
+            [FluentValue::String(_)] => panic!("SHOW takes a number"),
+            _ => FluentValue::from("shown"),
+        })
+        .unwrap();
+    let asked = catch_unwind(AssertUnwindSafe(|| shown(&bundle, "gone", &fluent_args!["gone" => "a"])));
+    let panic = asked.unwrap_err();
+    assert_eq!(panic.downcast_ref::<&str>(), Some(&"SHOW takes a number"));
+    assert_eq!(shown(&bundle, "gone", &fluent_args!["gone" => 1]).0, "shown");
 }
 
 #[test]
