@@ -316,6 +316,14 @@ class WorkspaceTest(unittest.TestCase):
         self.assertIn("one: 1, few: 2, many: 5, other: 1.5", told)
         self.assertIsNone(self.client.ask("textDocument/hover", **at(uri, POLISH, "Jedna")))
 
+    def test_hover_shows_comments_as_they_are(self):
+        source = "# 1. See [a](http://b) **c** <img> &amp; `d`\n# - e_f\n# 2. g\na = A\n"
+        self.client.start()
+        uri = self.client.open("file:///x/de.ftl", source)
+        told = self.client.ask("textDocument/hover", **at(uri, source, "a = A"))["contents"]["value"]
+        shown = "1. See \\[a\\](http://b) \\*\\*c\\*\\* \\<img\\> \\&amp; \\`d\\`\n\\- e\\_f\n2\\. g"
+        self.assertIn(f"`a` in `de`: {shown}\n", told)
+
     def test_hover_shows_terms(self):
         source = "-t = { $case ->\n    [gen] Gen\n   *[nom] Nom\n}\na = { -t }\n"
         self.client.start()

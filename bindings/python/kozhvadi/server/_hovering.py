@@ -2,6 +2,8 @@
 
 from __future__ import annotations
 
+import re
+
 from .._bundle import Bundle
 from .._errors import FluentError
 from .._occurrences import Symbol
@@ -11,6 +13,9 @@ from .._scan import Entry
 from ._checks import Json, position_of
 from ._session import Params
 from ._workspace import Document, Workspace
+
+# What is Markdown in a text that follows a title: links, images, marks, tags and entities, and what begins a line.
+_MARKDOWN = re.compile(r"[\\`*_~\[\]<>&|]|(?<=\n)[#+=-]|(?<=\n[0-9])[.)]|(?<=\n[0-9]{2})[.)]")
 
 # A message that shows a term, which can't be asked for.
 _SHOWN = "kozhvadi-shown-"
@@ -62,7 +67,7 @@ class Hovering:
             return []
         name = f"{key}.{attribute}" if attribute else key
         title = f"{self._code(name)} in {self._code(locale)}" if locale else self._code(name)
-        told = [f"{title}: {entry.comment}" if entry.comment else title]
+        told = [f"{title}: {self._plain(entry.comment)}" if entry.comment else title]
         rows = _rows(documents, entries, entry, attribute, locale or "en")
         return [*told, self._block(_table(rows))] if rows else told
 
@@ -82,8 +87,13 @@ class Hovering:
             told.append(self._block(numbers))
         return told
 
+    def _plain(self, text: str) -> str:
+        """A text that is shown as it is: a comment has no Markdown."""
+        return _MARKDOWN.sub(r"\\\g<0>", text) if self.has_markdown else text
+
     def _code(self, text: str) -> str:
-        return f"`{text}`" if self.has_markdown else text
+        """A name in a span of code, which a backtick would end."""
+        return "`" + text.replace("`", "'") + "`" if self.has_markdown else text
 
     def _block(self, text: str) -> str:
         return f"```text\n{text.replace('```', '` ` `')}\n```" if self.has_markdown else text
