@@ -11,8 +11,9 @@ from .._positions import utf16_length
 from .._samples import Catalog, categories, known
 from .._scan import Entry
 from ._checks import Json, position_of
+from ._documents import Document
 from ._session import Params
-from ._workspace import Document, Workspace
+from ._workspace import Workspace
 
 # What is Markdown in a text that follows a title: links, images, marks, tags and entities, and what begins a line.
 _MARKDOWN = re.compile(r"[\\`*_~\[\]<>&|]|(?<=\n)[#+=-]|(?<=\n[0-9])[.)]|(?<=\n[0-9]{2})[.)]")
@@ -50,9 +51,9 @@ class Hovering:
         if symbol.kind == "function":
             return []
         key, attribute = (symbol.owner, symbol.name) if symbol.owner else (str(symbol), None)
-        catalog, locale = self._workspace.catalog(document), self._workspace.locale(document)
+        catalog, locale = self._workspace.catalog(document).documents, self._workspace.locale(document)
         told = self._of_entry(catalog, key, attribute, locale)
-        reference = self._workspace.reference(document)
+        reference = self._workspace.reference(document).documents
         if reference:
             origin = self._workspace.locale(reference[0]) if not self._workspace.settings.locale else None
             original = self._of_entry(reference, key, attribute, origin or "en")
@@ -73,7 +74,7 @@ class Hovering:
 
     def _of_variable(self, document: Document, symbol: Symbol) -> list[str]:
         locale = self._workspace.locale(document) or "en"
-        entries = self._workspace.samples(self._workspace.catalog(document))
+        entries = self._workspace.samples(self._workspace.catalog(document).documents)
         key = symbol.owner or ""
         entry = entries.entries.get(key)
         parts = [part.attribute for part in entry.parts] if entry else []
