@@ -30,13 +30,23 @@ class Places:
         return self._scan.entries
 
     @cached_property
-    def occurrences(self) -> list[Occurrence]:
+    def _read(self) -> list[Occurrence] | None:
+        """What the library finds. Nothing if it can't read the source."""
         try:
-            found = occurrences_in(self.source)
-            if not has_junk(self.source):
-                return found
+            return occurrences_in(self.source)
         except (ValueError, MemoryError):
-            found = []
+            return None
+
+    @property
+    def is_refused(self) -> bool:
+        """Whether the library can't read the source, as it nests too deep. Its names were then found without it."""
+        return self._read is None
+
+    @cached_property
+    def occurrences(self) -> list[Occurrence]:
+        found = self._read or []
+        if self._read is not None and not has_junk(self.source):
+            return found
         starts = {each.start for each in found}
         broken = [each for each in self._scan.occurrences if each.start not in starts]
         return sorted([*found, *broken], key=lambda each: each.start)

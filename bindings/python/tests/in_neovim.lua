@@ -69,7 +69,11 @@ vim.lsp.buf.rename("greeting")
 await(function()
     return lines_of("l10n/pl/main.ftl")[2]:match("^greeting") ~= nil
 end)
-tell("renamed", { lines_of("l10n/pl/main.ftl")[2], lines_of("l10n/en-US/main.ftl")[1] })
+tell("renamed", {
+    lines_of("l10n/pl/main.ftl")[2],
+    lines_of("l10n/en-US/main.ftl")[1],
+    lines_of("l10n/pl/mark.ftl")[1],
+})
 
 go("unread")
 local params = vim.lsp.util.make_range_params()

@@ -17,6 +17,7 @@ FILES = {
         "# Zażółć \U0001f44d\nwelcome = \U0001f44d Witaj w { -brand }, { $nmae }.\nunread = { $count ->\n    [one] Jedna.\n"
         "    [few] { $count } nie.\n   *[other] { $count } inne.\n}\n"
     ),
+    "l10n/pl/mark.ftl": "\ufeffagain = { welcome } { welcome }\n",
 }
 
 
@@ -44,6 +45,7 @@ class NeovimTest(unittest.TestCase):
                 path = folder / name
                 path.parent.mkdir(parents=True, exist_ok=True)
                 path.write_text(text, encoding="utf-8")
+            (folder / "l10n/pl/link.ftl").symlink_to("main.ftl")
             guide = Path(made, "guide.lua")
             guide.write_text(lines_of_the_guide(), encoding="utf-8")
             set_up = f"lua FOLDER, GUIDE, OUT = [[{folder}]], [[{guide}]], [[{out}]]"
@@ -89,7 +91,12 @@ class NeovimTest(unittest.TestCase):
         self.assertEqual(told["jumped to"], ["terms.ftl", 2, 2])
         self.assertIn("$count = 2    few    2 nie.", told["hover"])
         self.assertEqual(
-            told["renamed"], ["greeting = \U0001f44d Witaj w { -brand }, { $name }.", "greeting = Welcome, { $name }."]
+            told["renamed"],
+            [
+                "greeting = \U0001f44d Witaj w { -brand }, { $name }.",
+                "greeting = Welcome, { $name }.",
+                "again = { greeting } { greeting }",
+            ],
         )
         self.assertEqual(told["action"], "Add the variant `[many]`")
         mended = [

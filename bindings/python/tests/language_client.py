@@ -35,6 +35,8 @@ class Client:
             cwd=FOLDER,
         )
         self.told, self._number = [], 0
+        # What the server showed to the user, as far as its messages were read.
+        self.shown = []
         self._watch = threading.Timer(patience, self.process.kill)
         self._watch.daemon = True
         self._watch.start()
@@ -61,7 +63,10 @@ class Client:
             name, _, value = line.partition(b":")
             if name.lower() == b"content-length":
                 length = int(value)
-        return json.loads(self.process.stdout.read(length))
+        message = json.loads(self.process.stdout.read(length))
+        if isinstance(message, dict) and message.get("method") == "window/showMessage":
+            self.shown.append(message["params"]["message"])
+        return message
 
     def request(self, method, params=None):
         """Sends a request, and returns its id."""

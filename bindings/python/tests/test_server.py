@@ -2,12 +2,11 @@
 
 import os
 import random
-import tempfile
 import unittest
-from pathlib import Path
 
 from .fuzz_server import flat, flooded
 from .language_client import Client, at, edited, framed
+from .workspace_case import WorkspaceCase
 
 ENGLISH = "welcome = Welcome, { $name }.\nunread = { $count ->\n    [one] One message.\n   *[other] { $count } messages.\n}\nbye = Bye\n"
 POLISH = "# Zażółć \U0001f44d\nwelcome = Witaj \U0001f44d, { $nmae }.\nunread = { $count ->\n    [one] Jedna.\n    [few] { $count } nie.\n   *[other] { $count } inne.\n}\n"
@@ -127,30 +126,11 @@ class LifeTest(unittest.TestCase):
         self.assertLess(flat(400), 4_000)
 
 
-class WorkspaceTest(unittest.TestCase):
+class WorkspaceTest(WorkspaceCase):
     def setUp(self):
-        folder = tempfile.TemporaryDirectory()
-        self.addCleanup(folder.cleanup)
-        self.root = Path(folder.name, "a b ü")
+        super().setUp()
         self.english = self.file("l10n/en-US/main.ftl", ENGLISH)
         self.polish = self.file("l10n/pl/main.ftl", POLISH)
-        self.client = self.enterContext(Client()) if hasattr(self, "enterContext") else self.entered(Client())
-
-    def entered(self, client):
-        self.addCleanup(client.__exit__)
-        return client
-
-    def file(self, name, text):
-        path = self.root / name
-        path.parent.mkdir(parents=True, exist_ok=True)
-        path.write_bytes(text.encode())
-        return path
-
-    def found(self, diagnostics):
-        return [
-            (each["code"], each["severity"], each["range"]["start"]["line"], each["range"]["start"]["character"])
-            for each in diagnostics
-        ]
 
     def test_findings_while_typing(self):
         self.client.start(self.root, reference="l10n/en-US")
@@ -180,9 +160,6 @@ class WorkspaceTest(unittest.TestCase):
         self.client.diagnostics(polish)
         self.client.change(english, ENGLISH.replace("$name", "$nmae"))
         self.assertEqual(self.found(self.client.diagnostics(polish))[0][0], "missing-category")
-
-    def codes(self, uri):
-        return [each["code"] for each in self.client.diagnostics(uri)]
 
     def test_files_that_change_elsewhere(self):
         watching = {"workspace": {"didChangeWatchedFiles": {"dynamicRegistration": True}}}
@@ -245,19 +222,16 @@ class WorkspaceTest(unittest.TestCase):
             uri = self.client.open(self.root / "languages" / name, source)
             self.assertEqual(self.codes(uri), ["missing-category"] * count, name)
 
-    def test_files_that_cant_be_read(self):
+    def test_what_is_no_file_is_passed_over(self):
         os.mkfifo(self.root / "l10n/pl/pipe.ftl")
         (self.root / "l10n/pl/folder.ftl").mkdir()
         (self.root / "l10n/pl/away.ftl").symlink_to("nowhere")
         (self.root / "l10n/pl/loop").symlink_to(self.root)
-        (self.root / "l10n/pl/bytes.ftl").write_bytes(b"a = \xff\n")
-        deep = self.file("l10n/pl/deep.ftl", "deep = " + "{" * 3000 + "\n")
+        (self.root / "l10n/pl/itself.ftl").symlink_to("itself.ftl")
         self.client.start(self.root)
         uri = self.client.open(self.root / "l10n/pl/new.ftl", "a = { -b }\n")
         self.assertEqual(self.codes(uri), ["unknown-term"])
         self.assertEqual(len(self.client.ask("workspace/symbol", query="welcome")), 2)
-        uri = self.client.open(deep)
-        self.assertEqual(self.codes(uri), ["memory"])
 
     def test_settings(self):
         self.client.start(self.root, functions=["DATE"], locale="pl", notes=1)
@@ -315,6 +289,14 @@ class WorkspaceTest(unittest.TestCase):
         told = self.client.ask("textDocument/hover", **at(uri, POLISH, "$count"))["contents"]["value"]
         self.assertIn("one: 1, few: 2, many: 5, other: 1.5", told)
         self.assertIsNone(self.client.ask("textDocument/hover", **at(uri, POLISH, "Jedna")))
+
+    def test_hover_shows_comments_as_they_are(self):
+        source = "# 1. See [a](http://b) **c** <img> &amp; `d`\n# - e_f\n# 2. g\na = A\n"
+        self.client.start()
+        uri = self.client.open("file:///x/de.ftl", source)
+        told = self.client.ask("textDocument/hover", **at(uri, source, "a = A"))["contents"]["value"]
+        shown = "1. See \\[a\\](http://b) \\*\\*c\\*\\* \\<img\\> \\&amp; \\`d\\`\n\\- e\\_f\n2\\. g"
+        self.assertIn(f"`a` in `de`: {shown}\n", told)
 
     def test_hover_shows_terms(self):
         source = "-t = { $case ->\n    [gen] Gen\n   *[nom] Nom\n}\na = { -t }\n"

@@ -2,18 +2,50 @@
 
 from __future__ import annotations
 
+import re
+from collections.abc import Iterable
+from dataclasses import dataclass, replace
+from functools import cached_property
 from typing import Any
 
 from .._fixes import extent, fixes
 from .._linting import Finding, lint
 from .._positions import utf16_length
+from ._documents import Document, Loaded
 from ._session import Params
-from ._workspace import Document, Workspace
+from ._workspace import Workspace
 
-_SEVERITIES = {"error": 1, "warning": 2, "note": 3}
+_ERROR, _WARNING = 1, 2
+_SEVERITIES = {"error": _ERROR, "warning": _WARNING, "note": 3}
 _UNNECESSARY = 1
 
+# What a finding of these codes says may be untrue if a file of the catalog can't be read, or one of the reference.
+_OF_CATALOG = {"unknown-message", "unknown-term", "unused-term", "unused-variable", "missing-message"}
+_OF_REFERENCE = {"unknown-variable", "unknown-function", "obsolete-message"}
+
+# This many files that can't be read are named.
+_NAMED = 5
+
+_DUPLICATE = re.compile(r"the entry at (.+):([0-9]+):[0-9]+ has the same id")
+
 Json = dict[str, Any]
+
+
+@dataclass
+class _Checked:
+    """What was found in documents that are loaded together: of files by their URIs, and of all that can't be read.
+
+    `names` has the documents by the names that texts of findings have for them.
+    """
+
+    found: list[Finding]
+    unread: list[str]
+    names: dict[str, Document]
+
+    @cached_property
+    def missing(self) -> list[Finding]:
+        """Messages that the reference has, and the catalog lacks."""
+        return [each for each in self.found if each.code == "missing-message"]
 
 
 class Checks:
@@ -21,35 +53,64 @@ class Checks:
 
     def __init__(self, workspace: Workspace) -> None:
         self._workspace = workspace
+        self.has_related = False
         self._found: dict[str, list[Finding]] = {}
         self._missing: dict[str, list[str]] = {}
 
     def check(self, document: Document) -> list[Json]:
         """Looks for mistakes in a document and those that are loaded with it: what is to be published, a list each."""
         catalog, reference = self._workspace.catalog(document), self._workspace.reference(document)
+        opened = [each for each in catalog.documents if self._is_told_with(each, document)]
         try:
-            found = self._findings(document, catalog, reference)
+            checked = self._checked(document, catalog, reference)
         except MemoryError:
-            # Another source may be the one that nests too deep.
-            catalog, reference = [document], []
+            catalog, reference = catalog.without_deep(), reference.without_deep()
             try:
-                found = self._findings(document, catalog, reference)
+                checked = self._checked(document, catalog, reference)
             except MemoryError:
-                self._found[document.uri], self._missing[document.uri] = [], []
-                return [self._published(document, [_too_deep(document)])]
-        missing = [each for each in found if each.code == "missing-message"]
-        opened = [each for each in catalog if each.uri in self._workspace.open]
-        return [self._told(each, found, missing) for each in opened]
+                return [self._refused(document)]
+        read = {each.uri for each in catalog.documents}
+        return [self._told(each, checked) if each.uri in read else self._refused(each) for each in opened]
 
-    def _findings(self, document: Document, catalog: list[Document], reference: list[Document]) -> list[Finding]:
+    def _is_told_with(self, each: Document, document: Document) -> bool:
+        """Whether a document of a catalog is an open one that belongs there by its path, and not by a symbolic link."""
+        if each.uri not in self._workspace.open:
+            return False
+        return each is document or self._workspace.group(each) == self._workspace.group(document)
+
+    def _checked(self, document: Document, catalog: Loaded, reference: Loaded) -> _Checked:
         settings = self._workspace.settings
-        return lint(
-            [(each.uri, each.text) for each in catalog],
-            reference=[(each.uri, each.text) for each in reference],
+        documents = [*catalog.documents, *reference.documents]
+        names = self._names(documents)
+        shown = {each.uri: name for name, each in names.items()}
+        marks = {each.uri: self._workspace.mark(each) for each in documents}
+        report = lint(
+            [(shown[each.uri], marks[each.uri] + each.text) for each in catalog.documents],
+            reference=[(shown[each.uri], marks[each.uri] + each.text) for each in reference.documents],
             locale=self._workspace.locale(document),
             functions=settings.functions,
             notes=settings.notes,
-        ).findings
+        )
+        unsure = (_OF_CATALOG if catalog.unread else set()) | (_OF_REFERENCE if reference.unread else set())
+        found = [_placed(each, names[each.file], marks) for each in report.findings if each.code not in unsure]
+        return _Checked(found, self._unread(catalog, reference), names)
+
+    def _names(self, documents: Iterable[Document]) -> dict[str, Document]:
+        """The documents by their paths from the top of the workspace. If two have the same, one has its URI."""
+        names: dict[str, Document] = {}
+        for document in documents:
+            name = self._workspace.shown(document.path) if document.path else document.uri
+            if names.setdefault(name, document).uri != document.uri:
+                names[document.uri] = document
+        return names
+
+    def _unread(self, catalog: Loaded, reference: Loaded) -> list[str]:
+        """What can't be read, in sentences."""
+        unread = [*catalog.unread, *reference.unread]
+        told = [f"{self._workspace.shown(path)} {why}, so its entries are unknown" for path, why in unread[:_NAMED]]
+        if len(unread) > _NAMED:
+            told.append(f"{len(unread) - _NAMED} more files can't be read, so their entries are unknown")
+        return told
 
     def forget(self, uri: str) -> Json:
         """Drops what was found in a document that is closed."""
@@ -57,16 +118,35 @@ class Checks:
         self._missing.pop(uri, None)
         return {"uri": uri, "diagnostics": []}
 
-    def _told(self, document: Document, found: list[Finding], missing: list[Finding]) -> Json:
-        own = [each for each in found if each.file == document.uri]
-        self._found[document.uri] = own
-        told = [_diagnostic(document, each) for each in own]
+    def _told(self, document: Document, checked: _Checked) -> Json:
+        self._found[document.uri] = own = [each for each in checked.found if each.file == document.uri]
+        told = [_at_first_line(document, _WARNING, "unread-file", words) for words in checked.unread]
+        told += [{**_diagnostic(document, each), **self._related(each, checked)} for each in own]
         counterpart = self._workspace.counterpart(document)
-        lacks = [each.entry for each in missing if counterpart and each.file == counterpart.uri and each.entry]
+        lacks = [each.entry for each in checked.missing if counterpart and each.file == counterpart.uri and each.entry]
         self._missing[document.uri] = lacks
         if lacks:
             told.append(_untranslated(document, lacks))
         return self._published(document, told)
+
+    def _related(self, finding: Finding, checked: _Checked) -> Json:
+        """The place of the other entry, if a finding names it, for clients that show it."""
+        named = _DUPLICATE.match(finding.text) if self.has_related and finding.code == "duplicate-id" else None
+        document = checked.names.get(named[1]) if named else None
+        if named is None or document is None:
+            return {}
+        id = (finding.entry or "").removeprefix("-")
+        for entry in document.places.entries:
+            start = entry.name_start
+            if entry.id == id and document.lines.position(start)[0] + 1 == int(named[2]):
+                location = {"uri": document.uri, "range": document.range(start, start + len(id))}
+                return {"relatedInformation": [{"location": location, "message": "the other entry"}]}
+        return {}
+
+    def _refused(self, document: Document) -> Json:
+        self._found[document.uri], self._missing[document.uri] = [], []
+        words = "the source nests too deep, or memory ran out"
+        return self._published(document, [_at_first_line(document, _ERROR, "memory", words)])
 
     @staticmethod
     def _published(document: Document, told: list[Json]) -> Json:
@@ -81,7 +161,8 @@ class Checks:
             return []
         asked = params["range"]
         start, end = (document.offset(position_of(asked[name])) for name in ("start", "end"))
-        catalog, reference = self._workspace.catalog(document), self._workspace.reference(document)
+        catalog = self._workspace.catalog(document).documents
+        reference = self._workspace.reference(document).documents
         entries, compared = self._workspace.samples(catalog), self._workspace.samples(reference)
         found: list[Json] = []
         for finding in self._found.get(uri, ()):
@@ -132,7 +213,7 @@ def _diagnostic(document: Document, finding: Finding) -> Json:
     text = f"{finding.text} ({finding.hint})" if finding.hint else finding.text
     told: Json = {
         "range": document.range(*extent(document.source, finding.offset)),
-        "severity": _SEVERITIES.get(finding.severity, 1),
+        "severity": _SEVERITIES.get(finding.severity, _ERROR),
         "code": finding.code,
         "source": "kozhvadi",
         "message": f"{finding.entry}: {text}" if finding.entry else text,
@@ -153,22 +234,27 @@ def _untranslated(document: Document, lacks: list[str]) -> Json:
     count = "1 message of the reference has" if len(lacks) == 1 else f"{len(lacks)} messages of the reference have"
     return {
         "range": document.range(_last_line(document), len(document.source.rstrip())),
-        "severity": 2,
+        "severity": _WARNING,
         "code": "missing-message",
         "source": "kozhvadi",
         "message": f"{count} no translation: {some}",
     }
 
 
-def _too_deep(document: Document) -> Json:
+def _at_first_line(document: Document, severity: int, code: str, message: str) -> Json:
     end = utf16_length(document.lines.line(0).decode(errors="replace"))
     return {
         "range": {"start": {"line": 0, "character": 0}, "end": {"line": 0, "character": end}},
-        "severity": 1,
-        "code": "memory",
+        "severity": severity,
+        "code": code,
         "source": "kozhvadi",
-        "message": "the source nests too deep, or memory ran out",
+        "message": message,
     }
+
+
+def _placed(finding: Finding, document: Document, marks: dict[str, str]) -> Finding:
+    """A finding with the URI of its document, and the offset in its text: the library has read the mark, too."""
+    return replace(finding, file=document.uri, offset=max(0, finding.offset - len(marks[document.uri].encode())))
 
 
 def position_of(params: Params) -> tuple[int, int]:

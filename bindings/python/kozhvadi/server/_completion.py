@@ -10,8 +10,9 @@ from .._occurrences import Symbol
 from .._samples import Catalog, categories
 from .._scan import Inside, inside
 from ._checks import Json, position_of
+from ._documents import Document
 from ._session import Params
-from ._workspace import Document, Workspace
+from ._workspace import Workspace
 
 _NAME = rb"[A-Za-z][A-Za-z0-9_-]*"
 _WORD = re.compile(rb"(?:[$-]?" + _NAME + rb"(?:\.(?:" + _NAME + rb")?)?|[$-])?$")
@@ -71,8 +72,8 @@ class Completion:
     def _expressions(self, document: Document, place: Inside, word: str, start: int) -> list[Json]:
         if place.kind == "placeable" and place.is_full:
             return []
-        catalog = self._workspace.samples(self._workspace.catalog(document))
-        reference = self._workspace.samples(self._workspace.reference(document))
+        catalog = self._workspace.samples(self._workspace.catalog(document).documents)
+        reference = self._workspace.samples(self._workspace.reference(document).documents)
         if "." in word:
             return _attributes(catalog, word.partition(".")[0])
         if word.startswith("$"):
@@ -134,7 +135,7 @@ class Completion:
     def _untranslated(self, document: Document) -> list[Json]:
         """The messages of the reference's file that the documents lack, with their texts."""
         counterpart = self._workspace.counterpart(document)
-        have = self._workspace.samples(self._workspace.catalog(document)).entries
+        have = self._workspace.samples(self._workspace.catalog(document).documents).entries
         items: list[Json] = []
         for entry in counterpart.places.entries if counterpart else ():
             if counterpart and not entry.is_term and entry.id not in have:

@@ -2,6 +2,8 @@
 
 from __future__ import annotations
 
+import re
+
 from .._bundle import Bundle
 from .._errors import FluentError
 from .._occurrences import Symbol
@@ -9,8 +11,12 @@ from .._positions import utf16_length
 from .._samples import Catalog, categories, known
 from .._scan import Entry
 from ._checks import Json, position_of
+from ._documents import Document
 from ._session import Params
-from ._workspace import Document, Workspace
+from ._workspace import Workspace
+
+# What is Markdown in a text that follows a title: links, images, marks, tags and entities, and what begins a line.
+_MARKDOWN = re.compile(r"[\\`*_~\[\]<>&|]|(?<=\n)[#+=-]|(?<=\n[0-9])[.)]|(?<=\n[0-9]{2})[.)]")
 
 # A message that shows a term, which can't be asked for.
 _SHOWN = "kozhvadi-shown-"
@@ -45,9 +51,9 @@ class Hovering:
         if symbol.kind == "function":
             return []
         key, attribute = (symbol.owner, symbol.name) if symbol.owner else (str(symbol), None)
-        catalog, locale = self._workspace.catalog(document), self._workspace.locale(document)
+        catalog, locale = self._workspace.catalog(document).documents, self._workspace.locale(document)
         told = self._of_entry(catalog, key, attribute, locale)
-        reference = self._workspace.reference(document)
+        reference = self._workspace.reference(document).documents
         if reference:
             origin = self._workspace.locale(reference[0]) if not self._workspace.settings.locale else None
             original = self._of_entry(reference, key, attribute, origin or "en")
@@ -62,13 +68,13 @@ class Hovering:
             return []
         name = f"{key}.{attribute}" if attribute else key
         title = f"{self._code(name)} in {self._code(locale)}" if locale else self._code(name)
-        told = [f"{title}: {entry.comment}" if entry.comment else title]
+        told = [f"{title}: {self._plain(entry.comment)}" if entry.comment else title]
         rows = _rows(documents, entries, entry, attribute, locale or "en")
         return [*told, self._block(_table(rows))] if rows else told
 
     def _of_variable(self, document: Document, symbol: Symbol) -> list[str]:
         locale = self._workspace.locale(document) or "en"
-        entries = self._workspace.samples(self._workspace.catalog(document))
+        entries = self._workspace.samples(self._workspace.catalog(document).documents)
         key = symbol.owner or ""
         entry = entries.entries.get(key)
         parts = [part.attribute for part in entry.parts] if entry else []
@@ -82,8 +88,13 @@ class Hovering:
             told.append(self._block(numbers))
         return told
 
+    def _plain(self, text: str) -> str:
+        """A text that is shown as it is: a comment has no Markdown."""
+        return _MARKDOWN.sub(r"\\\g<0>", text) if self.has_markdown else text
+
     def _code(self, text: str) -> str:
-        return f"`{text}`" if self.has_markdown else text
+        """A name in a span of code, which a backtick would end."""
+        return "`" + text.replace("`", "'") + "`" if self.has_markdown else text
 
     def _block(self, text: str) -> str:
         return f"```text\n{text.replace('```', '` ` `')}\n```" if self.has_markdown else text

@@ -8,8 +8,9 @@ from collections.abc import Iterator
 from .._occurrences import Occurrence, Symbol
 from .._scan import Entry
 from ._checks import Json, position_of
+from ._documents import Document, Loaded
 from ._session import INVALID_PARAMS, REQUEST_FAILED, Params, Refused
-from ._workspace import Document, Workspace
+from ._workspace import Workspace
 
 _NAME = re.compile(r"[A-Za-z][A-Za-z0-9_-]*")
 
@@ -46,7 +47,8 @@ class Naming:
         if asked is None:
             return []
         document, found = asked
-        catalog, reference = self._workspace.catalog(document), self._workspace.reference(document)
+        catalog = self._workspace.catalog(document).documents
+        reference = self._workspace.reference(document).documents
         if found.symbol.kind == "variable":
             return self._uses(found.symbol, reference)[:1] or self._uses(found.symbol, [document])[:1]
         return self._definitions(found.symbol, catalog) or self._definitions(found.symbol, reference)
@@ -59,7 +61,7 @@ class Naming:
         with_definitions = params.at("context", "includeDeclaration") is not False
         return [
             _location(document, found)
-            for document, found in self._everywhere(asked[1].symbol)
+            for document, found in _named(asked[1].symbol, self._workspace.all(asked[0]))
             if with_definitions or not found.is_definition
         ]
 
@@ -73,11 +75,6 @@ class Naming:
             {"range": document.range(each.start, each.end), "kind": 3 if each.is_definition else 2}
             for each in document.places.of(found.symbol)
         ]
-
-    def _everywhere(self, symbol: Symbol) -> Iterator[tuple[Document, Occurrence]]:
-        for document in self._workspace.all():
-            for found in document.places.of(symbol):
-                yield document, found
 
     def _definitions(self, symbol: Symbol, documents: list[Document]) -> list[Json]:
         return [
@@ -112,24 +109,33 @@ class Naming:
             raise Refused(INVALID_PARAMS, f"{words}: {name!r}")
         if name == symbol.name:
             return {"changes": {}}
-        self._refuse_if_taken(symbol, name)
+        everything = self._workspace.all(asked[0])
+        self._refuse_if_unread(everything)
+        self._refuse_if_taken(symbol, name, everything)
         edits: dict[str, tuple[Document, list[Json]]] = {}
-        for document, found in self._everywhere(symbol):
+        for document, found in _named(symbol, everything):
             _, listed = edits.setdefault(document.uri, (document, []))
             listed.append({"range": document.range(found.start, found.end), "newText": name})
         return self._workspace_edit(edits)
 
-    def _refuse_if_taken(self, symbol: Symbol, name: str) -> None:
+    def _refuse_if_unread(self, everything: Loaded) -> None:
+        """A file whose names aren't known may have the name."""
+        deep = [each.as_too_deep() for each in everything.documents if each.places.is_refused]
+        for path, why in (*everything.unread, *deep):
+            words = f"{self._workspace.shown(path)} {why}, so the names in it are unknown, and nothing is renamed"
+            raise Refused(REQUEST_FAILED, words)
+
+    def _refuse_if_taken(self, symbol: Symbol, name: str, everything: Loaded) -> None:
         """Two entries of one id would clash, and so would a message and a term."""
         taken = [Symbol(symbol.kind, name, symbol.owner)]
         if symbol.kind in ("message", "term"):
             taken = [Symbol("message", name), Symbol("term", name)]
         is_held = symbol.kind == "variable"
-        holders = [document for document, found in self._everywhere(symbol) if found.is_definition or is_held]
+        holders = [document for document, found in _named(symbol, everything) if found.is_definition or is_held]
         near = holders
         if symbol.kind in ("message", "term"):
             # Only what is loaded with a file that has the entry can clash with it.
-            near = [each for holder in holders for each in self._workspace.catalog(holder)]
+            near = [each for holder in holders for each in self._workspace.catalog(holder).documents]
         for document in {each.uri: each for each in near}.values():
             for found in (each for other in taken for each in document.places.of(other)):
                 if found.is_definition or symbol.kind == "variable":
@@ -158,11 +164,18 @@ class Naming:
         """The messages and terms of the workspace whose ids have a text in them."""
         query = params["query"].text.lower()
         found: list[Json] = []
-        for document in self._workspace.all():
+        for document in self._workspace.all().documents:
             found += [_flat(document, entry) for entry in document.places.entries if query in entry.key.lower()]
             if len(found) >= _MOST:
                 break
         return found[:_MOST]
+
+
+def _named(symbol: Symbol, loaded: Loaded) -> Iterator[tuple[Document, Occurrence]]:
+    """Where documents name a symbol."""
+    for document in loaded.documents:
+        for found in document.places.of(symbol):
+            yield document, found
 
 
 def _location(document: Document, found: Occurrence) -> Json:

@@ -7,22 +7,28 @@ import threading
 import time
 from collections.abc import Callable
 from queue import Empty, Queue
+from typing import Any
 
 from .. import __version__
 from .._linting import TidyError, tidy
 from ._checks import Checks, Json
 from ._completion import Completion
+from ._documents import Document
 from ._hovering import Hovering
 from ._naming import Naming
 from ._session import PARSE_ERROR, REQUEST_FAILED, Params, Refused, Session
+from ._settings import Settings, own, own_among_others, settings_in
 from ._wire import Damaged, Input, Output, Reader, writer
-from ._workspace import Document, Settings, Workspace
+from ._workspace import Workspace
 
 # This many messages are read ahead.
 _AHEAD = 1000
 
 # While messages keep coming, documents are checked this often, in seconds.
 _PATIENCE = 0.3
+
+# This many warnings are shown at most, each once.
+_MOST_SHOWN = 1000
 
 _CAPABILITIES = {
     "positionEncoding": "utf-16",
@@ -37,6 +43,7 @@ _CAPABILITIES = {
     "documentFormattingProvider": True,
     "renameProvider": {"prepareProvider": True},
     "codeActionProvider": {"codeActionKinds": ["quickfix"]},
+    "workspace": {"workspaceFolders": {"supported": True, "changeNotifications": True}},
 }
 
 
@@ -50,6 +57,8 @@ class Server:
         self._naming, self._hovering = Naming(self.workspace), Hovering(self.workspace)
         self._completion = Completion(self.workspace)
         self._unchecked: dict[str, None] = {}
+        self._shown: set[str] = set()
+        self._initial: dict[str, Any] = {}
         self._can_watch = False
         answers: dict[str, Callable[[Params], object]] = {
             "initialize": self._initialize,
@@ -84,6 +93,8 @@ class Server:
             uri = next(iter(self._unchecked))
             document = self.workspace.open.get(uri)
             published = self._checks.check(document) if document else []
+            if document:
+                self._show_missing_reference(document)
             self._unchecked.pop(uri, None)
             for each in published:
                 self._unchecked.pop(each["uri"], None)
@@ -122,7 +133,9 @@ class Server:
         uris = [each["uri"].text for each in params["workspaceFolders"].items] if isinstance(folders, list) else []
         root = params.at("rootUri")
         self.workspace.set_roots(uris or ([root] if isinstance(root, str) else []))
-        self._set(params.at("initializationOptions"))
+        self._checks.has_related = can.at("publishDiagnostics", "relatedInformation") is True
+        self._initial = self._settings_in(own(params.at("initializationOptions")))
+        self.workspace.settings = Settings(**self._initial)
         return {"capabilities": _CAPABILITIES, "serverInfo": {"name": "kozhvadi", "version": __version__}}
 
     def _watch(self, _: Params) -> None:
@@ -133,24 +146,36 @@ class Server:
             params = {"registrations": [asked]}
             self._send({"jsonrpc": "2.0", "id": "watch", "method": "client/registerCapability", "params": params})
 
-    def _set(self, given: object) -> None:
-        self.workspace.settings, wrong = Settings.of(given)
+    def _settings_in(self, given: object) -> dict[str, Any]:
+        """The settings of a value. What is wrong with it is shown to the user."""
+        fit, wrong = settings_in(given)
         for words in wrong:
+            self._show(words)
+        return fit
+
+    def _show(self, words: str) -> None:
+        """Shows a warning to the user, unless it was shown before."""
+        if words not in self._shown and len(self._shown) < _MOST_SHOWN:
+            self._shown.add(words)
             shown = {"type": 2, "message": f"kozhvadi: {words}"}
             self._send({"jsonrpc": "2.0", "method": "window/showMessage", "params": shown})
 
+    def _show_missing_reference(self, document: Document) -> None:
+        folder = self.workspace.missing_reference(document)
+        if folder:
+            self._show(f"the reference {self.workspace.settings.reference} isn't in {folder}")
+
     def _configure(self, params: Params) -> None:
-        given = params["settings"].value
-        # Some clients send null and wait to be asked; what they said at first stays.
-        if isinstance(given, dict) and given:
-            self._set(given)
+        """Takes settings in place of those of the initialization options. If there are none, nothing changes: some
+        clients send null and wait to be asked, and others send the settings of all their servers."""
+        given = self._settings_in(own_among_others(params["settings"].value))
+        if given:
+            self.workspace.settings = Settings(**{**self._initial, **given})
             self._check_all()
 
     def _change_folders(self, params: Params) -> None:
-        event = params["event"]
-        gone = {each["uri"].text for each in event["removed"].items}
-        left = [root.as_uri() for root in self.workspace.roots if root.as_uri() not in gone]
-        self.workspace.set_roots([*left, *(each["uri"].text for each in event["added"].items)])
+        added, removed = ([each["uri"].text for each in params["event"][name].items] for name in ("added", "removed"))
+        self.workspace.change_roots(added, removed)
         self._check_all()
 
     def _open(self, params: Params) -> None:
@@ -169,8 +194,7 @@ class Server:
 
     def _take(self, uri: str, text: str, version: object) -> None:
         is_number = isinstance(version, int) and not isinstance(version, bool)
-        document = Document(uri, text, version if is_number and isinstance(version, int) else None)
-        self.workspace.put(document)
+        document = self.workspace.take(uri, text, version if is_number and isinstance(version, int) else None)
         self._unchecked[uri] = None
         if self.workspace.is_of_reference(document):
             # The documents that are compared with it come after it.

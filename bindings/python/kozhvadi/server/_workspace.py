@@ -4,25 +4,14 @@ from __future__ import annotations
 
 import os
 import re
-import stat
-from collections.abc import Iterator
-from dataclasses import dataclass, field
-from functools import cached_property
-from itertools import chain
+from collections.abc import Iterable
 from pathlib import Path
-from urllib.parse import unquote, urlsplit
+from typing import NamedTuple
 
-from .._places import Places
-from .._positions import Lines
 from .._samples import Catalog, has_rules
-
-_MARK = "\ufeff"
-
-# More files or folders of a workspace aren't looked into, and neither is a file with more bytes, nor a folder of one of
-# these names, or whose name begins with a dot.
-_MOST = 20_000
-_LARGEST = 64 * 2**20
-_PASSED_OVER = {"node_modules", "__pycache__", "target", "dist"}
+from ._documents import MARK, Document, Loaded, Unread, path_of, real_path
+from ._files import Files, Listed, Listing, inode_of, mark_of
+from ._settings import Settings
 
 # A tag as names of files and folders have it. `in-app` and `to-do` begin with languages, too.
 _TAG = re.compile(
@@ -31,255 +20,234 @@ _TAG = re.compile(
 _IN_SMALL_LETTERS = re.compile(r"[a-z]{2,3}[-_][a-z]{2}")
 
 
-class Document:
-    """A source: a document that is open in the editor, or a file."""
+class Root(NamedTuple):
+    """A folder of the workspace as the client names it, and its path without symbolic links."""
 
-    def __init__(self, uri: str, text: str, version: int | None = None) -> None:
-        self.uri, self.text, self.version = uri, text, version
-        self.path = _path(uri)
-        self.source = text.encode()
-
-    @cached_property
-    def lines(self) -> Lines:
-        return Lines(self.source)
-
-    @cached_property
-    def places(self) -> Places:
-        return Places(self.source)
-
-    @property
-    def name(self) -> str:
-        return self.path.name if self.path else self.uri
-
-    def offset(self, position: tuple[int, int]) -> int:
-        """The offset of a position."""
-        return self.lines.offset(*position)
-
-    def range(self, start: int, end: int) -> dict[str, dict[str, int]]:
-        """The range between two offsets."""
-        (line, character), (last, after) = self.lines.position(start), self.lines.position(end)
-        return {"start": {"line": line, "character": character}, "end": {"line": last, "character": after}}
+    path: Path
+    real: Path
 
 
-def _path(uri: str) -> Path | None:
-    """The path of a URI of a file."""
-    try:
-        parts = urlsplit(uri)
-    except ValueError:
-        return None
-    if parts.scheme != "file" or "\0" in unquote(parts.path):
-        return None
-    return Path(os.path.normpath(unquote(parts.path) or "/"))
+class Group(NamedTuple):
+    """The folder whose files are loaded together, and the language of those that are."""
 
-
-@dataclass
-class Settings:
-    """What the editor sets."""
-
-    reference: str | None = None
-    locale: str | None = None
-    functions: list[str] = field(default_factory=list)
-    notes: bool = False
-    catalog: str = "language"
-
-    @classmethod
-    def of(cls, given: object) -> tuple[Settings, list[str]]:
-        """Settings from JSON, and what is wrong with it."""
-        settings = cls()
-        wrong: list[str] = []
-        if given is None:
-            return settings, wrong
-        if not isinstance(given, dict):
-            return settings, ["the settings aren't an object"]
-        given = given.get("kozhvadi", given)
-        for name, value in given.items() if isinstance(given, dict) else ():
-            if name not in cls.__dataclass_fields__:
-                continue
-            if not settings._is_fit(name, value):
-                wrong.append(f"the setting {name!r} has a value that it doesn't take: {value!r}")
-            elif value is not None:
-                setattr(settings, name, value)
-        return settings, wrong
-
-    @staticmethod
-    def _is_fit(name: str, value: object) -> bool:
-        if name == "notes":
-            return isinstance(value, bool)
-        if name == "catalog":
-            return value in ("language", "folder", "file")
-        if name == "functions":
-            return isinstance(value, list) and all(isinstance(each, str) for each in value)
-        if name == "locale" and isinstance(value, str):
-            return has_rules(value)
-        return value is None or isinstance(value, str)
+    folder: Path
+    locale: str | None
 
 
 class Workspace:
-    """The documents and files, by their paths."""
+    """The documents and files, each file once, whatever paths and symbolic links lead to it."""
 
     def __init__(self) -> None:
         self.settings = Settings()
-        self.roots: list[Path] = []
         self.open: dict[str, Document] = {}
+        self._roots: list[Root] = []
         self._open_at: dict[Path, Document] = {}
-        self._files: dict[Path, tuple[tuple[int, int], Document]] = {}
+        self._files = Files()
 
-    def set_roots(self, uris: list[str]) -> None:
-        """The folders of the workspace."""
-        self.roots = [path for path in map(_path, uris) if path]
+    @property
+    def roots(self) -> list[Path]:
+        """The folders of the workspace, the innermost first."""
+        return [root.path for root in self._roots]
 
-    def put(self, document: Document) -> None:
-        """Takes a document that is opened, or its new text."""
-        self.open[document.uri] = document
-        if document.path:
-            self._open_at[document.path] = document
+    def set_roots(self, uris: Iterable[str]) -> None:
+        """Takes the folders of the workspace."""
+        self._set_roots(path for path in map(path_of, uris) if path)
+
+    def change_roots(self, added: Iterable[str], removed: Iterable[str]) -> None:
+        """Takes folders that the workspace has in addition, and leaves out others."""
+        gone = [path_of(uri) for uri in removed]
+        self._set_roots([*(path for path in self.roots if path not in gone), *filter(None, map(path_of, added))])
+
+    def _set_roots(self, paths: Iterable[Path]) -> None:
+        inner_first = sorted(dict.fromkeys(paths), key=lambda path: -len(path.parts))
+        self._roots = [Root(path, real_path(path)) for path in inner_first]
+        self._files.clear()
+        for document in list(self.open.values()):
+            self.take(document.uri, document.text, document.version)
+
+    def root_of(self, path: Path) -> Path | None:
+        """The innermost folder of the workspace that a path is in."""
+        return next((root for root in self.roots if root in path.parents), None)
+
+    def _in_workspace(self, path: Path) -> Path:
+        """A path by which the workspace has a file: another one, as through a symbolic link, may lead to it, too."""
+        if self.root_of(path) is None:
+            folder = real_path(path.parent)
+            for root in self._roots:
+                if folder.is_relative_to(root.real):
+                    return root.path / folder.relative_to(root.real) / path.name
+        return path
+
+    def take(self, uri: str, text: str, version: int | None = None) -> Document:
+        """Takes a document that is opened, or its new text. Returns the document."""
+        path = path_of(uri)
+        document = Document(uri, text, version, path=self._in_workspace(path) if path else None)
+        self.open.pop(uri, None)
+        self.open[uri] = document
+        self._index()
+        return document
 
     def drop(self, uri: str) -> bool:
         """Forgets a document that is closed. Returns whether it was open."""
         document = self.open.pop(uri, None)
-        if document and document.path:
-            self._open_at.pop(document.path, None)
+        self._index()
         return document is not None
+
+    def _index(self) -> None:
+        """If two open documents are one file, the one that changed last counts."""
+        self._open_at = {document.real: document for document in self.open.values() if document.real}
 
     def document(self, uri: str) -> Document | None:
         """The open document of a URI, or its file."""
         if uri in self.open:
             return self.open[uri]
-        path = _path(uri)
-        return self._at(path) if path else None
+        path = path_of(uri)
+        found = self._at(Listed(path, real_path(path))) if path else None
+        return found if isinstance(found, Document) else None
 
-    def _at(self, path: Path) -> Document | None:
+    def _at(self, file: Listed) -> Document | Unread | None:
         """What is at a path: the document that is open in the editor, or else the file."""
-        if path in self._open_at:
-            return self._open_at[path]
-        try:
-            status = path.stat()
-            if not stat.S_ISREG(status.st_mode) or status.st_size > _LARGEST:
-                return None
-            stamp = (status.st_mtime_ns, status.st_size)
-            kept = self._files.get(path)
-            if kept and kept[0] == stamp:
-                return kept[1]
-            text = path.read_bytes().decode()
-        except (OSError, ValueError):
-            self._files.pop(path, None)
-            return None
-        document = Document(path.as_uri(), text)
-        self._files[path] = (stamp, document)
-        return document
+        return self._open_at.get(file.real) or self._files.read(file.real, lambda: self._shown_path(file))
 
-    def all(self) -> Iterator[Document]:
-        """Each open document, and each file of the workspace that isn't open."""
-        yield from self.open.values()
-        paths = {document.path for document in self.open.values()}
-        found = [path for path in dict.fromkeys(chain(*map(_below, self.roots))) if path not in paths]
-        self._files = {path: kept for path, kept in self._files.items() if path in set(found)}
-        for path in found:
-            document = self._at(path)
-            if document:
-                yield document
+    def _shown_path(self, file: Listed) -> Path:
+        """The path by which a file is named: that of the file itself if it is in the workspace, and not of a link."""
+        path = self._in_workspace(file.real)
+        return path if self.root_of(path) else self._in_workspace(file.path)
+
+    def _loaded(self, files: Iterable[Listed], first: Iterable[Document] = (), unread: Iterable[Unread] = ()) -> Loaded:
+        """Documents, and what is at paths: each file once."""
+        found: dict[Path | str, Document | Unread | None] = {}
+        for document in first:
+            found.setdefault(document.identity, document)
+        for file in files:
+            if file.real not in found:
+                found[file.real] = self._at(file)
+        return Loaded(
+            [each for each in found.values() if isinstance(each, Document)],
+            [*(each for each in found.values() if isinstance(each, Unread)), *unread],
+        )
+
+    def all(self, asked: Document | None = None) -> Loaded:
+        """Each open document, and each file of the workspace that isn't open. One file is there once: as the document
+        that is asked about, or as the one that is open and changed last. Folders that can't be listed are passed over.
+        """
+        first = [*([asked] if asked else []), *reversed(self.open.values())]
+        files = {file.real: file for root in self.roots for file in Listing(root, below=True).files}
+        self._files.keep(files)
+        loaded = self._loaded(files.values(), first)
+        # Editors take the names of one file for that file, also if they aren't symbolic links.
+        named: dict[object, Document] = {}
+        for document in loaded.documents:
+            inode = inode_of(document.real) if document.real else None
+            named.setdefault(inode or document.identity, document)
+        return Loaded(list(named.values()), loaded.unread)
+
+    def mark(self, document: Document) -> str:
+        """The byte order mark that the file of a document has before the text, if the text hasn't one."""
+        if document.uri in self.open and document.real and not document.text.startswith(MARK):
+            return mark_of(document.real)
+        return document.mark
+
+    def shown(self, path: Path) -> str:
+        """A path as messages name it: from the top of the workspace."""
+        root = self.root_of(path)
+        return os.fsencode(path.relative_to(root) if root else path).decode(errors="replace")
 
     def locale(self, document: Document) -> str | None:
         """The language of a document: that of the settings, or else what its name or a folder's is a tag of."""
         return self.settings.locale or guessed_locale(document.path, self.roots)
 
-    def catalog(self, document: Document) -> list[Document]:
+    def catalog(self, document: Document) -> Loaded:
         """The documents that are loaded with one: those of its language, or of its folder and language."""
-        if document.path is None or self.settings.catalog == "file":
-            return [document]
-        guess = guessed_locale(document.path, self.roots)
-        folder = self._folder(document.path)
-        near = [self._at(path) for path in self._sources(folder) if path != document.path]
-        near += [
-            each
-            for each in self.open.values()
-            if each is not document and each.path and each not in near and self._folder(each.path) == folder
+        group = self.group(document)
+        if document.path is None or group is None:
+            return Loaded([document])
+        listing = self._listing(group.folder)
+        files = [file for file in listing.files if guessed_locale(file.path, self.roots) == group.locale]
+        # Those that were opened, and never saved, aren't among the files.
+        files += [
+            Listed(each.path, each.real)
+            for each in self._open_at.values()
+            if each.path and each.real and self.group(each) == group
         ]
-        found = [each for each in near if each and guessed_locale(each.path, self.roots) == guess]
-        return sorted([document, *found], key=lambda each: each.uri)
+        loaded = self._loaded(files, [document], listing.unread)
+        loaded.documents.sort(key=lambda each: each.uri)
+        return loaded
 
-    def _folder(self, path: Path) -> Path:
-        """The folder whose files are loaded with that of a path."""
-        language = language_folder(path, self.roots) if self.settings.catalog == "language" else None
-        return language or path.parent
+    def group(self, document: Document) -> Group | None:
+        """What the documents of one catalog have in common by their paths. Nothing if a document is loaded alone."""
+        if document.path is None or self.settings.catalog == "file":
+            return None
+        language = language_folder(document.path, self.roots) if self.settings.catalog == "language" else None
+        return Group(language or document.path.parent, guessed_locale(document.path, self.roots))
 
-    def _sources(self, folder: Path) -> list[Path]:
+    def _listing(self, folder: Path) -> Listing:
         """The files of a folder that are loaded together: also those in its folders, if it is that of a language."""
-        if self.settings.catalog == "language" and language_folder(folder / "any", self.roots) == folder:
-            return _below(folder)
-        return _sources_in(folder)
+        is_language = language_folder(folder / "any", self.roots) == folder
+        return Listing(folder, below=self.settings.catalog == "language" and is_language)
 
-    def _references(self, path: Path) -> Iterator[tuple[Path, Path]]:
-        """Where the reference may be, and the path that this file has below it."""
-        for root in self.roots or [path.parent]:
-            reference = Path(os.path.normpath(root / (self.settings.reference or "")))
-            if reference != path and reference not in path.parents:
-                beside = next((above for above in path.parents if above.parent == reference.parent), path.parent)
-                folder = language_folder(path, self.roots) or beside
-                yield reference, path.relative_to(folder)
+    def _reference_for(self, document: Document) -> Path | None:
+        """Where the reference of a document is: that of the innermost folder of the workspace that the document is in.
 
-    def reference(self, document: Document) -> list[Document]:
-        """The documents of the source language that a document is compared with."""
+        A document that is in none, but in a workspace, has one only if the setting is a complete path.
+        """
         if not self.settings.reference or document.path is None:
-            return []
-        for reference, below in self._references(document.path):
-            if reference.suffix == ".ftl":
-                paths = [reference]
-            elif self.settings.catalog == "language":
-                paths = _below(reference)
-            else:
-                near = _sources_in((reference / below).parent)
-                paths = near if self.settings.catalog == "folder" else [reference / below]
-            found = [each for each in map(self._at, paths) if each]
-            if found:
-                return found
-        return []
+            return None
+        root = self.root_of(document.path)
+        if self._roots and root is None and not Path(self.settings.reference).is_absolute():
+            return None
+        return Path(os.path.normpath((root or document.path.parent) / self.settings.reference))
+
+    def missing_reference(self, document: Document) -> Path | None:
+        """The folder in which the reference of a document should be, if it isn't there."""
+        reference = self._reference_for(document)
+        if reference is None or document.path is None or os.path.exists(reference):
+            return None
+        return self.root_of(document.path) or document.path.parent
 
     def is_of_reference(self, document: Document) -> bool:
         """Whether a document is one of those that others are compared with."""
-        if not self.settings.reference or document.path is None:
+        reference = self._reference_for(document)
+        if reference is None or document.path is None or document.real is None:
             return False
-        references = (
-            Path(os.path.normpath(root / self.settings.reference)) for root in self.roots or [document.path.parent]
-        )
-        return any(each == document.path or each in document.path.parents for each in references)
+        return document.path.is_relative_to(reference) or document.real.is_relative_to(real_path(reference))
+
+    def _compared_with(self, document: Document) -> tuple[Path, Path] | None:
+        """The reference of a document, and the path that its file has there."""
+        reference = self._reference_for(document)
+        if reference is None or document.path is None or self.is_of_reference(document):
+            return None
+        path = document.path
+        beside = next((above for above in path.parents if above.parent == reference.parent), path.parent)
+        folder = language_folder(path, self.roots) or beside
+        return reference, reference if reference.suffix == ".ftl" else reference / path.relative_to(folder)
+
+    def reference(self, document: Document) -> Loaded:
+        """The documents of the source language that a document is compared with."""
+        compared = self._compared_with(document)
+        if compared is None:
+            return Loaded()
+        reference, file = compared
+        if reference == file or self.settings.catalog == "file":
+            return self._loaded([Listed(file, real_path(file))])
+        is_below = self.settings.catalog == "language"
+        listing = Listing(reference if is_below else file.parent, below=is_below)
+        return self._loaded(listing.files, unread=listing.unread)
 
     def counterpart(self, document: Document) -> Document | None:
         """The document of the reference that this one translates."""
-        if not self.settings.reference or document.path is None:
-            return None
-        for reference, below in self._references(document.path):
-            found = self._at(reference if reference.suffix == ".ftl" else reference / below)
-            if found:
-                return found
-        return None
+        compared = self._compared_with(document)
+        found = self._at(Listed(compared[1], real_path(compared[1]))) if compared else None
+        return found if isinstance(found, Document) else None
 
     def samples(self, documents: list[Document]) -> Catalog:
         """The entries of documents that are loaded together."""
         return Catalog(document.places for document in documents)
 
 
-def _sources_in(folder: Path) -> list[Path]:
-    try:
-        return sorted(path for path in folder.iterdir() if path.suffix == ".ftl" and path.is_file())
-    except OSError:
-        return []
-
-
-def _below(root: Path) -> list[Path]:
-    """The files in a folder and in its folders."""
-    found: list[Path] = []
-    for count, (folder, folders, names) in enumerate(os.walk(root)):
-        folders[:] = sorted(name for name in folders if name[0] != "." and name not in _PASSED_OVER)
-        found += [Path(folder, name) for name in sorted(names) if name.endswith(".ftl")]
-        if max(count, len(found)) >= _MOST:
-            break
-    return found[:_MOST]
-
-
 def language_folder(path: Path, roots: list[Path]) -> Path | None:
     """The nearest folder above a file, in the workspace, whose name is the tag of a language."""
-    root = next((root for root in roots if root in path.parents), path.parent)
+    root = next((root for root in reversed(roots) if root in path.parents), path.parent)
     for folder in path.parents:
         if _is_tag(folder.name, _TAG) or _is_tag(folder.name, _IN_SMALL_LETTERS):
             return folder
