@@ -420,7 +420,7 @@ uint32_t fluent_bundle_new_calling(
  *
  * Copy the text of the call: the memory is that of `call`, and the next call that is put there frees it, while the answers
  * still need the name. Names and texts of answers have to last until the last round. fluent_add_answer of fluent.h copies
- * both, and fluent_read_call reads the text; bindings/c/functions.c has the loop.
+ * both, and fluent_read_call reads the text; the example functions.c has the loop.
  *
  * The text of a call is JSON, an array of the function's name, an array of the positional arguments and an object of the named
  * ones: `["PLATFORM",[],{}]`, or `["DATETIME",["2026-11-28"],{"dateStyle":"long"}]`. A text is a text there, a number

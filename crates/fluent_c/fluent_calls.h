@@ -10,7 +10,7 @@
  *     } while (status == FLUENT_CALL && (status = answer(&answers, &call)) == FLUENT_READ);
  *     fluent_free_answers(&answers);
  *
- * All of it is in this header, and is tested, not proved. bindings/c/functions.c is such a program.
+ * All of it is in this header, and is tested, not proved. The example functions.c is such a program.
  */
 #ifndef FLUENT_CALLS_H
 #define FLUENT_CALLS_H
