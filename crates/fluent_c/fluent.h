@@ -1,8 +1,8 @@
 /* The calls of fluent_c.h for texts that end in a byte 0, with NULL for what isn't wanted, and the words of a status.
  *
- * All of it is in this header, and is tested, not proved: each call makes one of fluent_c.h, which says what it returns. It
- * includes fluent_calls.h, for functions of your program that messages call, and fluent_doubles.h, for arguments that are
- * doubles.
+ * All of it is in this header, and is tested, not proved: each call makes one of fluent_c.h, which says what it returns. As
+ * free does, fluent_free_text and fluent_bundle_free do nothing with NULL in a program that includes this header. It includes
+ * fluent_calls.h, for functions of your program that messages call, and fluent_doubles.h, for arguments that are doubles.
  */
 #ifndef FLUENT_H
 #define FLUENT_H
@@ -54,6 +54,20 @@ static inline size_t fluent_len(const char *text) { return text ? strlen(text) :
 static inline const char *fluent_string(const struct FluentText *text) {
     return text && text->held ? (const char *)text->bytes : "";
 }
+
+/* fluent_free_text, which does nothing with NULL. */
+static inline void fluent_free_text_or_null(struct FluentText *made) {
+    if (made)
+        fluent_free_text(made);
+}
+#define fluent_free_text(made) fluent_free_text_or_null(made)
+
+/* fluent_bundle_free, which does nothing with NULL. */
+static inline void fluent_bundle_free_or_null(struct FluentBundle *bundle) {
+    if (bundle)
+        fluent_bundle_free(bundle);
+}
+#define fluent_bundle_free(bundle) fluent_bundle_free_or_null(bundle)
 
 /* An argument that is a text. */
 static inline struct FluentArgument fluent_text_argument(const char *name, const char *text) {

@@ -231,7 +231,7 @@ uint32_t fluent_answer_plain(
     struct FluentText *answers
 );
 
-/* Frees a text, if there is one. There is none then. */
+/* Frees a text, if there is one. There is none then. `made` isn't null, but in a program that includes fluent.h. */
 void fluent_free_text(struct FluentText *made);
 
 /* How many of a program's languages are used: all that suit any of the user's, to fall back along; the best one for each
@@ -490,7 +490,7 @@ uint32_t fluent_bundle_variables(
  * FLUENT_NO_BUNDLE or FLUENT_NO_MEMORY. */
 uint32_t fluent_bundle_errors(struct FluentBundle *bundle, struct FluentText *report);
 
-/* Frees a bundle, if there is one. There is none then. */
+/* Frees a bundle, if there is one. There is none then. `bundle` isn't null, but in a program that includes fluent.h. */
 void fluent_bundle_free(struct FluentBundle *bundle);
 
 #ifdef __cplusplus

@@ -63,10 +63,12 @@ static inline uint32_t fluent_add_answer(
     return FLUENT_READ;
 }
 
-/* Frees the answers. There are none then, and you may add others. */
+/* Frees the answers. There are none then, and you may add others. It does nothing with NULL. */
 static inline void fluent_free_answers(struct FluentAnswers *answers) {
     struct FluentAnswers none = {0};
     size_t each;
+    if (!answers)
+        return;
     for (each = 0; each < answers->count; each++)
         free((void *)answers->list[each].name);
     free(answers->list);
@@ -256,9 +258,11 @@ static inline bool fluent_reads_call(struct FluentReading *reading, struct Fluen
     return is_right;
 }
 
-/* Frees a call that was read, if there is one. There is none then. */
+/* Frees a call that was read, if there is one. There is none then. It does nothing with NULL. */
 static inline void fluent_free_call(struct FluentCall *call) {
     struct FluentCall none = {0};
+    if (!call)
+        return;
     free(call->owner);
     *call = none;
 }
