@@ -30,7 +30,7 @@ out=${1:-$root/release}
 mkdir -p "$out"
 folder=$(cd "$out" && pwd)/$name
 rm -rf "$folder" "$folder.tar.gz"
-mkdir -p "$folder"/{bin,lib/pkgconfig,include,share/doc/kozhvadi,share/cargo,share/python}
+mkdir -p "$folder"/{bin,lib/pkgconfig,include,share/cargo,share/python}
 
 # The time that files get: that of the commit.
 SOURCE_DATE_EPOCH=$(git -C "$root" log -1 --format=%ct 2>/dev/null || echo 1577836800)
@@ -63,15 +63,14 @@ library_part() {
     ln -s "libfluent_c.so.$version" "$folder/lib/libfluent_c.so.0"
     ln -s libfluent_c.so.0 "$folder/lib/libfluent_c.so"
     rm -rf "$parts"
-    install -m 644 "$header/fluent_c.h" "$header/fluent.h" "$folder/include"
+    install -m 644 "$header"/*.h "$folder/include"
     sed "s/@VERSION@/$version/" "$made/fluent_c.pc" >"$folder/lib/pkgconfig/fluent_c.pc"
 }
 
 cargo_part() {
     local package=$folder/share/cargo/kozhvadi
     mkdir -p "$package/lib"
-    cp -R "$root/bindings/rust/Cargo.toml" "$root/bindings/rust/build.rs" "$root/bindings/rust/src" \
-        "$root/bindings/rust/README.md" "$package"
+    cp -R "$root/bindings/rust/Cargo.toml" "$root/bindings/rust/build.rs" "$root/bindings/rust/src" "$package"
     cp "$folder/lib/libfluent_c.a" "$package/lib"
 }
 
@@ -88,8 +87,7 @@ program_part
 library_part
 cargo_part
 python_part
-cp "$root/CHANGELOG.md" "$folder/share/doc/kozhvadi"
-cp "$root/crates/fluent_plurals/LICENSE-UNICODE" "$folder/share/doc/kozhvadi"
+python3 "$made/pages.py" "$root" "$folder"
 install -m 755 "$made/install.sh" "$folder/install.sh"
 install -m 644 "$made/README.md" "$folder/README.md"
 

@@ -33,8 +33,20 @@ same_twice() {
     cmp "$room"/one/*.tar.gz "$room"/two/*.tar.gz
 }
 
+# A block of lines that the release's README has to be copied, by its number from 1.
+printed() {
+    awk -v wanted="$1" '/^    / { block += !inside; inside = 1; if (block == wanted) print substr($0, 5); next } { inside = 0 }' \
+        "$room/a stranger/kozhvadi/README.md"
+}
+
+# Runs such a block, at a home with nothing in it but what earlier blocks put there.
+follows() {
+    local rustup=${RUSTUP_HOME:-$HOME/.rustup} cargo=${CARGO_HOME:-$HOME/.cargo}
+    HOME=$room/home RUSTUP_HOME=$rustup CARGO_HOME=$cargo bash -euc "$(printed "$1")"
+}
+
 unpacks() {
-    mkdir -p 'a stranger' && cd 'a stranger' && tar xzf "$room"/one/*.tar.gz && mv kozhvadi-* kozhvadi &&
+    mkdir -p home 'a stranger' && cd 'a stranger' && tar xzf "$room"/one/*.tar.gz && mv kozhvadi-* kozhvadi &&
         (cd kozhvadi && sha256sum --quiet -c SHA256SUMS) && [ "$(kozhvadi/bin/ftl --version)" = "ftl $version" ] &&
         printf 'hello = Hello, { $name }!\n' >hello.ftl
 }
@@ -66,9 +78,9 @@ completes() {
 }
 
 installs() {
-    cd 'a stranger' && kozhvadi/install.sh "$room/prefix of mine" && [ "$("$room/prefix of mine/bin/ftl" --version)" = "ftl $version" ] || return
-    cp -R "$room/prefix of mine" "$room/prefix"
-    kozhvadi/install.sh --remove "$room/prefix of mine" && [ -z "$(find "$room/prefix of mine" -type f)" ]
+    (cd 'a stranger/kozhvadi' && [ "$(follows 1 | tail -n 1)" = "ftl $version" ]) || return
+    cd 'a stranger' && kozhvadi/install.sh "$room/prefix of mine" && [ "$("$room/prefix of mine/bin/ftl" --version)" = "ftl $version" ] &&
+        kozhvadi/install.sh --remove "$room/prefix of mine" && [ -z "$(find "$room/prefix of mine" -type f)" ]
 }
 
 damage_is_noticed() {
@@ -76,36 +88,53 @@ damage_is_noticed() {
         [ ! -e "$room/nowhere" ]
 }
 
-# The page's C program over pkg-config, by the shared library and by the static one.
+# Each link of a page leads to a file of the release, once it is installed.
+links_lead_somewhere() {
+    python3 - home/.local/share <<'PYTHON'
+import re, sys
+from pathlib import Path
+
+pages = [*Path(sys.argv[1]).rglob("*.md")]
+links = [(page, link) for page in pages for link in re.findall(r"\]\(([^)\s#]+)", page.read_text()) if "://" not in link]
+dead = [f"{page}: {link}" for page, link in links if not (page.parent / link).exists()]
+sys.exit("\n".join(dead) if dead or len(links) < 50 else 0)
+PYTHON
+}
+
+# The C program of the README, and the first one of the page, over pkg-config: by the shared library and by the static one.
 c_program() {
-    sed -n '/^```c$/,/^```$/p' "$root/bindings/c/README.md" | sed '1d;$d' >first.c
-    export PKG_CONFIG_PATH=$room/prefix/lib/pkgconfig
-    cc -Wall -Wextra -o shared first.c $(pkg-config --cflags --libs fluent_c) && LD_LIBRARY_PATH=$room/prefix/lib ./shared &&
-        cc -Wall -Wextra -o static first.c $(pkg-config --cflags fluent_c) "$room/prefix/lib/libfluent_c.a" && ./static &&
-        [ "$(./static)" = "$(LD_LIBRARY_PATH=$room/prefix/lib ./shared)" ]
+    follows 2 | diff "$root/bindings/c/functions.expected" - || return
+    sed '1,/^```c$/d;/^```$/,$d' home/.local/share/doc/kozhvadi/bindings/c/README.md >first.c
+    export PKG_CONFIG_PATH=$room/home/.local/lib/pkgconfig
+    cc first.c $(pkg-config --cflags --libs fluent_c) && ./a.out &&
+        cc -Wall -Wextra -o static first.c $(pkg-config --cflags fluent_c) "$room/home/.local/lib/libfluent_c.a" && ./static &&
+        [ "$(./static)" = "$(./a.out)" ]
 }
 
 exports_the_header_alone() {
-    diff <(nm -D --defined-only prefix/lib/libfluent_c.so | sed -n 's/.* T //p' | sed 's/@.*//' | sort) \
-        <(grep -o '\bfluent_[a-z_]* *(' prefix/include/fluent_c.h | tr -d ' (' | sort -u)
+    diff <(nm -D --defined-only home/.local/lib/libfluent_c.so | sed -n 's/.* T //p' | sed 's/@.*//' | sort) \
+        <(grep -o '\bfluent_[a-z_]* *(' home/.local/include/fluent_c.h | tr -d ' (' | sort -u)
 }
 
 python_program() {
-    python3 -m venv --without-pip venv && python3 -m pip --python venv/bin/python install --quiet --no-index prefix/share/python/*.whl &&
-        cd 'a stranger' && [ "$(../venv/bin/python -c '
+    follows 3 || return
+    cd 'a stranger' && [ "$(../home/kozhvadi/bin/python -c '
 from kozhvadi import Bundle, _extension
 from pathlib import Path
 assert Path(_extension.__file__).with_name("_fast.abi3.so").exists() == (_extension.calls_type is not None)
 bundle = Bundle([open("hello.ftl").read()], isolating=False)
-print(bundle.format("hello", name="Jane").text)')" = 'Hello, Jane!' ]
+print(bundle.format("hello", name="Jane").text)
+import doctest, importlib.metadata
+session = importlib.metadata.metadata("kozhvadi")["Description"].partition("```python")[2].partition("```")[0]
+assert doctest.DocTestRunner().run(doctest.DocTestParser().get_doctest(session, {}, "README", None, 0)) == (0, 5)')" = 'Hello, Jane!' ]
 }
 
 # The language server, and the page of the playground with its two files.
 python_tools() {
     local message='{"id":1,"method":"initialize","params":{"capabilities":{}}}'
     cd 'a stranger' && printf 'Content-Length: %d\r\n\r\n%s' ${#message} "$message" >message &&
-        { ../venv/bin/python -m kozhvadi.server <message >answer || [ $? = 1 ]; } && grep -q '"name":"kozhvadi"' answer &&
-        ../venv/bin/python -c '
+        { ../home/kozhvadi/bin/python -m kozhvadi.server <message >answer || [ $? = 1 ]; } && grep -q '"name":"kozhvadi"' answer &&
+        ../home/kozhvadi/bin/python -c '
 from kozhvadi.playground._pages import Playground
 import threading, urllib.request
 server = Playground(0, dict)
@@ -115,15 +144,7 @@ for name in ("", "page.css", "page.js", "start"):
 }
 
 rust_program() {
-    mkdir -p rust/src && cat >rust/Cargo.toml <<TOML && cat >rust/src/main.rs <<'RUST'
-[package]
-name = "stranger"
-version = "0.1.0"
-edition = "2021"
-
-[dependencies]
-kozhvadi = { path = "$room/prefix/share/cargo/kozhvadi" }
-TOML
+    cargo init --quiet --vcs none --name stranger rust && (cd rust && follows 4) && cat >rust/src/main.rs <<'RUST'
 use kozhvadi::{FluentArgs, FluentBundle, FluentResource};
 
 fn main() {
@@ -149,7 +170,8 @@ step 'the man page and the completions have each command and option' tar man_pag
 step 'bash completes' bash completes
 step 'it installs and is removed' tar installs
 step 'a damaged release is not installed' tar damage_is_noticed
-step 'a C program links it by pkg-config' 'cc pkg-config' c_program
+step 'the links of its pages lead somewhere' python3 links_lead_somewhere
+step 'a C program links it by pkg-config, and runs' 'cc pkg-config' c_program
 step 'the shared library gives out the header alone' nm exports_the_header_alone
 step 'pip installs the wheel, and a program uses it' 'python3' python_program
 step 'its language server and its playground begin' 'python3' python_tools

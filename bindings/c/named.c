@@ -144,6 +144,22 @@ static void try_lint(void) {
     fluent_free_text(&report);
 }
 
+/* What frees does nothing with NULL, and with what was freed. */
+static void try_freeing(struct FluentBundle *bundle) {
+    struct FluentText text = {0};
+    fluent_free_text(NULL);
+    fluent_bundle_free(NULL);
+    fluent_free_answers(NULL);
+    fluent_free_call(NULL);
+    check("a text", fluent_format(bundle, "a", NULL, NULL, 0, &text, NULL) == FLUENT_READ && text.held);
+    fluent_free_text(&text);
+    fluent_free_text(&text);
+    check("no text", !text.held);
+    fluent_bundle_free(bundle);
+    fluent_bundle_free(bundle);
+    check("no bundle", !bundle->held);
+}
+
 /* A source whose message `b`, on line 4, has this many placeables, one in the other. */
 static const char *nested(size_t levels) {
     static char text[4000];
@@ -193,7 +209,7 @@ int main(void) {
     try_lint();
     check("a value is there", fluent_has(&bundle, "a", NULL) == FLUENT_READ);
     check("an attribute isn't", fluent_has(&bundle, "n", "title") == FLUENT_NO_PATTERN);
-    fluent_bundle_free(&bundle);
+    try_freeing(&bundle);
     check("a bundle isn't there", fluent_has(&bundle, "a", NULL) == FLUENT_NO_BUNDLE);
     for (uint32_t status = FLUENT_READ; status <= FLUENT_CALL; status++)
         check("the words of a status", strcmp(fluent_status_text(status), fluent_status_text(99)) != 0);

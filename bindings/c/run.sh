@@ -1,8 +1,10 @@
 #!/bin/sh
 # Builds the C programs of this folder over the static library, runs them, and compares what they print: that of README.md with
-# what the page says, messages.c with `expected`, and the tests of `tests` with theirs; numerals.c compares what it formats itself. That of README.md and named.c are built as
-# C++ too, if there is a compiler for it, and no warning is let through. The tests count the blocks of memory that are
-# left; they are built with the sanitizers if the compiler has them, and else run under valgrind if it is there.
+# what the page says, messages.c with `expected`, functions.c with functions.expected, and the tests of `tests` with theirs;
+# numerals.c compares what it formats itself, and doubles.py what doubles.c writes, also in a locale with a decimal comma. That
+# of README.md, named.c and functions.c are built as C++ too, if there is a compiler for it, and no warning is let through. The
+# tests count the blocks of memory that are left; they are built with the sanitizers if the compiler has them, and else run
+# under valgrind if it is there.
 set -eu
 here=$(cd "$(dirname "$0")" && pwd)
 root=$(cd "$here/../.." && pwd)
@@ -14,17 +16,16 @@ version=$(sed -n 's/^version = "\(.*\)"$/\1/p' "$root/bindings/rust/Cargo.toml")
 minor=${version#*.}
 number=$((${version%%.*} * 1000000 + ${minor%%.*} * 1000 + ${version##*.}))
 grep -qx "#define FLUENT_VERSION $number" "$header/fluent_c.h"
-sed -n '/^```c$/,/^```$/p' "$here/README.md" | sed '1d;$d' >"$built/first.c"
-cp "$here/messages.c" "$built"
-cp "$here/named.c" "$built"
+sed '1,/^```c$/d;/^```$/,$d' "$here/README.md" >"$built/first.c"
+cp "$here/messages.c" "$here/named.c" "$here/functions.c" "$built"
 strict='-Wall -Wextra -Wpedantic -Werror'
-for program in first messages named; do
+for program in first messages named functions; do
     cc -std=c11 -O2 $strict -I "$header" -o "$built/$program" "$built/$program.c" -L "$library" -lfluent_c -L "$kit" -llibc_c
     "$built/$program" >"$built/$program.printed"
     cat "$built/$program.printed"
 done
 if command -v c++ >/dev/null; then
-    for program in first named; do
+    for program in first named functions; do
         c++ -std=c++20 -O2 $strict -I "$header" -o "$built/$program" -x c++ "$built/$program.c" -x none -L "$library" -lfluent_c \
             -L "$kit" -llibc_c
         "$built/$program" | cmp - "$built/$program.printed"
@@ -32,12 +33,13 @@ if command -v c++ >/dev/null; then
 fi
 grep -qF "\`$(cat "$built/first.printed")\`" "$here/README.md"
 diff "$here/expected" "$built/messages.printed"
+diff "$here/functions.expected" "$built/functions.printed"
 
-# Builds the tests, languages.c and numerals.c with these flags.
+# Builds the tests, and the programs that are run with them, with these flags.
 build_tests() {
     cc -std=c11 -O1 -g -Wall -Wextra "$@" -I "$header" -Wl,--wrap=malloc -Wl,--wrap=realloc -Wl,--wrap=free \
         -o "$built/tests" "$here"/tests/*.c -L "$library" -lfluent_c -L "$kit" -llibc_c
-    for program in languages numerals; do
+    for program in languages numerals functions doubles; do
         cc -O1 -g -Wall -Wextra "$@" -I "$header" -o "$built/$program" "$here/$program.c" -L "$library" -lfluent_c -L "$kit" -llibc_c
     done
 }
@@ -53,6 +55,14 @@ fi
 $checker "$built/languages" "$root/examples/l10n" | tee "$built/languages.printed"
 diff "$root/examples/l10n/expected" "$built/languages.printed"
 "$built/numerals" "$root/tests/numerals/rows.txt"
+$checker "$built/functions" >"$built/functions.printed"
+diff "$here/functions.expected" "$built/functions.printed"
+LC_ALL=C python3 "$here/doubles.py" "$built/doubles" .
+if localedef -i de_DE -f UTF-8 "$built/de_DE.UTF-8" 2>/dev/null; then
+    LOCPATH=$built LC_ALL=de_DE.UTF-8 python3 "$here/doubles.py" "$built/doubles" ,
+else
+    echo 'doubles with the point ",": skipped, localedef makes no de_DE.UTF-8'
+fi
 $checker "$built/tests" >"$built/tests.printed" || { cat "$built/tests.printed"; exit 1; }
 cat "$built/tests.printed"
 diff "$here/tests/expected" "$built/tests.printed"

@@ -1,6 +1,8 @@
 /* The calls of fluent_c.h for texts that end in a byte 0, with NULL for what isn't wanted, and the words of a status.
  *
- * All of it is in this header, and is tested, not proved: each call makes one of fluent_c.h, which says what it returns.
+ * All of it is in this header, and is tested, not proved: each call makes one of fluent_c.h, which says what it returns. As
+ * free does, fluent_free_text and fluent_bundle_free do nothing with NULL in a program that includes this header. It includes
+ * fluent_calls.h, for functions of your program that messages call, and fluent_doubles.h, for arguments that are doubles.
  */
 #ifndef FLUENT_H
 #define FLUENT_H
@@ -25,7 +27,7 @@ static inline const char *fluent_status_text(uint32_t status) {
     case FLUENT_NO_PATTERN:
         return "the message has no value, or no attribute of the name";
     case FLUENT_BAD_ARGUMENT:
-        return "an argument's kind isn't known, its decimal is no number, or the size of options isn't known";
+        return "what was passed isn't valid: an argument's kind or decimal, the size of options, or the text of a call";
     case FLUENT_NO_BUNDLE:
         return "there is no bundle";
     case FLUENT_HAS_ERRORS:
@@ -53,6 +55,20 @@ static inline const char *fluent_string(const struct FluentText *text) {
     return text && text->held ? (const char *)text->bytes : "";
 }
 
+/* fluent_free_text, which does nothing with NULL. */
+static inline void fluent_free_text_or_null(struct FluentText *made) {
+    if (made)
+        fluent_free_text(made);
+}
+#define fluent_free_text(made) fluent_free_text_or_null(made)
+
+/* fluent_bundle_free, which does nothing with NULL. */
+static inline void fluent_bundle_free_or_null(struct FluentBundle *bundle) {
+    if (bundle)
+        fluent_bundle_free(bundle);
+}
+#define fluent_bundle_free(bundle) fluent_bundle_free_or_null(bundle)
+
 /* An argument that is a text. */
 static inline struct FluentArgument fluent_text_argument(const char *name, const char *text) {
     struct FluentArgument argument = {0};
@@ -64,7 +80,8 @@ static inline struct FluentArgument fluent_text_argument(const char *name, const
     return argument;
 }
 
-/* An argument that is a number, written as a decimal such as "1.50". */
+/* An argument that is a number, written as a decimal such as "1.50". If you have a double, use fluent_double_argument: what
+ * printf writes depends on the locale that setlocale has set. */
 static inline struct FluentArgument fluent_decimal_argument(const char *name, const char *decimal) {
     struct FluentArgument argument = fluent_text_argument(name, decimal);
     argument.kind = FLUENT_DECIMAL;
@@ -174,7 +191,8 @@ static inline uint32_t fluent_bundle_calling(
     return fluent_bundle_new_calling(&only, 1, options ? options : &usual, functions, function_count, made);
 }
 
-/* fluent_bundle_call. What may be NULL for fluent_format may be here, and `answers`, if there are none. */
+/* fluent_bundle_call. What may be NULL for fluent_format may be here, and `answers`, if there are none. fluent_calls.h has the
+ * loop around it. */
 static inline uint32_t fluent_call(
     struct FluentBundle *bundle, const char *id, const char *attribute, const struct FluentArgument *arguments,
     size_t argument_count, const struct FluentArgument *answers, size_t answer_count, struct FluentText *text,
@@ -279,5 +297,8 @@ static inline size_t fluent_bad_argument(
     fluent_free_text(&unwanted);
     return each;
 }
+
+#include "fluent_calls.h"
+#include "fluent_doubles.h"
 
 #endif

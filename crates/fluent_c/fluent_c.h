@@ -52,8 +52,8 @@ uint32_t fluent_version(void);
 #define FLUENT_NO_MESSAGE 4
 /* The message has no value, or no attribute of the name. */
 #define FLUENT_NO_PATTERN 5
-/* An argument's kind isn't one of those below, or its decimal is no number; there is no such strategy; or the size of
- * options isn't one that the library knows. */
+/* An argument's kind isn't one of those below, or its decimal is no number: fluent_bad_argument of fluent.h says which.
+ * fluent_negotiate: there is no such strategy. A call that takes options: their size isn't one that the library knows. */
 #define FLUENT_BAD_ARGUMENT 6
 /* There is no bundle. */
 #define FLUENT_NO_BUNDLE 7
@@ -231,7 +231,7 @@ uint32_t fluent_answer_plain(
     struct FluentText *answers
 );
 
-/* Frees a text, if there is one. There is none then. */
+/* Frees a text, if there is one. There is none then. `made` isn't null, but in a program that includes fluent.h. */
 void fluent_free_text(struct FluentText *made);
 
 /* How many of a program's languages are used: all that suit any of the user's, to fall back along; the best one for each
@@ -350,7 +350,8 @@ uint32_t fluent_bundle_new_with(
 
 /* The kinds of arguments: a text; a number, written as a decimal such as "3" or "1.50", which keeps its digits after
  * the point; a signed and an unsigned integer. A text stays a text, whatever it looks like: "3" is no number here,
- * though it is one in a request line of fluent_answer. */
+ * though it is one in a request line of fluent_answer. A decimal has a point in every locale: after `setlocale(LC_ALL, "")`
+ * printf may write 1234,5, which is refused, so use fluent_double_argument of fluent.h for a double. */
 #define FLUENT_TEXT 0
 #define FLUENT_DECIMAL 1
 #define FLUENT_INTEGER 2
@@ -416,6 +417,10 @@ uint32_t fluent_bundle_new_calling(
  * number. An answer is an argument whose name is the text of the call; its value is what the function gives, or
  * FLUENT_NO_VALUE if it gives none. So a function runs once for each different call of an answer, only if the answer comes to
  * it, and in the order in which it does. It has to give the same value for the same arguments.
+ *
+ * Copy the text of the call: the memory is that of `call`, and the next call that is put there frees it, while the answers
+ * still need the name. Names and texts of answers have to last until the last round. fluent_add_answer of fluent.h copies
+ * both, and fluent_read_call reads the text; the example functions.c has the loop.
  *
  * The text of a call is JSON, an array of the function's name, an array of the positional arguments and an object of the named
  * ones: `["PLATFORM",[],{}]`, or `["DATETIME",["2026-11-28"],{"dateStyle":"long"}]`. A text is a text there, a number
@@ -485,7 +490,7 @@ uint32_t fluent_bundle_variables(
  * FLUENT_NO_BUNDLE or FLUENT_NO_MEMORY. */
 uint32_t fluent_bundle_errors(struct FluentBundle *bundle, struct FluentText *report);
 
-/* Frees a bundle, if there is one. There is none then. */
+/* Frees a bundle, if there is one. There is none then. `bundle` isn't null, but in a program that includes fluent.h. */
 void fluent_bundle_free(struct FluentBundle *bundle);
 
 #ifdef __cplusplus

@@ -16,17 +16,22 @@ import time
 import zipfile
 from pathlib import Path
 
+from pages import page_of
+
 TAG = 'py3-none-linux_x86_64'
 
 
-def metadata(version):
-    return (
+def metadata(bindings, version):
+    """What the package is, with its page as the description."""
+    fields = (
         'Metadata-Version: 2.1\n'
         'Name: kozhvadi\n'
         f'Version: {version}\n'
         'Summary: Fluent messages from a proved library\n'
         'Requires-Python: >=3.10\n'
-    ).encode()
+        'Description-Content-Type: text/markdown\n'
+    )
+    return f'{fields}\n{page_of(bindings.parents[1], "bindings/python/README.md", {})}'.encode()
 
 
 def wheel():
@@ -52,7 +57,7 @@ def contents(bindings, library, extension, version):
     if extension.is_file():
         files['kozhvadi/_fast.abi3.so'] = extension.read_bytes()
     info = f'kozhvadi-{version}.dist-info'
-    files[f'{info}/METADATA'] = metadata(version)
+    files[f'{info}/METADATA'] = metadata(bindings, version)
     files[f'{info}/WHEEL'] = wheel()
     files[f'{info}/RECORD'] = record(files, f'{info}/RECORD')
     return files

@@ -53,6 +53,7 @@ bool try_outlines(void);
 bool try_answers(void);
 bool try_bundles(void);
 bool try_calls(void);
+bool try_functions(void);
 bool try_formats(void);
 bool try_languages(void);
 bool try_linting(void);
