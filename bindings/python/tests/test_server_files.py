@@ -79,6 +79,16 @@ class LinksTest(WorkspaceCase):
             self.client.open(uri, self.SOURCE)
             self.assert_one_file(uri)
 
+    def test_names_that_arent_utf8(self):
+        self.client.start(self.root)
+        paths = [self.file(os.fsdecode(name), self.SOURCE) for name in (b"\xfe/de.ftl", b"\xff/de.ftl")]
+        for opened in (paths[:1], paths):
+            uris = [self.client.open(path) for path in opened]
+            changes = self.renamed(uris[-1])
+            self.assertEqual(set(changes), {path.as_uri() for path in paths})
+            for edits in changes.values():
+                self.assertEqual(edited(self.SOURCE, edits), "zz = x\nb = { zz }\n")
+
     def test_two_names_of_a_file(self):
         path = self.file("pl.ftl", self.SOURCE)
         os.link(path, self.root / "de.ftl")

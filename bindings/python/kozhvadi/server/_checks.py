@@ -33,9 +33,10 @@ Json = dict[str, Any]
 
 @dataclass
 class _Checked:
-    """What was found in documents that are loaded together: of files by their URIs, and of all that can't be read.
+    """What was found in documents that are loaded together.
 
-    `names` has the documents by the names that texts of findings have for them.
+    The findings have the URIs of their documents, `unread` says in sentences which files can't be read, and `names` has
+    the documents by the names that they have in the texts of findings.
     """
 
     found: list[Finding]
@@ -73,7 +74,7 @@ class Checks:
         return [self._told(each, checked) if each.uri in read else self._refused(each) for each in opened]
 
     def _is_told_with(self, each: Document, document: Document) -> bool:
-        """Whether a document of a catalog is an open one that belongs there by its path, and not by a symbolic link."""
+        """Whether a document of a catalog is open, and belongs there by its path, not only by a symbolic link."""
         if each.uri not in self._workspace.open:
             return False
         return each is document or self._workspace.group(each) == self._workspace.group(document)

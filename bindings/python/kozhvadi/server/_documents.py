@@ -7,7 +7,7 @@ from dataclasses import dataclass, field
 from functools import cached_property
 from pathlib import Path
 from typing import NamedTuple
-from urllib.parse import unquote, urlsplit
+from urllib.parse import unquote_to_bytes, urlsplit
 
 from .._linting import lint
 from .._places import Places
@@ -58,7 +58,7 @@ class Document:
 
     @property
     def name(self) -> str:
-        return self.path.name if self.path else self.uri
+        return shown_path(Path(self.path.name)) if self.path else self.uri
 
     def offset(self, position: tuple[int, int]) -> int:
         """The offset of a position."""
@@ -96,9 +96,13 @@ def path_of(uri: str) -> Path | None:
         parts = urlsplit(uri)
     except ValueError:
         return None
-    if parts.scheme != "file" or "\0" in unquote(parts.path):
-        return None
-    return Path(os.path.normpath(unquote(parts.path) or "/"))
+    path = os.fsdecode(unquote_to_bytes(parts.path))
+    return None if parts.scheme != "file" or "\0" in path else Path(os.path.normpath(path or "/"))
+
+
+def shown_path(path: Path) -> str:
+    """A path as a text: bytes that aren't UTF-8 are U+FFFD."""
+    return os.fsencode(path).decode(errors="replace")
 
 
 def real_path(path: Path) -> Path:

@@ -13,7 +13,7 @@ from .. import __version__
 from .._linting import TidyError, tidy
 from ._checks import Checks, Json
 from ._completion import Completion
-from ._documents import Document
+from ._documents import Document, shown_path
 from ._hovering import Hovering
 from ._naming import Naming
 from ._session import PARSE_ERROR, REQUEST_FAILED, Params, Refused, Session
@@ -163,7 +163,7 @@ class Server:
     def _show_missing_reference(self, document: Document) -> None:
         folder = self.workspace.missing_reference(document)
         if folder:
-            self._show(f"the reference {self.workspace.settings.reference} isn't in {folder}")
+            self._show(f"the reference {self.workspace.settings.reference} isn't in {shown_path(folder)}")
 
     def _configure(self, params: Params) -> None:
         """Takes settings in place of those of the initialization options. If there are none, nothing changes: some

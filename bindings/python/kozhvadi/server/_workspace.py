@@ -9,7 +9,7 @@ from pathlib import Path
 from typing import NamedTuple
 
 from .._samples import Catalog, has_rules
-from ._documents import MARK, Document, Loaded, Unread, path_of, real_path
+from ._documents import MARK, Document, Loaded, Unread, path_of, real_path, shown_path
 from ._files import Files, Listed, Listing, inode_of, mark_of
 from ._settings import Settings
 
@@ -151,7 +151,7 @@ class Workspace:
     def shown(self, path: Path) -> str:
         """A path as messages name it: from the top of the workspace."""
         root = self.root_of(path)
-        return os.fsencode(path.relative_to(root) if root else path).decode(errors="replace")
+        return shown_path(path.relative_to(root) if root else path)
 
     def locale(self, document: Document) -> str | None:
         """The language of a document: that of the settings, or else what its name or a folder's is a tag of."""
