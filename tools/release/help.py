@@ -14,7 +14,7 @@ from typing import NamedTuple
 # What a value of an option or an argument may be completed to, by its name in the help.
 FILES = {'FILE', 'PATH'}
 CODES = '''
-    syntax duplicate-id unknown-message unknown-term unknown-attribute no-value no-default cyclic-reference
+    syntax byte-order-mark duplicate-id unknown-message unknown-term unknown-attribute no-value no-default cyclic-reference
     unknown-function duplicate-attribute duplicate-variant invalid-escape unknown-option missing-category unused-term
     missing-message missing-value missing-attribute obsolete-value obsolete-attribute unknown-variable unused-variable obsolete-message
     untranslated

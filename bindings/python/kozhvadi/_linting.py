@@ -14,6 +14,9 @@ from ._values import encoded
 
 Files = Union[Mapping[str, str], Iterable[tuple[str, str]]]
 
+# The codes of findings of what can't be read.
+UNREAD = frozenset({"syntax", "byte-order-mark"})
+
 _CARRIAGE_RETURN = "a carriage return ends no line"
 _NOT_TIDY = "what would be written isn't read as the same messages"
 
@@ -148,7 +151,7 @@ def tidy(source: str) -> str:
 def _damage(source: str) -> str:
     """Why a source can't be read where it first can't."""
     plain = source.removeprefix("\ufeff").replace("\r\n", "\n")
-    return next(finding.text for finding in lint({"": plain}).findings if finding.code == "syntax")
+    return next(finding.text for finding in lint({"": plain}).findings if finding.code in UNREAD)
 
 
 def _files(files: Files, what: str) -> tuple["ctypes.Array[c.FluentFile]", int]:

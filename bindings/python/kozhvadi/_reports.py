@@ -2,8 +2,10 @@
 
 from __future__ import annotations
 
+from collections.abc import Collection
+
 from ._errors import SourceError
-from ._linting import Finding, lint
+from ._linting import UNREAD, Finding, lint
 
 # The names of sources, and their texts in UTF-8.
 Sources = list[tuple[str, bytes]]
@@ -17,7 +19,7 @@ def source_errors(report: list[str], sources: Sources, overriding: bool) -> list
     broken = [line for line in report if line.startswith("source ")]
     taken = report[len(broken) :]
     found = _findings(sources) if report else []
-    syntax, doubles = _of_code(found, "syntax", len(broken)), _of_code(found, "duplicate-id", len(taken))
+    syntax, doubles = _of_codes(found, UNREAD, len(broken)), _of_codes(found, {"duplicate-id"}, len(taken))
     errors = [_error(line, sources, finding) for line, finding in zip(broken, syntax)]
     return errors + [_double(line, finding, overriding) for line, finding in zip(taken, doubles)]
 
@@ -37,10 +39,10 @@ def _findings(sources: Sources) -> list[Finding]:
         return []
 
 
-def _of_code(found: list[Finding], code: str, count: int) -> list[Finding | None]:
-    """The findings of a code, or nothing this many times if there are others than the report has lines."""
-    of_code: list[Finding | None] = [finding for finding in found if finding.code == code]
-    return of_code if len(of_code) == count else [None] * count
+def _of_codes(found: list[Finding], codes: Collection[str], count: int) -> list[Finding | None]:
+    """The findings of some codes, or nothing this many times if there are others than the report has lines."""
+    of_codes: list[Finding | None] = [finding for finding in found if finding.code in codes]
+    return of_codes if len(of_codes) == count else [None] * count
 
 
 def _error(line: str, sources: Sources, finding: Finding | None) -> SourceError:

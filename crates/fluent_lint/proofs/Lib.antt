@@ -6,5 +6,6 @@ pub mod Trees
 pub mod FilesFound
 pub mod Counted
 pub mod SameFindings
+mod CountRows
 pub mod Found
 pub mod Replies

@@ -6,7 +6,6 @@ use denote.Ref.{Bor}
 use Rattle.fluent_ast.specs.Borrowed.{entries_of}
 use Rattle.fluent_ast.specs.declared.Resource.{Resource}
 use Rattle.lint_finding.specs.declared.records.File.{File}
-use Rattle.fluent_grammar.specs.Tree as t
 use Rattle.fluent_grammar.specs.Words.{Text}
 use Rattle.fluent_meaning.proofs.InTurn.{with_ids-++}
 use Rattle.fluent_meaning.specs.Ids.{Ids, Meaning, entries_by_id, function, number_pair, with_id, with_ids}
@@ -24,8 +23,8 @@ one_read f files i d inside read before =
     ∙ ap (map f) (map-append (λ (g : File). g.source.now) (take i files) (file ∷ []))
     ∙ map-append f (sources_of (take i files)) (file.source.now ∷ []))
 
--- one more entry lost its comment
-pub one_changed : (f : t.Entry → t.Entry) (xs : List t.Entry) (i : ℕ) (d y : t.Entry) → i < length xs → y ≡ f (get_or xs i d) →
+-- one more item was changed
+pub one_changed : {A : Type 0} (f : A → A) (xs : List A) (i : ℕ) (d y : A) → i < length xs → y ≡ f (get_or xs i d) →
     take (i + 1) (set xs i y) ++ map f (drop (i + 1) (set xs i y)) ≡ take i xs ++ map f (drop i xs)
 one_changed f xs i d y inside is =
     ap (λ z. take (i + 1) (set xs i y) ++ map f z) (drop-set-lt (i + 1) xs i y (omega arith))

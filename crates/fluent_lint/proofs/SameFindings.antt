@@ -1,10 +1,10 @@
 -- A report has the findings that aren't ignored.
-use Rattle.std.proofs.Common.{◌≡◌, ◌∙◌, ℕ, ◌+◌, Bool, true, false, cond, if◌then◌else◌, not, ◌||◌, List, [], ◌∷◌, ◌++◌, filter, refl, sym, ap, arith, append-nil, append_assoc, count_by, inl, inr}
+use Rattle.std.proofs.Common.{◌≡◌, ◌∙◌, ℕ, ◌+◌, Bool, true, false, cond, if◌then◌else◌, not, ◌&&◌, ◌||◌, List, [], ◌∷◌, ◌++◌, filter, refl, sym, ap, arith, append-nil, append_assoc, count_by, inl, inr}
 use Rattle.std.specs.Prelude.{nat_lt}
 use Rattle.std.specs.List.{All, flat_map}
 use Rattle.std.specs.Str.{bytes_eq}
 use Rattle.std.proofs.lemmas.Bool.{cases_Bool, false≢true}
-use Rattle.std.proofs.lemmas.List.Elements.{All-nil, All-cons, All-head, All-tail, filter-append}
+use Rattle.std.proofs.lemmas.List.Elements.{All-nil, All-cons, All-head, All-tail}
 use Rattle.std.proofs.lemmas.List.Sums.{sum_by-append, sum_by-cons}
 use Rattle.std.proofs.lemmas.Slice.Eq.{bytes_eq-Decides}
 use Rattle.fluent_grammar.specs.Words.{Text, is_among}
@@ -13,7 +13,7 @@ use Rattle.lint_findings.specs.Files.{File}
 use Rattle.lint_findings.specs.Findings.{Options, FileFinding, FileTile, Rules, catalog_rules, declarations_of_tile, findings_in, findings_of_tile, findings_of_tiles, missing_messages, tiles_in, translation_rules}
 use Rattle.fluent_lint.specs.InOrder.{in_order, put}
 use Rattle.fluent_lint.specs.LintReport.{all_findings}
-use Rattle.fluent_lint.specs.Reported.{declarations_in, kept, reported, reported_in, reported_missing, reported_of_files}
+use Rattle.fluent_lint.specs.Reported.{declarations_in, found, found_in_files, ordered, reported}
 use Rattle.fluent_lint.specs.RunLaws.{NoneIsIgnored, ReportsAreFindings}
 
 -- ---- counts of lists
@@ -48,6 +48,22 @@ module _ {X : Type 0} (test : X → Bool) where
     counted_in_order (x ∷ xs) =
         counted_put x (in_order number xs) ∙ counted_first x (in_order number xs) ∙ ap (λ n. one x + n) (counted_in_order xs) ∙ sym (counted_first x xs)
 
+  none_before : (n : ℕ) → n ≡ 0 + n
+  none_before n = omega arith
+
+  -- those that pass among those that are kept
+  counted_kept : (keep : X → Bool) (xs : List X) → count_by test (filter keep xs) ≡ count_by (λ x. keep x && test x) xs
+  counted_kept keep [] = refl
+  counted_kept keep (x ∷ xs) =
+      let both : X → Bool = λ y. keep y && test y in
+      let later : count_by test (filter keep xs) ≡ count_by both xs = counted_kept keep xs in
+      let here : count_by test (filter keep (x ∷ xs)) ≡ cond (keep x && test x) 1 0 + count_by both xs =
+      elim (keep x) as (λ b. count_by test (cond b (x ∷ filter keep xs) (filter keep xs)) ≡ cond (b && test x) 1 0 + count_by both xs) [
+        | true ↦ counted_first x (filter keep xs) ∙ ap (λ n. one x + n) later
+        | false ↦ later ∙ none_before (count_by both xs)
+      ] in
+      here ∙ sym (sum_by-cons (λ y. cond (keep y && test y) 1 0) x xs)
+
   none_counted : (xs : List X) → All (λ x. test x ≡ false) xs → count_by test xs ≡ 0
   none_counted [] h = refl
   none_counted (x ∷ xs) h =
@@ -79,9 +95,6 @@ module _ {X : Type 0} (test : X → Bool) where
 
 -- ---- files
 
-abbrev keep : List Text → List FileFinding → List FileFinding
-keep ignored fs = kept (λ (f : FileFinding). f.finding) ignored fs
-
 abbrev keeps : List Text → FileFinding → Bool
 keeps ignored f = not (is_among f.finding.code ignored)
 
@@ -99,31 +112,38 @@ module _ (rules : Rules) where
       ∙ sym (append_assoc here (findings_of_tiles rules (before ++ ds) xs) (findings_of_tiles rules ((before ++ ds) ++ declared xs) ys))
       ∙ ap (λ l. (here ++ findings_of_tiles rules (before ++ ds) xs) ++ findings_of_tiles rules l ys) (append_assoc before ds (declared xs))
 
-  module _ (ignored : List Text) (test : FileFinding → Bool) where
+  module _ (test : FileFinding → Bool) where
     counted_files : (files : List File) (before : List Declaration) →
-        count_by test (reported_of_files rules ignored before files) ≡ count_by test (keep ignored (findings_of_tiles rules before (flat_map tiles_in files)))
+        count_by test (found_in_files rules before files) ≡ count_by test (findings_of_tiles rules before (flat_map tiles_in files))
     counted_files [] before = refl
     counted_files (file ∷ files) before =
         let here = findings_of_tiles rules before (tiles_in file) in
         let later = findings_of_tiles rules (before ++ declarations_in rules file) (flat_map tiles_in files) in
-        let first : count_by test (reported_in ignored here) ≡ count_by test (keep ignored here) = counted_in_order test (λ (f : FileFinding). f.finding.offset) (keep ignored here) in
-        counted_both test (reported_in ignored here) (reported_of_files rules ignored (before ++ declarations_in rules file) files)
-        ∙ ap (λ n. n + count_by test (reported_of_files rules ignored (before ++ declarations_in rules file) files)) first
-        ∙ ap (λ n. count_by test (keep ignored here) + n) (counted_files files (before ++ declarations_in rules file))
-        ∙ sym (counted_both test (keep ignored here) (keep ignored later))
-        ∙ ap (count_by test) (sym (filter-append (keeps ignored) here later))
-        ∙ ap (λ l. count_by test (keep ignored l)) (sym (two_runs before (tiles_in file) (flat_map tiles_in files)))
+        let first : count_by test (ordered here) ≡ count_by test here = counted_in_order test (λ (f : FileFinding). f.finding.offset) here in
+        counted_both test (ordered here) (found_in_files rules (before ++ declarations_in rules file) files)
+        ∙ ap (λ n. n + count_by test (found_in_files rules (before ++ declarations_in rules file) files)) first
+        ∙ ap (λ n. count_by test here + n) (counted_files files (before ++ declarations_in rules file))
+        ∙ sym (counted_both test here later)
+        ∙ ap (count_by test) (sym (two_runs before (tiles_in file) (flat_map tiles_in files)))
 
-pub reports_are_findings : ReportsAreFindings
-reports_are_findings options ignored [] files test = counted_files (catalog_rules options files) ignored test files []
-reports_are_findings options ignored (r ∷ rs) files test =
+-- The order makes no difference.
+found_counted : (options : Options) (references files : List File) (test : FileFinding → Bool) →
+    count_by test (found options references files) ≡ count_by test (all_findings options references files)
+found_counted options [] files test = counted_files (catalog_rules options files) test files []
+found_counted options (r ∷ rs) files test =
     let rules = translation_rules options (r ∷ rs) files in
     let all = findings_of_tiles rules [] (flat_map tiles_in files) in
     let missing = missing_messages options (r ∷ rs) files in
-    counted_both test (reported_of_files rules ignored [] files) (reported_missing options ignored (r ∷ rs) files)
-    ∙ ap (λ n. n + count_by test (keep ignored missing)) (counted_files rules ignored test files [])
-    ∙ sym (counted_both test (keep ignored all) (keep ignored missing))
-    ∙ ap (count_by test) (sym (filter-append (keeps ignored) all missing))
+    counted_both test (found_in_files rules [] files) missing
+    ∙ ap (λ n. n + count_by test missing) (counted_files rules test files [])
+    ∙ sym (counted_both test all missing)
+
+pub reports_are_findings : ReportsAreFindings
+reports_are_findings options ignored references files test =
+    let both : FileFinding → Bool = λ f. keeps ignored f && test f in
+    counted_kept test (keeps ignored) (found options references files)
+    ∙ found_counted options references files both
+    ∙ sym (counted_kept test (keeps ignored) (all_findings options references files))
 
 -- ---- codes
 

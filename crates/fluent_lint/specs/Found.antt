@@ -1,10 +1,10 @@
--- What is found in files, and reported of it.
+-- What is found in files, and what is left of it.
 use Rattle.std.specs.Prelude.{◌≡◌, List, [], ◌∷◌, ◌++◌, Vec, map}
 use Rattle.std.specs.Global.{Global}
 use Rattle.lint_files.specs.PartFindings.{declared_in, findings_of_file}
 use Rattle.lint_entries.specs.First.{AreFirst}
 use Rattle.lint_entries.specs.declared.declarations.Declarations.{Declarations}
-use Rattle.lint_finding.specs.View.{file_view, finding_view, findings_view}
+use Rattle.lint_finding.specs.View.{file_findings_view, file_view, finding_view, findings_view}
 use Rattle.lint_finding.specs.declared.records.File.{File}
 use Rattle.lint_finding.specs.declared.records.FileFindings.{FileFindings}
 use Rattle.lint_finding.specs.declared.records.Finding.{Finding}
@@ -15,8 +15,8 @@ use Rattle.fluent_lint.specs.FileTiles.{files_of, files_view}
 use denote.Ref.{Bor}
 use Rattle.fluent_grammar.specs.Words.{Text}
 use Rattle.fluent_resource.specs.Sources.{texts}
-use Rattle.fluent_lint.specs.Missing.{reported_missing_in}
-use Rattle.fluent_lint.specs.Reported.{reported_in, reported_of}
+use Rattle.fluent_lint.specs.Missing.{missing_in_files}
+use Rattle.fluent_lint.specs.Reported.{kept_of, ordered}
 use Rattle.fluent_lint.specs.declared.tiles.FileTiles.{FileTiles}
 
 -- the declarations of a file come after those that are known
@@ -28,38 +28,40 @@ abbrev pub IsFoundInFile : Rules → Declarations → File → Vec Finding Globa
 IsFoundInFile rules known file found = (before : List Declaration) → AreFirst known before →
     map finding_view found.items ≡ findings_of_file rules before (file_view file)
 
--- and these are reported of them, with these codes ignored
-abbrev pub IsReportedInFile : Rules → List (Bor Text) → Declarations → File → Vec Finding Global → Type 0
-IsReportedInFile rules ignored known file found = (before : List Declaration) → AreFirst known before →
+-- and these are they in the order of their offsets
+abbrev pub IsOrderedInFile : Rules → Declarations → File → Vec Finding Global → Type 0
+IsOrderedInFile rules known file found = (before : List Declaration) → AreFirst known before →
     findings_in (file_view file) (map finding_view found.items)
-    ≡ reported_in (texts ignored) (findings_in (file_view file) (findings_of_file rules before (file_view file)))
+    ≡ ordered (findings_in (file_view file) (findings_of_file rules before (file_view file)))
 
--- the findings are those before without what is ignored, in the order of their offsets
-abbrev pub AreReported : List Text → List Finding → List Finding → Type 0
-AreReported ignored found reported = reported ≡ reported_of finding_view ignored found
+-- what is found in files, one after the other
+module _ (rules : Rules) where
+  abbrev pub found_by_files : List Declaration → List f.File → List FileFinding
+  found_by_files before [] = []
+  found_by_files before (file ∷ files) =
+      ordered (findings_in file (findings_of_file rules before file)) ++ found_by_files (before ++ declared_in file) files
 
--- what is reported of files, one after the other
-module _ (rules : Rules) (ignored : List Text) where
-  abbrev pub reported_by_files : List Declaration → List f.File → List FileFinding
-  reported_by_files before [] = []
-  reported_by_files before (file ∷ files) =
-      reported_in ignored (findings_in file (findings_of_file rules before file)) ++ reported_by_files (before ++ declared_in file) files
+-- what is found in files is added
+abbrev pub AddsFiles : Rules → List FileTiles → Vec FileFindings Global → Vec FileFindings Global → Type 0
+AddsFiles rules files old new =
+    findings_view new.items ≡ findings_view old.items ++ found_by_files rules [] (files_view (files_of files))
 
--- what is reported of files is added
-abbrev pub AddsFiles : Rules → List Text → List FileTiles → Vec FileFindings Global → Vec FileFindings Global → Type 0
-AddsFiles rules ignored files old new =
-    findings_view new.items ≡ findings_view old.items ++ reported_by_files rules ignored [] (files_view (files_of files))
+-- this is found in files
+abbrev pub AreFoundIn : Rules → List FileTiles → Vec FileFindings Global → Type 0
+AreFoundIn rules files found = findings_view found.items ≡ found_by_files rules [] (files_view (files_of files))
 
--- this is reported of files
-abbrev pub AreFoundIn : Rules → List Text → List FileTiles → Vec FileFindings Global → Type 0
-AreFoundIn rules ignored files found = findings_view found.items ≡ reported_by_files rules ignored [] (files_view (files_of files))
-
--- what is reported of files by these rules, and then of the missing messages of a reference
-abbrev pub reported_by : Rules → List Text → List f.File → List f.File → List FileFinding
-reported_by rules ignored references files =
-    reported_by_files rules ignored [] files ++ reported_missing_in rules.ids ignored references
+-- what is found in files by these rules, and then the missing messages of a reference
+abbrev pub found_by : Rules → List f.File → List f.File → List FileFinding
+found_by rules references files = found_by_files rules [] files ++ missing_in_files rules.ids references
 
 -- this is all of it
-abbrev pub AreAllFound : Rules → List Text → List FileTiles → List FileTiles → Vec FileFindings Global → Type 0
-AreAllFound rules ignored references files found =
-    findings_view found.items ≡ reported_by rules ignored (files_view (files_of references)) (files_view (files_of files))
+abbrev pub AreAllFound : Rules → List FileTiles → List FileTiles → Vec FileFindings Global → Type 0
+AreAllFound rules references files found =
+    findings_view found.items ≡ found_by rules (files_view (files_of references)) (files_view (files_of files))
+
+-- of what is found in files, that is left whose code isn't ignored
+abbrev pub AreKept : List (Bor Text) → List FileFindings → List FileFindings → Type 0
+AreKept ignored old new = findings_view new ≡ kept_of (texts ignored) (findings_view old)
+
+abbrev pub AreKeptOf : List (Bor Text) → FileFindings → FileFindings → Type 0
+AreKeptOf ignored old new = file_findings_view new ≡ kept_of (texts ignored) (file_findings_view old)

@@ -12,7 +12,7 @@ use Rattle.fluent_lint.specs.Lacking.{is_lacking}
 use Rattle.fluent_lint.specs.Totals.{taken_line, totals_line}
 use Rattle.lint_report.specs.View.{shown_width}
 use Rattle.ftl_arguments.specs.Linting.{Lint}
-use Rattle.fluent_lint.specs.Reported.{reported}
+use Rattle.fluent_lint.specs.Reported.{found, reported}
 
 -- What is found, before anything is left out. A catalog without a reference is looked at by itself,
 abbrev pub all_findings : Options → List File → List File → List FileFinding
@@ -45,14 +45,15 @@ pub record LintReport : Type 0 where
   pub text : Text
   pub has_failed : Bool
 
--- The report on files, with those of the reference before them, by these plural rules. Findings that are ignored are
--- as if they weren't found. The counts are of all others, also of notes that aren't shown.
+-- The report on files, with those of the reference before them, by these plural rules. The counts are of all that is
+-- found, whether it is shown or not. In all else, findings that are ignored are as if they weren't found.
 abbrev pub lint_report : Lint → Option LanguagePlurals → List File → List File → LintReport
 lint_report l plurals references files =
-    let found = reported (record { functions = l.functions; plurals = plurals }) l.ignored references files in
-    let counts = shown_counts l.format l.counts (all_summaries references files found) in
+    let options : Options = record { functions = l.functions; plurals = plurals } in
+    let counts = shown_counts l.format l.counts (all_summaries references files (found options references files)) in
+    let shown = reported options l.ignored references files in
     record {
-      text = out.output l.format shown_width (report.shown l.notes found) counts
-          ++ totals l.format l.notes (length files) (entry_count files) found;
-      has_failed = report.has_failed l.strict found;
+      text = out.output l.format shown_width (report.shown l.notes shown) counts
+          ++ totals l.format l.notes (length files) (entry_count files) shown;
+      has_failed = report.has_failed l.strict shown;
     }

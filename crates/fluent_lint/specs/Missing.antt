@@ -10,18 +10,12 @@ use Rattle.fluent_lint.specs.FileTiles.{files_of, files_view}
 use Rattle.fluent_lint.specs.declared.tiles.FileTiles.{FileTiles}
 use Rattle.fluent_meaning.specs.Ids.{Ids}
 use Rattle.lint_comparison.specs.Missing.{missing_in}
-use Rattle.fluent_grammar.specs.Words.{Text}
-use Rattle.fluent_lint.specs.Reported.{kept}
 
 -- those of the files of a reference, by the ids of the catalog
 abbrev pub missing_in_files : Ids (Unit {0}) → List File → List FileFinding
 missing_in_files ids references = flat_map (λ (file : File). findings_in file (missing_in ids file.source)) references
 
--- those that are reported, with these codes ignored
-abbrev pub reported_missing_in : Ids (Unit {0}) → List Text → List File → List FileFinding
-reported_missing_in ids ignored references = kept (λ (f : FileFinding). f.finding) ignored (missing_in_files ids references)
-
 -- they are added
-abbrev pub AddsMissing : Ids (Unit {0}) → List Text → List FileTiles → Vec FileFindings Global → Vec FileFindings Global → Type 0
-AddsMissing ids ignored references old new =
-    findings_view new.items ≡ findings_view old.items ++ reported_missing_in ids ignored (files_view (files_of references))
+abbrev pub AddsMissing : Ids (Unit {0}) → List FileTiles → Vec FileFindings Global → Vec FileFindings Global → Type 0
+AddsMissing ids references old new =
+    findings_view new.items ≡ findings_view old.items ++ missing_in_files ids (files_view (files_of references))

@@ -8,39 +8,35 @@ use Rattle.lint_findings.specs.Finding.{Finding}
 use Rattle.lint_findings.specs.Findings.{Options, Rules, FileFinding, FileTile, catalog_rules, declarations_of_tile, findings_of_tiles, missing_messages, tiles_in, translation_rules}
 use Rattle.fluent_lint.specs.InOrder.{in_order}
 
-module _ {X : Type 0} (finding : X → Finding) (ignored : List Text) where
-  -- those whose code isn't ignored
-  abbrev pub kept : List X → List X
-  kept xs = filter (λ x. not (is_among (finding x).code ignored)) xs
-
-  -- these of one file, in the order of their offsets
-  abbrev pub reported_of : List X → List X
-  reported_of xs = in_order (λ x. (finding x).offset) (kept xs)
-
--- the same of findings with their file
-abbrev pub reported_in : List Text → List FileFinding → List FileFinding
-reported_in ignored fs = reported_of (λ (f : FileFinding). f.finding) ignored fs
+-- findings of one file, in the order of their offsets
+abbrev pub ordered : List FileFinding → List FileFinding
+ordered fs = in_order (λ (f : FileFinding). f.finding.offset) fs
 
 module _ (rules : Rules) where
   abbrev pub declarations_in : File → List Declaration
   declarations_in file = flat_map (λ (t : FileTile). declarations_of_tile rules t.file t.tile) (tiles_in file)
 
   -- of files one after the other, after these declarations
-  abbrev pub reported_of_files : List Text → List Declaration → List File → List FileFinding
-  reported_of_files ignored before [] = []
-  reported_of_files ignored before (file ∷ files) =
-      reported_in ignored (findings_of_tiles rules before (tiles_in file))
-      ++ reported_of_files ignored (before ++ declarations_in file) files
+  abbrev pub found_in_files : List Declaration → List File → List FileFinding
+  found_in_files before [] = []
+  found_in_files before (file ∷ files) =
+      ordered (findings_of_tiles rules before (tiles_in file)) ++ found_in_files (before ++ declarations_in file) files
 
--- of the messages that the catalog lacks
-abbrev pub reported_missing : Options → List Text → List File → List File → List FileFinding
-reported_missing options ignored references files =
-    kept (λ (f : FileFinding). f.finding) ignored (missing_messages options references files)
+-- What is found in a catalog and its reference. A catalog without a reference is looked at by itself. The missing
+-- messages come last.
+abbrev pub found : Options → List File → List File → List FileFinding
+found options [] files = found_in_files (catalog_rules options files) [] files
+found options (r ∷ rs) files =
+    found_in_files (translation_rules options (r ∷ rs) files) [] files ++ missing_messages options (r ∷ rs) files
 
--- What is reported of a catalog and its reference, with these codes ignored. A catalog without a reference is looked at by
--- itself. The missing messages come last.
+-- those whose code isn't ignored
+abbrev pub kept : {X : Type 0} → (X → Finding) → List Text → List X → List X
+kept finding ignored xs = filter (λ x. not (is_among (finding x).code ignored)) xs
+
+-- the same of findings with their file
+abbrev pub kept_of : List Text → List FileFinding → List FileFinding
+kept_of ignored fs = kept (λ (f : FileFinding). f.finding) ignored fs
+
+-- what is reported, with these codes ignored
 abbrev pub reported : Options → List Text → List File → List File → List FileFinding
-reported options ignored [] files = reported_of_files (catalog_rules options files) ignored [] files
-reported options ignored (r ∷ rs) files =
-    reported_of_files (translation_rules options (r ∷ rs) files) ignored [] files
-    ++ reported_missing options ignored (r ∷ rs) files
+reported options ignored references files = kept_of ignored (found options references files)

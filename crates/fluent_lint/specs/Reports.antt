@@ -2,9 +2,9 @@
 use Rattle.std.specs.Prelude.{◌≡◌, ℕ, List, ◌++◌, Vec, length, map, string_bytes}
 use Rattle.std.specs.Global.{Global}
 use Rattle.fluent_lint.specs.FileTiles.{files_of, files_view}
-use Rattle.fluent_lint.specs.Found.{reported_by}
+use Rattle.fluent_lint.specs.Found.{found_by}
 use Rattle.fluent_lint.specs.LintReport.{all_summaries, shown_counts, totals}
-use Rattle.fluent_lint.specs.Reported.{reported}
+use Rattle.fluent_lint.specs.Reported.{found, kept_of}
 use Rattle.fluent_lint.specs.declared.reports.Options.{Options}
 use Rattle.fluent_lint.specs.declared.reports.Output.{Output}
 use Rattle.fluent_lint.specs.declared.reports.Report.{Report}
@@ -58,18 +58,19 @@ abbrev pub AreShown : Output → List FileFindings → List FileTiles → List F
 AreShown output found references files counts =
     map summary_view counts.items ≡ counts_by output (counts_of (findings_view found) references files)
 
--- the report of these findings of the files of a catalog and of its reference, with their counts
+-- The report of what is found in the files of a catalog and of its reference, without what is ignored. The counts are
+-- of all of it.
 abbrev pub IsReportWith : List FileFinding → List File → List File → Output → Report → Type 0
 IsReportWith found references files output report =
-    IsReportOf found (counts_by output (all_summaries (files_view references) (files_view files) found))
+    IsReportOf (kept_of (ignored_by output) found) (counts_by output (all_summaries (files_view references) (files_view files) found))
     (length (files_view files)) (entry_count (files_view files)) output report
 
 -- by these rules
 abbrev pub IsReportBy : Rules → List File → List File → Output → Report → Type 0
 IsReportBy rules references files output report =
-    IsReportWith (reported_by rules (ignored_by output) (files_view references) (files_view files)) references files output report
+    IsReportWith (found_by rules (files_view references) (files_view files)) references files output report
 
 -- by what is known of the program and of the language
 abbrev pub IsReportOn : Options → Output → List File → List File → Report → Type 0
 IsReportOn o output references files report =
-    IsReportWith (reported (options_view o) (ignored_by output) (files_view references) (files_view files)) references files output report
+    IsReportWith (found (options_view o) (files_view references) (files_view files)) references files output report

@@ -1,45 +1,36 @@
-//! The findings of a catalog that are reported.
+//! The findings of a catalog.
 #![tactic(auto)]
 
 ghost use Rattle.std.specs.Prelude.{[], All, IfOk, OnOk};
 ghost use Rattle.lint_files.specs.RulesView.{rules_view};
 ghost use Rattle.lint_entries.specs.First.{AreFirst};
 ghost use Rattle.fluent_lint.specs.FileTiles.{AreTilesOf};
-ghost use Rattle.fluent_lint.specs.Found.{AddsFiles, AreAllFound, AreFoundIn, DeclaresFile, IsFoundInFile, IsReportedInFile};
-ghost use Rattle.fluent_resource.specs.Sources.{texts};
+ghost use Rattle.fluent_lint.specs.Found.{AddsFiles, AreAllFound, AreFoundIn, DeclaresFile, IsFoundInFile, IsOrderedInFile};
 
 use crate::missing::push_missing_messages;
-use crate::reported::report_in_order;
+use crate::reported::order;
 use crate::tiles::FileTiles;
 use lint_entries::Declarations;
 use lint_files::{Rules, file_findings, syntax_findings};
 use lint_finding::{FileFindings, Finding};
 use std::alloc::{AllocError, Global};
 
-/// All findings by these rules whose code isn't ignored: those of the files of a catalog, and then the messages of its
-/// reference that it hasn't.
+/// All findings by these rules: those of the files of a catalog, and then the messages of its reference that it hasn't.
 ///
 /// # Errors
 /// [`AllocError`] if memory runs out; nothing is kept.
 pub fn all_findings<'s>(
     alloc: Global,
     rules: &Rules<'_, '_, 's>,
-    ignored: &[&str],
     references: &[FileTiles<'_, 's>],
     files: &[FileTiles<'_, 's>],
 ) -> Result<Vec<FileFindings<'s>>, AllocError>
     requires references { All AreTilesOf references.now }
     requires files { All AreTilesOf files.now }
-    ensures { IfOk result (AreAllFound (rules_view rules.now) (texts ignored.now) references.now files.now) }
+    ensures { IfOk result (AreAllFound (rules_view rules.now) references.now files.now) }
 {
-    let mut found = catalog_findings(alloc, rules, ignored, files)?;
-    push_missing_messages(
-        alloc,
-        rules.catalog.endless.ids,
-        ignored,
-        references,
-        &mut found,
-    )?;
+    let mut found = catalog_findings(alloc, rules, files)?;
+    push_missing_messages(alloc, rules.catalog.endless.ids, references, &mut found)?;
     Ok(found)
 }
 
@@ -50,15 +41,14 @@ pub fn all_findings<'s>(
 fn catalog_findings<'s>(
     alloc: Global,
     rules: &Rules<'_, '_, 's>,
-    ignored: &[&str],
     files: &[FileTiles<'_, 's>],
 ) -> Result<Vec<FileFindings<'s>>, AllocError>
     requires tiles { All AreTilesOf files.now }
-    ensures { IfOk result (AreFoundIn (rules_view rules.now) (texts ignored.now) files.now) }
+    ensures { IfOk result (AreFoundIn (rules_view rules.now) files.now) }
 {
     let mut found = Vec::new(alloc);
     let declarations = Declarations::new(alloc);
-    push_files(alloc, rules, ignored, files, declarations, &mut found)?;
+    push_files(alloc, rules, files, declarations, &mut found)?;
     Ok(found)
 }
 
@@ -66,18 +56,17 @@ fn catalog_findings<'s>(
 fn push_files<'s>(
     alloc: Global,
     rules: &Rules<'_, '_, 's>,
-    ignored: &[&str],
     files: &[FileTiles<'_, 's>],
     before: Declarations<'s>,
     found: &mut Vec<FileFindings<'s>>,
 ) -> Result<(), AllocError>
     requires tiles { All AreTilesOf files.now }
     requires none { AreFirst before [] }
-    ensures { OnOk result (AddsFiles (rules_view rules.now) (texts ignored.now) files.now found.old found.new) }
+    ensures { OnOk result (AddsFiles (rules_view rules.now) files.now found.old found.new) }
 {
     let mut declarations = before;
     for file in files {
-        let findings = reported_of_file(alloc, rules, ignored, file, &mut declarations)?;
+        let findings = ordered_of_file(alloc, rules, file, &mut declarations)?;
         found.push(FileFindings {
             file: file.file,
             findings,
@@ -86,21 +75,21 @@ fn push_files<'s>(
     Ok(())
 }
 
-/// What is reported of the findings of a file, after the declarations of others. Its own declarations are added to those.
-fn reported_of_file<'s>(
+/// The findings of a file in the order of their offsets, after the declarations of others. Its own declarations are added
+/// to those.
+fn ordered_of_file<'s>(
     alloc: Global,
     rules: &Rules<'_, '_, 's>,
-    ignored: &[&str],
     file: &FileTiles<'_, 's>,
     declarations: &mut Declarations<'s>,
 ) -> Result<Vec<Finding>, AllocError>
     requires tiles { AreTilesOf file.now }
     ensures declared { OnOk result (DeclaresFile declarations.old declarations.new file.now.file) }
     ensures findings { IfOk result
-        (IsReportedInFile (rules_view rules.now) ignored.now declarations.old file.now.file) }
+        (IsOrderedInFile (rules_view rules.now) declarations.old file.now.file) }
 {
     let mut findings = findings_of_file(alloc, rules, file, declarations)?;
-    report_in_order(&mut findings, ignored)?;
+    order(&mut findings)?;
     Ok(findings)
 }
 

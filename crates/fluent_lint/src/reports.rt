@@ -13,6 +13,7 @@ use crate::counts::{entry_count, shown_counts};
 use crate::findings::all_findings;
 use crate::known::Known;
 use crate::read::{ReadFiles, read_files};
+use crate::reported::keep_reported;
 use crate::terms::terms_of;
 use crate::tiles::tiles_of_files;
 use crate::totals::{push_taken, push_totals};
@@ -39,7 +40,7 @@ pub struct Options<'a> {
 #[derive(Clone, Copy)]
 pub struct Output<'a> {
     pub format: Format,
-    /// The codes of findings that are as if they weren't found.
+    /// The codes of findings that are left out. The counts are of these, too.
     pub ignored: &'a [&'a str],
     /// Whether notes are written.
     pub notes: bool,
@@ -57,8 +58,8 @@ pub struct Report {
 }
 
 /// The report of a catalog: the findings of its files whose code isn't ignored, and whether one of them fails. With files
-/// of a reference, which it is translated from, also the messages that it lacks and the counts of files; the functions that
-/// the reference calls are known then.
+/// of a reference, which it is translated from, also the messages that it lacks and the counts of files, which are of all
+/// findings; the functions that the reference calls are known then.
 ///
 /// # Errors
 /// [`AllocError`] if memory runs out, or a file nests so deep that reading it would take more of the machine's stack
@@ -97,6 +98,7 @@ fn report_of_read<'r, 's: 'r>(
     let common = CommonCategories::of(options.plurals);
     let catalog = Catalog {
         endless: &endless,
+        reference: &known.reference,
         plurals: options.plurals,
         common,
     };
@@ -124,8 +126,9 @@ fn report_by_rules<'r, 's: 'r>(
     let count = files.files.len();
     let references = tiles_of_files(alloc, references)?;
     let files = tiles_of_files(alloc, files)?;
-    let found = all_findings(alloc, rules, output.ignored, &references, &files)?;
+    let mut found = all_findings(alloc, rules, &references, &files)?;
     let counts = shown_counts(alloc, output, &references, &files, &found)?;
+    keep_reported(&mut found, output.ignored);
     let entries = entry_count(&files)?;
     report_of(alloc, output, count, entries, &found, &counts)
 }

@@ -30,8 +30,8 @@ pub record Lint : Type 0 where
 -- the codes that findings have
 abbrev pub finding_codes : List Text
 finding_codes =
-    codes "syntax" ∷ codes "duplicate-id" ∷ codes "unknown-message" ∷ codes "unknown-term" ∷ codes "unknown-attribute"
-    ∷ codes "no-value" ∷ codes "no-default" ∷ codes "cyclic-reference" ∷ codes "unknown-function" ∷ codes "duplicate-attribute"
+    codes "syntax" ∷ codes "byte-order-mark" ∷ codes "duplicate-id" ∷ codes "unknown-message" ∷ codes "unknown-term"
+    ∷ codes "unknown-attribute" ∷ codes "no-value" ∷ codes "no-default" ∷ codes "cyclic-reference" ∷ codes "unknown-function" ∷ codes "duplicate-attribute"
     ∷ codes "duplicate-variant" ∷ codes "invalid-escape" ∷ codes "unknown-option" ∷ codes "missing-category"
     ∷ codes "unused-term" ∷ codes "missing-message" ∷ codes "missing-value" ∷ codes "missing-attribute" ∷ codes "obsolete-value"
     ∷ codes "obsolete-attribute" ∷ codes "unknown-variable" ∷ codes "unused-variable" ∷ codes "obsolete-message" ∷ codes "untranslated" ∷ []

@@ -13,8 +13,9 @@ use lint_report::Format as ReportFormat;
 use std::alloc::Global;
 
 /// The codes that findings have.
-const CODES: [&str; 24] = [
+const CODES: [&str; 25] = [
     "syntax",
+    "byte-order-mark",
     "duplicate-id",
     "unknown-message",
     "unknown-term",

@@ -7,7 +7,7 @@ use Rattle.fluent_grammar.specs.Tree as t
 use Rattle.lint_findings.specs.EntryFindings as e
 use Rattle.lint_findings.specs.Finding.{Finding}
 use Rattle.lint_findings.specs.Occurrences.{after_equals, pattern_read}
-use Rattle.lint_entries.specs.CatalogView.{ids_in}
+use Rattle.lint_entries.specs.CatalogView.{ids_in, reference_in}
 use Rattle.lint_entries.specs.AttributePlaces.{attribute_value, AreAttributesAt, read_rest}
 use Rattle.lint_entries.specs.AttributesFound.{taken_found, place_of_attribute, label_with, attributes_found}
 use Rattle.lint_entries.specs.FoundAt.{pattern_found}
@@ -35,13 +35,14 @@ module _ (catalog : Catalog) (entry : EntryPoint) where
       z ++ attributes_found catalog entry (a.id ∷ before) as' u ≡ x ++ attributes_found catalog entry before (a ∷ as') s
   one_added a as' before s u v name at place x y z named there placed value read first later =
       let ids = ids_in catalog in
+      let reference = reference_in catalog in
       let source = entry.source.now in
-      let taken = λ (n p : Text). e.attribute_findings ids catalog.plurals source (label_with entry n) before (record { attribute = Some n; name_at = p; pattern_at = attribute_value s }) (Some n) in
-      let found = λ (n p : Text). e.pattern_findings ids catalog.plurals source (label_with entry n) (record { attribute = Some n; name_at = p; pattern_at = attribute_value s }) a.value in
+      let taken = λ (n p : Text). e.attribute_findings ids reference catalog.plurals source (label_with entry n) before (record { attribute = Some n; name_at = p; pattern_at = attribute_value s }) (Some n) in
+      let found = λ (n p : Text). e.pattern_findings ids reference catalog.plurals source (label_with entry n) (record { attribute = Some n; name_at = p; pattern_at = attribute_value s }) a.value in
       let here = place_of_attribute entry name at in
       let others = attributes_found catalog entry (a.id ∷ before) as' in
       let taken_is : taken_found before name.now place ≡ taken a.id (skip_spaces s) =
-      ap (taken_found before name.now) placed ∙ or_false (is_among name.now before) (e.plain_warning ids catalog.plurals source (label_with entry name.now) at.now _ _)
+      ap (taken_found before name.now) placed ∙ or_false (is_among name.now before) (e.plain_warning ids reference catalog.plurals source (label_with entry name.now) at.now _ _)
       ∙ ap (λ n. taken n at.now) named ∙ ap (taken a.id) there in
       let found_is : pattern_found catalog place v a.value ≡ found a.id (skip_spaces s) =
       ap (λ p. pattern_found catalog p v a.value) placed ∙ ap (λ t. pattern_found catalog here t a.value) value

@@ -6,7 +6,7 @@ use Rattle.fluent_grammar.specs.Refusal.{got}
 use Rattle.fluent_grammar.specs.Tree as t
 use Rattle.lint_findings.specs.Finding.{Finding}
 use Rattle.lint_findings.specs.Occurrences.{after_equals, pattern_read}
-use Rattle.lint_entries.specs.CatalogView.{ids_in}
+use Rattle.lint_entries.specs.CatalogView.{ids_in, reference_in}
 use Rattle.lint_entries.specs.AttributePlaces.{AreAttributesAt, LeavesRest, read_rest, value_elements}
 use Rattle.lint_entries.specs.AttributesFound.{attributes_found}
 use Rattle.lint_entries.specs.EntryParts.{LeaveRest, Parts, maybe_value_at, parts_found, value_at}
@@ -30,20 +30,20 @@ module _ (catalog : Catalog) (source at sign id : Bor Text) where
   after_value value name u w read there = there ∙ ap (λ r. skip_blank_block (read_rest r)) (sym read)
 
   value_same : (value : Option t.Elements) (v name : Text) → v ≡ after_equals name →
-      value_found catalog here v value ≡ maybe_value_at (ids_in catalog) catalog.plurals source.now (sign.now ++ id.now) at.now (after_equals name) value
+      value_found catalog here v value ≡ maybe_value_at (ids_in catalog) (reference_in catalog) catalog.plurals source.now (sign.now ++ id.now) at.now (after_equals name) value
   value_same None v name same = refl
-  value_same (Some es) v name same = ap (λ p. value_at (ids_in catalog) catalog.plurals source.now (sign.now ++ id.now) at.now p es) same
+  value_same (Some es) v name same = ap (λ p. value_at (ids_in catalog) (reference_in catalog) catalog.plurals source.now (sign.now ++ id.now) at.now p es) same
 
   -- what is added to no findings: those of a value, and then those of attributes after it
   pub parts_added : (value : Option t.Elements) (attributes : List t.Attribute) (u v w : Text) (x y z : List Finding) →
       v ≡ after_equals (drop (length sign.now) at.now) → pattern_read v ≡ got (value_elements value) u → w ≡ skip_blank_block u →
       x ≡ [] → y ≡ x ++ value_found catalog here v value → z ≡ y ++ attributes_found catalog here [] attributes w →
-      z ≡ parts_found (ids_in catalog) catalog.plurals source.now (record { sign = sign.now; id = id.now; value = value; attributes = attributes }) at.now
+      z ≡ parts_found (ids_in catalog) (reference_in catalog) catalog.plurals source.now (record { sign = sign.now; id = id.now; value = value; attributes = attributes }) at.now
   parts_added value attributes u v w x y z there read after none first later =
       let name = drop (length sign.now) at.now in
       let read_there : pattern_read (after_equals name) ≡ got (value_elements value) u = sym (ap pattern_read there) ∙ read in
       later ∙ ap (λ l. l ++ attributes_found catalog here [] attributes w) (first ∙ ap (λ l. l ++ value_found catalog here v value) none ∙ value_same value v name there)
-      ∙ ap (λ p. maybe_value_at (ids_in catalog) catalog.plurals source.now (sign.now ++ id.now) at.now (after_equals name) value ++ attributes_found catalog here [] attributes p)
+      ∙ ap (λ p. maybe_value_at (ids_in catalog) (reference_in catalog) catalog.plurals source.now (sign.now ++ id.now) at.now (after_equals name) value ++ attributes_found catalog here [] attributes p)
       (after_value (value_elements value) name u w read_there after)
 
 -- where the value of an entry is, and its attributes after it

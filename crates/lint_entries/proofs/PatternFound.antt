@@ -18,7 +18,7 @@ use Rattle.lint_findings.proofs.OccurrencesAreTheNodes.{occurrences_are_the_node
 use Rattle.lint_entries.specs.FirstEndless.{first_entered, endless_at}
 use Rattle.lint_entries.proofs.FirstIsHint.{goes, never_ends_by, hint_by}
 
-module _ (ids : Ids (Unit {0})) (plurals : Option LanguagePlurals) (source owner name : Text) where
+module _ (ids reference : Ids (Unit {0})) (plurals : Option LanguagePlurals) (source owner name : Text) where
   abbrev with_hint : Option Text → Finding
   with_hint hint = record {
     offset = length source - length name;
@@ -34,9 +34,9 @@ module _ (ids : Ids (Unit {0})) (plurals : Option LanguagePlurals) (source owner
   ends_part b hint (Some r) e h = ap (λ x. if x then with_hint hint ∷ [] else []) e ∙ ap (λ x. with_hint x ∷ []) h
 
   abbrev of_occurrence : Occurrence → List Finding
-  of_occurrence o = node_findings ids plurals source owner o.at o.node
+  of_occurrence o = node_findings ids reference plurals source owner o.at o.node
 
-  nodes_part : (at : Text) (os : List Occurrence) → nodes_findings ids plurals source owner at (nodes os) os ≡ flat_map of_occurrence os
+  nodes_part : (at : Text) (os : List Occurrence) → nodes_findings ids reference plurals source owner at (nodes os) os ≡ flat_map of_occurrence os
   nodes_part at [] = refl
   nodes_part at (o ∷ os) = ap (λ xs. of_occurrence o ++ xs) (nodes_part at os)
 
@@ -44,12 +44,12 @@ module _ (ids : Ids (Unit {0})) (plurals : Option LanguagePlurals) (source owner
     -- of lists to which first the finding of the references, and then those of the occurrences are added
     pub pattern_added : (s rest : Text) → pattern_read s ≡ got es rest → (attribute : Option Text) (other : Ids (Unit {0})) → other ≡ ids → (os : List Occurrence) → os ≡ occurrences s → (ns : List Node) → ns ≡ nodes os → (x y z : List Finding) →
         y ≡ x ++ endless_at source owner name (first_entered other ns) → z ≡ y ++ flat_map of_occurrence os →
-        z ≡ x ++ pattern_findings ids plurals source owner (record { attribute = attribute; name_at = name; pattern_at = s }) es
+        z ≡ x ++ pattern_findings ids reference plurals source owner (record { attribute = attribute; name_at = name; pattern_at = s }) es
     pattern_added s rest read attribute other same os there ns are x y z first later =
         let first_is : first_entered other ns ≡ first_entered ids (elements_nodes es) = ap (λ i. first_entered i ns) same ∙ ap (first_entered ids) (are ∙ ap nodes there ∙ occurrences_are_the_nodes s es rest read) in
         let ends : endless_at source owner name (first_entered other ns) ≡ (if never_ends ids es then with_hint (endless_hint ids (elements_references es)) ∷ [] else []) =
         ap (endless_at source owner name) first_is ∙ sym (ends_part (never_ends ids es) (endless_hint ids (elements_references es)) (first_entered ids (elements_nodes es)) (never_ends_by ids es) (hint_by ids es)) in
-        let found : flat_map of_occurrence os ≡ nodes_findings ids plurals source owner s (elements_nodes es) (occurrences s) =
-        ap (flat_map of_occurrence) there ∙ sym (nodes_part s (occurrences s)) ∙ ap (λ n. nodes_findings ids plurals source owner s n (occurrences s)) (occurrences_are_the_nodes s es rest read) in
+        let found : flat_map of_occurrence os ≡ nodes_findings ids reference plurals source owner s (elements_nodes es) (occurrences s) =
+        ap (flat_map of_occurrence) there ∙ sym (nodes_part s (occurrences s)) ∙ ap (λ n. nodes_findings ids reference plurals source owner s n (occurrences s)) (occurrences_are_the_nodes s es rest read) in
         later ∙ ap (λ w. w ++ flat_map of_occurrence os) first ∙ append_assoc x (endless_at source owner name (first_entered other ns)) (flat_map of_occurrence os)
         ∙ ap (λ w. x ++ (w ++ flat_map of_occurrence os)) ends ∙ ap (λ w. x ++ ((if never_ends ids es then with_hint (endless_hint ids (elements_references es)) ∷ [] else []) ++ w)) found

@@ -11,7 +11,6 @@ use Rattle.lint_findings.specs.Occurrences.{pattern_read}
 use Rattle.fluent_grammar.specs.Refusal.{got}
 use Rattle.fluent_grammar.specs.Tree.{Elements}
 use Rattle.fluent_grammar.specs.Words.{Text}
-use Rattle.fluent_ids.specs.declared.ids.FluentIds.{FluentIds}
 use Rattle.fluent_meaning.specs.Ids.{Ids}
 use Rattle.lint_nodes.specs.NodeView.{node_view}
 use Rattle.lint_nodes.specs.declared.nodes.Node.{Node}
@@ -50,8 +49,8 @@ abbrev pub AddsNode : Catalog → EntryPoint → Node → Vec Finding Global →
 AddsNode catalog place node old new = Adds old new (node_found catalog place (node_view node))
 
 -- those of the flaws of a node at a place
-abbrev pub AddsFlaws : FluentIds (Unit {0}) → EntryPoint → Node → Vec Finding Global → Vec Finding Global → Type 0
-AddsFlaws ids place node old new = Adds old new (flaw_findings ids place (node_view node))
+abbrev pub AddsFlaws : Catalog → EntryPoint → Node → Vec Finding Global → Vec Finding Global → Type 0
+AddsFlaws catalog place node old new = Adds old new (flaw_findings catalog place (node_view node))
 
 -- those of the options of a node at a place
 abbrev pub AddsOptions : EntryPoint → Node → Vec Finding Global → Vec Finding Global → Type 0

@@ -7,7 +7,7 @@ use Rattle.fluent_grammar.specs.Tree as t
 use Rattle.lint_findings.specs.Finding.{Finding}
 use Rattle.lint_finding.specs.declared.records.Finding as code
 use Rattle.fluent_meaning.specs.Fallback.{with_attribute}
-use Rattle.lint_entries.specs.CatalogView.{ids_in}
+use Rattle.lint_entries.specs.CatalogView.{ids_in, reference_in}
 use Rattle.lint_entries.specs.EntryParts.{attributes_at}
 use Rattle.lint_entries.specs.HasNames.{HasNames}
 use Rattle.lint_entries.specs.Made.{Adds, made_of}
@@ -39,4 +39,4 @@ label_with entry name = with_attribute (entry.label.sign.now ++ entry.label.id.n
 -- the findings of attributes of an entry, after those with these names, from the line of the first one on
 abbrev pub attributes_found : Catalog → EntryPoint → List Text → List t.Attribute → Text → List Finding
 attributes_found catalog entry before as' s =
-    attributes_at (ids_in catalog) catalog.plurals entry.source.now (entry.label.sign.now ++ entry.label.id.now) before as' s
+    attributes_at (ids_in catalog) (reference_in catalog) catalog.plurals entry.source.now (entry.label.sign.now ++ entry.label.id.now) before as' s

@@ -29,18 +29,18 @@ parts_of (t.junk x) = None
 abbrev pub LeaveRest : Parts → Text → Text → Type 0
 LeaveRest p s rest = IsBodyAt (value_elements p.value) p.attributes (drop (length p.sign) s) rest
 
-module _ (ids : Ids (Unit {0})) (plurals : Option LanguagePlurals) (source : Text) where
+module _ (ids reference : Ids (Unit {0})) (plurals : Option LanguagePlurals) (source : Text) where
   -- of attributes of an entry with this label, after those with these names, from the line of the first one on
   abbrev pub attributes_at : Text → List Text → List t.Attribute → Text → List Finding
   attributes_at label before [] s = []
   attributes_at label before (a ∷ as') s =
-      attribute_findings ids plurals source (with_attribute label (Some a.id)) before (record { attribute = Some a.id; name_at = skip_spaces s; pattern_at = attribute_value s }) (Some a.id)
-      ++ (pattern_findings ids plurals source (with_attribute label (Some a.id)) (record { attribute = Some a.id; name_at = skip_spaces s; pattern_at = attribute_value s }) a.value
+      attribute_findings ids reference plurals source (with_attribute label (Some a.id)) before (record { attribute = Some a.id; name_at = skip_spaces s; pattern_at = attribute_value s }) (Some a.id)
+      ++ (pattern_findings ids reference plurals source (with_attribute label (Some a.id)) (record { attribute = Some a.id; name_at = skip_spaces s; pattern_at = attribute_value s }) a.value
       ++ attributes_at label (a.id ∷ before) as' (read_rest (pattern_read (attribute_value s))))
 
   -- of a value, at the entry and from its first byte on
   abbrev pub value_at : Text → Text → Text → t.Elements → List Finding
-  value_at label s value_place es = pattern_findings ids plurals source label (record { attribute = None; name_at = s; pattern_at = value_place }) es
+  value_at label s value_place es = pattern_findings ids reference plurals source label (record { attribute = None; name_at = s; pattern_at = value_place }) es
 
   abbrev pub maybe_value_at : Text → Text → Text → Option t.Elements → List Finding
   maybe_value_at label s value_place None = []

@@ -9,13 +9,11 @@ use Rattle.lint_findings.specs.Nodes as n
 use Rattle.lint_findings.specs.NumberOptions.{Misuse, misuse_text}
 use Rattle.lint_findings.specs.Occurrences as o
 use Rattle.lint_findings.specs.SyntaxErrors.{in_backticks}
-use Rattle.fluent_ids.specs.IdsView.{ids_view}
-use Rattle.fluent_ids.specs.declared.ids.FluentIds.{FluentIds}
 use Rattle.lint_nodes.specs.NodeView.{node_view}
 use Rattle.fluent_number.specs.declared.plural.PluralCategory.{PluralCategory}
 use Rattle.fluent_plurals.specs.declared.plurals.LanguagePlurals.{LanguagePlurals}
 use Rattle.lint_nodes.specs.declared.occurrence.Occurrence.{Occurrence}
-use Rattle.lint_entries.specs.CatalogView.{ids_in}
+use Rattle.lint_entries.specs.CatalogView.{ids_in, reference_in}
 use Rattle.lint_entries.specs.FirstEndless.{endless_at}
 use Rattle.lint_entries.specs.Labels.{label_text}
 use Rattle.lint_entries.specs.Made.{flaw_finding, made_of}
@@ -29,8 +27,8 @@ abbrev pub nodes_of : List Occurrence → List n.Node
 nodes_of os = map (λ (x : Occurrence). node_view x.node) os
 
 -- of the flaws of a node at a place
-abbrev pub flaw_findings : FluentIds (Unit {0}) → EntryPoint → n.Node → List Finding
-flaw_findings ids place node = map (flaw_finding (ids_view (Unit {0}) ids) place) (e.node_flaws (ids_view (Unit {0}) ids) node)
+abbrev pub flaw_findings : Catalog → EntryPoint → n.Node → List Finding
+flaw_findings catalog place node = map (flaw_finding catalog place) (e.node_flaws (ids_in catalog) node)
 
 -- the finding at a place that a category is missing
 abbrev pub category_finding : EntryPoint → PluralCategory → Finding
@@ -75,17 +73,17 @@ module _ (catalog : Catalog) where
   -- of a node at a place
   abbrev pub node_found : EntryPoint → n.Node → List Finding
   node_found place node =
-      e.node_findings (ids_in catalog) catalog.plurals place.source.now (label_text place.label) place.at.now node
+      e.node_findings (ids_in catalog) (reference_in catalog) catalog.plurals place.source.now (label_text place.label) place.at.now node
 
   -- of occurrences in a source
   abbrev pub occurrences_found : Text → Label → List o.Occurrence → List Finding
   occurrences_found source label os =
-      flat_map (λ (x : o.Occurrence). e.node_findings (ids_in catalog) catalog.plurals source (label_text label) x.at x.node) os
+      flat_map (λ (x : o.Occurrence). e.node_findings (ids_in catalog) (reference_in catalog) catalog.plurals source (label_text label) x.at x.node) os
 
   -- of a pattern with a name at this place, in the source from its first byte on
   abbrev pub pattern_found : EntryPoint → Text → Elements → List Finding
   pattern_found name pattern_at es =
-      e.pattern_findings (ids_in catalog) catalog.plurals name.source.now (label_text name.label)
+      e.pattern_findings (ids_in catalog) (reference_in catalog) catalog.plurals name.source.now (label_text name.label)
       (record { attribute = None; name_at = name.at.now; pattern_at = pattern_at }) es
 
   -- of the value of a message with a name at this place, if it has one

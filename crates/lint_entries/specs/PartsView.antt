@@ -6,7 +6,7 @@ use Rattle.fluent_ast.specs.Borrowed.{attributes_of, elements_of}
 use Rattle.fluent_ast.specs.declared.Pattern.{Pattern}
 use Rattle.fluent_grammar.specs.Tree as t
 use Rattle.fluent_grammar.specs.Words.{Text}
-use Rattle.lint_entries.specs.CatalogView.{ids_in}
+use Rattle.lint_entries.specs.CatalogView.{ids_in, reference_in}
 use Rattle.lint_entries.specs.EntryParts.{LeaveRest, Parts, parts_found}
 use Rattle.lint_entries.specs.declared.catalog.Catalog.{Catalog}
 use Rattle.lint_entries.specs.declared.entry_parts.EntryParts.{EntryParts}
@@ -32,4 +32,4 @@ AreReadAt parts s = (rest : Text) × LeaveRest (parts_view parts) s rest
 -- the findings of the parts of an entry of this source, at the front of a text
 abbrev pub AreFoundOf : Catalog → Text → EntryParts → Text → Vec Finding Global → Type 0
 AreFoundOf catalog source parts s found =
-    map finding_view found.items ≡ parts_found (ids_in catalog) catalog.plurals source (parts_view parts) s
+    map finding_view found.items ≡ parts_found (ids_in catalog) (reference_in catalog) catalog.plurals source (parts_view parts) s

@@ -2,16 +2,15 @@
 #![tactic(auto)]
 
 ghost use Rattle.std.specs.Prelude.{◌≡◌, ◌-◌, IfOk, OnOk, length, map, option_map, option_to_list, string_bytes};
-ghost use Rattle.lint_entries.specs.Made.{Adds, flaw_finding, made_of};
+ghost use Rattle.lint_entries.specs.Made.{Adds, flaw_finding, hint_in, made_of};
 ghost use Rattle.lint_finding.specs.View.{finding_view};
-ghost use Rattle.lint_findings.specs.FlawHints.{flaw_hint};
 ghost use Rattle.lint_flaws.specs.FlawView.{flaw_view};
-ghost use Rattle.fluent_ids.specs.IdsView.{ids_view};
 ghost use Rattle.lint_entries.specs.Problems.{direction_text};
 
+use crate::catalog::Catalog;
 use crate::label::Label;
 use crate::problem::{Direction, Problem};
-use lint_finding::{CatalogIds, Finding};
+use lint_finding::Finding;
 use lint_flaws::Flaw;
 use std::alloc::{AllocError, Global};
 
@@ -32,22 +31,22 @@ impl EntryPoint<'_, '_, '_> {
     }
 }
 
-/// The finding of a flaw of a node.
+/// The finding of a flaw of a node, in a catalog.
 ///
 /// # Errors
 /// [`AllocError`] if memory runs out; nothing is kept.
 pub fn flaw_finding<'s>(
     alloc: Global,
-    ids: &CatalogIds<'_, 's>,
+    catalog: &Catalog<'_, '_, 's>,
     place: &EntryPoint<'_, '_, 's>,
     flaw: Flaw<'_, 's>,
 ) -> Result<Finding, AllocError>
     ensures { IfOk result (λ made. finding_view made
-        ≡ flaw_finding (ids_view _ ids.now) place.now (flaw_view flaw.entry)) }
+        ≡ flaw_finding catalog.now place.now (flaw_view flaw.entry)) }
 {
     let entry = place.label.to_string(alloc)?;
     let text = flaw.to_string(alloc)?;
-    let hint = hint_of(alloc, ids, &flaw)?;
+    let hint = hint_of(alloc, catalog, &flaw)?;
     Ok(Finding {
         offset: place.offset(),
         code: flaw.code(),
@@ -61,13 +60,13 @@ pub fn flaw_finding<'s>(
 /// The text of the hint of a flaw, if there is one.
 fn hint_of<'s>(
     alloc: Global,
-    ids: &CatalogIds<'_, 's>,
+    catalog: &Catalog<'_, '_, 's>,
     flaw: &Flaw<'_, 's>,
 ) -> Result<Option<String>, AllocError>
     ensures { IfOk result (λ made. option_map string_bytes made
-        ≡ flaw_hint (ids_view _ ids.now) (flaw_view flaw.now)) }
+        ≡ hint_in catalog.now (flaw_view flaw.now)) }
 {
-    match flaw.hint(alloc, ids)? {
+    match flaw.hint(alloc, catalog.endless.ids, catalog.reference)? {
         Some(hint) => Ok(Some(hint.to_string(alloc)?)),
         None => Ok(None),
     }

@@ -13,7 +13,7 @@ use crate::finding::{EntryPoint, flaw_finding, problem_finding};
 use crate::label::Label;
 use crate::problem::Problem;
 use fluent_plurals::LanguagePlurals;
-use lint_finding::{CatalogIds, Finding};
+use lint_finding::Finding;
 use lint_flaws::{CommonCategories, node_categories, node_escapes, node_flaw, node_misuses};
 use lint_nodes::{Node, Occurrence};
 use std::alloc::{AllocError, Global};
@@ -55,7 +55,7 @@ fn push_node<'s>(
 ) -> Result<(), AllocError>
     ensures { OnOk result (AddsNode catalog.now place.now node.entry findings.old findings.new) }
 {
-    push_flaw(alloc, catalog.endless.ids, place, node, findings)?;
+    push_flaw(alloc, catalog, place, node, findings)?;
     push_categories(
         alloc,
         catalog.plurals,
@@ -70,15 +70,15 @@ fn push_node<'s>(
 
 fn push_flaw<'s>(
     alloc: Global,
-    ids: &CatalogIds<'_, 's>,
+    catalog: &Catalog<'_, '_, 's>,
     place: &EntryPoint<'_, '_, 's>,
     node: Node<'_, 's>,
     findings: &mut Vec<Finding>,
 ) -> Result<(), AllocError>
-    ensures { OnOk result (AddsFlaws ids.now place.now node.entry findings.old findings.new) }
+    ensures { OnOk result (AddsFlaws catalog.now place.now node.entry findings.old findings.new) }
 {
-    if let Some(flaw) = node_flaw(ids, node) {
-        findings.push(flaw_finding(alloc, ids, place, flaw)?)?;
+    if let Some(flaw) = node_flaw(catalog.endless.ids, node) {
+        findings.push(flaw_finding(alloc, catalog, place, flaw)?)?;
     }
     Ok(())
 }

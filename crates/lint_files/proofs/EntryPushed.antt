@@ -58,16 +58,16 @@ module _ (rules : Rules) (file : File) (before : List Declaration) (s : Text) (e
   -- the findings of an entry of this id, after its duplicates
   abbrev with_duplicates : List Finding → List Finding
   with_duplicates ds =
-      ds ++ (entry_findings rules.ids rules.plurals file.source (uncommented e) s ++ (if length ds == 0 then if_first else []))
+      ds ++ (entry_findings rules.ids rules.reference rules.plurals file.source (uncommented e) s ++ (if length ds == 0 then if_first else []))
 
   pub entry_added : (d : Option code.Finding) (is_new : Bool) (x y z w : List Finding) → id_of e ≡ Some id →
       map finding_view (option_to_list d) ≡ duplicate_findings rules.functions before e (offset_in file s) id → is_some d ≡ not is_new →
-      y ≡ x ++ map finding_view (option_to_list d) → z ≡ y ++ entry_findings rules.ids rules.plurals file.source (uncommented e) s →
+      y ≡ x ++ map finding_view (option_to_list d) → z ≡ y ++ entry_findings rules.ids rules.reference rules.plurals file.source (uncommented e) s →
       w ≡ z ++ (if is_new then if_first else []) →
       w ≡ x ++ entry_findings_at rules file before s (uncommented e)
   entry_added d is_new x y z w has_id duplicates new p q r =
       let found = map finding_view (option_to_list d) in
-      let own = entry_findings rules.ids rules.plurals file.source (uncommented e) s in
+      let own = entry_findings rules.ids rules.reference rules.plurals file.source (uncommented e) s in
       three_added x found own (if is_new then if_first else []) p q r
       ∙ ap (λ l. x ++ (found ++ (own ++ l))) (if_new d is_new if_first new)
       ∙ ap (λ l. x ++ with_duplicates l) (duplicates ∙ same_duplicates rules.functions before e (offset_in file s) id)

@@ -24,7 +24,7 @@ use Rattle.lint_findings.specs.Finding.{Finding, error}
 use Rattle.lint_findings.specs.Tiles.{Tile, entry_tile, junk_tile, tiles, and_tiles, tiles_from}
 use Rattle.lint_findings.specs.Hints as hints
 use Rattle.lint_findings.specs.SyntaxErrors.{begins_attribute, name_at_front, sentence_of, attribute_refusal as told_refusal, reported_refusal}
-use Rattle.lint_findings.specs.SyntaxFindings.{syntax_finding, syntax_findings}
+use Rattle.lint_findings.specs.SyntaxFindings.{begins_marked, mark_finding, syntax_finding, syntax_findings}
 use Rattle.lint_findings.specs.PlaceLaws.{tile_errors}
 use Rattle.lint_findings.proofs.TilesAreTheList.{tiles_have_the_errors}
 use Rattle.lint_files.specs.Kinds.{kind_of}
@@ -103,14 +103,16 @@ first_reported s refusal e =
 
 -- the finding of a kind of refusal in junk, where this text is
 abbrev finding_with : ℕ → Text → Text → Text → r.Kind → Finding
-finding_with at s junk here kind = record {
-  offset = if is_field_kind kind then at else at + (length s - length here);
-  code = codes "syntax";
-  severity = error;
-  entry = name_at_front junk;
-  text = sentence_of junk here kind;
-  hint = hints.first_hint (hints.hints junk here kind);
-}
+finding_with at s junk here kind =
+    if begins_marked at junk then mark_finding
+    else record {
+      offset = if is_field_kind kind then at else at + (length s - length here);
+      code = codes "syntax";
+      severity = error;
+      entry = name_at_front junk;
+      text = sentence_of junk here kind;
+      hint = hints.first_hint (hints.hints junk here kind);
+    }
 
 finding_same : (source : Text) (at : ℕ) (s : Text) (refusal : Refusal) → s ≡ drop at source →
     finding_of source (refusal_told at s refusal) ≡ finding_with at s s refusal.at refusal.kind

@@ -49,7 +49,7 @@ AddsPlaced rules placed known old new = (before : List Declaration) → AreFirst
 
 abbrev pub own_findings : Rules → PlacedEntry → List f.Finding
 own_findings rules placed =
-    entry_findings rules.ids rules.plurals placed.file.source.now (bare_entry placed.entry.now) placed.text.now
+    entry_findings rules.ids rules.reference rules.plurals placed.file.source.now (bare_entry placed.entry.now) placed.text.now
 
 abbrev pub compared_findings : Rules → PlacedEntry → List f.Finding
 compared_findings rules placed = rules.compare placed.file.source.now (bare_entry placed.entry.now) placed.text.now

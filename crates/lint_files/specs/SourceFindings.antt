@@ -9,6 +9,7 @@ use Rattle.fluent_parser.specs.Refusals.{RefusalView, refusal_view}
 use Rattle.fluent_parser.specs.declared.refusals.Refusal.{Refusal}
 use Rattle.lint_findings.specs.Finding.{Finding, error}
 use Rattle.lint_findings.specs.SyntaxErrors.{name_at_front, sentence}
+use Rattle.lint_findings.specs.SyntaxFindings.{begins_marked, mark_finding}
 use Rattle.lint_findings.specs.Hints as hints
 use Rattle.lint_files.specs.Kinds.{kind_of}
 
@@ -24,9 +25,9 @@ reported v = record { kind = kind_of v.kind; at = v.at }
 abbrev pub offset_of : ℕ → ℕ → KindView → ℕ
 offset_of start place kind = if is_field_kind (kind_of kind) then start else place
 
--- the finding of a refusal of a source
-abbrev pub finding_of : Text → RefusalView → Finding
-finding_of source v =
+-- the finding that says what is refused in a source
+abbrev pub refusal_finding_of : Text → RefusalView → Finding
+refusal_finding_of source v =
     let junk = drop v.start source in
     record {
       offset = offset_of v.start v.place v.kind;
@@ -37,7 +38,14 @@ finding_of source v =
       hint = hints.hint junk (reported v);
     }
 
+-- the finding of a refusal of a source
+abbrev pub finding_of : Text → RefusalView → Finding
+finding_of source v = if begins_marked v.start (drop v.start source) then mark_finding else refusal_finding_of source v
+
 -- the same of a refusal as code has it, and of several
+abbrev pub refusal_finding_by : Text → Refusal → Finding
+refusal_finding_by source refusal = refusal_finding_of source (refusal_view source refusal)
+
 abbrev pub finding_by : Text → Refusal → Finding
 finding_by source refusal = finding_of source (refusal_view source refusal)
 

@@ -14,6 +14,7 @@ ghost use Rattle.lint_files.specs.Kinds.{refusal_by};
 ghost use Rattle.lint_files.specs.SourceFindings as source_findings;
 
 use crate::hints::hint;
+use crate::mark::{has_mark, mark_finding};
 use crate::names::name_at_front;
 use crate::words::Sentence;
 use fluent_parser::{ErrorKind, ParserError, Refusal, refusals_at};
@@ -24,7 +25,8 @@ use std::alloc::{AllocError, Global};
 /// reports of the source.
 ///
 /// A finding is where its error is. But if an attribute can't be read, its line is junk: then the finding is where
-/// reading the attribute stopped, and says why.
+/// reading the attribute stopped, and says why. If the source begins with a byte order mark, the finding of its first
+/// line says that.
 ///
 /// ```no_run
 /// let findings = match parse(alloc, source) {
@@ -80,11 +82,25 @@ fn findings_of(
     Ok(findings)
 }
 
-/// The finding of a refusal of a source.
+/// The finding of a refusal of a source: of the byte order mark, if that is what is refused at its front.
 fn finding_of(alloc: Global, source: &str, refusal: &Refusal) -> Result<Finding, AllocError>
     requires { IsBetweenCharacters source.now refusal.now }
     ensures { IfOk result (λ found. finding_view found
         ≡ source_findings.finding_by source.now refusal.now) }
+{
+    let junk = &source[refusal.start..];
+    if refusal.start == 0 && has_mark(junk) {
+        mark_finding(alloc)
+    } else {
+        refusal_finding(alloc, source, refusal)
+    }
+}
+
+/// The finding that says what is refused.
+fn refusal_finding(alloc: Global, source: &str, refusal: &Refusal) -> Result<Finding, AllocError>
+    requires { IsBetweenCharacters source.now refusal.now }
+    ensures { IfOk result (λ found. finding_view found
+        ≡ source_findings.refusal_finding_by source.now refusal.now) }
 {
     let junk = &source[refusal.start..];
     let at = &source[refusal.place..];

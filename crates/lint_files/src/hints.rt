@@ -10,6 +10,7 @@ ghost use Rattle.fluent_parsed.specs.ErrorView as told;
 ghost use Rattle.lint_files.specs.Kinds.{kind_of, refusal_by};
 
 use crate::front::begins_attribute;
+use crate::mark::has_mark;
 use fluent_parsed::ErrorKind;
 use fluent_tokens as words;
 
@@ -107,10 +108,10 @@ fn hint_for_range(range: &str, junk: &str, at: &str) -> Option<&'static str>
 fn hint_for_entry(junk: &str) -> Option<&'static str>
     ensures { option_copied result ≡ hints.first_hint (hints.hints_for_entry junk.now) }
 {
-    let text = junk.as_bytes();
-    if text.starts_with(b"\xEF\xBB\xBF") {
+    if has_mark(junk) {
         return Some("this is a byte order mark; save the file without it");
     }
+    let text = junk.as_bytes();
     if begins_conflict(text) {
         return Some("this is an unresolved merge conflict");
     }

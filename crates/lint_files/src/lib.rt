@@ -3,8 +3,8 @@
 //! [`file_findings`] lists those of a file, in the order of its tiles: of junk its syntax finding, and of a message or a
 //! term whether its id is taken, what is wrong with it, and, if there is a reference, how it differs from that.
 //! [`syntax_findings`] makes one of each stretch of a source that isn't an entry: where it is, whose it is, what is wrong,
-//! and what may be the cause. `Findings.antt` of `lint_findings` says which findings these are, and
-//! `docs/reference/lint.md` shows some.
+//! and what may be the cause. A byte order mark at the front has its own. `Findings.antt` of `lint_findings` says which
+//! findings these are, and `docs/reference/lint.md` shows some.
 #![tactic(auto)]
 
 mod cursor;
@@ -12,6 +12,7 @@ mod entry;
 mod findings;
 mod front;
 mod hints;
+mod mark;
 mod names;
 mod rules;
 mod words;

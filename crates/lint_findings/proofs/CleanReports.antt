@@ -136,63 +136,63 @@ module _ (rules : Rules) where
 
   module _ (source : Text) where
     reference_resolved : (owner at : Text) (o : Option Unresolved) → HasHarmfulCode o →
-        Clean (map (flaw_finding rules.ids source owner at) (map unresolved (option_to_list o))) → o ≡ None
+        Clean (map (flaw_finding rules.ids rules.reference source owner at) (map unresolved (option_to_list o))) → o ≡ None
     reference_resolved owner at None code h = refl
     reference_resolved owner at (Some e) code h =
-        let clean : is_among (flaw_code (unresolved e)) harmful_codes ≡ false = All-head HasHarmlessCode (flaw_finding rules.ids source owner at (unresolved e)) [] h in absurd cc
+        let clean : is_among (flaw_code (unresolved e)) harmful_codes ≡ false = All-head HasHarmlessCode (flaw_finding rules.ids rules.reference source owner at (unresolved e)) [] h in absurd cc
 
-    default_is_there : (owner at : Text) (o : Option Elements) → Clean (map (flaw_finding rules.ids source owner at) (default_flaws o)) → is_some o ≡ true
+    default_is_there : (owner at : Text) (o : Option Elements) → Clean (map (flaw_finding rules.ids rules.reference source owner at) (default_flaws o)) → is_some o ≡ true
     default_is_there owner at None h =
-        let clean : is_among (codes "no-default") harmful_codes ≡ false = All-head HasHarmlessCode (flaw_finding rules.ids source owner at (unresolved missing_default)) [] h in absurd cc
+        let clean : is_among (codes "no-default") harmful_codes ≡ false = All-head HasHarmlessCode (flaw_finding rules.ids rules.reference source owner at (unresolved missing_default)) [] h in absurd cc
     default_is_there owner at (Some ds) h = refl
 
-    node_is_resolved : (owner at : Text) (node : Node) → Clean (map (flaw_finding rules.ids source owner at) (node_flaws rules.ids node)) → IsResolved (find rules.ids) node
+    node_is_resolved : (owner at : Text) (node : Node) → Clean (map (flaw_finding rules.ids rules.reference source owner at) (node_flaws rules.ids node)) → IsResolved (find rules.ids) node
     node_is_resolved owner at (expression i) h = reference_resolved owner at (reference_error (find rules.ids) i) (reference_code (find rules.ids) i) h
     node_is_resolved owner at (select i vs) h = default_is_there owner at (first_default vs) h
     node_is_resolved owner at (repeated_key k) h = tt
 
-    node_by_findings : (owner at : Text) (node : Node) → Clean (node_findings rules.ids rules.plurals source owner at node) → IsResolved (find rules.ids) node
+    node_by_findings : (owner at : Text) (node : Node) → Clean (node_findings rules.ids rules.reference rules.plurals source owner at node) → IsResolved (find rules.ids) node
     node_by_findings owner at node h =
-        node_is_resolved owner at node (all_left HasHarmlessCode (map (flaw_finding rules.ids source owner at) (node_flaws rules.ids node)) _ h)
+        node_is_resolved owner at node (all_left HasHarmlessCode (map (flaw_finding rules.ids rules.reference source owner at) (node_flaws rules.ids node)) _ h)
 
-    nodes_are_resolved : (owner at : Text) (nodes : List Node) (os : List Occurrence) → Clean (nodes_findings rules.ids rules.plurals source owner at nodes os) →
+    nodes_are_resolved : (owner at : Text) (nodes : List Node) (os : List Occurrence) → Clean (nodes_findings rules.ids rules.reference rules.plurals source owner at nodes os) →
         All (IsResolved (find rules.ids)) nodes
     nodes_are_resolved owner at [] os h = All-nil (IsResolved (find rules.ids))
     nodes_are_resolved owner at (node ∷ nodes) [] h =
-        All-cons (IsResolved (find rules.ids)) node nodes (node_by_findings owner at node (all_left HasHarmlessCode (node_findings rules.ids rules.plurals source owner at node) _ h))
-        (nodes_are_resolved owner at nodes [] (all_right HasHarmlessCode (node_findings rules.ids rules.plurals source owner at node) _ h))
+        All-cons (IsResolved (find rules.ids)) node nodes (node_by_findings owner at node (all_left HasHarmlessCode (node_findings rules.ids rules.reference rules.plurals source owner at node) _ h))
+        (nodes_are_resolved owner at nodes [] (all_right HasHarmlessCode (node_findings rules.ids rules.reference rules.plurals source owner at node) _ h))
     nodes_are_resolved owner at (node ∷ nodes) (o ∷ os) h =
-        All-cons (IsResolved (find rules.ids)) node nodes (node_by_findings owner o.at node (all_left HasHarmlessCode (node_findings rules.ids rules.plurals source owner o.at node) _ h))
-        (nodes_are_resolved owner at nodes os (all_right HasHarmlessCode (node_findings rules.ids rules.plurals source owner o.at node) _ h))
+        All-cons (IsResolved (find rules.ids)) node nodes (node_by_findings owner o.at node (all_left HasHarmlessCode (node_findings rules.ids rules.reference rules.plurals source owner o.at node) _ h))
+        (nodes_are_resolved owner at nodes os (all_right HasHarmlessCode (node_findings rules.ids rules.reference rules.plurals source owner o.at node) _ h))
 
     ends : (es : Elements) (owner at : Text) (goes_on is_endless : Bool) → (is_endless ≡ true → goes_on ≡ true) →
-        Clean (if goes_on then endless_finding rules.ids source es owner at ∷ [] else []) → All IsHarmless (if is_endless then unresolved cyclic ∷ [] else [])
+        Clean (if goes_on then endless_finding rules.ids rules.reference source es owner at ∷ [] else []) → All IsHarmless (if is_endless then unresolved cyclic ∷ [] else [])
     ends es owner at true is_endless goes h =
-        let clean : is_among (codes "cyclic-reference") harmful_codes ≡ false = All-head HasHarmlessCode (endless_finding rules.ids source es owner at) [] h in absurd cc
+        let clean : is_among (codes "cyclic-reference") harmful_codes ≡ false = All-head HasHarmlessCode (endless_finding rules.ids rules.reference source es owner at) [] h in absurd cc
     ends es owner at false true goes h = let bad : false ≡ true = goes refl in absurd cc
     ends es owner at false false goes h = All-nil IsHarmless
 
-    pattern_is_harmless : (owner : Text) (place : PatternPlace) (es : Elements) → Clean (pattern_findings rules.ids rules.plurals source owner place es) → Harmless es
+    pattern_is_harmless : (owner : Text) (place : PatternPlace) (es : Elements) → Clean (pattern_findings rules.ids rules.reference rules.plurals source owner place es) → Harmless es
     pattern_is_harmless owner place es h =
         let b = never_ends rules.ids es in
         let endless = is_pattern_among es (endless_patterns rules.ids) in
-        let first = all_left HasHarmlessCode (if b then endless_finding rules.ids source es owner place.name_at ∷ [] else []) _ h in
-        let others = all_right HasHarmlessCode (if b then endless_finding rules.ids source es owner place.name_at ∷ [] else []) _ h in
+        let first = all_left HasHarmlessCode (if b then endless_finding rules.ids rules.reference source es owner place.name_at ∷ [] else []) _ h in
+        let others = all_right HasHarmlessCode (if b then endless_finding rules.ids rules.reference source es owner place.name_at ∷ [] else []) _ h in
         let resolved = elements_resolved (find rules.ids) es (nodes_are_resolved owner place.pattern_at (elements_nodes es) (occurrences place.pattern_at) others) in
         All-append IsHarmless (map unresolved (pattern_errors (find rules.ids) es)) _ (errors_are_harmless (find rules.ids) (elements_references es) resolved.0)
         (All-append IsHarmless (flat_map select_flaws (elements_selects es)) _ (selects_are_harmless (elements_selects es) resolved.1) (ends es owner place.name_at b endless (endless_goes_on rules.ids es) first))
 
-    patterns_are_harmless : (s : Text) (before : List Text) (places : List PatternPlace) (ps : List (Owner × Elements)) → Clean (patterns_findings rules.ids rules.plurals source s before places ps) →
+    patterns_are_harmless : (s : Text) (before : List Text) (places : List PatternPlace) (ps : List (Owner × Elements)) → Clean (patterns_findings rules.ids rules.reference rules.plurals source s before places ps) →
         All (λ p. Harmless p.1) ps
     patterns_are_harmless s before places [] h = All-nil (λ p. Harmless p.1)
     patterns_are_harmless s before places (p ∷ ps) h =
         let owner = with_attribute p.0.label p.0.attribute in
         let place = first_place s places in
-        let rest = all_right HasHarmlessCode (attribute_findings rules.ids rules.plurals source owner before place p.0.attribute) _ h in
-        All-cons (λ q. Harmless q.1) p ps (pattern_is_harmless owner place p.1 (all_left HasHarmlessCode (pattern_findings rules.ids rules.plurals source owner place p.1) _ rest))
-        (patterns_are_harmless s (option_to_list p.0.attribute ++ before) (drop 1 places) ps (all_right HasHarmlessCode (pattern_findings rules.ids rules.plurals source owner place p.1) _ rest))
+        let rest = all_right HasHarmlessCode (attribute_findings rules.ids rules.reference rules.plurals source owner before place p.0.attribute) _ h in
+        All-cons (λ q. Harmless q.1) p ps (pattern_is_harmless owner place p.1 (all_left HasHarmlessCode (pattern_findings rules.ids rules.reference rules.plurals source owner place p.1) _ rest))
+        (patterns_are_harmless s (option_to_list p.0.attribute ++ before) (drop 1 places) ps (all_right HasHarmlessCode (pattern_findings rules.ids rules.reference rules.plurals source owner place p.1) _ rest))
 
-    entry_is_harmless : (e : t.Entry) (s : Text) → Clean (entry_findings rules.ids rules.plurals source e s) → HasHarmless e
+    entry_is_harmless : (e : t.Entry) (s : Text) → Clean (entry_findings rules.ids rules.reference rules.plurals source e s) → HasHarmless e
     entry_is_harmless e s h = patterns_are_harmless s [] (pattern_places e s) (entry_patterns e) h
 
     middle : (xs ys zs : List Finding) → Clean (xs ++ (ys ++ zs)) → Clean ys
@@ -207,9 +207,9 @@ module _ (rules : Rules) where
   tile_is_harmless : (before : List Declaration) (file : File) (tile : Tile) → Clean (findings_of_tile rules before file tile) → TileIsHarmless tile
   tile_is_harmless before file (junk_tile at s refusal) h = tt
   tile_is_harmless before file (entry_tile at s (t.message m)) h =
-      entry_is_harmless file.source (t.message m) s (middle file.source (duplicate_findings rules.functions before (t.message m) at m.id) (entry_findings rules.ids rules.plurals file.source (t.message m) s) _ h)
+      entry_is_harmless file.source (t.message m) s (middle file.source (duplicate_findings rules.functions before (t.message m) at m.id) (entry_findings rules.ids rules.reference rules.plurals file.source (t.message m) s) _ h)
   tile_is_harmless before file (entry_tile at s (t.term m)) h =
-      entry_is_harmless file.source (t.term m) s (middle file.source (duplicate_findings rules.functions before (t.term m) at m.id) (entry_findings rules.ids rules.plurals file.source (t.term m) s) _ h)
+      entry_is_harmless file.source (t.term m) s (middle file.source (duplicate_findings rules.functions before (t.term m) at m.id) (entry_findings rules.ids rules.reference rules.plurals file.source (t.term m) s) _ h)
   tile_is_harmless before file (entry_tile at s (t.comment c)) h = All-nil (λ p. Harmless p.1)
   tile_is_harmless before file (entry_tile at s (t.group_comment c)) h = All-nil (λ p. Harmless p.1)
   tile_is_harmless before file (entry_tile at s (t.resource_comment c)) h = All-nil (λ p. Harmless p.1)

@@ -31,7 +31,7 @@ use Rattle.lint_findings.specs.DuplicateIds.{Declaration, id_of, duplicate_findi
 use Rattle.lint_findings.specs.UnusedTerms.{unused_findings}
 use Rattle.lint_findings.specs.Findings.{Rules, FileFinding, findings_if_first, findings_of_entry, findings_of_tile}
 use Rattle.lint_findings.specs.PlaceLaws.{IsReadAt, IsReadIn, nodes, ArePatternsAt}
-use Rattle.lint_findings.specs.FindingLaws.{reference_codes, IsOfReference, source_selects, IsOfLostVariant, is_repeated}
+use Rattle.lint_findings.specs.FindingLaws.{syntax_codes, reference_codes, IsOfReference, source_selects, IsOfLostVariant, is_repeated}
 use Rattle.lint_findings.proofs.OccurrencesAreRead.{occurrences_are_read}
 use Rattle.lint_findings.proofs.OccurrencesAreTheNodes.{occurrences_are_the_nodes}
 use Rattle.lint_findings.proofs.PatternPlaces.{patterns_have_places}
@@ -43,7 +43,7 @@ clash b p q = false≢true (sym p ∙ q)
 
 -- ---- codes
 
-not_syntax : (e : Unresolved) → bytes_eq (flaw_code (unresolved e)) (codes "syntax") ≡ false
+not_syntax : (e : Unresolved) → is_among (flaw_code (unresolved e)) syntax_codes ≡ false
 not_syntax (unknown (to_function id)) = refl
 not_syntax (unknown (to_message id None)) = refl
 not_syntax (unknown (to_message id (Some a))) = refl
@@ -81,9 +81,9 @@ module _ (S : Type 0) (rules : Rules) (file : File) where
   abbrev source : Text
   source = file.source
 
-  -- a finding that the laws hold of, and that isn't a syntax finding
+  -- a finding that the laws hold of, and that isn't of junk
   pub record IsSound (f : Finding) : Type 0 where
-    pub unlike_syntax : bytes_eq f.code (codes "syntax") ≡ false
+    pub unlike_syntax : is_among f.code syntax_codes ≡ false
     pub keeps : Keeps S rules.ids (in_file f)
 
   abbrev AreSound : List Finding → Type 0
@@ -99,7 +99,7 @@ module _ (S : Type 0) (rules : Rules) (file : File) where
   one f h = All-cons IsSound f [] h none
 
   -- a finding that no law is about
-  pub plain : (f : Finding) → bytes_eq f.code (codes "syntax") ≡ false → is_among f.code reference_codes ≡ false → bytes_eq f.code (codes "duplicate-variant") ≡ false → IsSound f
+  pub plain : (f : Finding) → is_among f.code syntax_codes ≡ false → is_among f.code reference_codes ≡ false → bytes_eq f.code (codes "duplicate-variant") ≡ false → IsSound f
   plain f p q r = record { unlike_syntax = p; keeps = record { reference = λ e. absurd (clash (is_among f.code reference_codes) q e); repeated = λ e. absurd (clash (bytes_eq f.code (codes "duplicate-variant")) r e) } }
 
   pub if_one : (b : Bool) (f : Finding) → IsSound f → AreSound (if b then f ∷ [] else [])
@@ -118,10 +118,10 @@ module _ (S : Type 0) (rules : Rules) (file : File) where
     -- at an end of the source
     module _ (at : Text) (h : EndsIn at source) where
       of_reference : (i : t.Inline) (rest : Text) → inline_read at ≡ got i rest → (o : Option Unresolved) → reference_error (find rules.ids) i ≡ o →
-          AreSound (map (flaw_finding rules.ids source owner at) (map unresolved (option_to_list o)))
+          AreSound (map (flaw_finding rules.ids rules.reference source owner at) (map unresolved (option_to_list o)))
       of_reference i rest read None is = none
       of_reference i rest read (Some e) is =
-          one (flaw_finding rules.ids source owner at (unresolved e)) (record {
+          one (flaw_finding rules.ids rules.reference source owner at (unresolved e)) (record {
             unlike_syntax = not_syntax e;
             keeps = record {
               reference = λ c. record { reference = i; rest = rest; error = e; read = ap inline_read (at_offset source at h) ∙ read; missing = is; code = refl; text = refl };
@@ -129,11 +129,11 @@ module _ (S : Type 0) (rules : Rules) (file : File) where
             };
           })
 
-      of_default : (o : Option Elements) → AreSound (map (flaw_finding rules.ids source owner at) (default_flaws o))
-      of_default None = one (flaw_finding rules.ids source owner at (unresolved missing_default)) (plain _ refl refl refl)
+      of_default : (o : Option Elements) → AreSound (map (flaw_finding rules.ids rules.reference source owner at) (default_flaws o))
+      of_default None = one (flaw_finding rules.ids rules.reference source owner at (unresolved missing_default)) (plain _ refl refl refl)
       of_default (Some ds) = none
 
-      of_key : (key : t.VariantKey) → IsReadAt at (repeated_key key) → IsOfSelects (source_selects source) (repeated_key key) → IsSound (flaw_finding rules.ids source owner at (duplicate_key key))
+      of_key : (key : t.VariantKey) → IsReadAt at (repeated_key key) → IsOfSelects (source_selects source) (repeated_key key) → IsSound (flaw_finding rules.ids rules.reference source owner at (duplicate_key key))
       of_key key read known =
           record {
             unlike_syntax = refl;
@@ -153,51 +153,51 @@ module _ (S : Type 0) (rules : Rules) (file : File) where
             };
           }
 
-      of_flaws : (node : Node) → IsReadAt at node → IsOfSelects (source_selects source) node → AreSound (map (flaw_finding rules.ids source owner at) (node_flaws rules.ids node))
+      of_flaws : (node : Node) → IsReadAt at node → IsOfSelects (source_selects source) node → AreSound (map (flaw_finding rules.ids rules.reference source owner at) (node_flaws rules.ids node))
       of_flaws (expression i) read known = of_reference i read.0 read.1 (reference_error (find rules.ids) i) refl
       of_flaws (select i vs) read known = of_default (first_default vs)
-      of_flaws (repeated_key key) read known = one (flaw_finding rules.ids source owner at (duplicate_key key)) (of_key key read known)
+      of_flaws (repeated_key key) read known = one (flaw_finding rules.ids rules.reference source owner at (duplicate_key key)) (of_key key read known)
 
-      of_node : (node : Node) → IsReadAt at node → IsOfSelects (source_selects source) node → AreSound (node_findings rules.ids rules.plurals source owner at node)
+      of_node : (node : Node) → IsReadAt at node → IsOfSelects (source_selects source) node → AreSound (node_findings rules.ids rules.reference rules.plurals source owner at node)
       of_node node read known =
-          both (map (flaw_finding rules.ids source owner at) (node_flaws rules.ids node)) _ (of_flaws node read known)
-          (both (map (category_finding rules.ids rules.plurals source owner at) (node_categories rules.plurals node)) _
-          (mapped (category_finding rules.ids rules.plurals source owner at) (λ c. plain _ refl refl refl) (node_categories rules.plurals node))
-          (both (map (escape_finding rules.ids rules.plurals source owner at) (node_escapes node)) _
-          (mapped (escape_finding rules.ids rules.plurals source owner at) (λ x. plain _ refl refl refl) (node_escapes node))
-          (mapped (option_finding rules.ids rules.plurals source owner at) (λ m. plain _ refl refl refl) (node_misuses node))))
+          both (map (flaw_finding rules.ids rules.reference source owner at) (node_flaws rules.ids node)) _ (of_flaws node read known)
+          (both (map (category_finding rules.ids rules.reference rules.plurals source owner at) (node_categories rules.plurals node)) _
+          (mapped (category_finding rules.ids rules.reference rules.plurals source owner at) (λ c. plain _ refl refl refl) (node_categories rules.plurals node))
+          (both (map (escape_finding rules.ids rules.reference rules.plurals source owner at) (node_escapes node)) _
+          (mapped (escape_finding rules.ids rules.reference rules.plurals source owner at) (λ x. plain _ refl refl refl) (node_escapes node))
+          (mapped (option_finding rules.ids rules.reference rules.plurals source owner at) (λ m. plain _ refl refl refl) (node_misuses node))))
 
     of_nodes : (s : Text) → EndsIn s source → (at : Text) (os : List Occurrence) → All (IsReadIn s) os → All (IsOfSelects (source_selects source)) (nodes os) →
-        AreSound (nodes_findings rules.ids rules.plurals source owner at (nodes os) os)
+        AreSound (nodes_findings rules.ids rules.reference rules.plurals source owner at (nodes os) os)
     of_nodes s h at [] read known = none
     of_nodes s h at (o ∷ os) read known =
         let here = All-head (IsReadIn s) o os read in
-        both (node_findings rules.ids rules.plurals source owner o.at o.node) _
+        both (node_findings rules.ids rules.reference rules.plurals source owner o.at o.node) _
         (of_node o.at (end-trans here.place h) o.node here.read (All-head (IsOfSelects (source_selects source)) o.node (nodes os) known))
         (of_nodes s h at os (All-tail (IsReadIn s) o os read) (All-tail (IsOfSelects (source_selects source)) o.node (nodes os) known))
 
   of_pattern : (owner : Text) (place : PatternPlace) (es : Elements) (rest : Text) → EndsIn place.pattern_at source → pattern_read place.pattern_at ≡ got es rest → AreAmong (elements_selects es) (source_selects source) →
-      AreSound (pattern_findings rules.ids rules.plurals source owner place es)
+      AreSound (pattern_findings rules.ids rules.reference rules.plurals source owner place es)
   of_pattern owner place es rest h read among =
       let os = occurrences place.pattern_at in
       let same : nodes os ≡ elements_nodes es = occurrences_are_the_nodes place.pattern_at es rest read in
       let known = more (elements_selects es) (source_selects source) (elements_nodes es) among (elements_known es) in
-      both (if never_ends rules.ids es then endless_finding rules.ids source es owner place.name_at ∷ [] else []) _
-      (if_one (never_ends rules.ids es) (endless_finding rules.ids source es owner place.name_at) (plain _ refl refl refl))
-      (subst (λ ns. AreSound (nodes_findings rules.ids rules.plurals source owner place.pattern_at ns os)) same
+      both (if never_ends rules.ids es then endless_finding rules.ids rules.reference source es owner place.name_at ∷ [] else []) _
+      (if_one (never_ends rules.ids es) (endless_finding rules.ids rules.reference source es owner place.name_at) (plain _ refl refl refl))
+      (subst (λ ns. AreSound (nodes_findings rules.ids rules.reference rules.plurals source owner place.pattern_at ns os)) same
       (of_nodes owner place.pattern_at h place.pattern_at os (occurrences_are_read place.pattern_at) (subst (All (IsOfSelects (source_selects source))) (sym same) known)))
 
   abbrev HasSelects : Owner × Elements → Type 0
   HasSelects p = AreAmong (elements_selects p.1) (source_selects source)
 
   of_patterns : (s : Text) (before : List Text) (places : List PatternPlace) (ps : List (Owner × Elements)) → All (IsPlace source) places → ArePatternsAt places ps → All HasSelects ps →
-      AreSound (patterns_findings rules.ids rules.plurals source s before places ps)
+      AreSound (patterns_findings rules.ids rules.reference rules.plurals source s before places ps)
   of_patterns s before places [] h at among = none
   of_patterns s before [] (p ∷ ps) h at among = absurd at
   of_patterns s before (place ∷ places) (p ∷ ps) h at among =
       let owner = with_attribute p.0.label p.0.attribute in
-      both (attribute_findings rules.ids rules.plurals source owner before place p.0.attribute) _ (if_one (list_any (λ name. is_among name before) (option_to_list p.0.attribute)) _ (plain _ refl refl refl))
-      (both (pattern_findings rules.ids rules.plurals source owner place p.1) _
+      both (attribute_findings rules.ids rules.reference rules.plurals source owner before place p.0.attribute) _ (if_one (list_any (λ name. is_among name before) (option_to_list p.0.attribute)) _ (plain _ refl refl refl))
+      (both (pattern_findings rules.ids rules.reference rules.plurals source owner place p.1) _
       (of_pattern owner place p.1 at.1.0 (All-head (IsPlace source) place places h) at.1.1 (All-head HasSelects p ps among))
       (of_patterns s (option_to_list p.0.attribute ++ before) places ps (All-tail (IsPlace source) place places h) at.2 (All-tail HasSelects p ps among)))
 
@@ -207,7 +207,7 @@ module _ (S : Type 0) (rules : Rules) (file : File) where
       let others = flat_map (λ (q : Owner × Elements). elements_selects q.1) ps in
       All-cons HasSelects p ps (λ vs c. h vs (Contains-append_left (elements_selects p.1) others vs c)) (all_selects ps (λ vs c. h vs (Contains-append_right (elements_selects p.1) others vs c)))
 
-  of_entry : (e : t.Entry) (s : Text) → IsReadTile source (entry_tile 0 s e) → AreAmong (entry_selects e) (source_selects source) → AreSound (entry_findings rules.ids rules.plurals source e s)
+  of_entry : (e : t.Entry) (s : Text) → IsReadTile source (entry_tile 0 s e) → AreAmong (entry_selects e) (source_selects source) → AreSound (entry_findings rules.ids rules.reference rules.plurals source e s)
   of_entry e s read among =
       of_patterns s [] (pattern_places e s) (entry_patterns e) (places_within source s read.0 e) (patterns_have_places s e read.1.0 read.1.1) (all_selects (entry_patterns e) among)
 
@@ -229,11 +229,11 @@ module _ (S : Type 0) (rules : Rules) (file : File) where
     unless_taken true e at s = both (unused_findings rules.is_referred e at) _ (of_unused e at) (compares e s)
     unless_taken false e at s = none
 
-    of_known : (before : List Declaration) (e : t.Entry) (at : ℕ) (s : Text) (o : Option Text) → AreSound (entry_findings rules.ids rules.plurals source e s) → AreSound (findings_of_entry rules before source e at s o)
+    of_known : (before : List Declaration) (e : t.Entry) (at : ℕ) (s : Text) (o : Option Text) → AreSound (entry_findings rules.ids rules.reference rules.plurals source e s) → AreSound (findings_of_entry rules before source e at s o)
     of_known before e at s None h = none
     of_known before e at s (Some id) h =
         let duplicates = duplicate_findings rules.functions before e at id in
-        both duplicates _ (of_id before e at id) (both (entry_findings rules.ids rules.plurals source e s) _ h (unless_taken (length duplicates == 0) e at s))
+        both duplicates _ (of_id before e at id) (both (entry_findings rules.ids rules.reference rules.plurals source e s) _ h (unless_taken (length duplicates == 0) e at s))
 
     pub of_entry_tile : (before : List Declaration) (at : ℕ) (s : Text) (e : t.Entry) → IsReadTile source (entry_tile at s e) → IsTileAmong (source_selects source) (entry_tile at s e) →
         AreSound (findings_of_tile rules before file (entry_tile at s e))

@@ -1,13 +1,13 @@
 -- What holds of the findings of an entry holds of those of all files.
-use Rattle.std.proofs.Common.{◌≡◌, ◌∙◌, Bool, true, false, if◌then◌else◌, List, [], ◌∷◌, ◌++◌, map, filter, refl, sym, ap, append-nil}
-use Rattle.std.specs.Prelude.{is_some, codes}
+use Rattle.std.proofs.Common.{◌≡◌, ◌∙◌, ℕ, Bool, true, false, if◌then◌else◌, List, [], ◌∷◌, ◌++◌, map, filter, refl, sym, ap, append-nil}
+use Rattle.std.specs.Prelude.{is_some}
 use Rattle.std.specs.List.{All, flat_map}
-use Rattle.std.specs.Str.{bytes_eq}
 use Rattle.std.proofs.lemmas.Bool.{false≢true}
 use Rattle.std.proofs.lemmas.Grind.{flat_map-append}
 use Rattle.std.proofs.lemmas.List.{map-append}
 use Rattle.std.proofs.lemmas.List.Elements.{All-nil, All-cons, All-head, All-tail, All-append, All-weaker, filter-append}
-use Rattle.fluent_grammar.specs.Words.{Text}
+use Rattle.fluent_grammar.specs.Words.{Text, is_among}
+use Rattle.fluent_grammar.specs.Refusal.{Refusal}
 use Rattle.fluent_grammar.specs.Tree as t
 use Rattle.fluent_grammar.specs.Tiling.{errors}
 use Rattle.fluent_meaning.specs.Ids.{Ids, find}
@@ -15,12 +15,12 @@ use Rattle.lint_findings.specs.Tiles.{Tile, entry_tile, junk_tile, tiles}
 use Rattle.lint_findings.specs.Comparison.{Difference, missing_message, obsolete_message, missing_value, obsolete_value, missing_attribute, obsolete_attribute, unknown_variable, unused_variable, untranslated, differences, variables_of, as_message}
 use Rattle.lint_findings.specs.ComparisonFindings.{difference_finding, message_findings, missing_findings}
 use Rattle.lint_findings.specs.Finding.{Finding}
-use Rattle.lint_findings.specs.SyntaxFindings.{syntax_finding}
+use Rattle.lint_findings.specs.SyntaxFindings.{begins_marked, mark_finding, refusal_finding, syntax_finding}
 use Rattle.lint_findings.specs.Files.{File}
 use Rattle.lint_findings.specs.DuplicateIds.{Declaration}
 use Rattle.lint_findings.specs.Findings.{Options, Rules, FileFinding, FileTile, findings_in, tiles_in, findings_of_tile, findings_of_tiles, declarations_of_tile, catalog_rules, translation_rules, known_ids, missing_messages}
 use Rattle.lint_findings.specs.PlaceLaws.{tile_errors}
-use Rattle.lint_findings.specs.FindingLaws.{OfCatalogs, OfTranslations, is_syntax, syntax_files, error_files, HasErrors, HasReferences, source_selects, HasLostVariants}
+use Rattle.lint_findings.specs.FindingLaws.{OfCatalogs, OfTranslations, syntax_codes, is_syntax, syntax_files, error_files, HasErrors, HasReferences, source_selects, HasLostVariants}
 use Rattle.lint_findings.proofs.EachFinding.{Keeps, IsSound, none, one, mapped, plain, of_entry_tile}
 use Rattle.lint_findings.proofs.SourcePlaces.{IsReadTile, tiles_are_read, IsTileAmong, tiles_are_among}
 use Rattle.lint_findings.proofs.TilesAreTheList.{tiles_have_the_errors}
@@ -84,6 +84,18 @@ module _ (S : Type 0) (rules : Rules) where
       let here = All-head (IsSound S rules file) f fs h in
       All-cons Kept (record { file = file; finding = f }) (findings_in file fs) here.keeps (kept_in file fs (All-tail (IsSound S rules file) f fs h))
 
+  -- a finding of junk, by whether the mark begins it
+  abbrev of_junk : Bool → ℕ → Text → Refusal → Finding
+  of_junk marked at s refusal = if marked then mark_finding else refusal_finding at s refusal
+
+  junk_kept : (file : File) (marked : Bool) (at : ℕ) (s : Text) (refusal : Refusal) → Kept (record { file = file; finding = of_junk marked at s refusal })
+  junk_kept file true at s refusal = record { reference = λ e. absurd (false≢true e); repeated = λ e. absurd (false≢true e) }
+  junk_kept file false at s refusal = record { reference = λ e. absurd (false≢true e); repeated = λ e. absurd (false≢true e) }
+
+  junk_syntax : (file : File) (marked : Bool) (at : ℕ) (s : Text) (refusal : Refusal) → syntax_files (findings_in file (of_junk marked at s refusal ∷ [])) ≡ file ∷ []
+  junk_syntax file true at s refusal = refl
+  junk_syntax file false at s refusal = refl
+
   no_syntax_step : (file : File) (f : Finding) (fs : List Finding) (b : Bool) → b ≡ false → syntax_files (findings_in file fs) ≡ [] →
       map (λ (g : FileFinding). g.file) (if b then record { file = file; finding = f } ∷ filter is_syntax (findings_in file fs) else filter is_syntax (findings_in file fs)) ≡ []
   no_syntax_step file f fs false e h = h
@@ -93,7 +105,7 @@ module _ (S : Type 0) (rules : Rules) where
   no_syntax file [] h = refl
   no_syntax file (f ∷ fs) h =
       let here = All-head (IsSound S rules file) f fs h in
-      no_syntax_step file f fs (bytes_eq f.code (codes "syntax")) here.unlike_syntax (no_syntax file fs (All-tail (IsSound S rules file) f fs h))
+      no_syntax_step file f fs (is_among f.code syntax_codes) here.unlike_syntax (no_syntax file fs (All-tail (IsSound S rules file) f fs h))
 
   module _ (compares : (file : File) (e : t.Entry) (s : Text) → All (IsSound S rules file) (rules.compare file.source e s)) where
     -- what is known of a tile of a file
@@ -102,7 +114,7 @@ module _ (S : Type 0) (rules : Rules) where
 
     tile_kept : (before : List Declaration) (file : File) (tile : Tile) → IsReadTile file.source tile → IsTileAmong (source_selects file.source) tile → AreKept (findings_in file (findings_of_tile rules before file tile))
     tile_kept before file (junk_tile at s refusal) read among =
-        All-cons Kept (record { file = file; finding = syntax_finding at s refusal }) [] (record { reference = λ e. absurd (false≢true e); repeated = λ e. absurd (false≢true e) }) (All-nil Kept)
+        All-cons Kept (record { file = file; finding = syntax_finding at s refusal }) [] (junk_kept file (begins_marked at s) at s refusal) (All-nil Kept)
     tile_kept before file (entry_tile at s e) read among = kept_in file _ (of_entry_tile S rules file (compares file) before at s e read among)
 
     tiles_kept : (before : List Declaration) (ts : List FileTile) → All IsTileOf ts → AreKept (findings_of_tiles rules before ts)
@@ -113,7 +125,7 @@ module _ (S : Type 0) (rules : Rules) where
         (tiles_kept (before ++ declarations_of_tile rules x.file x.tile) xs (All-tail IsTileOf x xs h))
 
     tile_syntax : (before : List Declaration) (file : File) (tile : Tile) → IsReadTile file.source tile → IsTileAmong (source_selects file.source) tile → syntax_files (findings_in file (findings_of_tile rules before file tile)) ≡ junk_file file tile
-    tile_syntax before file (junk_tile at s refusal) read among = refl
+    tile_syntax before file (junk_tile at s refusal) read among = junk_syntax file (begins_marked at s) at s refusal
     tile_syntax before file (entry_tile at s e) read among = no_syntax file _ (of_entry_tile S rules file (compares file) before at s e read among)
 
     tiles_syntax : (before : List Declaration) (ts : List FileTile) → All IsTileOf ts → syntax_files (findings_of_tiles rules before ts) ≡ flat_map (λ (x : FileTile). junk_file x.file x.tile) ts

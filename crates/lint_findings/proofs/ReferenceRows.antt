@@ -28,6 +28,11 @@ with_notes : ReportsWithReference true (file (codes "en.ftl") (codes "a = b\nc =
 unfolding computing_findings file ReportsWithReference
 with_notes = refl
 
+a_message_that_is_not_translated_yet : ReportsWithReference false (file (codes "en.ftl") (codes "one = 1\n    .t = 2\ntwo = { one } { one.t }\n") ∷ []) (file (codes "de.ftl") (codes "two = zwei { one } { one.t } { tow }\n") ∷ [])
+    (codes "de.ftl:1:14: error: two: there is no message `one` [unknown-message]\n1 | two = zwei { one } { one.t } { tow }\n  |              ^\n  = the reference has the message `one`; it isn't translated yet\nde.ftl:1:22: error: two: there is no attribute `one.t` [unknown-attribute]\n1 | two = zwei { one } { one.t } { tow }\n  |                      ^\n  = the reference has the message `one`; it isn't translated yet\nde.ftl:1:32: error: two: there is no message `tow` [unknown-message]\n1 | two = zwei { one } { one.t } { tow }\n  |                                ^\n  = did you mean `two`?\nen.ftl:1:1: warning: one: the message has no translation [missing-message]\n1 | one = 1\n  | ^\n")
+unfolding computing_findings file ReportsWithReference
+a_message_that_is_not_translated_yet = refl
+
 functions_of_the_reference : ReportsWithReference false (file (codes "en.ftl") (codes "a = { PLATFORM() ->\n   *[other] { $d }\n }\n") ∷ []) (file (codes "de.ftl") (codes "a = { PLATFORM() } { DATETIME($d) }\n") ∷ [])
     (codes "de.ftl:1:22: warning: a: there is no function `DATETIME` [unknown-function]\n1 | a = { PLATFORM() } { DATETIME($d) }\n  |                      ^\n")
 unfolding computing_findings file ReportsWithReference

@@ -54,9 +54,19 @@ unfolding computing_findings file Reports
 a_colon = refl
 
 a_byte_order_mark : Reports [] (file (codes "a.ftl") ((239 ∷ 187 ∷ 191 ∷ []) ++ (codes "a = b\n")) ∷ [])
-    (codes "a.ftl:1:1: error: expected a message, a term or a comment, found `" ++ ((239 ∷ 187 ∷ 191 ∷ []) ++ (codes "` [syntax]\n1 | " ++ ((239 ∷ 187 ∷ 191 ∷ []) ++ (codes "a = b\n  | ^\n  = this is a byte order mark; save the file without it\n")))))
+    (codes "a.ftl:1:1: error: the file begins with a byte order mark, so its first line can't be read [byte-order-mark]\n1 | " ++ ((239 ∷ 187 ∷ 191 ∷ []) ++ (codes "a = b\n  | ^\n  = `ftl tidy` removes it\n")))
 unfolding computing_findings file Reports
 a_byte_order_mark = refl
+
+a_byte_order_mark_alone : Reports [] (file (codes "a.ftl") (239 ∷ 187 ∷ 191 ∷ []) ∷ [])
+    (codes "a.ftl:1:1: error: the file begins with a byte order mark, so its first line can't be read [byte-order-mark]\n1 | " ++ ((239 ∷ 187 ∷ 191 ∷ []) ++ (codes "\n  | ^\n  = `ftl tidy` removes it\n")))
+unfolding computing_findings file Reports
+a_byte_order_mark_alone = refl
+
+a_byte_order_mark_further_on : Reports [] (file (codes "a.ftl") (codes "a = b\n" ++ ((239 ∷ 187 ∷ 191 ∷ []) ++ (codes "c = d\n"))) ∷ [])
+    (codes "a.ftl:2:1: error: expected a message, a term or a comment, found `" ++ ((239 ∷ 187 ∷ 191 ∷ []) ++ (codes "` [syntax]\n2 | " ++ ((239 ∷ 187 ∷ 191 ∷ []) ++ (codes "c = d\n  | ^\n  = this is a byte order mark; save the file without it\n")))))
+unfolding computing_findings file Reports
+a_byte_order_mark_further_on = refl
 
 a_merge_conflict : Reports [] (file (codes "a.ftl") (codes "<<<<<<< mine\na = b\n=======\na = c\n>>>>>>> theirs\n") ∷ [])
     (codes "a.ftl:1:1: error: expected a message, a term or a comment, found `<` [syntax]\n1 | <<<<<<< mine\n  | ^\n  = this is an unresolved merge conflict\na.ftl:3:1: error: expected a message, a term or a comment, found `=` [syntax]\n3 | =======\n  | ^\n  = this is an unresolved merge conflict\na.ftl:4:1: error: a: the entry at a.ftl:2:1 has the same id, so this one is never shown [duplicate-id]\n4 | a = c\n  | ^\na.ftl:5:1: error: expected a message, a term or a comment, found `>` [syntax]\n5 | >>>>>>> theirs\n  | ^\n  = this is an unresolved merge conflict\n")

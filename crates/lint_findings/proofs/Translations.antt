@@ -225,7 +225,7 @@ module _ (options : Options) (references files : List File) (id : Text) (v : t.M
       All Present (findings_of_tile rules before file (entry_tile at s (t.message m))) → Reported
   here_reported file before at s m same h k clean =
       let none : duplicate_findings rules.functions before (t.message m) at m.id ≡ [] = subst (λ x. duplicate_findings rules.functions before (t.message m) at x ≡ []) same (no_duplicates before (t.message m) at h k) in
-      let own : All Present (map (difference_finding file.source m.id s (variables_of reference m.id)) (differences ids reference m.id)) = compared (duplicate_findings rules.functions before (t.message m) at m.id) (entry_findings ids options.plurals file.source (t.message m) s) _ none clean in
+      let own : All Present (map (difference_finding file.source m.id s (variables_of reference m.id)) (differences ids reference m.id)) = compared (duplicate_findings rules.functions before (t.message m) at m.id) (entry_findings ids reference options.plurals file.source (t.message m) s) _ none clean in
       rw same (fine file.source m.id s (variables_of reference m.id) (differences ids reference m.id) own)
 
   reported_step : (x : FileTile) (before : List Declaration) (ts : List FileTile) → first_declaration id before ≡ None → find rules.functions id ≡ None →

@@ -69,7 +69,7 @@ node_misuses _ = []
 abbrev pub offset_of : Text → Text → ℕ
 offset_of source s = length source - length s
 
-module _ {F : Type 0} (ids : Ids F) (source : Text) where
+module _ {F : Type 0} (ids reference : Ids F) (source : Text) where
   -- of a flaw of a node
   abbrev pub flaw_finding : Text → Text → Flaw → Finding
   flaw_finding owner at flaw = record {
@@ -78,7 +78,7 @@ module _ {F : Type 0} (ids : Ids F) (source : Text) where
     severity = flaw_severity flaw;
     entry = Some owner;
     text = flaw_text flaw;
-    hint = flaw_hint ids flaw;
+    hint = flaw_hint ids reference flaw;
   }
 
   -- that the references of a pattern never end
@@ -86,7 +86,7 @@ module _ {F : Type 0} (ids : Ids F) (source : Text) where
   endless_finding es owner at =
       record (flaw_finding owner at (unresolved cyclic)) { hint = endless_hint ids (elements_references es) }
 
-module _ {F : Type 0} (ids : Ids F) (plurals : Option LanguagePlurals) (source : Text) where
+module _ {F : Type 0} (ids reference : Ids F) (plurals : Option LanguagePlurals) (source : Text) where
   -- a warning without a hint
   abbrev pub plain_warning : Text → Text → Text → Text → Finding
   plain_warning owner at code text =
@@ -107,7 +107,7 @@ module _ {F : Type 0} (ids : Ids F) (plurals : Option LanguagePlurals) (source :
   -- of a node of a pattern, at its place
   abbrev pub node_findings : Text → Text → Node → List Finding
   node_findings owner at node =
-      map (flaw_finding ids source owner at) (node_flaws ids node)
+      map (flaw_finding ids reference source owner at) (node_flaws ids node)
       ++ (map (category_finding owner at) (node_categories plurals node)
       ++ (map (escape_finding owner at) (node_escapes node) ++ map (option_finding owner at) (node_misuses node)))
 
@@ -122,7 +122,7 @@ module _ {F : Type 0} (ids : Ids F) (plurals : Option LanguagePlurals) (source :
   -- of a pattern at its place: whether its references end, and then its nodes
   abbrev pub pattern_findings : Text → PatternPlace → Elements → List Finding
   pattern_findings owner place es =
-      (if never_ends ids es then endless_finding ids source es owner place.name_at ∷ [] else [])
+      (if never_ends ids es then endless_finding ids reference source es owner place.name_at ∷ [] else [])
       ++ nodes_findings owner place.pattern_at (elements_nodes es) (occurrences place.pattern_at)
 
   -- whether the name of an attribute, if it is one, is that of an earlier one

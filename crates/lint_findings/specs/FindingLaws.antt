@@ -31,10 +31,14 @@ OfTranslations Holds = (options : Options) (references files : List File) →
 
 -- ---- junk
 
-abbrev pub is_syntax : FileFinding → Bool
-is_syntax f = bytes_eq f.finding.code (codes "syntax")
+-- the codes of findings of junk
+abbrev pub syntax_codes : List Text
+syntax_codes = codes "syntax" ∷ codes "byte-order-mark" ∷ []
 
--- the file of each syntax finding
+abbrev pub is_syntax : FileFinding → Bool
+is_syntax f = is_among f.finding.code syntax_codes
+
+-- the file of each finding of junk
 abbrev pub syntax_files : List FileFinding → List File
 syntax_files fs = map (λ (f : FileFinding). f.file) (filter is_syntax fs)
 
@@ -42,7 +46,7 @@ syntax_files fs = map (λ (f : FileFinding). f.file) (filter is_syntax fs)
 abbrev pub error_files : List File → List File
 error_files files = flat_map (λ (file : File). map (λ e. file) (errors file.source)) files
 
--- Each file has as many syntax findings as the parser reports errors of it, and no other file has one.
+-- Each file has as many findings of junk as the parser reports errors of it, and no other file has one.
 abbrev pub HasErrors : Ids (Unit {0}) → List File → List FileFinding → Type 0
 HasErrors ids files fs = syntax_files fs ≡ error_files files
 

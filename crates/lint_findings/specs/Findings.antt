@@ -43,11 +43,13 @@ tiles_in file = map (λ tile. record { file = file; tile = tile }) (tiles file.s
 abbrev pub sources : List File → List Text
 sources files = map (λ (file : File). file.source) files
 
--- How findings of a catalog are made: the ids of functions and those of the catalog, the plural rules, whether the
--- catalog refers to the term of an id, and what else is found of an entry that counts, in a source from the entry on.
+-- How findings of a catalog are made: the ids of functions, those of the catalog and those of its reference, the plural
+-- rules, whether the catalog refers to the term of an id, and what else is found of an entry that counts, in a source
+-- from the entry on.
 pub record Rules : Type 0 where
   pub functions : Ids (Unit {0})
   pub ids : Ids (Unit {0})
+  pub reference : Ids (Unit {0})
   pub plurals : Option LanguagePlurals
   pub is_referred : Text → Bool
   pub compare : Text → t.Entry → Text → List Finding
@@ -64,7 +66,7 @@ module _ (rules : Rules) where
   findings_of_entry before source e at s (Some id) =
       let duplicates = duplicate_findings rules.functions before e at id in
       duplicates
-      ++ (entry_findings rules.ids rules.plurals source e s
+      ++ (entry_findings rules.ids rules.reference rules.plurals source e s
       ++ (if length duplicates == 0 then findings_if_first source e at s else []))
 
   abbrev pub findings_of_tile : List Declaration → File → Tile → List Finding
@@ -88,6 +90,7 @@ abbrev pub catalog_rules : Options → List File → Rules
 catalog_rules options files = record {
   functions = catalog_ids options.functions [];
   ids = catalog_ids options.functions (sources files);
+  reference = catalog_ids options.functions [];
   plurals = options.plurals;
   is_referred = is_referred_in (sources files);
   compare = λ source e s. [];
@@ -119,6 +122,7 @@ abbrev pub translation_rules : Options → List File → List File → Rules
 translation_rules options references files = record {
   functions = known_ids options references [];
   ids = known_ids options references files;
+  reference = known_ids options references references;
   plurals = options.plurals;
   is_referred = is_referred_in (sources files);
   compare = message_findings (known_ids options references files) (known_ids options references references);

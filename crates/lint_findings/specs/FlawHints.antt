@@ -30,14 +30,23 @@ means_term (Some (term m)) = true
 abbrev pub is_term : {F : Type 0} → Ids F → Text → Bool
 is_term ids id = means_term (find ids id)
 
--- if a message of this id is missing: the nearest message, or else a variable
-abbrev pub message_hint : {F : Type 0} → Ids F → Text → Option (Meaning F) → Option Text
-message_hint ids id None =
-    option_or (nearest_hint [] (is_message ids) id) (Some (codes "a variable is written " ++ in_backticks (dollar ∷ id)))
-message_hint ids id (Some number_function) = None
-message_hint ids id (Some (function f)) = None
-message_hint ids id (Some (message m)) = None
-message_hint ids id (Some (term m)) = Some (in_backticks (hyphen ∷ id) ++ codes " is a term")
+-- the reference has a message, and the catalog hasn't
+abbrev pub untranslated_text : Text → Text
+untranslated_text id = codes "the reference has the message " ++ (in_backticks id ++ codes "; it isn't translated yet")
+
+-- If an id stands for nothing, and a message is meant: that of the reference, or the nearest message, or else a variable.
+abbrev pub no_message_hint : {F : Type 0} → Ids F → Ids F → Text → Option Text
+no_message_hint ids reference id =
+    if is_message reference id then Some (untranslated_text id)
+    else option_or (nearest_hint [] (is_message ids) id) (Some (codes "a variable is written " ++ in_backticks (dollar ∷ id)))
+
+-- if a message of this id is missing
+abbrev pub message_hint : {F : Type 0} → Ids F → Ids F → Text → Option (Meaning F) → Option Text
+message_hint ids reference id None = no_message_hint ids reference id
+message_hint ids reference id (Some number_function) = None
+message_hint ids reference id (Some (function f)) = None
+message_hint ids reference id (Some (message m)) = None
+message_hint ids reference id (Some (term m)) = Some (in_backticks (hyphen ∷ id) ++ codes " is a term")
 
 -- if a term of this id is missing
 abbrev pub term_hint : {F : Type 0} → Ids F → Text → Option (Meaning F) → Option Text
@@ -72,15 +81,17 @@ module _ {F : Type 0} (ids : Ids F) where
       if list_any is_endless (reference_patterns (find ids) i) then Some (codes "they go on at " ++ in_backticks (inline_fallback i))
       else endless_hint is
 
+-- of what a catalog and its reference have
+module _ {F : Type 0} (ids reference : Ids F) where
   abbrev pub unknown_hint : Reference → Option Text
   unknown_hint (to_function id) = None
-  unknown_hint (to_message id a) = message_hint ids id (find ids id)
+  unknown_hint (to_message id a) = message_hint ids reference id (find ids id)
   unknown_hint (to_term id a) = term_hint ids id (find ids id)
   unknown_hint (to_variable id) = None
 
   -- For a flaw of a node. That references never end is a flaw of a pattern, and has `endless_hint`.
   abbrev pub flaw_hint : Flaw → Option Text
-  flaw_hint (unresolved (unknown reference)) = unknown_hint reference
+  flaw_hint (unresolved (unknown lack)) = unknown_hint lack
   flaw_hint (unresolved (no_value id)) = value_hint (as_message (find ids id))
   flaw_hint (unresolved missing_default) = Some (codes "write it before a variant, as `*[other]`")
   flaw_hint (unresolved cyclic) = None

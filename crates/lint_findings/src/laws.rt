@@ -18,8 +18,8 @@ pub fn tiles_are_the_source()
     ensures errors { TilesHaveTheErrors }
 {}
 
-/// Among the findings of a catalog, with or without a reference, each file has as many of the code `syntax` as the
-/// parser reports errors of it.
+/// Among the findings of a catalog, with or without a reference, each file has as many of the codes `syntax` and
+/// `byte-order-mark` as the parser reports errors of it.
 pub fn syntax_findings_are_errors()
     ensures catalogs { OfCatalogs HasErrors }
     ensures translations { OfTranslations HasErrors }

@@ -2,10 +2,10 @@
 #![tactic(auto)]
 
 ghost use Rattle.std.specs.Prelude.{◌≡◌, IfOk, option_map, Some};
-ghost use Rattle.lint_findings.specs.FlawHints.{flaw_hint, is_message, is_term, message_hint, term_hint, value_hint};
+ghost use Rattle.lint_findings.specs.FlawHints.{flaw_hint, is_message, is_term, no_message_hint, term_hint, value_hint};
 ghost use Rattle.lint_findings.specs.Comparison.{as_message};
 ghost use Rattle.lint_flaws.specs.FlawView.{flaw_view};
-ghost use Rattle.lint_flaws.specs.HintText.{IsHint, hint_text};
+ghost use Rattle.lint_flaws.specs.HintText.{IsHint, IsMessageHint, hint_text};
 ghost use Rattle.fluent_ids.specs.IdsView.{ids_view};
 ghost use Rattle.fluent_meaning.specs.Ids.{find};
 
@@ -26,6 +26,8 @@ pub enum Hint<'s> {
     NearTerm(String),
     /// The variable of this name may be meant, which the reference has.
     NearVariable(String),
+    /// The message of this id is in the reference, and not in the catalog.
+    Untranslated(&'s str),
     /// A variable of this name may be meant.
     Variable(&'s str),
     /// There is a message of this id.
@@ -46,6 +48,10 @@ impl fmt::Display for Hint<'_> {
             Hint::NearMessage(id) => write!(f, "did you mean `{id}`?"),
             Hint::NearTerm(id) => write!(f, "did you mean `-{id}`?"),
             Hint::NearVariable(name) => write!(f, "did you mean `${name}`?"),
+            Hint::Untranslated(id) => write!(
+                f,
+                "the reference has the message `{id}`; it isn't translated yet"
+            ),
             Hint::Variable(id) => write!(f, "a variable is written `${id}`"),
             Hint::Message(id) => write!(f, "`{id}` is a message"),
             Hint::Term(id) => write!(f, "`-{id}` is a term"),
@@ -56,7 +62,7 @@ impl fmt::Display for Hint<'_> {
 }
 
 impl<'a, 's> Flaw<'a, 's> {
-    /// The hint of a flaw, in a catalog with these ids.
+    /// The hint of a flaw, in a catalog with these ids, whose reference has those.
     ///
     /// # Errors
     /// [`AllocError`] if memory runs out; nothing is kept.
@@ -64,11 +70,13 @@ impl<'a, 's> Flaw<'a, 's> {
         &self,
         alloc: Global,
         ids: &CatalogIds<'_, 's>,
+        reference: &CatalogIds<'_, 's>,
     ) -> Result<Option<Hint<'s>>, AllocError>
-        ensures { IfOk result (IsHint (flaw_hint (ids_view _ ids.now) (flaw_view self.now))) }
+        ensures { IfOk result (IsHint
+            (flaw_hint (ids_view _ ids.now) (ids_view _ reference.now) (flaw_view self.now))) }
     {
         match self {
-            Flaw::UnknownMessage { id, .. } => message_hint(alloc, ids, id),
+            Flaw::UnknownMessage { id, .. } => message_hint(alloc, ids, reference, id),
             Flaw::UnknownTerm { id, .. } => term_hint(alloc, ids, id),
             Flaw::NoValue { id } => Ok(value_hint(ids, id)),
             Flaw::NoDefault => Ok(Some(Hint::DefaultMark)),
@@ -81,18 +89,35 @@ impl<'a, 's> Flaw<'a, 's> {
 fn message_hint<'r, 's: 'r>(
     alloc: Global,
     ids: &CatalogIds<'r, 's>,
+    reference: &CatalogIds<'r, 's>,
+    id: &'s str,
+) -> Result<Option<Hint<'s>>, AllocError>
+    ensures { IfOk result
+        (IsMessageHint (ids_view _ ids.now) (ids_view _ reference.now) id.now) }
+{
+    match ids.get(id) {
+        None => no_message_hint(alloc, ids, reference, id),
+        Some(Entry::Term(_)) => Ok(Some(Hint::Term(id))),
+        Some(_) => Ok(None),
+    }
+}
+
+/// If this id stands for nothing, and a message is meant.
+fn no_message_hint<'r, 's: 'r>(
+    alloc: Global,
+    ids: &CatalogIds<'r, 's>,
+    reference: &CatalogIds<'r, 's>,
     id: &'s str,
 ) -> Result<Option<Hint<'s>>, AllocError>
     ensures { IfOk result (IsHint
-        (message_hint (ids_view _ ids.now) id.now (find (ids_view _ ids.now) id.now))) }
+        (no_message_hint (ids_view _ ids.now) (ids_view _ reference.now) id.now)) }
 {
-    match ids.get(id) {
-        None => match nearest(alloc, &Messages { ids }, id)? {
-            Some(near) => Ok(Some(Hint::NearMessage(near))),
-            None => Ok(Some(Hint::Variable(id))),
-        },
-        Some(Entry::Term(_)) => Ok(Some(Hint::Term(id))),
-        Some(_) => Ok(None),
+    if (Messages { ids: reference }).has_name(id) {
+        return Ok(Some(Hint::Untranslated(id)));
+    }
+    match nearest(alloc, &Messages { ids }, id)? {
+        Some(near) => Ok(Some(Hint::NearMessage(near))),
+        None => Ok(Some(Hint::Variable(id))),
     }
 }
 

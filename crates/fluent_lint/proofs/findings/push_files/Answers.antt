@@ -1,8 +1,7 @@
 use Rattle.std.proofs.Common.{◌∙◌, [], ◌++◌, refl, sym, ap, append-nil}
 use Rattle.std.proofs.lemmas.List.{drop_all}
 use Rattle.lint_files.specs.PartFindings.{declared_in}
-use Rattle.fluent_lint.specs.Found.{reported_by_files}
-use Rattle.fluent_resource.specs.Sources.{texts}
+use Rattle.fluent_lint.specs.Found.{found_by_files}
 use Rattle.lint_files.specs.RulesView.{rules_view}
 use Rattle.lint_finding.specs.View.{file_view, findings_view}
 use Rattle.fluent_lint.specs.FileTiles.{files_of, files_view}
@@ -19,7 +18,7 @@ loop-file-preserved c =
     let inv = c.loop-file.invariant in (
       inv.0 ++ declared_in (file_view item.file),
       c.in_ok-findings.ensures.declared inv.0 inv.1,
-      one_found rules (texts c.args.ignored.now) c.args.files.now c.loop-file.file-index item c.loop-file.found.items c.push.new.self.items _ inv.0
+      one_found rules c.args.files.now c.loop-file.file-index item c.loop-file.found.items c.push.new.self.items _ inv.0
           c.loop-file-test.true c.file-item.is c.in_ok-push.ensures.items refl (c.in_ok-findings.ensures.findings inv.0 inv.1) inv.2,
     )
 
@@ -29,5 +28,5 @@ returns c =
     let inv = c.loop-file.invariant in
     let now = findings_view c.loop-file.found.items in
     sym (append-nil now)
-    ∙ ap (λ l. now ++ reported_by_files rules (texts c.args.ignored.now) inv.0 (files_view (files_of l))) (sym (drop_all c.loop-file.file-index c.args.files.now c.loop-file-test.false))
+    ∙ ap (λ l. now ++ found_by_files rules inv.0 (files_view (files_of l))) (sym (drop_all c.loop-file.file-index c.args.files.now c.loop-file-test.false))
     ∙ inv.2

@@ -4,7 +4,7 @@ use Rattle.ftl_arguments.specs.CommandView.{lint_view}
 use Rattle.fluent_grammar.specs.Words.{Text}
 use Rattle.fluent_lint.specs.FileTiles.{files_view}
 use Rattle.fluent_lint.specs.LintReport.{LintReport, all_summaries, shown_counts, totals}
-use Rattle.fluent_lint.specs.Reported.{reported}
+use Rattle.fluent_lint.specs.Reported.{found, kept_of}
 use Rattle.fluent_resource.specs.Sources.{texts}
 use Rattle.lint_findings.specs.Findings.{FileFinding}
 use Rattle.lint_findings.specs.Output as out
@@ -19,15 +19,16 @@ returns c =
     let references = files_view c.args.references.now in
     let files = files_view c.args.files.now in
     let made : Text → Bool → LintReport = λ text failed. record { text = text; has_failed = failed } in
-    let found_by : List (Bor Text) → List (Bor Text) → List FileFinding =
-    λ functions ignored. reported (record { functions = texts functions; plurals = c.args.plurals }) (texts ignored) references files in
-    let text_of : List FileFinding → Text =
-    λ found. out.output lint.format shown_width (shown lint.notes found) (shown_counts lint.format lint.counts (all_summaries references files found)) ++ totals lint.format lint.notes (length files) (entry_count files) found in
-    let made_of : List FileFinding → LintReport = λ found. made (text_of found) (has_failed lint.strict found) in
+    let found_by : List (Bor Text) → List FileFinding =
+    λ functions. found (record { functions = texts functions; plurals = c.args.plurals }) references files in
+    let text_of : List FileFinding → List FileFinding → Text =
+    λ all left. out.output lint.format shown_width (shown lint.notes left) (shown_counts lint.format lint.counts (all_summaries references files all)) ++ totals lint.format lint.notes (length files) (entry_count files) left in
+    let made_of : List FileFinding → List (Bor Text) → LintReport =
+    λ all ignored. let left = kept_of (texts ignored) all in made (text_of all left) (has_failed lint.strict left) in
     IfOk-weaker c.report_findings.result _ _
     (λ report is.
     ap (λ text. made text report.has_failed) is.text
-    ∙ ap (made (text_of (found_by c.deref.result.now c.deref-2.result.now))) is.failed
-    ∙ ap (λ functions. made_of (found_by functions c.deref-2.result.now)) c.deref.ensures.value
-    ∙ ap (λ ignored. made_of (found_by c.args.lint.now.functions.items ignored)) c.deref-2.ensures.value)
+    ∙ ap (made (text_of (found_by c.deref.result.now) (kept_of (texts c.deref-2.result.now) (found_by c.deref.result.now)))) is.failed
+    ∙ ap (λ functions. made_of (found_by functions) c.deref-2.result.now) c.deref.ensures.value
+    ∙ ap (made_of (found_by c.args.lint.now.functions.items)) c.deref-2.ensures.value)
     c.report_findings.ensures

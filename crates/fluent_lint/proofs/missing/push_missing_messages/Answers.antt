@@ -6,12 +6,8 @@ use Rattle.fluent_ids.specs.IdsView.{ids_view}
 use Rattle.lint_comparison.specs.Missing.{missing_in}
 use Rattle.lint_entries.specs.TileView.{tile_view}
 use Rattle.fluent_lint.specs.FileTiles.{AreTilesOf}
-use Rattle.fluent_lint.specs.Missing.{reported_missing_in}
-use Rattle.fluent_lint.specs.Reported.{kept}
-use Rattle.fluent_resource.specs.Sources.{texts}
-use Rattle.fluent_lint.proofs.Kept.{kept_viewed, one_more_kept}
-use Rattle.std.specs.List.{flat_map}
-use Rattle.lint_finding.specs.View.{finding_view}
+use Rattle.fluent_lint.specs.Missing.{missing_in_files}
+use Rattle.fluent_lint.proofs.Kept.{one_more}
 use Rattle.lint_findings.specs.Files.{File}
 use Rattle.lint_findings.specs.Findings.{FileFinding}
 use Rattle.fluent_lint.proofs.Counted.{all_viewed, view_of}
@@ -26,21 +22,17 @@ missing_findings-requires c =
 pub loop-file-preserved : goal.loop-file-preserved
 loop-file-preserved c =
     let ids = ids_view (Unit {0}) c.args.ids.now in
-    let ignored = texts c.args.ignored.now in
     let file = view_of c.file-item.result in
     let found : File → List FileFinding = λ f. findings_in f (missing_in ids f.source) in
-    let all : List File → List FileFinding = λ fs. findings_view c.args.found.now.items ++ kept (λ (f : FileFinding). f.finding) ignored (flat_map found fs) in
     ap findings_view c.in_ok-push.ensures.items
     ∙ found_more c.loop-file.found.items _
-    ∙ ap (λ fs. findings_view c.loop-file.found.items ++ findings_in file (map finding_view fs)) c.keep_reported.ensures
-    ∙ ap (λ fs. findings_view c.loop-file.found.items ++ fs) (kept_viewed file ignored c.in_ok-findings.findings.items)
-    ∙ ap (λ fs. findings_view c.loop-file.found.items ++ kept (λ (f : FileFinding). f.finding) ignored (findings_in file fs)) c.in_ok-findings.ensures
-    ∙ ap (λ l. l ++ kept (λ (f : FileFinding). f.finding) ignored (found file)) c.loop-file.invariant
-    ∙ one_more_kept found ignored (findings_view c.args.found.now.items) view_of c.args.references.now c.loop-file.file-index c.file-item.result c.loop-file-test.true c.file-item.is
+    ∙ ap (λ fs. findings_view c.loop-file.found.items ++ findings_in file fs) c.in_ok-findings.ensures
+    ∙ ap (λ l. l ++ found file) c.loop-file.invariant
+    ∙ one_more found (findings_view c.args.found.now.items) view_of c.args.references.now c.loop-file.file-index c.file-item.result c.loop-file-test.true c.file-item.is
 
 pub returns : goal.returns
 returns c =
     let ids = ids_view (Unit {0}) c.args.ids.now in
     let references = c.args.references.now in
     c.loop-file.invariant
-    ∙ ap (λ fs. findings_view c.args.found.now.items ++ reported_missing_in ids (texts c.args.ignored.now) fs) (ap (map view_of) (take_all c.loop-file.file-index references c.loop-file-test.false) ∙ all_viewed references)
+    ∙ ap (λ fs. findings_view c.args.found.now.items ++ missing_in_files ids fs) (ap (map view_of) (take_all c.loop-file.file-index references c.loop-file-test.false) ∙ all_viewed references)

@@ -4,11 +4,13 @@ use Rattle.std.specs.Prelude.{All, IfOk}
 use Rattle.lint_files.specs.RulesView.{rules_view}
 use Rattle.lint_finding.specs.View.{file_view, findings_view}
 use Rattle.lint_finding.specs.declared.records.File.{File}
+use Rattle.lint_finding.specs.declared.records.FileFindings.{FileFindings}
 use Rattle.lint_findings.specs.Findings.{FileFinding}
 use Rattle.lint_findings.specs.Summary.{Summary, entry_count}
 use Rattle.lint_report.specs.ReportView.{summary_view}
 use Rattle.fluent_lint.specs.FileTiles.{AreTilesOf, files_of, files_view}
-use Rattle.fluent_lint.specs.Found.{reported_by}
+use Rattle.fluent_lint.specs.Found.{found_by}
+use Rattle.fluent_lint.specs.Reported.{kept_of}
 use Rattle.fluent_lint.specs.LintReport.{all_summaries}
 use Rattle.fluent_lint.specs.Reports.{IsReportOf, counts_by, ignored_by}
 use Rattle.fluent_lint.proofs.reports.report_by_rules.Goals as goal
@@ -32,11 +34,17 @@ returns c =
     let ignored = ignored_by output in
     let references = c.args.references.now.files.now in
     let files = c.args.files.now.files.now in
-    let found = reported_by rules ignored (files_view references) (files_view files) in
+    let found = found_by rules (files_view references) (files_view files) in
     let found_there : findings_view c.in_ok-found.found.items ≡ found =
     c.in_ok-found.ensures
-    ∙ ap (λ (fs : List File). reported_by rules ignored (files_view fs) (files_view (files_of c.deref-2.result.now))) (ap files_of c.deref.ensures.value ∙ c.in_ok-references.ensures.files)
-    ∙ ap (λ (fs : List File). reported_by rules ignored (files_view references) (files_view fs)) (ap files_of c.deref-2.ensures.value ∙ c.in_ok-files.ensures.files) in
+    ∙ ap (λ (fs : List File). found_by rules (files_view fs) (files_view (files_of c.deref-2.result.now))) (ap files_of c.deref.ensures.value ∙ c.in_ok-references.ensures.files)
+    ∙ ap (λ (fs : List File). found_by rules (files_view references) (files_view fs)) (ap files_of c.deref-2.ensures.value ∙ c.in_ok-files.ensures.files) in
+    let left = kept_of ignored found in
+    let left_there : findings_view c.deref-7.result.now ≡ left =
+    ap findings_view c.deref-7.ensures.value
+    ∙ c.keep_reported.ensures
+    ∙ ap (λ (fs : List FileFindings). kept_of ignored (findings_view fs)) c.deref_mut.ensures.value
+    ∙ ap (kept_of ignored) found_there in
     let counts : map summary_view c.deref-8.result.now ≡ counts_by output (all_summaries (files_view references) (files_view files) found) =
     ap (map summary_view) c.deref-8.ensures.value
     ∙ c.in_ok-counts.ensures
@@ -46,10 +54,10 @@ returns c =
     let number : length files ≡ length (files_view files) = sym (length-map files file_view) in
     let entries : c.in_ok-entries.entries ≡ entry_count (files_view files) =
     c.in_ok-entries.ensures ∙ ap (λ (fs : List File). entry_count (files_view fs)) (ap files_of c.deref-6.ensures.value ∙ c.in_ok-files.ensures.files) in
-    subst (λ (n : ℕ). IfOk c.report_of.result (IsReportOf found (counts_by output (all_summaries (files_view references) (files_view files) found)) (length (files_view files)) n output)) entries
-    (subst (λ (n : ℕ). IfOk c.report_of.result (IsReportOf found (counts_by output (all_summaries (files_view references) (files_view files) found)) n c.in_ok-entries.entries output)) number
-    (subst (λ (ss : List Summary). IfOk c.report_of.result (IsReportOf found ss (length files) c.in_ok-entries.entries output)) counts
-    (subst (λ (fs : List FileFinding). IfOk c.report_of.result (IsReportOf fs (map summary_view c.deref-8.result.now) (length files) c.in_ok-entries.entries output)) (ap findings_view c.deref-7.ensures.value ∙ found_there) c.report_of.ensures)))
+    subst (λ (n : ℕ). IfOk c.report_of.result (IsReportOf left (counts_by output (all_summaries (files_view references) (files_view files) found)) (length (files_view files)) n output)) entries
+    (subst (λ (n : ℕ). IfOk c.report_of.result (IsReportOf left (counts_by output (all_summaries (files_view references) (files_view files) found)) n c.in_ok-entries.entries output)) number
+    (subst (λ (ss : List Summary). IfOk c.report_of.result (IsReportOf left ss (length files) c.in_ok-entries.entries output)) counts
+    (subst (λ (fs : List FileFinding). IfOk c.report_of.result (IsReportOf fs (map summary_view c.deref-8.result.now) (length files) c.in_ok-entries.entries output)) left_there c.report_of.ensures)))
 
 pub entry_count-requires : goal.entry_count-requires
 entry_count-requires c = subst (All AreTilesOf) (sym c.deref-6.ensures.value) c.in_ok-files.ensures.tiles

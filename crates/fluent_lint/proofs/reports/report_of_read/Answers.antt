@@ -9,7 +9,7 @@ use Rattle.lint_files.specs.RulesView.{compare_with}
 use Rattle.lint_findings.specs.Findings.{FileFinding}
 use Rattle.fluent_lint.specs.FileTiles.{files_view}
 use Rattle.fluent_lint.specs.KnownIds.{compare_by}
-use Rattle.fluent_lint.specs.Reports.{IsReportWith, ignored_by, options_view}
+use Rattle.fluent_lint.specs.Reports.{IsReportWith, options_view}
 use Rattle.fluent_lint.proofs.Found.{all_found, known_declared}
 use Rattle.fluent_lint.proofs.reports.report_of_read.Goals as goal
 
@@ -33,7 +33,7 @@ returns c =
     let reference = ids_view (Unit {0}) known.reference in
     let same = c.in_ok-endless.ensures in
     subst (λ (found : List FileFinding). IfOk c.report_by_rules.result (IsReportWith found references files c.args.output))
-    (all_found (options_view c.args.options.now) (ignored_by c.args.output) (files_view files) references (is_referred c.in_ok-terms.terms) (ids_view (Unit {0}) known.functions) (ids_of c.in_ok-endless.endless) reference
+    (all_found (options_view c.args.options.now) (files_view files) references (is_referred c.in_ok-terms.terms) (ids_view (Unit {0}) known.functions) (ids_of c.in_ok-endless.endless) reference
     (compare_with c.comparison.result) c.in_ok-terms.ensures c.in_ok-known.ensures.functions (same ∙ c.in_ok-known.ensures.ids) c.in_ok-known.ensures.reference
     (c.comparison.ensures ∙ ap (λ ids. compare_by ids reference references) (sym same)))
     c.report_by_rules.ensures

@@ -18,6 +18,6 @@ returns c =
     let place = c.args.place.now in
     let node = node_view c.args.node in
     on_ok_weaker c.push_options.result
-    (four_added (map finding_view c.args.findings.now.items) (flaw_findings catalog.endless.now.ids.now place node) (category_findings catalog.plurals place node) (escape_findings place node) (option_findings place node)
+    (four_added (map finding_view c.args.findings.now.items) (flaw_findings catalog place node) (category_findings catalog.plurals place node) (escape_findings place node) (option_findings place node)
     c.in_ok-push_flaw.ensures c.in_ok-push_categories.ensures c.in_ok-push_escapes.ensures)
     c.push_options.ensures
