@@ -72,7 +72,7 @@ over_program() {
 }
 
 # Whether the library without proofs is built, whose build ended with this status, as one check.
-library() {
+unproved_library() {
     cat "$log.library"
     echo "$(($1 == 0)) passed, $(($1 != 0)) failed"
     return "$1"
@@ -87,7 +87,7 @@ quick() {
     over_program crates/ftl/out/unproved/ftl
     wait "$building" || built=$?
     building=
-    count library "$built"
+    count unproved_library "$built"
     count tools/bindings.sh "$PWD/crates/fluent_c/out/unproved"
     skip 'rt ci' 'since it proves'
     skip tools/more_rows.sh 'since it takes four minutes more'
