@@ -7,7 +7,8 @@ static const char SOURCE[] =
     "a = A\n    .title = T { $x }\nn = { $n ->\n    [one] one\n   *[other] { $n } other\n}\n";
 
 /* The locales of a program that has set none, which have no plural rules but `other`. */
-static const char *const POSIX[] = {"C", "POSIX", "C.UTF-8", "C.utf8", "und", NULL};
+static const char *const POSIX[] = {
+    "C", "POSIX", "C.UTF-8", "C.utf8", "C.UTF8", "c.utf-8", "POSIX.UTF-8", "POSIX.utf8", "posix", "und", NULL};
 
 static unsigned tried = 0, wrong = 0;
 

@@ -195,7 +195,8 @@ uint32_t fluent_lint(
  *
  * Sources may call the function NUMBER. The plural rules of `locale` choose variants, and numbers are written as it writes
  * them: it is a tag such as "pl" or "pt-PT". The empty tag has the rules of English, and plain numbers, such as 1234.5.
- * "C" and "POSIX", also as "C.UTF-8" and "C.utf8", have no rules but `other`, as "und" has, and plain numbers.
+ * "C" and "POSIX", in letters of any case, have no rules but `other`, as "und" has, and plain numbers; so have these with
+ * the codeset UTF-8, with and without its `-`, such as "C.UTF-8" and "POSIX.utf8".
  * docs/reference/plurals.md says which locales have rules, and docs/reference/numerals.md how numbers are written. If
  * `isolating` is true, placeables are between the marks U+2068 and U+2069. Of duplicate ids the last entry counts if
  * `overriding` is true, and else the first. If a source has errors, only its junk is left out.

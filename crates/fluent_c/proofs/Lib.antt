@@ -5,3 +5,4 @@ mod Given
 mod Reports
 mod InOrder
 mod OutlineRows
+mod LocaleRows

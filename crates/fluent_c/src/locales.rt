@@ -1,14 +1,54 @@
 //! The locales of a program that has set none.
 
 ghost use Rattle.std.specs.Prelude.{◌≡◌};
-ghost use Rattle.fluent_c.specs.Locales.{is_posix};
+ghost use Rattle.fluent_languages.specs.Tags.{same_text};
+ghost use Rattle.fluent_c.specs.Locales.{folded, is_named, is_posix};
 
 /// Whether a locale is that of a program that has set none: `C` or `POSIX`, also with UTF-8.
 pub(crate) fn names_posix(locale: &[u8]) -> bool
     ensures { result ≡ is_posix locale.now }
 {
-    locale == b"C".as_slice()
-        || locale == b"POSIX".as_slice()
-        || locale == b"C.UTF-8".as_slice()
-        || locale == b"C.utf8".as_slice()
+    // A name of a locale has at most 255 bytes.
+    locale.len() <= 255 && (is_named(b"c", locale) || is_named(b"posix", locale))
+}
+
+/// Whether a locale has this name in letters of any case, alone or with UTF-8 as its codeset.
+fn is_named(name: &[u8], locale: &[u8]) -> bool
+    ensures { result ≡ is_named name.now locale.now }
+{
+    match name {
+        [] => match locale {
+            [] => true,
+            [byte, codeset @ ..] => *byte == b'.' && is_codeset(b"utf8", codeset),
+        },
+        [letter, name @ ..] => match locale {
+            [] => false,
+            [byte, locale @ ..] => {
+                byte.to_ascii_lowercase() == *letter && is_named(name, locale)
+            }
+        },
+    }
+}
+
+/// Whether a codeset has this name in letters of any case, wherever it has a `-`.
+fn is_codeset(name: &[u8], codeset: &[u8]) -> bool
+    ensures { result ≡ same_text (folded codeset.now) name.now }
+{
+    match codeset {
+        [] => match name {
+            [] => true,
+            [_, ..] => false,
+        },
+        [byte, codeset @ ..] => {
+            if *byte == b'-' {
+                return is_codeset(name, codeset);
+            }
+            match name {
+                [] => false,
+                [letter, name @ ..] => {
+                    byte.to_ascii_lowercase() == *letter && is_codeset(name, codeset)
+                }
+            }
+        }
+    }
 }
