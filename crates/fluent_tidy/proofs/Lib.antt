@@ -6,6 +6,7 @@ mod Read
 mod Replacing
 mod TidyTexts
 mod TidyRows
+mod LineFeeds
 mod PlainTexts
 mod Marks
 mod TidyPlain

@@ -1,8 +1,6 @@
 -- Tidy texts of worked sources, by computing.
-use Rattle.std.proofs.Common.{◌≡◌, true, false, [], ◌∷◌, ◌++◌, refl}
+use Rattle.std.proofs.Common.{◌≡◌, [], ◌∷◌, refl}
 use Rattle.std.specs.Prelude.{codes}
-use Rattle.fluent_grammar.specs.Words.{Text}
-use Rattle.fluent_grammar.specs.Tiling.{errors}
 use Rattle.fluent_grammar.proofs.Computing.{computing}
 use Rattle.fluent_parser.specs.Starts.{starts, starts_from}
 use Rattle.fluent_tidy.specs.TidyText.{laid_anew, plain}
@@ -119,6 +117,19 @@ marked = refl
 -- a carriage return alone stays where it is
 return_alone : plain (codes "a = \r1\r\n\n") ≡ codes "a = \r1\n\n"
 return_alone = refl
+
+-- spaces of a blank line are left out before CR LF, and stay before LF and at the end; others stay
+blank_spaces : plain (codes "  \r\na =\r\n    x\r\n      \r\n    y  \r\n   \n\r  \r\n  ") ≡ codes "\na =\n    x\n\n    y  \n   \n\r  \n  "
+blank_spaces = refl
+
+-- so a blank line of a pattern has no spaces after tidying if it had none in the text before
+blank_within : laid_anew (plain (codes "a =\r\n    x\r\n      \r\n    y\r\n")) ≡ codes "a =\n    x\n\n    y\n"
+unfolding computing starts_from
+blank_within = refl
+
+blank_within_stays : laid_anew (codes "a =\n    x\n\n    y\n") ≡ codes "a =\n    x\n\n    y\n"
+unfolding computing starts_from
+blank_within_stays = refl
 
 -- where the parts begin: an own comment is one
 parts : starts (codes "\na = 1\n\n# b\nb = 2\n") ≡ 1 ∷ 8 ∷ 12 ∷ []

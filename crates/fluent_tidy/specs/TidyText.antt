@@ -1,6 +1,6 @@
 -- The tidy text of a source: the written text of each entry, and the blank lines that the source has between them, one at a time.
-use Rattle.std.specs.Prelude.{◌≡◌, ℕ, zero, suc, ◌-◌, min, Bool, false, ◌&&◌, ◌==◌, nat_le, if◌then◌else◌, List, [], ◌∷◌, length, drop, slice_index, Option, Some, None}
-use Rattle.fluent_grammar.specs.Words.{Text, line_feed, carriage_return, space, begins_with}
+use Rattle.std.specs.Prelude.{◌≡◌, ℕ, zero, suc, ◌-◌, min, Bool, true, false, ◌&&◌, ◌==◌, nat_le, if◌then◌else◌, List, [], ◌∷◌, length, drop, slice_index, Option, Some, None}
+use Rattle.fluent_grammar.specs.Words.{Text, line_feed, carriage_return, space, begins_with, begins_crlf, skip_spaces}
 use Rattle.fluent_grammar.specs.Tree as t
 use Rattle.fluent_grammar.specs.Tiling.{tree, errors}
 use Rattle.fluent_parser.specs.Starts.{starts}
@@ -16,10 +16,17 @@ begins_with_mark s = nat_le 3 (length s) && (slice_index s 0 == 239 && (slice_in
 abbrev pub without_mark : Text → Text
 without_mark s = if begins_with_mark s then drop 3 s else s
 
--- LF in place of each CR LF; a carriage return alone stays
+-- LF in place of each CR LF. A line that is blank before its CR LF loses its spaces: they aren't part of a text there, and
+-- before LF they may be. A carriage return alone stays. The first argument says whether a line begins here.
+abbrev pub line_feeds_from : Bool → Text → Text
+line_feeds_from at [] = []
+line_feeds_from at (c ∷ cs) =
+    if c == carriage_return && begins_with line_feed cs then line_feeds_from at cs
+    else if at && (c == space && begins_crlf (skip_spaces cs)) then line_feeds_from at cs
+    else c ∷ line_feeds_from (c == line_feed) cs
+
 abbrev pub with_line_feeds : Text → Text
-with_line_feeds [] = []
-with_line_feeds (c ∷ cs) = if c == carriage_return && begins_with line_feed cs then with_line_feeds cs else c ∷ with_line_feeds cs
+with_line_feeds s = line_feeds_from true s
 
 abbrev pub plain : Text → Text
 plain s = with_line_feeds (without_mark s)

@@ -1,7 +1,8 @@
 //! Sources without a byte order mark, and with LF line ends.
 
-ghost use Rattle.std.specs.Prelude.{◌≡◌, IfOk, string_bytes};
-ghost use Rattle.fluent_grammar.specs.Words.{begins_with, line_feed};
+ghost use Rattle.std.specs.Prelude.{◌≡◌, ◌==◌, ◌++◌, ◌∷◌, [], false, IfOk, string_bytes};
+ghost use Rattle.std.specs.List.{list_all, list_any};
+ghost use Rattle.fluent_grammar.specs.Words.{line_feed, space};
 ghost use Rattle.fluent_tidy.specs.TidyText as plain;
 
 use memchr::memchr;
@@ -25,7 +26,8 @@ pub fn without_mark(text: &str) -> &str
     }
 }
 
-/// The text with LF in place of each CR LF. A carriage return alone stays.
+/// The text with LF in place of each CR LF. A line that is blank before its CR LF loses its spaces: they aren't part of a
+/// text there, and before LF they may be. A carriage return alone stays.
 ///
 /// # Errors
 /// [`AllocError`] if memory runs out; nothing is kept.
@@ -34,20 +36,31 @@ pub fn with_line_feeds(alloc: Global, text: &str) -> Result<String, AllocError>
 {
     let mut new = String::new(alloc);
     let mut rest = text;
-    'returns: while let Some(end) = memchr(b'\r', rest.as_bytes()) {
-        new.push_str(&rest[..end])?;
+    'lines: while let Some(end) = memchr(b'\n', rest.as_bytes()) {
+        new.push_str(without_return(&rest[..end]))?;
+        new.push('\n')?;
         rest = &rest[end + 1..];
-        if !begins_with_feed(rest) {
-            new.push('\r')?;
-        }
     }
     new.push_str(rest)?;
     Ok(new)
 }
 
-/// Whether a text begins with a line feed.
-fn begins_with_feed(text: &str) -> bool
-    ensures { result ≡ begins_with line_feed text.now }
+/// What stays of a line before its line feed: the line without the carriage return at its end, or nothing if only spaces
+/// come before that.
+fn without_return(line: &str) -> &str
+    requires { list_any (λ c. c == line_feed) line.now ≡ false }
+    ensures { plain.with_line_feeds (line.now ++ line_feed ∷ []) ≡ result.now ++ line_feed ∷ [] }
 {
-    text.as_bytes().first() == Some(&b'\n')
+    match line.strip_suffix('\r') {
+        Some(text) if is_blank(text.as_bytes()) => "",
+        Some(text) => text,
+        None => line,
+    }
+}
+
+/// Whether a text has spaces alone.
+fn is_blank(text: &[u8]) -> bool
+    ensures { result ≡ list_all (λ c. c == space) text.now }
+{
+    text.iter().all(|byte| *byte == b' ')
 }
