@@ -113,7 +113,7 @@ fn tidy_read<F: Folder>(
     ensures kept { OnErr result (F.contents folder.new ≡ F.contents folder.old) }
 {
     match tidy_source(alloc, name, source)? {
-        FileEnd::Changed(text) if !check => replace(folder, alloc, name, text),
+        FileEnd::Changed(text) if !check => replace(folder, alloc, name, source, text),
         end => Ok(end),
     }
 }
@@ -165,13 +165,14 @@ fn replace<F: Folder>(
     folder: &mut F,
     alloc: Global,
     name: &str,
+    source: &str,
     text: String,
 ) -> Result<FileEnd, AllocError>
     requires source { HoldsUntidy F.Folder name.now folder.old text }
     ensures ended { IfOk result (EndsOnFolder F.Folder false name.now folder.old folder.new) }
     ensures kept { OnErr result (F.contents folder.new ≡ F.contents folder.old) }
 {
-    match folder.replace(alloc, name, text.as_bytes()) {
+    match folder.replace(alloc, name, source.as_bytes(), text.as_bytes()) {
         Ok(()) => Ok(FileEnd::Changed(text)),
         Err(ReplaceError::Memory) => Err(AllocError),
         Err(ReplaceError::Unwritable) => { Ok(FileEnd::Failed(Failure::Unwritable, folder.why())) }
