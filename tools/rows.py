@@ -40,7 +40,7 @@ WANTED = {
 FREE = {
     "what": lambda it: type(it) is str,
     "files": lambda it: type(it) is dict and all(is_name(key) and type(it[key]) in (str, type(None)) for key in it),
-    "after": lambda it: type(it) is dict and all(is_name(key) and type(it[key]) is str for key in it),
+    "after": lambda it: type(it) is dict and all(is_name(key) and type(it[key]) in (str, type(None)) for key in it),
     "links": lambda it: type(it) is dict and all(is_name(key) and type(it[key]) is str for key in it),
     "modes": lambda it: type(it) is dict and all(is_name(key) and re.fullmatch("[0-7]{3}", it[key]) for key in it),
     "stdin": lambda it: type(it) in (str, type(None)),
@@ -73,8 +73,9 @@ def bytes_of(row):
 
 
 def bytes_after(row, files):
-    """The bytes that the files must have after the run."""
-    return {**files, **{name: text.encode() for name, text in row.get("after", {}).items()}}
+    """The bytes that the files must have after the run, of those that must be there."""
+    after = {**files, **row.get("after", {})}
+    return {name: text.encode() if type(text) is str else text for name, text in after.items() if text is not None}
 
 
 def bytes_in(folder):

@@ -2,6 +2,7 @@
 
    REFUSED_CALL=N   refuses the Nth call; a write that is refused takes half of its bytes first
    REFUSED_KILL=1   ends the program at that call in place of refusing it
+   REFUSED_EDIT=F   before the first new file is stored, the line `edit = 1` is added to the file F, as an editor may do
    REFUSED_TOLD=F   the file that is made when the call comes, with its name */
 #define _GNU_SOURCE
 #include <dlfcn.h>
@@ -44,7 +45,21 @@ static int refused(const char *name) {
         return plain has;                            \
     }
 
-CALL(int, fsync, (int fd), (fd))
+static void edit(void) {
+    static int done;
+    const char *at = done++ ? NULL : getenv("REFUSED_EDIT");
+    int (*plain_open)(const char *, int, ...) = real("open");
+    ssize_t (*plain_write)(int, const void *, size_t) = real("write");
+    int fd = at ? plain_open(at, O_WRONLY | O_APPEND) : -1;
+    if (fd >= 0) plain_write(fd, "edit = 1\n", 9);
+}
+
+int fsync(int fd) {
+    edit();
+    int (*plain)(int) = real("fsync");
+    return refused("fsync") ? -1 : plain(fd);
+}
+
 CALL(int, fchmod, (int fd, mode_t mode), (fd, mode))
 CALL(int, chown, (const char *path, uid_t user, gid_t group), (path, user, group))
 CALL(int, rename, (const char *from, const char *to), (from, to))

@@ -27,7 +27,7 @@ pub fn explanation<'words, R: Files>(
     match (status, command) {
         (1, Command::Tidy(tidy)) => of_tidying(&mut folder, alloc, tidy),
         (
-            3,
+            3 | 4,
             Command::Lint(
                 Lint {
                     references,
@@ -36,7 +36,7 @@ pub fn explanation<'words, R: Files>(
                 },
             ),
         ) => of_listed(&mut folder, alloc, &references, &files),
-        (3, Command::TidyFiles(TidyFiles { paths, .. })) => {
+        (3 | 4, Command::TidyFiles(TidyFiles { paths, .. })) => {
             of_listed(&mut folder, alloc, &[], &paths)
         }
         (3, command) => {

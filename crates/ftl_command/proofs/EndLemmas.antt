@@ -25,7 +25,7 @@ use Rattle.ftl_command.specs.declared.fault.Fault.{Fault}
 use Rattle.ftl_command.specs.declared.fault.Fault.TheVariants.{CarriageReturn, NotNormal, NotTree, NotJson, NoMessage, CommandLine, UnknownLocale, FileUnreadable, FileNotUtf8, Input, Output, Memory}
 use Rattle.ftl_command.specs.declared.plurals.RunPlurals.TheVariants.{Language}
 use Rattle.fluent_plurals.specs.Plurals.{plurals_for}
-use Rattle.ftl_command.specs.Plurals.{language_asked, plurals_asked}
+use Rattle.ftl_command.specs.Plurals.{plurals_asked}
 
 -- a device that is as it was is untouched
 pub untouched : {D : Type 0} (bytes : D → Option Text) (failures : D → ℕ) {before after : D} → after ≡ before → IsUntouched (seen bytes failures before after)
@@ -47,8 +47,8 @@ refused_run None tag named unknown = tt
 refused_run (Some (run r)) tag named unknown = ap plurals_asked named ∙ ap (option_map Language) unknown
 refused_run (Some (format f)) tag named unknown = ap plurals_asked named ∙ ap (option_map Language) unknown
 refused_run (Some (check files)) tag named unknown = absurd cc
-refused_run (Some (lint l)) tag named unknown = ap language_asked named ∙ ap (option_map Some) unknown
-refused_run (Some (tidy_files t)) tag named unknown = absurd cc
+refused_run (Some (lint l)) tag named unknown = tt
+refused_run (Some (tidy_files t)) tag named unknown = tt
 refused_run (Some (tidy_input checked)) tag named unknown = absurd cc
 refused_run (Some (tidy t)) tag named unknown = absurd cc
 
@@ -68,7 +68,7 @@ refused_by asked Output bad says is = absurd cc
 refused_by asked Memory bad says is = absurd cc
 
 -- with a fault of the words nothing is asked for
-nothing_asked : (words : List Text) (kind : ErrorKind) → faults_of words ≡ kind ∷ [] → command_of words ≡ None
+pub nothing_asked : (words : List Text) (kind : ErrorKind) → faults_of words ≡ kind ∷ [] → command_of words ≡ None
 nothing_asked words kind alone = ap (λ kinds. without_faults kinds (asked_of (subcommand_of program_app words))) alone
 
 -- so no locale is named

@@ -11,7 +11,7 @@ use Rattle.ftl_command.specs.Files.{Reaches}
 use Rattle.ftl_command.specs.Faults.{FailsAsTold, IsFaultOfFiles, ReachesFile, SaysNoUtf8, end_status, status_of}
 use Rattle.ftl_files.specs.declared.folder.Folder.{Ghosts as FolderGhosts}
 use Rattle.ftl_command.specs.declared.ended.Ended.{Ended}
-use Rattle.ftl_command.specs.declared.ended.Ended.TheVariants.{Done, Found, Incomplete, Partial}
+use Rattle.ftl_command.specs.declared.ended.Ended.TheVariants.{Done, Found, Incomplete, NoFile, Partial, OutOfMemory}
 use Rattle.ftl_command.specs.declared.fault.Fault.{Fault}
 use Rattle.ftl_command.specs.declared.fault.Fault.TheVariants.{CarriageReturn, NotNormal, NotTree, NotJson, NoMessage, CommandLine, UnknownLocale, FileUnreadable, FileNotUtf8, Input, Output, Memory}
 
@@ -80,4 +80,6 @@ pub end_status-among : (end : Ended) → Contains (0 ∷ 1 ∷ 2 ∷ 3 ∷ 4 ∷
 end_status-among Done = Contains-get_or (0 ∷ 1 ∷ 2 ∷ 3 ∷ 4 ∷ []) 0 0 (lit< tt)
 end_status-among Found = Contains-get_or (0 ∷ 1 ∷ 2 ∷ 3 ∷ 4 ∷ []) 1 0 (lit< tt)
 end_status-among (Incomplete errors) = Contains-get_or (0 ∷ 1 ∷ 2 ∷ 3 ∷ 4 ∷ []) 1 0 (lit< tt)
+end_status-among (NoFile errors) = Contains-get_or (0 ∷ 1 ∷ 2 ∷ 3 ∷ 4 ∷ []) 2 0 (lit< tt)
 end_status-among (Partial errors) = Contains-get_or (0 ∷ 1 ∷ 2 ∷ 3 ∷ 4 ∷ []) 3 0 (lit< tt)
+end_status-among (OutOfMemory errors) = Contains-get_or (0 ∷ 1 ∷ 2 ∷ 3 ∷ 4 ∷ []) 4 0 (lit< tt)

@@ -1,4 +1,5 @@
 pub mod EndLemmas
+pub mod EndStatuses
 pub mod FaultLemmas
 pub mod FormatLemmas
 pub mod InPlaceLemmas

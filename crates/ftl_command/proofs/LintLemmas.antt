@@ -1,5 +1,5 @@
 -- What holds of the report on a catalog.
-use Rattle.std.proofs.Common.{◌≡◌, ◌++◌, Option, Some, subst}
+use Rattle.std.proofs.Common.{◌≡◌, Option, Some, subst}
 use Rattle.std.specs.Io.KnownBytes.{Appends}
 use Rattle.fluent_plurals.specs.declared.plurals.LanguagePlurals.{LanguagePlurals}
 use Rattle.fluent_serve.specs.Text.{Text}
@@ -8,7 +8,7 @@ use Rattle.ftl_arguments.specs.CommandView.{lint_view}
 use Rattle.ftl_arguments.specs.Linting.{Lint}
 use Rattle.ftl_arguments.specs.declared.commands.Lint as code
 use Rattle.ftl_files.specs.Files.{State}
-use Rattle.ftl_command.specs.Linted.{EndsLint, IsLintReport, Lints, LintsBy, OnLintReport}
+use Rattle.ftl_command.specs.Linted.{EndsLint, IsLintReport, Lints, LintsBy, OnLintReport, Unread, lint_unread}
 use Rattle.ftl_command.specs.Plurals.{language_asked}
 use Rattle.ftl_command.specs.Program.{WritesFront}
 use Rattle.ftl_command.specs.declared.ended.Ended.{Ended}
@@ -18,7 +18,7 @@ use Rattle.ftl_command.proofs.RunLemmas.{by_plurals}
 
 module _ (l : Lint) (before after : State) where
   -- what follows for each report follows for this one
-  on_lint_report : {P Q : LintReport → Text → Type 0} → ((report : LintReport) (errors : Text) → P report errors → Q report errors) →
+  on_lint_report : {P Q : LintReport → Unread → Type 0} → ((report : LintReport) (unread : Unread) → P report unread → Q report unread) →
       OnLintReport l before after P → OnLintReport l before after Q
   on_lint_report each on =
       if_some (language_asked l.locale) (λ plurals read. record {
@@ -27,24 +27,24 @@ module _ (l : Lint) (before after : State) where
         middle = read.middle;
         of_reference = read.of_reference;
         of_catalog = read.of_catalog;
-        outcome = each (lint_report l plurals read.references.files read.files.files) (read.references.errors ++ read.files.errors) read.outcome;
+        outcome = each (lint_report l plurals read.references.files read.files.files) (lint_unread read.references read.files) read.outcome;
       }) on
 
-  module _ (made : LintReport) (errors : Text) (held held_after : Option Text) (text : Text) (is : IsLintReport l before after made errors) (same : text ≡ made.text) where
+  module _ (made : LintReport) (unread : Unread) (held held_after : Option Text) (text : Text) (is : IsLintReport l before after made unread) (same : text ≡ made.text) where
     -- it is written, and the end is its own
-    pub linted_so : (end : Ended) → Appends held held_after text → EndsLint errors made.has_failed end →
-        OnLintReport l before after (λ report lines. Appends held held_after report.text × EndsLint lines report.has_failed end)
+    pub linted_so : (end : Ended) → Appends held held_after text → EndsLint unread made.has_failed end →
+        OnLintReport l before after (λ report rest. Appends held held_after report.text × EndsLint rest report.has_failed end)
     linted_so end written ends =
-        on_lint_report {P = λ report lines. (made ≡ report) × (errors ≡ lines)} {Q = λ report lines. Appends held held_after report.text × EndsLint lines report.has_failed end}
-        (λ report lines equal.
-        subst (λ (r : LintReport). Appends held held_after r.text × EndsLint lines r.has_failed end) equal.0
-        (subst (Appends held held_after) same written, subst (λ (e : Text). EndsLint e made.has_failed end) equal.1 ends)) is
+        on_lint_report {P = λ report rest. (made ≡ report) × (unread ≡ rest)} {Q = λ report rest. Appends held held_after report.text × EndsLint rest report.has_failed end}
+        (λ report rest equal.
+        subst (λ (r : LintReport). Appends held held_after r.text × EndsLint rest r.has_failed end) equal.0
+        (subst (Appends held held_after) same written, subst (λ (u : Unread). EndsLint u made.has_failed end) equal.1 ends)) is
 
     -- a front of it is written
-    pub lint_cut : WritesFront held held_after text → OnLintReport l before after (λ report lines. WritesFront held held_after report.text)
+    pub lint_cut : WritesFront held held_after text → OnLintReport l before after (λ report rest. WritesFront held held_after report.text)
     lint_cut front =
-        on_lint_report {P = λ report lines. (made ≡ report) × (errors ≡ lines)} {Q = λ report lines. WritesFront held held_after report.text}
-        (λ report lines equal. subst (λ (r : LintReport). WritesFront held held_after r.text) equal.0 (subst (WritesFront held held_after) same front)) is
+        on_lint_report {P = λ report rest. (made ≡ report) × (unread ≡ rest)} {Q = λ report rest. WritesFront held held_after report.text}
+        (λ report rest equal. subst (λ (r : LintReport). WritesFront held held_after r.text) equal.0 (subst (WritesFront held held_after) same front)) is
 
 -- the plural rules are those of the locale that is asked for
 pub lints_by : (l : code.Lint) (plurals : Option LanguagePlurals) (before after : State) (made : Linted) → language_asked (lint_view l).locale ≡ Some plurals →
@@ -56,5 +56,5 @@ lints_by l plurals before after made known by =
       middle = by.middle;
       of_reference = by.of_reference;
       of_catalog = by.of_catalog;
-      outcome = (by.outcome.report, by.outcome.errors);
+      outcome = (by.outcome.report, by.outcome.unread);
     })

@@ -8,7 +8,7 @@ use Rattle.fluent_serve.specs.declared.stream.Sink.{Ghosts as SinkGhosts}
 use Rattle.fluent_serve.specs.declared.stream.Source.{Ghosts as SourceGhosts}
 use Rattle.ftl_arguments.specs.Meaning.{AskForText, AskForHelpAlone, AskForVersionAlone, command_of}
 use Rattle.ftl_command.specs.declared.ended.Ended.{Ended}
-use Rattle.ftl_command.specs.declared.ended.Ended.TheVariants.{Done, Found, Incomplete, Partial}
+use Rattle.ftl_command.specs.declared.ended.Ended.TheVariants.{Done, Found, Incomplete, NoFile, Partial, OutOfMemory}
 use Rattle.ftl_command.specs.declared.fault.Fault.{Fault}
 use Rattle.ftl_command.specs.declared.fault.Fault.TheVariants.{CommandLine, Input, Output, Memory}
 use Rattle.ftl_files.specs.Files.{State}
@@ -53,7 +53,9 @@ abbrev pub ReportsErrors : Seen → Ended → Type 0
 ReportsErrors s Done = IsUntouched s
 ReportsErrors s Found = IsUntouched s
 ReportsErrors s (Incomplete errors) = WritesOrFails s (string_bytes errors)
+ReportsErrors s (NoFile errors) = WritesOrFails s (string_bytes errors)
 ReportsErrors s (Partial errors) = WritesOrFails s (string_bytes errors)
+ReportsErrors s (OutOfMemory errors) = WritesOrFails s (string_bytes errors)
 
 -- a fault is reported on one line, and nothing else is
 abbrev pub Reports : Seen → Result Ended Fault → Type 0

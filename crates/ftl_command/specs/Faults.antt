@@ -19,15 +19,17 @@ use Rattle.fluent_tidy.specs.declared.error.ImportError.TheVariants as import
 use Rattle.fluent_serve.specs.declared.serve.RunError.{RunError}
 use Rattle.fluent_serve.specs.declared.serve.RunError.TheVariants.{Memory as RunMemory, Read as RunRead, Write as RunWrite}
 use Rattle.ftl_command.specs.declared.ended.Ended.{Ended}
-use Rattle.ftl_command.specs.declared.ended.Ended.TheVariants.{Done, Found, Incomplete, Partial}
+use Rattle.ftl_command.specs.declared.ended.Ended.TheVariants.{Done, Found, Incomplete, NoFile, Partial, OutOfMemory}
 
--- Without a fault the status is 0, or 1 if something was found in the sources or went wrong in a text. It is 3 if one of the files to be
--- tidied in place could not be read or written.
+-- Without a fault the status is 0, or 1 if something was found in the sources or went wrong in a text. Of files that are linted or tidied it
+-- is 2 if a path stands for no file, 3 if one could not be read or written, and 4 if memory ran out for one, or it nests too deep.
 abbrev pub end_status : Ended → ℕ
 end_status Done = 0
 end_status Found = 1
 end_status (Incomplete errors) = 1
+end_status (NoFile errors) = 2
 end_status (Partial errors) = 3
+end_status (OutOfMemory errors) = 4
 
 -- what can't be tidied is 1, bad words and an unknown locale are 2, what cannot be read or written is 3, and where memory runs out it is 4
 abbrev pub status_of : Fault → ℕ

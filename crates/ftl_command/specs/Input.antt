@@ -2,7 +2,7 @@
 use Rattle.std.specs.Prelude.{◌≡◌, ◌⊎◌, Bool, true, false, [], Option, None, IsUtf8, codes}
 use Rattle.std.specs.Io.KnownBytes.{Consumes, IsAtEnd}
 use Rattle.fluent_serve.specs.Text.{Text}
-use Rattle.ftl_files.specs.Tidying.{FileEnd, IsSourceEnd, Said, changed, failed, kept, not_utf8, nothing_said, refused, said_after}
+use Rattle.ftl_files.specs.Tidying.{FileEnd, IsSourceEnd, Said, changed, failed, kept, not_utf8, nothing_said, out_of_memory, refused, said_after}
 
 -- the name that findings in standard input have
 abbrev pub input_name : Text
@@ -23,6 +23,7 @@ written_of false bytes kept = bytes
 written_of false bytes (changed text) = text
 written_of false bytes (failed f why) = []
 written_of false bytes (refused report) = []
+written_of false bytes (out_of_memory report) = []
 
 -- the outcome holds of what is written of bytes and of what is said of them
 pub record OnBytes (check : Bool) (bytes : Text) (Outcome : Text → Said → Type 0) : Type 0 where

@@ -1,5 +1,5 @@
 -- What becomes of a catalog that is linted.
-use Rattle.std.specs.Prelude.{◌≡◌, ℕ, Bool, if◌then◌else◌, [], ◌∷◌, ◌++◌, Option, IsSomeAnd, Result, IfOk, IsErrOf, string_bytes}
+use Rattle.std.specs.Prelude.{◌≡◌, Bool, ◌++◌, Option, IsSomeAnd, Result, IfOk, IsErrOf, string_bytes}
 use Rattle.std.specs.Io.KnownBytes.{Appends}
 use Rattle.fluent_serve.specs.Text.{Text}
 use Rattle.fluent_plurals.specs.declared.plurals.LanguagePlurals.{LanguagePlurals}
@@ -11,9 +11,11 @@ use Rattle.ftl_arguments.specs.Linting.{Lint}
 use Rattle.ftl_arguments.specs.declared.commands.Lint as code
 use Rattle.ftl_files.specs.Files.{State}
 use Rattle.ftl_files.specs.Reading.{AreRead, Read}
-use Rattle.ftl_command.specs.Faults.{end_status}
+use Rattle.ftl_files.specs.Reported.{both}
+use Rattle.ftl_files.specs.declared.reported.Reported.{Reported}
 use Rattle.ftl_command.specs.Plurals.{language_asked}
-use Rattle.ftl_command.specs.Program.{WritesFront, errors_in}
+use Rattle.ftl_command.specs.Program.{WritesFront}
+use Rattle.ftl_command.specs.Reported.{EndsOf}
 use Rattle.ftl_command.specs.declared.ended.Ended.{Ended}
 use Rattle.ftl_command.specs.declared.fault.Fault.{Fault}
 use Rattle.ftl_command.specs.declared.fault.Fault.TheVariants.{Output}
@@ -28,36 +30,38 @@ pub record OnCatalogs (l : Lint) (before after : State) (Outcome : Read → Read
   pub of_catalog : AreRead l.files middle after files
   pub outcome : Outcome references files
 
--- the lines of the files that could not be read
+-- the lines of the files that could not be read, and of the paths that stand for none
 abbrev pub lint_errors : Read → Read → Text
 lint_errors references files = references.errors ++ files.errors
 
+-- the same, and which errors they report
+pub record Unread : Type 0 where
+  pub errors : Text
+  pub reported : Reported
+
+abbrev pub lint_unread : Read → Read → Unread
+lint_unread references files = record { errors = lint_errors references files; reported = both references.reported files.reported }
+
 -- The locale that is asked for has plural rules, or none is, and the outcome holds of the report on the files that could be read, and of
--- the lines of those that could not.
-abbrev pub OnLintReport : Lint → State → State → (LintReport → Text → Type 0) → Type 0
+-- the lines of the rest.
+abbrev pub OnLintReport : Lint → State → State → (LintReport → Unread → Type 0) → Type 0
 OnLintReport l before after Outcome =
     IsSomeAnd (language_asked l.locale) (λ plurals. OnCatalogs l before after (λ references files.
-    Outcome (lint_report l plurals references.files files.files) (lint_errors references files)))
+    Outcome (lint_report l plurals references.files files.files) (lint_unread references files)))
 
 -- these are that report and these lines
-abbrev pub IsLintReport : Lint → State → State → LintReport → Text → Type 0
-IsLintReport l before after made errors = OnLintReport l before after (λ report lines. (made ≡ report) × (errors ≡ lines))
+abbrev pub IsLintReport : Lint → State → State → LintReport → Unread → Type 0
+IsLintReport l before after made unread = OnLintReport l before after (λ report rest. (made ≡ report) × (unread ≡ rest))
 
--- 3 if a file could not be read, or else 1 if the catalog fails
-abbrev pub lint_status : Text → Bool → ℕ
-lint_status [] failed = if failed then 1 else 0
-lint_status (b ∷ bs) failed = 3
-
--- an end has that status, and reports which files could not be read
-pub record EndsLint (errors : Text) (failed : Bool) (end : Ended) : Type 0 where
-  pub status : end_status end ≡ lint_status errors failed
-  pub reports : errors_in end ≡ errors
+-- an end has the status of a report and of the rest, and reports which files could not be read
+abbrev pub EndsLint : Unread → Bool → Ended → Type 0
+EndsLint unread failed end = EndsOf unread.reported failed unread.errors end
 
 -- What became of linting, by how it ended.
 pub record LintEnds (l : Lint) (before after : State) (held held_after : Option Text) (result : Result Ended Fault) : Type 0 where
-  pub linted : IfOk result (λ end. OnLintReport l before after (λ report errors. Appends held held_after report.text × EndsLint errors report.has_failed end))
+  pub linted : IfOk result (λ end. OnLintReport l before after (λ report unread. Appends held held_after report.text × EndsLint unread report.has_failed end))
   -- a front of the report is written
-  pub output : IsErrOf result Output → OnLintReport l before after (λ report errors. WritesFront held held_after report.text)
+  pub output : IsErrOf result Output → OnLintReport l before after (λ report unread. WritesFront held held_after report.text)
 
 -- ---- the code's values
 
@@ -65,18 +69,22 @@ pub record LintEnds (l : Lint) (before after : State) (held held_after : Option 
 abbrev pub IsReportBy : code.Lint → Option LanguagePlurals → Read → Read → Report → Type 0
 IsReportBy l plurals references files made = report_view made ≡ lint_report (lint_view l) plurals references.files files.files
 
--- the same with the lines of what could not be read
+-- the lines of what could not be read, and which errors they report
+abbrev pub unread_view : Linted → Unread
+unread_view made = record { errors = string_bytes made.errors; reported = made.reported }
+
+-- this is that report, and these are its lines
 pub record IsReportOf (l : code.Lint) (plurals : Option LanguagePlurals) (references files : Read) (made : Linted) : Type 0 where
   pub report : IsReportBy l plurals references files made.report
-  pub errors : string_bytes made.errors ≡ lint_errors references files
+  pub unread : unread_view made ≡ lint_unread references files
 
 -- so it is of what was read of a folder, by what is known of it
 abbrev pub LintsBy : code.Lint → Option LanguagePlurals → State → State → Linted → Type 0
 LintsBy l plurals before after made = OnCatalogs (lint_view l) before after (λ references files. IsReportOf l plurals references files made)
 
 abbrev pub Lints : code.Lint → State → State → Linted → Type 0
-Lints l before after made = IsLintReport (lint_view l) before after (report_view made.report) (string_bytes made.errors)
+Lints l before after made = IsLintReport (lint_view l) before after (report_view made.report) (unread_view made)
 
 -- the end is that of this report
 abbrev pub EndsLinted : Linted → Ended → Type 0
-EndsLinted made end = EndsLint (string_bytes made.errors) made.report.has_failed end
+EndsLinted made end = EndsLint (unread_view made) made.report.has_failed end

@@ -395,13 +395,14 @@ locale_named (Some (tidy_files t)) = None
 locale_named (Some (tidy_input checked)) = None
 locale_named (Some (tidy t)) = None
 
--- nothing is asked for, or a run, a message or a catalog by a locale without plural rules
+-- Nothing is asked for, or a run or a message by a locale without plural rules. When the status of files that are linted or tidied in place
+-- is 2, `InPlace.FilesEnd` says, and of a locale without plural rules `SaysUnknown` does.
 abbrev pub IsRefused : Option Asked → Type 0
 IsRefused None = ⊤
 IsRefused (Some (run r)) = plurals_asked r.locale ≡ None
 IsRefused (Some (format f)) = plurals_asked f.locale ≡ None
 IsRefused (Some (check files)) = ⊥
-IsRefused (Some (lint l)) = language_asked l.locale ≡ None
-IsRefused (Some (tidy_files t)) = ⊥
+IsRefused (Some (lint l)) = ⊤
+IsRefused (Some (tidy_files t)) = ⊤
 IsRefused (Some (tidy_input checked)) = ⊥
 IsRefused (Some (tidy t)) = ⊥

@@ -26,7 +26,8 @@ use std::io;
 use std::rt::Files;
 
 /// Runs the program on its command-line arguments, and returns the status that it ends with: 0, or 1 if a check found
-/// something, or that of the first failure, which is reported on one line of `faults`.
+/// something, or that of the first failure, which is reported on one line of `faults`. `lint` and `tidy` report all
+/// failures of files, and the highest status counts.
 pub fn program<R: Files, I: io::Read + Drop, O: io::Write + Drop, F: io::Write + Drop>(
     rt: &R,
     alloc: Global,

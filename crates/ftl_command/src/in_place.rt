@@ -40,16 +40,10 @@ pub(crate) fn end_of(tidied: TidiedFiles) -> Ended
     ensures { EndsBy (said_view tidied) result }
 {
     let TidiedFiles {
-        reports: errors,
-        has_failed,
+        reports,
+        reported,
         has_found,
         ..
     } = tidied;
-    if has_failed {
-        Ended::Partial { errors }
-    } else if has_found {
-        Ended::Incomplete { errors }
-    } else {
-        Ended::Done
-    }
+    Ended::of_files(reported, has_found, reports)
 }

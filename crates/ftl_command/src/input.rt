@@ -155,6 +155,6 @@ fn text_of<'a>(check: bool, source: &'a str, end: &'a FileEnd, names: &'a str) -
         _ if check => names,
         FileEnd::Kept => source,
         FileEnd::Changed(text) => text.as_str(),
-        FileEnd::Failed(..) | FileEnd::Refused(_) => "",
+        FileEnd::Failed(..) | FileEnd::Refused(_) | FileEnd::OutOfMemory(_) => "",
     }
 }

@@ -15,11 +15,11 @@ use fluent_lint::{Report, lint_sources};
 use fluent_plurals::LanguagePlurals;
 use fluent_serve::stream::Sink;
 use ftl_arguments::Lint;
-use ftl_files::{Folder, ReadSources, read_sources};
+use ftl_files::{Folder, ReadSources, Reported, read_sources};
 use std::alloc::{AllocError, Global};
 
 /// Writes what is found in the catalog in files, and those below folders. A file that can't be read is reported in the
-/// end, and the report is on the others.
+/// end, as a path that stands for no file is, and the report is on the others.
 ///
 /// # Errors
 /// The first fault: an unknown locale is found before any file is read. After [`Fault::Output`] a front of the report was
@@ -42,27 +42,25 @@ pub fn lint_files<'words, F: Folder, O: Sink>(
     Ok(end_of(linted))
 }
 
-/// A report, and the lines of the files that could not be read.
+/// A report, and the lines of the files that could not be read, and of paths that stand for none.
 #[derive(Drop)]
 pub(crate) struct Linted {
     report: Report,
     errors: String,
+    /// Which errors the lines report.
+    reported: Reported,
 }
 
 /// The end of a catalog that was linted.
 fn end_of(linted: Linted) -> Ended
     ensures { EndsLinted linted result }
 {
-    let Linted { report, errors } = linted;
-    if errors.is_empty() {
-        if report.has_failed {
-            Ended::Found
-        } else {
-            Ended::Done
-        }
-    } else {
-        Ended::Partial { errors }
-    }
+    let Linted {
+        report,
+        errors,
+        reported,
+    } = linted;
+    Ended::of_files(reported, report.has_failed, errors)
 }
 
 /// The report on the catalog in files.
@@ -105,7 +103,11 @@ fn report_of(
 {
     let report = report_of_files(alloc, lint, plurals, references, files)?;
     let errors = joined_errors(alloc, references, files)?;
-    Ok(Linted { report, errors })
+    Ok(Linted {
+        report,
+        errors,
+        reported: references.reported.or(files.reported),
+    })
 }
 
 /// The report on the files that were read.

@@ -38,7 +38,11 @@ pub fn tell_errors_on<S: Sink>(faults: &mut S, end: &Ended) -> u8
     ensures status { result ≡ end_status end.now }
     ensures told { ReportsErrors (seen S.contents S.failures faults.old faults.new) end.now }
 {
-    if let Ended::Incomplete { errors } | Ended::Partial { errors } = end {
+    if let Ended::Incomplete { errors }
+    | Ended::NoFile { errors }
+    | Ended::Partial { errors }
+    | Ended::OutOfMemory { errors } = end
+    {
         let _ = write_to_stream(faults, errors.as_str());
     }
     end.status()

@@ -1,3 +1,4 @@
 pub mod ReportLemmas
+pub mod ListedLemmas
 pub mod TidyLemmas
 pub mod ReadLemmas

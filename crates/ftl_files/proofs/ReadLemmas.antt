@@ -1,20 +1,19 @@
 -- Files that are read, one after the other.
-use Rattle.std.proofs.Common.{◌≡◌, ℕ, ◌+◌, ◌<◌, List, [], ◌∷◌, ◌++◌, ◌⊎◌, inl, inr, Option, IfSome, String, length, take, map, get_or, string_bytes, subst}
+use Rattle.std.proofs.Common.{◌≡◌, ℕ, ◌+◌, ◌<◌, List, [], ◌∷◌, inl, inr, Bor, Option, IfSome, length, take, get_or}
 use Rattle.std.proofs.lemmas.List.{take_more, map-append}
-use Rattle.std.specs.Global.{Global}
 use Rattle.fluent_serve.specs.Text.{Text}
+use Rattle.fluent_serve.specs.Texts.{texts}
 use Rattle.ftl_files.specs.Files.{State}
 use Rattle.ftl_files.specs.Reading.{IsAddedRead, Read, ReadFailsSo, ReadsOne, ReadsThrough, failed, held, one_read, read_after, refused}
 use Rattle.ftl_files.specs.Tidying.{Failure, IsLeft}
 
 -- one file more is read
-pub read_next : (start here there : State) (names : List (String Global)) (i : ℕ) (item : String Global) (old new : Read) → i < length names →
-    item ≡ get_or names i item → ReadsThrough start (map string_bytes (take i names)) old here → ReadsOne (string_bytes item) old new here there →
-    ReadsThrough start (map string_bytes (take (i + 1) names)) new there
-read_next start here there names i item old new inside at before one =
-    rw (one.is, take_more names i item inside, map-append string_bytes (take i names) (get_or names i item ∷ []))
-    (subst (λ n. ReadsThrough start (map string_bytes (take i names) ++ string_bytes n ∷ []) (read_after old (string_bytes item) one.end) there) at
-    (one_read (string_bytes item) one.end there before one.so))
+pub read_next : (start here there : State) (names : List (Bor Text)) (i : ℕ) (d : Bor Text) (old new : Read) → i < length names →
+    ReadsThrough start (texts (take i names)) old here → ReadsOne (get_or names i d).now old new here there →
+    ReadsThrough start (texts (take (i + 1) names)) new there
+read_next start here there names i d old new inside before one =
+    rw (one.is, take_more names i d inside, map-append (λ (n : Bor Text). n.now) (take i names) (get_or names i d ∷ []))
+    (one_read (get_or names i d).now one.end there before one.so)
 
 -- a file was read, and its source is held or refused
 pub source_read : (name : Text) (old new : Read) (source : Text) (before after : State) → IsLeft before after → IfSome (before.contents name) (λ known. source ≡ known) →

@@ -1,4 +1,4 @@
--- A report on the findings of one file.
+-- Reports on one file.
 use Rattle.std.proofs.Common.{◌≡◌, ◌∙◌, List, [], ◌∷◌, ◌++◌, true, map, filter, ap, refl, append-nil}
 use Rattle.lint_findings.specs.Findings.{FileFinding, findings_in}
 use Rattle.lint_findings.specs.Finding.{Severity, error, warning, note}
@@ -10,6 +10,11 @@ use Rattle.lint_finding.specs.declared.records.Finding.{Finding}
 use Rattle.lint_report.specs.Formats.{report_output}
 use Rattle.lint_report.specs.View.{shown_width}
 use Rattle.lint_report.specs.declared.reports.Format.TheVariants as format
+use Rattle.fluent_serve.specs.Text.{Text}
+use Rattle.fluent_tidy.specs.TidyText.{plain}
+use Rattle.fluent_tidy.specs.declared.tidy_error.TidyError.{TidyError}
+use Rattle.fluent_tidy.specs.declared.tidy_error.TidyError.TheVariants.{Memory, CarriageReturn, Damaged, NotTidy}
+use Rattle.ftl_files.specs.Tidying.{IsReason, IsReport, IsSourceEnd, end_for}
 
 all_shown : (s : Severity) → is_shown true s ≡ true
 all_shown error = refl
@@ -27,3 +32,12 @@ one_file file findings =
     let all = findings_in (file_view file) (map finding_view findings.items) in
     append-nil (report_text shown_width (shown true (all ++ [])))
     ∙ (ap (λ fs. report_text shown_width (shown true fs)) (append-nil all) ∙ ap (report_text shown_width) (shown_whole all))
+
+-- what becomes of a source that is refused for a reason
+pub source_ends : (name source : Text) (reason : TidyError) (report : Text) → IsReason source reason → IsReport name (plain source) reason report →
+    IsSourceEnd name source (end_for reason report)
+source_ends name source Memory report right reported = reported
+source_ends name source CarriageReturn report right reported =
+    record { reason = CarriageReturn; refuses = λ is. absurd cc; right = right; reported = reported }
+source_ends name source Damaged report right reported = record { reason = Damaged; refuses = λ is. absurd cc; right = right; reported = reported }
+source_ends name source NotTidy report right reported = record { reason = NotTidy; refuses = λ is. absurd cc; right = right; reported = reported }

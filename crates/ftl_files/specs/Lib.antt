@@ -3,6 +3,8 @@ pub mod Listing
 pub mod States
 pub mod ErrorTexts
 pub mod Depth
+pub mod Reported
+pub mod Listed
 pub mod Tidying
 pub mod Reading
 pub mod TidyView

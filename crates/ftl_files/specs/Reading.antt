@@ -4,7 +4,10 @@ use Rattle.fluent_serve.specs.Text.{Text}
 use Rattle.lint_findings.specs.Files.{File}
 use Rattle.ftl_files.specs.Depth.{IsDepthReport}
 use Rattle.ftl_files.specs.Files.{State}
-use Rattle.ftl_files.specs.Tidying.{AreListed, Failure, FailsSo, IsLeft, failure_line, failure_words, unreadable, not_utf8, unwritable}
+use Rattle.ftl_files.specs.Listed.{AreListed, Listed, each_once}
+use Rattle.ftl_files.specs.Reported.{none_reported, with_failure, with_out_of_memory}
+use Rattle.ftl_files.specs.declared.reported.Reported.{Reported}
+use Rattle.ftl_files.specs.Tidying.{Failure, FailsSo, IsLeft, failure_line, failure_words, unreadable, not_utf8, unwritable}
 
 -- ---- one file
 
@@ -43,15 +46,21 @@ ReadsSo name (failed f why) before after = ReadFailsSo name f before after
 pub record Read : Type 0 where
   pub files : List File
   pub errors : Text
+  -- which errors the lines report
+  pub reported : Reported
 
 abbrev pub nothing_read : Read
-nothing_read = record { files = []; errors = [] }
+nothing_read = record { files = []; errors = []; reported = none_reported }
 
 -- and after one more file
 abbrev pub read_after : Read → Text → ReadEnd → Read
 read_after r name (held source) = record r { files = r.files ++ record { name = name; source = source } ∷ [] }
-read_after r name (refused source report) = record r { errors = r.errors ++ report }
-read_after r name (failed f why) = record r { errors = r.errors ++ failure_line name (failure_words f) why }
+read_after r name (refused source report) = record r { errors = r.errors ++ report; reported = with_out_of_memory r.reported }
+read_after r name (failed f why) = record r { errors = r.errors ++ failure_line name (failure_words f) why; reported = with_failure r.reported }
+
+-- and with the lines of the paths that stand for no file
+abbrev pub read_of_listed : Read → Listed → Read
+read_of_listed r l = record r { errors = r.errors ++ l.errors; reported = record r.reported { no_file = l.no_file } }
 
 -- From a state of the folder files are read, one after the other, to another state.
 pub data ReadsThrough (start : State) : List Text → Read → State → Type 0 where
@@ -59,12 +68,14 @@ pub data ReadsThrough (start : State) : List Text → Read → State → Type 0 
   one_read : {names : List Text} {read : Read} {here : State} (name : Text) (end : ReadEnd) (there : State) → ReadsThrough start names read here
       → ReadsSo name end here there → ReadsThrough start (names ++ name ∷ []) (read_after read name end) there
 
--- The files that the paths stand for are read.
+-- The files that the paths stand for are read, each once.
 pub record AreRead (paths : List Text) (before after : State) (read : Read) : Type 0 where
-  pub names : List Text
+  pub listed : Listed
   pub middle : State
-  pub listed : AreListed before paths names middle
-  pub through : ReadsThrough middle names read after
+  pub lists : AreListed before paths listed middle
+  pub done : Read
+  pub through : ReadsThrough middle (each_once listed) done after
+  pub is : read ≡ read_of_listed done listed
 
 -- one file more is read
 pub record ReadsOne (name : Text) (old new : Read) (before after : State) : Type 0 where

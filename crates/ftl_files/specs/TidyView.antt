@@ -1,6 +1,6 @@
 -- What the code's values stand for.
 use Rattle.std.specs.Prelude.{◌≡◌, Bool, List, Option, map, IfSome, Result, Ok, Err, String, option_copied, string_bytes}
-use Rattle.std.specs.Global.{Global, Vec}
+use Rattle.std.specs.Global.{Global}
 use denote.Ref.{Bor}
 use Rattle.fluent_serve.specs.Text.{Text}
 use Rattle.fluent_serve.specs.Texts.{texts}
@@ -17,7 +17,9 @@ use Rattle.ftl_files.specs.declared.reading.SourceFile.{SourceFile}
 use Rattle.ftl_files.specs.declared.ends.Failure.{Failure}
 use Rattle.ftl_files.specs.declared.ends.Failure.TheVariants.{Unreadable, NotUtf8, Unwritable}
 use Rattle.ftl_files.specs.declared.ends.FileEnd.{FileEnd}
-use Rattle.ftl_files.specs.declared.ends.FileEnd.TheVariants.{Kept, Changed, Failed, Refused}
+use Rattle.ftl_files.specs.declared.ends.FileEnd.TheVariants.{Kept, Changed, Failed, Refused, OutOfMemory}
+use Rattle.ftl_files.specs.Listed as listing
+use Rattle.ftl_files.specs.declared.listed.Listed.{Listed}
 use Rattle.ftl_files.specs.declared.tidied.TidiedFiles.{TidiedFiles}
 
 abbrev pub failure_view : Failure → tidying.Failure
@@ -30,9 +32,13 @@ end_view Kept = tidying.kept
 end_view (Changed text) = tidying.changed (string_bytes text)
 end_view (Failed failure why) = tidying.failed (failure_view failure) (option_copied why)
 end_view (Refused report) = tidying.refused (string_bytes report)
+end_view (OutOfMemory report) = tidying.out_of_memory (string_bytes report)
+
+abbrev pub listed_view : Listed → listing.Listed
+listed_view l = record { names = map string_bytes l.names.items; errors = string_bytes l.errors; no_file = l.no_file }
 
 abbrev pub said_view : TidiedFiles → tidying.Said
-said_view t = record { names = string_bytes t.names; reports = string_bytes t.reports; has_failed = t.has_failed; has_found = t.has_found }
+said_view t = record { names = string_bytes t.names; reports = string_bytes t.reports; reported = t.reported; has_found = t.has_found }
 
 -- the line of a failure
 abbrev pub failure_line_of : Text → Failure → Option (Bor Text) → Text
@@ -46,7 +52,7 @@ abbrev pub source_view : SourceFile → File
 source_view f = record { name = string_bytes f.name; source = string_bytes f.source }
 
 abbrev pub read_view : ReadSources → reading.Read
-read_view r = record { files = map source_view r.files.items; errors = string_bytes r.errors }
+read_view r = record { files = map source_view r.files.items; errors = string_bytes r.errors; reported = r.reported }
 
 abbrev pub after_source : reading.Read → Text → String Global → reading.Read
 after_source read name source = reading.read_after read name (reading.held (string_bytes source))
@@ -82,16 +88,16 @@ module _ {F : Type 0} (folders : FolderGhosts F) where
   EndsOnFolder check name before after end = tidying.EndsSo check name (end_view end) (state_of folders before) (state_of folders after)
 
   -- files are gone through
-  abbrev pub GoesThroughOn : Bool → List (String Global) → F → F → TidiedFiles → Type 0
+  abbrev pub GoesThroughOn : Bool → List (Bor Text) → F → F → TidiedFiles → Type 0
   GoesThroughOn check names before after tidied =
-      tidying.GoesThrough check (state_of folders before) (map string_bytes names) (said_view tidied) (state_of folders after)
+      tidying.GoesThrough check (state_of folders before) (texts names) (said_view tidied) (state_of folders after)
 
-  -- a path is listed so, and several are as these names
+  -- a path is listed so, and several are
   abbrev pub IsListedOn : Text → F → F → Listing → Type 0
-  IsListedOn path before after listing = tidying.IsListedAs path (listed_names listing) (state_of folders before) (state_of folders after)
+  IsListedOn path before after listed = listing.IsListedAs path (listed_names listed) (state_of folders before) (state_of folders after)
 
-  abbrev pub AreListedOn : List (Bor Text) → F → F → Vec (String Global) → Type 0
-  AreListedOn paths before after names = tidying.AreListed (state_of folders before) (texts paths) (map string_bytes names.items) (state_of folders after)
+  abbrev pub AreListedOn : List (Bor Text) → F → F → Listed → Type 0
+  AreListedOn paths before after listed = listing.AreListed (state_of folders before) (texts paths) (listed_view listed) (state_of folders after)
 
   -- the files that paths stand for are tidied, or the first of them
   abbrev pub AreTidiedOn : Bool → List (Bor Text) → F → F → TidiedFiles → Type 0
@@ -105,9 +111,9 @@ module _ {F : Type 0} (folders : FolderGhosts F) where
   abbrev pub AreReadOn : List (Bor Text) → F → F → ReadSources → Type 0
   AreReadOn paths before after read = reading.AreRead (texts paths) (state_of folders before) (state_of folders after) (read_view read)
 
-  abbrev pub ReadsThroughOn : List (String Global) → F → F → ReadSources → Type 0
+  abbrev pub ReadsThroughOn : List (Bor Text) → F → F → ReadSources → Type 0
   ReadsThroughOn names before after read =
-      reading.ReadsThrough (state_of folders before) (map string_bytes names) (read_view read) (state_of folders after)
+      reading.ReadsThrough (state_of folders before) (texts names) (read_view read) (state_of folders after)
 
   abbrev pub ReadsOneOn : Text → F → F → ReadSources → ReadSources → Type 0
   ReadsOneOn name before after old new = reading.ReadsOne name (read_view old) (read_view new) (state_of folders before) (state_of folders after)

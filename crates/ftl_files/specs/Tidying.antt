@@ -18,6 +18,9 @@ use Rattle.lint_findings.specs.Tiles.{tiles}
 use Rattle.lint_report.specs.View.{shown_width}
 use Rattle.ftl_files.specs.Depth.{IsDepthReport}
 use Rattle.ftl_files.specs.Files.{IsReplaced, OnFile, State}
+use Rattle.ftl_files.specs.Listed.{AreListed, Listed, each_once}
+use Rattle.ftl_files.specs.Reported.{none_reported, with_failure, with_out_of_memory}
+use Rattle.ftl_files.specs.declared.reported.Reported.{Reported}
 
 -- ---- what becomes of a file
 
@@ -36,6 +39,8 @@ pub data FileEnd : Type 0 where
   failed : Failure → Option Text → FileEnd
   -- it has no tidy text, and this is reported
   refused : Text → FileEnd
+  -- memory ran out for its source, or it nests too deep, and this is reported
+  out_of_memory : Text → FileEnd
 
 -- ---- the report on a source without a tidy text, as it is read: without a mark, and with LF
 
@@ -112,8 +117,16 @@ IsReason source NotTidy = HasNoTidyText source
 -- a source is refused for a reason, which is right and is reported
 pub record IsRefused (name source report : Text) : Type 0 where
   pub reason : TidyError
+  pub refuses : reason ≢ Memory
   pub right : IsReason source reason
   pub reported : IsReport name (plain source) reason report
+
+-- what becomes of a source that has no tidy text for this reason, with this report
+abbrev pub end_for : TidyError → Text → FileEnd
+end_for Memory report = out_of_memory report
+end_for CarriageReturn report = refused report
+end_for Damaged report = refused report
+end_for NotTidy report = refused report
 
 -- ---- one file
 
@@ -123,6 +136,7 @@ IsSourceEnd name source kept = IsTidyText source source
 IsSourceEnd name source (changed text) = IsTidyText source text × (text ≢ source)
 IsSourceEnd name source (failed f why) = ⊥
 IsSourceEnd name source (refused report) = IsRefused name source report
+IsSourceEnd name source (out_of_memory report) = IsReport name (plain source) Memory report
 
 -- with `check` nothing is written, and otherwise the text of this file, and no other
 abbrev pub Writes : Bool → (Text → Option Text) → (Text → Option Text) → Text → Text → Type 0
@@ -156,6 +170,8 @@ EndsSo check name kept before after = IsLeft before after × OnFile before.conte
 EndsSo check name (changed text) before after = ChangesTo check name text before after
 EndsSo check name (failed f why) before after = FailsSo name f before after
 EndsSo check name (refused report) before after = IsLeft before after × OnFile before.contents name (λ source. IsSourceEnd name source (refused report))
+EndsSo check name (out_of_memory report) before after =
+    IsLeft before after × OnFile before.contents name (λ source. IsSourceEnd name source (out_of_memory report))
 
 -- ---- files one after the other
 
@@ -165,13 +181,13 @@ pub record Said : Type 0 where
   pub names : Text
   -- the reports on those that could not be tidied
   pub reports : Text
-  -- a file could not be read or written
-  pub has_failed : Bool
+  -- which errors are, whatever the sources are
+  pub reported : Reported
   -- a source was refused, or a file that was checked isn't tidy
   pub has_found : Bool
 
 abbrev pub nothing_said : Said
-nothing_said = record { names = []; reports = []; has_failed = false; has_found = false }
+nothing_said = record { names = []; reports = []; reported = none_reported; has_found = false }
 
 abbrev pub failure_words : Failure → Text
 failure_words unreadable = codes "cannot read"
@@ -185,8 +201,13 @@ with_report s report = record s { reports = s.reports ++ report }
 abbrev pub said_after : Bool → Said → Text → FileEnd → Said
 said_after check s name kept = s
 said_after check s name (changed text) = record s { names = s.names ++ ended name; has_found = s.has_found || check }
-said_after check s name (failed f why) = record (with_report s (failure_line name (failure_words f) why)) { has_failed = true }
+said_after check s name (failed f why) = record (with_report s (failure_line name (failure_words f) why)) { reported = with_failure s.reported }
 said_after check s name (refused report) = record (with_report s report) { has_found = true }
+said_after check s name (out_of_memory report) = record (with_report s report) { reported = with_out_of_memory s.reported }
+
+-- and with the lines of the paths that stand for no file
+abbrev pub said_of_listed : Said → Listed → Said
+said_of_listed s l = record (with_report s l.errors) { reported = record s.reported { no_file = l.no_file } }
 
 -- From a state of the folder files are gone through, one after the other, to another state, and this is said.
 pub data GoesThrough (check : Bool) (start : State) : List Text → Said → State → Type 0 where
@@ -194,27 +215,16 @@ pub data GoesThrough (check : Bool) (start : State) : List Text → Said → Sta
   one_more : {names : List Text} {said : Said} {here : State} (name : Text) (end : FileEnd) (there : State) → GoesThrough check start names said here
       → EndsSo check name end here there → GoesThrough check start (names ++ name ∷ []) (said_after check said name end) there
 
--- ---- the files that paths stand for
-
--- What a path stands for, if that is known. One that can't be listed stands for itself.
-abbrev pub IsListedAs : Text → List Text → State → State → Type 0
-IsListedAs path names before after =
-    IfSome (before.sources path) (λ known. names ≡ known) ⊎ ((names ≡ path ∷ []) × HasFailed before.failures after.failures)
-
--- paths are listed, one after the other, and what the files hold stays
-pub data AreListed (start : State) : List Text → List Text → State → Type 0 where
-  no_path : AreListed start [] [] start
-  one_path : {paths names : List Text} {here : State} (path : Text) (below : List Text) (there : State) → AreListed start paths names here
-      → IsListedAs path below here there → there.contents ≡ here.contents → AreListed start (paths ++ path ∷ []) (names ++ below) there
-
 -- ---- all of it
 
--- The files that the paths stand for are tidied, and this is said.
+-- The files that the paths stand for are tidied, each once, and this is said.
 pub record AreTidied (check : Bool) (paths : List Text) (before after : State) (said : Said) : Type 0 where
-  pub names : List Text
+  pub listed : Listed
   pub middle : State
-  pub listed : AreListed before paths names middle
-  pub through : GoesThrough check middle names said after
+  pub lists : AreListed before paths listed middle
+  pub done : Said
+  pub through : GoesThrough check middle (each_once listed) done after
+  pub is : said ≡ said_of_listed done listed
 
 -- The first of them are, if memory ran out: what the files hold is what they did after one of them.
 pub record AreTidiedFirst (check : Bool) (before after : State) : Type 0 where

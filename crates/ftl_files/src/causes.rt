@@ -21,6 +21,9 @@ pub(crate) fn words_of(error: &io::Error) -> Option<&'static str> {
         ErrorKind::PermissionDenied => Some("no permission"),
         ErrorKind::StorageFull | ErrorKind::QuotaExceeded => Some("no space left"),
         ErrorKind::ReadOnlyFilesystem => Some("a read-only file system"),
+        ErrorKind::InvalidFilename if error.raw_os_error().is_some() => Some(
+            "its name is too long",
+        ),
         _ => None,
     }
 }

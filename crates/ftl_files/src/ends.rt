@@ -40,6 +40,8 @@ pub enum FileEnd {
     Failed(Failure, Option<&'static str>),
     /// It has no tidy text, and this is reported.
     Refused(String),
+    /// Memory ran out for its source, or it nests too deep, and this is reported.
+    OutOfMemory(String),
 }
 
 /// Appends the line of a failure.

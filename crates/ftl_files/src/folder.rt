@@ -2,7 +2,7 @@
 //!
 //! Contracts see what the files of a `Folder` hold and which files lie below a name, if that is known, and how many of
 //! its calls have failed. `FromFiles` makes one of the system's files, of which nothing is known.
-ghost use Rattle.std.specs.Prelude.{◌≡◌, ℕ, List, [], Option, IfOk, IfSome, OnOk, OnErr};
+ghost use Rattle.std.specs.Prelude.{◌≡◌, ◌⊎◌, ℕ, List, [], Option, IfOk, IfSome, OnOk, OnErr};
 ghost use Rattle.ftl_files.specs.Files.{IsListed, IsReplaced, failures_after_file, failures_after_replace};
 ghost use Rattle.ftl_files.specs.Listing.{listed_names};
 
@@ -27,7 +27,7 @@ pub enum FileError {
 /// Why a file was not replaced.
 ///
 /// ```no_run
-/// match folder.replace(alloc, "hello.ftl", text) {
+/// match folder.replace(alloc, "hello.ftl", old, text) {
 ///     Ok(()) => println!(rt; "hello.ftl")?,
 ///     Err(error) => bail!("hello.ftl: {error}"), // hello.ftl: cannot write
 /// }
@@ -36,7 +36,7 @@ pub enum FileError {
 pub enum ReplaceError {
     /// Memory ran out before anything was written.
     Memory,
-    /// The file can't be written, or no new file could be made beside it.
+    /// The file can't be written, no new file could be made beside it, or it holds something else than when it was read.
     Unwritable,
 }
 
@@ -87,7 +87,7 @@ pub trait Folder {
         ensures failed { failures self.new ≡ failures_after_file (failures self.old) result };
 
     /// Why the last call that failed did, in words, if that is known: `no such file`, `is a folder`, `no permission`,
-    /// `no space left` or `a read-only file system`.
+    /// `no space left`, `a read-only file system`, `its name is too long` or `changed while it was tidied`.
     fn why(&self) -> Option<&'static str>;
 
     /// Lists the files below a folder whose names end in `.ftl`, by the bytes of their paths, each beginning with the name
@@ -106,12 +106,21 @@ pub trait Folder {
         ensures failed { failures self.new ≡ failures_after_file (failures self.old) result };
 
     /// Replaces what a file holds by these bytes, at once: at any time the file holds what it did or the bytes, whole. No
-    /// other file changes.
+    /// other file changes, but for new files that ended replacements left behind. `old` is what the file held when it was
+    /// read.
     ///
     /// # Errors
-    /// [`ReplaceError::Memory`] if memory runs out, [`ReplaceError::Unwritable`] if the file can't be written. The file is
-    /// as it was.
-    fn replace(&mut self, alloc: Global, name: &str, bytes: &[u8]) -> Result<(), ReplaceError>
+    /// [`ReplaceError::Memory`] if memory runs out, [`ReplaceError::Unwritable`] if the file can't be written, or holds
+    /// something else than `old`. The file is as it was.
+    fn replace(
+        &mut self,
+        alloc: Global,
+        name: &str,
+        old: &[u8],
+        bytes: &[u8],
+    ) -> Result<(), ReplaceError>
+        ensures unchanged { OnOk result (IfSome (contents self.old name.now)
+            (λ held. (held ≡ old.now) ⊎ (held ≡ bytes.now))) }
         ensures replaced { OnOk result
             (IsReplaced (contents self.old) (contents self.new) name.now bytes.now) }
         ensures kept { OnErr result (contents self.new ≡ contents self.old) }

@@ -1,13 +1,15 @@
 //! Sources that are read, one after the other.
 ghost use Rattle.std.specs.Prelude.{◌≡◌, IfOk, OnOk, map, string_bytes};
 ghost use Rattle.lint_finding.specs.View.{file_view};
-ghost use Rattle.ftl_files.specs.Reading.{nothing_read};
-ghost use Rattle.ftl_files.specs.TidyView.{AreReadOn, IsAddedTo, ReadsOneOn, ReadsThroughOn, after_read_failure, after_refusal, after_source, read_view};
+ghost use Rattle.ftl_files.specs.Reading.{nothing_read, read_of_listed};
+ghost use Rattle.ftl_files.specs.TidyView.{AreReadOn, IsAddedTo, ReadsOneOn, ReadsThroughOn, after_read_failure, after_refusal, after_source, listed_view, read_view};
 
 use crate::depth::depth_report;
 use crate::ends::{Failure, push_failure};
 use crate::folder::Folder;
-use crate::tidying::{list_paths, read_source, why_of};
+use crate::listed::{Listed, each_once, list_paths};
+use crate::reported::Reported;
+use crate::tidying::{read_source, why_of};
 use lint_finding::File;
 use std::alloc::{AllocError, Global};
 
@@ -25,8 +27,11 @@ pub struct SourceFile {
 pub struct ReadSources {
     /// The files that were read, in their order.
     pub files: Vec<SourceFile>,
-    /// A line for each of the others: that could not be read, or nests too deep.
+    /// A line for each of the others: that could not be read, or nests too deep; and then for each path that stands for no
+    /// file.
     pub errors: String,
+    /// Which errors these lines report.
+    pub reported: Reported,
 }
 
 impl ReadSources {
@@ -37,6 +42,7 @@ impl ReadSources {
         ReadSources {
             files: Vec::new(alloc),
             errors: String::new(alloc),
+            reported: Reported::none(),
         }
     }
 
@@ -71,6 +77,7 @@ impl ReadSources {
         ensures { OnOk result (read_view self.new
             ≡ after_refusal (read_view self.old) name.now source.now report.now) }
     {
+        self.reported.out_of_memory = true;
         self.errors.push_str(report)
     }
 
@@ -84,12 +91,22 @@ impl ReadSources {
         ensures { OnOk result (read_view self.new
             ≡ after_read_failure (read_view self.old) name.now failure why.entry) }
     {
+        self.reported.failure = true;
         push_failure(&mut self.errors, name, failure, why)
+    }
+
+    /// Adds the lines of the paths that stand for no file.
+    fn add_listed(&mut self, listed: &Listed) -> Result<(), AllocError>
+        ensures { OnOk result (read_view self.new
+            ≡ read_of_listed (read_view self.old) (listed_view listed.now)) }
+    {
+        self.reported.no_file = listed.no_file;
+        self.errors.push_str(listed.errors.as_str())
     }
 }
 
-/// Reads the files that paths stand for, one after the other. Of a file that can't be read, or whose source nests too deep
-/// for that, a line says so.
+/// Reads the files that paths stand for, each once, one after the other. Of a file that can't be read, or whose source
+/// nests too deep for that, a line says so, and of a path that stands for no file.
 ///
 /// # Errors
 /// [`AllocError`] if memory runs out; nothing is kept.
@@ -100,21 +117,24 @@ pub fn read_sources<F: Folder>(
 ) -> Result<ReadSources, AllocError>
     ensures { IfOk result (AreReadOn F.Folder paths.now folder.old folder.new) }
 {
-    let names = list_paths(folder, alloc, paths)?;
-    read_all(folder, alloc, &names)
+    let listed = list_paths(folder, alloc, paths)?;
+    let names = each_once(alloc, &listed.names)?;
+    let mut read = read_all(folder, alloc, &names)?;
+    read.add_listed(&listed)?;
+    Ok(read)
 }
 
 /// Reads files, one after the other.
 fn read_all<F: Folder>(
     folder: &mut F,
     alloc: Global,
-    names: &[String],
+    names: &[&str],
 ) -> Result<ReadSources, AllocError>
     ensures { IfOk result (ReadsThroughOn F.Folder names.now folder.old folder.new) }
 {
     let mut read = ReadSources::new(alloc);
     for name in names {
-        read_one(folder, alloc, name.as_str(), &mut read)?;
+        read_one(folder, alloc, name, &mut read)?;
     }
     Ok(read)
 }

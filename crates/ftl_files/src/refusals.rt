@@ -5,9 +5,11 @@ ghost use Rattle.fluent_tidy.specs.TidyText.{plain};
 ghost use Rattle.lint_finding.specs.View.{finding_view};
 ghost use Rattle.lint_findings.specs.SyntaxFindings.{syntax_findings};
 ghost use Rattle.lint_findings.specs.Tiles.{tiles};
-ghost use Rattle.ftl_files.specs.Tidying.{IsReport, IsReturn, IsShape, damage_report, finding_report, findings_report};
+ghost use Rattle.ftl_files.specs.TidyView.{end_view};
+ghost use Rattle.ftl_files.specs.Tidying.{IsReason, IsReport, IsReturn, IsShape, IsSourceEnd, damage_report, end_for, finding_report, findings_report};
 
 use crate::depth::depth_report;
+use crate::ends::FileEnd;
 use fluent_parser::{Error, parse, starts_of};
 use fluent_tidy::{TidyError, tidy, with_line_feeds, without_mark};
 use lint_files::syntax_findings;
@@ -20,11 +22,37 @@ use std::alloc::{AllocError, Global};
 const SHAPES: &str =
     "write `.`, `[`, `*` or `{` at the start of a line of text as `{\"[\"}`, give each variant a name, and each comment a text";
 
-/// The report on the source of a file, which has no tidy text for this reason.
+/// What becomes of the source of a file that has no tidy text for this reason.
 ///
 /// # Errors
 /// [`AllocError`] if memory runs out; nothing is kept.
-pub(crate) fn refusal_report(
+pub(crate) fn refused_source(
+    alloc: Global,
+    name: &str,
+    source: &str,
+    reason: TidyError,
+) -> Result<FileEnd, AllocError>
+    requires right { IsReason source.now reason }
+    ensures { IfOk result (λ end. IsSourceEnd name.now source.now (end_view end)) }
+{
+    let report = refusal_report(alloc, name, source, reason)?;
+    Ok(end_for(reason, report))
+}
+
+/// What becomes of a source with this report.
+fn end_for(reason: TidyError, report: String) -> FileEnd
+    ensures { end_view result ≡ end_for reason (string_bytes report) }
+{
+    match reason {
+        TidyError::Memory => FileEnd::OutOfMemory(report),
+        TidyError::CarriageReturn | TidyError::Damaged | TidyError::NotTidy => {
+            FileEnd::Refused(report)
+        }
+    }
+}
+
+/// The report on the source of a file, which has no tidy text for this reason.
+fn refusal_report(
     alloc: Global,
     name: &str,
     source: &str,

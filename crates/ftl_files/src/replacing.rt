@@ -1,5 +1,6 @@
 //! Replacing what a file holds at once.
 
+use crate::system::read_file;
 use std::alloc::Global;
 use std::fs::{Metadata, OpenFile, OpenOptions};
 use std::io::{Error, ErrorKind, Write};
@@ -7,25 +8,58 @@ use std::os::unix::fs::MetadataExt;
 use std::rt::Files;
 use std::{fs, io};
 
-/// How many names are tried for the new file: those of files that a killed run left behind are taken.
+/// How many names are tried for the new file: those of files that ended runs left behind are taken.
 const TRIES: u32 = 100;
 
-/// Replaces what a file of the system holds. The bytes are written to a new file beside it, which is then renamed over
-/// it: at any time the file is the old one or the new one, whole. Of a link the file that it leads to is replaced.
+/// Why a file of the system was not replaced.
+#[derive(Debug, Drop)]
+pub(crate) enum NotReplaced {
+    /// What the system says, or that memory ran out.
+    System(Error),
+    /// It holds something else than when it was read.
+    Changed,
+}
+
+impl From<Error> for NotReplaced {
+    fn from(error: Error) -> Self {
+        NotReplaced::System(error)
+    }
+}
+
+/// What a file holds, and what it is to hold.
+#[derive(Clone, Copy)]
+struct Change<'a> {
+    path: &'a str,
+    old: &'a [u8],
+    new: &'a [u8],
+}
+
+/// Replaces what a file of the system holds, if that still is `old`. The bytes are written to a new file beside it, which is
+/// then renamed over it: at any time the file is the old one or the new one, whole. Of a link the file that it leads to is
+/// replaced. New files that ended runs left beside it are removed, if they hold a front of the bytes.
 ///
 /// # Errors
-/// What the system says, or that memory ran out; the file is as it was.
+/// Why it isn't replaced; the file is as it was.
 pub(crate) fn replace_file<R: Files>(
     files: &R,
     alloc: Global,
     name: &str,
+    old: &[u8],
     bytes: &[u8],
-) -> io::Result<()> {
+) -> Result<(), NotReplaced> {
     let path = files.canonicalize(alloc, name)?.into_string();
-    let old = fs::metadata(files, path.as_str())?;
-    require_writable(files, path.as_str())?;
-    let new = NewFile::beside(files, alloc, path.as_str())?;
-    new.take_place(files, &old, path.as_str(), bytes)
+    let change = Change {
+        path: path.as_str(),
+        old,
+        new: bytes,
+    };
+    let found = fs::metadata(files, change.path)?;
+    require_writable(files, change.path)?;
+    let new = NewFile::beside(files, alloc, change.path)?;
+    let number = new.number;
+    new.take_place(files, alloc, &found, change)?;
+    remove_left(files, alloc, change, number);
+    Ok(())
 }
 
 /// A rename replaces a file that nobody may write, too: so it is opened for writing first, and stays as it is.
@@ -39,15 +73,17 @@ fn require_writable<R: Files>(files: &R, path: &str) -> io::Result<()> {
 struct NewFile<F> {
     file: F,
     path: String,
+    /// How many names were taken before its own.
+    number: u32,
 }
 
 impl<F: OpenFile + Write + Drop> NewFile<F> {
     /// A new file beside the one of a path, by the first name that is free.
     fn beside<R: Files<File = F>>(files: &R, alloc: Global, path: &str) -> io::Result<NewFile<F>> {
         for number in 0..TRIES {
-            let path = format!(in alloc; "{path}.{number}.new")?;
+            let path = name_beside(alloc, path, number)?;
             match create(files, path.as_str()) {
-                Ok(file) => return Ok(NewFile { file, path }),
+                Ok(file) => return Ok(NewFile { file, path, number }),
                 Err(error) if error.kind() == ErrorKind::AlreadyExists => {}
                 Err(error) => return Err(error),
             }
@@ -55,26 +91,33 @@ impl<F: OpenFile + Write + Drop> NewFile<F> {
         Err(Error::from(ErrorKind::AlreadyExists))
     }
 
-    /// Writes the bytes, and renames the new file over that of a path. It is removed if that fails.
+    /// Writes the bytes, and renames the new file over the old one. It is removed if that fails, or is done already.
     fn take_place<R: Files<File = F>>(
         self,
         files: &R,
-        old: &Metadata,
-        path: &str,
-        bytes: &[u8],
-    ) -> io::Result<()> {
-        let NewFile { file, path: new } = self;
+        alloc: Global,
+        found: &Metadata,
+        change: Change,
+    ) -> Result<(), NotReplaced> {
+        let NewFile { file, path, .. } = self;
+        let path = path.as_str();
         // Who may not give a file away keeps it.
-        let _ = files.chown(new.as_str(), Some(old.uid()), Some(old.gid()));
-        let done = match write_synced(file, old, bytes) {
-            Ok(()) => fs::rename(files, new.as_str(), path),
-            Err(error) => Err(error),
+        let _ = files.chown(path, Some(found.uid()), Some(found.gid()));
+        let done = match write_synced(file, found, change.new) {
+            Ok(()) => rename_over(files, alloc, path, change),
+            Err(error) => Err(NotReplaced::System(error)),
         };
-        if done.is_err() {
-            let _ = fs::remove_file(files, new.as_str());
+        if !matches!(done, Ok(true)) {
+            let _ = fs::remove_file(files, path);
         }
-        done
+        done?;
+        Ok(())
     }
+}
+
+/// The name of a new file beside the one of a path.
+fn name_beside(alloc: Global, path: &str, number: u32) -> io::Result<String> {
+    Ok(format!(in alloc; "{path}.{number}.new")?)
 }
 
 /// Makes a file that isn't there.
@@ -88,11 +131,56 @@ fn create<R: Files>(files: &R, path: &str) -> io::Result<R::File> {
 /// Writes the bytes to a new file, with the mode of the old one, and has them stored.
 fn write_synced<F: OpenFile + Write + Drop>(
     file: F,
-    old: &Metadata,
+    found: &Metadata,
     bytes: &[u8],
 ) -> io::Result<()> {
     let mut file = file;
-    file.set_permissions(old.permissions())?;
+    file.set_permissions(found.permissions())?;
     file.write_all(bytes)?;
     file.sync_all()
+}
+
+/// Renames the new file over the old one, if that holds what it did. Returns whether it did: if another run has replaced it
+/// by the same bytes, nothing is to be done.
+fn rename_over<R: Files>(
+    files: &R,
+    alloc: Global,
+    new: &str,
+    change: Change,
+) -> Result<bool, NotReplaced> {
+    let held = read_file(files, alloc, change.path)?;
+    if *held == *change.new {
+        return Ok(false);
+    }
+    if *held != *change.old {
+        return Err(NotReplaced::Changed);
+    }
+    match fs::rename(files, new, change.path) {
+        Ok(()) => Ok(true),
+        // Another run has done the same, and took the new file for one that was left.
+        Err(_) if holds(files, alloc, change.path, change.new) => Ok(false),
+        Err(error) => Err(NotReplaced::System(error)),
+    }
+}
+
+/// Whether a file holds these bytes.
+fn holds<R: Files>(files: &R, alloc: Global, path: &str, bytes: &[u8]) -> bool {
+    read_file(files, alloc, path).is_ok_and(|held| *held == *bytes)
+}
+
+/// Removes the new files that ended runs left, of those whose names were taken: they hold a front of the bytes.
+fn remove_left<R: Files>(files: &R, alloc: Global, change: Change, taken: u32) {
+    for number in 0..taken {
+        if let Ok(path) = name_beside(alloc, change.path, number) {
+            if is_left(files, alloc, path.as_str(), change.new) {
+                let _ = fs::remove_file(files, path.as_str());
+            }
+        }
+    }
+}
+
+/// Whether a file holds a front of these bytes. Nothing but a file is read.
+fn is_left<R: Files>(files: &R, alloc: Global, path: &str, bytes: &[u8]) -> bool {
+    fs::symlink_metadata(files, path).is_ok_and(|found| found.is_file())
+        && read_file(files, alloc, path).is_ok_and(|held| bytes.starts_with(&held))
 }

@@ -5,7 +5,7 @@ ghost use Rattle.fluent_serve.specs.Devices.{one_more};
 use crate::causes::{is_refused, words_of};
 use crate::folder::{FileError, Folder, Listing, ReplaceError};
 use crate::listing::list_sources;
-use crate::replacing::replace_file;
+use crate::replacing::{NotReplaced, replace_file};
 use std::alloc::Global;
 use std::fs::File;
 use std::io;
@@ -44,6 +44,14 @@ impl<'a, R: Files> FromFiles<'a, R> {
     {
         self.failures = self.failures.saturating_add(1);
         self.why = words_of(error);
+    }
+
+    /// Notes that a file changed before it was replaced.
+    fn note_changed(&mut self)
+        ensures { self.new.failures ≡ one_more self.old.failures }
+    {
+        self.failures = self.failures.saturating_add(1);
+        self.why = Some("changed while it was tidied");
     }
 
     /// The same of a call that reads a file. A folder is read only if it can't be listed.
@@ -91,12 +99,22 @@ impl<R: Files> Folder for FromFiles<'_, R> {
         }
     }
 
-    fn replace(&mut self, alloc: Global, name: &str, bytes: &[u8]) -> Result<(), ReplaceError> {
-        match replace_file(self.files, alloc, name, bytes) {
+    fn replace(
+        &mut self,
+        alloc: Global,
+        name: &str,
+        old: &[u8],
+        bytes: &[u8],
+    ) -> Result<(), ReplaceError> {
+        match replace_file(self.files, alloc, name, old, bytes) {
             Ok(()) => Ok(()),
-            Err(error) if is_refused(&error) => Err(ReplaceError::Memory),
-            Err(error) => {
+            Err(NotReplaced::System(error)) if is_refused(&error) => Err(ReplaceError::Memory),
+            Err(NotReplaced::System(error)) => {
                 self.note(&error);
+                Err(ReplaceError::Unwritable)
+            }
+            Err(NotReplaced::Changed) => {
+                self.note_changed();
                 Err(ReplaceError::Unwritable)
             }
         }
@@ -104,7 +122,7 @@ impl<R: Files> Folder for FromFiles<'_, R> {
 }
 
 /// Reads a file of the system to its end.
-fn read_file<R: Files>(files: &R, alloc: Global, name: &str) -> io::Result<Vec<u8>> {
+pub(crate) fn read_file<R: Files>(files: &R, alloc: Global, name: &str) -> io::Result<Vec<u8>> {
     let mut bytes = Vec::new(alloc);
     File::open(files, name)?.read_to_end(&mut bytes)?;
     Ok(bytes)

@@ -1,9 +1,11 @@
 //! What is said of files that are tidied.
 ghost use Rattle.std.specs.Prelude.{◌≡◌, OnOk};
-ghost use Rattle.ftl_files.specs.TidyView.{after_failure, end_view, said_view};
-ghost use Rattle.ftl_files.specs.Tidying.{nothing_said, said_after};
+ghost use Rattle.ftl_files.specs.TidyView.{after_failure, end_view, listed_view, said_view};
+ghost use Rattle.ftl_files.specs.Tidying.{nothing_said, said_after, said_of_listed};
 
 use crate::ends::{Failure, FileEnd, push_failure};
+use crate::listed::Listed;
+use crate::reported::Reported;
 use std::alloc::{AllocError, Global};
 
 /// What is said of files that are tidied.
@@ -13,8 +15,8 @@ pub struct TidiedFiles {
     pub names: String,
     /// The reports on those that could not be tidied.
     pub reports: String,
-    /// Whether a file could not be read or written.
-    pub has_failed: bool,
+    /// Which errors are reported, whatever the sources are.
+    pub reported: Reported,
     /// Whether a source was refused, or a file that was only checked isn't tidy.
     pub has_found: bool,
 }
@@ -27,7 +29,7 @@ impl TidiedFiles {
         TidiedFiles {
             names: String::new(alloc),
             reports: String::new(alloc),
-            has_failed: false,
+            reported: Reported::none(),
             has_found: false,
         }
     }
@@ -59,13 +61,25 @@ impl TidiedFiles {
                 writeln!(self.names, "{name}")
             }
             FileEnd::Failed(failure, why) => {
-                self.has_failed = true;
+                self.reported.failure = true;
                 self.add_failure(name, *failure, *why)
             }
             FileEnd::Refused(report) => {
                 self.has_found = true;
                 self.reports.push_str(report)
             }
+            FileEnd::OutOfMemory(report) => {
+                self.reported.out_of_memory = true;
+                self.reports.push_str(report)
+            }
         }
+    }
+    /// Adds the lines of the paths that stand for no file.
+    pub(crate) fn add_listed(&mut self, listed: &Listed) -> Result<(), AllocError>
+        ensures { OnOk result (said_view self.new
+            ≡ said_of_listed (said_view self.old) (listed_view listed.now)) }
+    {
+        self.reported.no_file = listed.no_file;
+        self.reports.push_str(listed.errors.as_str())
     }
 }

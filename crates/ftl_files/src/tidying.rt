@@ -1,17 +1,18 @@
 //! Tidying files in place.
 ghost use Rattle.std.specs.Prelude.{◌≡◌, false, IfOk, IfSome, OnErr};
-ghost use Rattle.ftl_files.specs.TidyView.{AreListedOn, AreTidiedFirstOn, AreTidiedOn, EndsOnFolder, GoesThroughOn, HoldsUntidy, IsListedOn, IsReadOn, end_view};
+ghost use Rattle.ftl_files.specs.TidyView.{AreTidiedFirstOn, AreTidiedOn, EndsOnFolder, GoesThroughOn, HoldsUntidy, IsReadOn, end_view};
 ghost use Rattle.ftl_files.specs.Tidying.{IsSourceEnd};
 
 use crate::ends::{Failure, FileEnd};
-use crate::folder::{FileError, Folder, Listing, ReplaceError};
-use crate::refusals::refusal_report;
+use crate::folder::{FileError, Folder, ReplaceError};
+use crate::listed::{each_once, list_paths};
+use crate::refusals::refused_source;
 use crate::tidied::TidiedFiles;
 use fluent_tidy::tidy;
 use std::alloc::{AllocError, Global};
 
-/// Tidies the files that paths stand for, one after the other, in place; with `check` it changes none. A file that can't
-/// be tidied is reported, and left as it is.
+/// Tidies the files that paths stand for, each once, one after the other, in place; with `check` it changes none. A file
+/// that can't be tidied is reported, and left as it is, and a path that stands for no file is reported.
 ///
 /// # Errors
 /// [`AllocError`] if memory runs out: the first files were tidied.
@@ -24,42 +25,11 @@ pub fn tidy_files<F: Folder>(
     ensures tidied { IfOk result (AreTidiedOn F.Folder check paths.now folder.old folder.new) }
     ensures stopped { OnErr result (AreTidiedFirstOn F.Folder check folder.old folder.new) }
 {
-    let names = list_paths(folder, alloc, paths)?;
-    tidy_all(folder, alloc, check, &names)
-}
-
-/// The names of the files that paths stand for, in their order, each with the folders below that can't be listed.
-pub(crate) fn list_paths<F: Folder>(
-    folder: &mut F,
-    alloc: Global,
-    paths: &[&str],
-) -> Result<Vec<String>, AllocError>
-    ensures listed { IfOk result (AreListedOn F.Folder paths.now folder.old folder.new) }
-    ensures kept { F.contents folder.new ≡ F.contents folder.old }
-{
-    let mut names = Vec::new(alloc);
-    for path in paths {
-        let mut listing = list_path(folder, alloc, path)?;
-        names.append(&mut listing.sources)?;
-        names.append(&mut listing.unlisted)?;
-    }
-    Ok(names)
-}
-
-/// What a path stands for. One that can't be listed itself is listed as a folder below that can't be.
-fn list_path<F: Folder>(folder: &mut F, alloc: Global, path: &str) -> Result<Listing, AllocError>
-    ensures listed { IfOk result (IsListedOn F.Folder path.now folder.old folder.new) }
-    ensures kept { F.contents folder.new ≡ F.contents folder.old }
-{
-    match folder.list(alloc, path) {
-        Ok(listing) => Ok(listing),
-        Err(FileError::Memory) => Err(AllocError),
-        Err(FileError::Unreadable) => {
-            let mut listing = Listing::new(alloc);
-            listing.unlisted.push(String::from_str(alloc, path)?)?;
-            Ok(listing)
-        }
-    }
+    let listed = list_paths(folder, alloc, paths)?;
+    let names = each_once(alloc, &listed.names)?;
+    let mut tidied = tidy_all(folder, alloc, check, &names)?;
+    tidied.add_listed(&listed)?;
+    Ok(tidied)
 }
 
 /// Tidies files, one after the other.
@@ -67,14 +37,13 @@ fn tidy_all<F: Folder>(
     folder: &mut F,
     alloc: Global,
     check: bool,
-    names: &[String],
+    names: &[&str],
 ) -> Result<TidiedFiles, AllocError>
     ensures tidied { IfOk result (GoesThroughOn F.Folder check names.now folder.old folder.new) }
     ensures stopped { OnErr result (AreTidiedFirstOn F.Folder check folder.old folder.new) }
 {
     let mut tidied = TidiedFiles::new(alloc);
     for name in names {
-        let name = name.as_str();
         let end = tidy_file(folder, alloc, check, name)?;
         tidied.add(check, name, &end)?;
     }
@@ -113,7 +82,7 @@ fn tidy_read<F: Folder>(
     ensures kept { OnErr result (F.contents folder.new ≡ F.contents folder.old) }
 {
     match tidy_source(alloc, name, source)? {
-        FileEnd::Changed(text) if !check => replace(folder, alloc, name, text),
+        FileEnd::Changed(text) if !check => replace(folder, alloc, name, source, text),
         end => Ok(end),
     }
 }
@@ -156,7 +125,7 @@ pub fn tidy_source(alloc: Global, name: &str, source: &str) -> Result<FileEnd, A
     match tidy(alloc, source) {
         Ok(text) if text.as_str() == source => Ok(FileEnd::Kept),
         Ok(text) => Ok(FileEnd::Changed(text)),
-        Err(reason) => Ok(FileEnd::Refused(refusal_report(alloc, name, source, reason)?)),
+        Err(reason) => refused_source(alloc, name, source, reason),
     }
 }
 
@@ -165,13 +134,14 @@ fn replace<F: Folder>(
     folder: &mut F,
     alloc: Global,
     name: &str,
+    source: &str,
     text: String,
 ) -> Result<FileEnd, AllocError>
     requires source { HoldsUntidy F.Folder name.now folder.old text }
     ensures ended { IfOk result (EndsOnFolder F.Folder false name.now folder.old folder.new) }
     ensures kept { OnErr result (F.contents folder.new ≡ F.contents folder.old) }
 {
-    match folder.replace(alloc, name, text.as_bytes()) {
+    match folder.replace(alloc, name, source.as_bytes(), text.as_bytes()) {
         Ok(()) => Ok(FileEnd::Changed(text)),
         Err(ReplaceError::Memory) => Err(AllocError),
         Err(ReplaceError::Unwritable) => { Ok(FileEnd::Failed(Failure::Unwritable, folder.why())) }

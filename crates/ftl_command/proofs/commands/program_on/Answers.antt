@@ -1,7 +1,9 @@
 use Rattle.std.proofs.Common.{◌∙◌, Err, Ok, ap, sym}
 use Rattle.clap.specs.declared.error.kind.ErrorKind.TheVariants.{DisplayHelp, DisplayVersion}
 use Rattle.ftl_arguments.specs.Meaning.{command_of, texts}
+use Rattle.fluent_serve.specs.Exchange.{devices}
 use Rattle.ftl_command.proofs.EndLemmas.{not_alone_by, refused_by, untouched, without_input}
+use Rattle.ftl_command.proofs.EndStatuses.{not_alone_end, refused_end}
 use Rattle.ftl_command.proofs.FaultLemmas.{status_of-among}
 use Rattle.ftl_command.proofs.commands.program_on.Goals as goal
 
@@ -79,3 +81,21 @@ returns-in-Err-clause-not_version g c = λ two.
 
 pub returns-in-Ok-clause-served : goal.returns-in-Ok-clause-served
 returns-in-Ok-clause-served g c = λ zero. c.in-Ok.ensures.help.text
+
+pub returns-in-Ok-clause-refused : goal.returns-in-Ok-clause-refused
+returns-in-Ok-clause-refused g c = λ two.
+    refused_end (g.F.Folder.contents c.args.folder.now)
+    (devices g.I.Source.remaining c.args.reader.now c.run_command.new.reader g.O.Sink.contents c.args.writer.now c.run_command.new.writer)
+    (command_of (texts c.args.words.now)) c.in-Ok.end c.in-Ok.ensures.ended.done (sym c.tell_errors_on.ensures.status ∙ two)
+
+pub returns-in-Ok-clause-not_help : goal.returns-in-Ok-clause-not_help
+returns-in-Ok-clause-not_help g c = λ two.
+    not_alone_end (g.F.Folder.contents c.args.folder.now)
+    (devices g.I.Source.remaining c.args.reader.now c.run_command.new.reader g.O.Sink.contents c.args.writer.now c.run_command.new.writer)
+    (texts c.args.words.now) DisplayHelp c.in-Ok.end c.in-Ok.ensures.ended.done (sym c.tell_errors_on.ensures.status ∙ two)
+
+pub returns-in-Ok-clause-not_version : goal.returns-in-Ok-clause-not_version
+returns-in-Ok-clause-not_version g c = λ two.
+    not_alone_end (g.F.Folder.contents c.args.folder.now)
+    (devices g.I.Source.remaining c.args.reader.now c.run_command.new.reader g.O.Sink.contents c.args.writer.now c.run_command.new.writer)
+    (texts c.args.words.now) DisplayVersion c.in-Ok.end c.in-Ok.ensures.ended.done (sym c.tell_errors_on.ensures.status ∙ two)

@@ -1,7 +1,8 @@
-use Rattle.std.proofs.Common.{rules, string_bytes}
+use Rattle.std.proofs.Common.{rules}
 use Rattle.fluent_lint.specs.LintView.{report_view}
 use Rattle.ftl_arguments.specs.CommandView.{lint_view}
 use Rattle.ftl_files.specs.States.{state_of}
+use Rattle.ftl_command.specs.Linted.{unread_view}
 use Rattle.ftl_command.proofs.LintLemmas.{lint_cut, linted_so}
 use Rattle.ftl_command.proofs.Refusals.{lint_output, text_cut}
 use Rattle.ftl_command.proofs.linting.lint_files.Goals as goal
@@ -17,13 +18,13 @@ returns-in_err-write_to_stream-clause-ended g c = record {
   linted = search rules;
   output = λ is.
       lint_cut (lint_view c.args.lint.now) (state_of g.F.Folder c.args.folder.now) (state_of g.F.Folder c.report_on.new.folder) (report_view c.in_ok-linted.linted.report)
-      (string_bytes c.in_ok-linted.linted.errors) _ _ _ c.in_ok-linted.ensures.linted c.as_str.ensures.value c.in_err-write_to_stream.ensures.front;
+      (unread_view c.in_ok-linted.linted) _ _ _ c.in_ok-linted.ensures.linted c.as_str.ensures.value c.in_err-write_to_stream.ensures.front;
 }
 
 pub returns-clause-ended : goal.returns-clause-ended
 returns-clause-ended g c = record {
   linted =
       linted_so (lint_view c.args.lint.now) (state_of g.F.Folder c.args.folder.now) (state_of g.F.Folder c.report_on.new.folder) (report_view c.in_ok-linted.linted.report)
-      (string_bytes c.in_ok-linted.linted.errors) _ _ _ c.in_ok-linted.ensures.linted c.as_str.ensures.value _ c.in_ok-write_to_stream.ensures.written c.end_of.ensures;
+      (unread_view c.in_ok-linted.linted) _ _ _ c.in_ok-linted.ensures.linted c.as_str.ensures.value _ c.in_ok-write_to_stream.ensures.written c.end_of.ensures;
   output = λ is. absurd cc;
 }

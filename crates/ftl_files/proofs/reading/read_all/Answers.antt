@@ -10,5 +10,4 @@ loop-name-init g c = rw c.new-read.ensures none_read
 pub loop-name-preserved : goal.loop-name-preserved
 loop-name-preserved g c =
     read_next (state_of g.F.Folder c.args.folder.now) (state_of g.F.Folder c.loop-name.folder) (state_of g.F.Folder c.read_one.new.folder) c.args.names.now
-    c.loop-name.name-index c.name-item.result (read_view c.loop-name.read) _ c.loop-name-test.true c.name-item.is c.loop-name.invariant
-    (rw c.as_str.ensures.value at c.in_ok-read_one.ensures)
+    c.loop-name.name-index _ (read_view c.loop-name.read) _ c.loop-name-test.true c.loop-name.invariant c.in_ok-read_one.ensures

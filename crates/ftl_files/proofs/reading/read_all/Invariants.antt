@@ -1,4 +1,5 @@
-use Rattle.std.proofs.Common.{map, take, string_bytes}
+use Rattle.std.proofs.Common.{take}
+use Rattle.fluent_serve.specs.Texts.{texts}
 use Rattle.ftl_files.specs.States.{state_of}
 use Rattle.ftl_files.specs.TidyView.{read_view}
 use Rattle.ftl_files.specs.Reading.{ReadsThrough}
@@ -7,4 +8,4 @@ use Rattle.ftl_files.proofs.reading.read_all.Given as goal
 -- the files so far are read
 abbrev pub invariant-loop-name : goal.invariant-loop-name
 invariant-loop-name g l =
-    ReadsThrough (state_of g.F.Folder l.fn.folder) (map string_bytes (take l.name-index l.names)) (read_view l.read) (state_of g.F.Folder l.folder)
+    ReadsThrough (state_of g.F.Folder l.fn.folder) (texts (take l.name-index l.names)) (read_view l.read) (state_of g.F.Folder l.folder)

@@ -1,4 +1,4 @@
-use Rattle.std.proofs.Common.{refl, take, suc, map, string_bytes}
+use Rattle.std.proofs.Common.{refl}
 use Rattle.ftl_files.specs.States.{state_of}
 use Rattle.ftl_files.specs.Tidying.{at_start}
 use Rattle.ftl_files.specs.TidyView.{end_view, said_view}
@@ -11,8 +11,8 @@ loop-name-init g c = rw c.new-tidied.ensures at_start
 pub loop-name-preserved : goal.loop-name-preserved
 loop-name-preserved g c =
     through_next c.args.check (state_of g.F.Folder c.args.folder.now) (state_of g.F.Folder c.loop-name.folder) (state_of g.F.Folder c.tidy_file.new.folder) c.args.names.now
-    c.loop-name.name-index c.name-item.result (said_view c.loop-name.tidied) _ (end_view c.in_ok-end.end) c.loop-name-test.true c.name-item.is c.loop-name.invariant
-    (rw c.as_str-name.ensures.value at c.in_ok-end.ensures.ended) (rw c.as_str-name.ensures.value at c.in_ok-add.ensures)
+    c.loop-name.name-index _ (said_view c.loop-name.tidied) _ (end_view c.in_ok-end.end) c.loop-name-test.true c.loop-name.invariant c.in_ok-end.ensures.ended
+    c.in_ok-add.ensures
 
 pub returns-in_err-add-clause-stopped : goal.returns-in_err-add-clause-stopped
 returns-in_err-add-clause-stopped g c =
@@ -24,7 +24,6 @@ returns-in_err-add-clause-stopped g c =
       listed = refl;
       through =
           through_next c.args.check (state_of g.F.Folder c.args.folder.now) (state_of g.F.Folder c.loop-name.folder) (state_of g.F.Folder c.tidy_file.new.folder) c.args.names.now
-          c.loop-name.name-index c.name-item.result (said_view c.loop-name.tidied) _ (end_view c.in_ok-end.end) c.loop-name-test.true c.name-item.is c.loop-name.invariant
-          (rw c.as_str-name.ensures.value at c.in_ok-end.ensures.ended) refl;
+          c.loop-name.name-index _ (said_view c.loop-name.tidied) _ (end_view c.in_ok-end.end) c.loop-name-test.true c.loop-name.invariant c.in_ok-end.ensures.ended refl;
       stopped = refl;
     })

@@ -1,4 +1,5 @@
-use Rattle.std.proofs.Common.{map, take, string_bytes}
+use Rattle.std.proofs.Common.{take}
+use Rattle.fluent_serve.specs.Texts.{texts}
 use Rattle.ftl_files.specs.States.{state_of}
 use Rattle.ftl_files.specs.TidyView.{said_view}
 use Rattle.ftl_files.specs.Tidying.{GoesThrough}
@@ -7,4 +8,4 @@ use Rattle.ftl_files.proofs.tidying.tidy_all.Given as goal
 -- the files so far are gone through
 abbrev pub invariant-loop-name : goal.invariant-loop-name
 invariant-loop-name g l =
-    GoesThrough l.check (state_of g.F.Folder l.fn.folder) (map string_bytes (take l.name-index l.names)) (said_view l.tidied) (state_of g.F.Folder l.folder)
+    GoesThrough l.check (state_of g.F.Folder l.fn.folder) (texts (take l.name-index l.names)) (said_view l.tidied) (state_of g.F.Folder l.folder)
