@@ -51,8 +51,8 @@ LONGEST_CLAUSE, LONG_CLAUSE, LONG_CLAUSES = 200, 120, 33
 CODES = {
     'docs/reference/lint.md': r'^\| (`[a-z`, -]+`) \| (?:error|warning|note) \|',
     'crates/ftl_arguments/specs/Linting.antt': r'^finding_codes =(.*?)\[\]',
-    'crates/ftl_arguments/src/linting.rt': r'^const CODES: \[&str; \d+\] = \[(.*?)\]',
-    'tools/release/help.py': r"^CODES = '''(.*?)'''",
+    'crates/ftl_arguments/src/linting.rt': r'^pub\(crate\) const CODES: \[&str; \d+\] = \[(.*?)\]',
+    'crates/ftl_arguments/src/program.rt': r'^const CODES_AND_EXAMPLE: &str = "Codes:\n(.*?)\n\n',
 }
 WIDEST = 120
 PROGRAM = (ARGUMENTS.program or ROOT / 'crates/ftl/out/ftl').resolve()

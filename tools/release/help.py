@@ -11,15 +11,9 @@ import sys
 from pathlib import Path
 from typing import NamedTuple
 
-# What a value of an option or an argument may be completed to, by its name in the help.
+# What a value of an option or an argument may be completed to, by its name in the help. Codes have a section of it.
 FILES = {'FILE', 'PATH'}
-CODES = '''
-    syntax byte-order-mark duplicate-id unknown-message unknown-term unknown-attribute no-value no-default cyclic-reference
-    unknown-function duplicate-attribute duplicate-variant invalid-escape unknown-option missing-category unused-term
-    missing-message missing-value missing-attribute obsolete-value obsolete-attribute unknown-variable unused-variable obsolete-message
-    untranslated
-'''
-CHOICES = {'FORMAT': ['text', 'line', 'json', 'github'], 'CODE': CODES.split()}
+CHOICES = {'FORMAT': ('text', 'line', 'json', 'github')}
 
 
 class Option(NamedTuple):
@@ -27,6 +21,7 @@ class Option(NamedTuple):
     long: str
     value: str
     about: str
+    choices: tuple[str, ...]
 
 
 class Command(NamedTuple):
@@ -43,11 +38,17 @@ def section(text: str, title: str) -> list[str]:
     return found[1].splitlines() if found else []
 
 
-def option(line: str) -> Option:
+def codes(text: str) -> tuple[str, ...]:
+    return tuple(code.strip(' ,') for line in section(text, 'Codes') for code in line.split())
+
+
+def option(line: str, text: str) -> Option:
     found = re.fullmatch(r' +(?:-(\w), |  +)?--([\w-]+)(?: <(\w+(?:=\w+)?)>)?(?: {2,}(.*))?', line)
     if not found:
         raise SystemExit(f'help.py: no option: {line!r}')
-    return Option(found[1] or '', found[2], found[3] or '', found[4] or '')
+    value = found[3] or ''
+    choices = codes(text) if value == 'CODE' else CHOICES.get(value, ())
+    return Option(found[1] or '', found[2], value, found[4] or '', choices)
 
 
 def pair(line: str) -> tuple[str, str]:
@@ -64,7 +65,7 @@ def command(name: str, text: str) -> Command:
     return Command(
         name, about, usage[1],
         [pair(line) for line in section(rest, 'Arguments')],
-        [option(line) for line in section(rest, 'Options')],
+        [option(line, rest) for line in section(rest, 'Options')],
         after[1] if after else '',
     )
 
@@ -85,7 +86,10 @@ def dashed(text: str) -> str:
 def man_option(option: Option) -> str:
     short = f'\\-{option.short}, ' if option.short else ''
     value = f' \\fI{dashed(option.value)}\\fR' if option.value else ''
-    return f'.TP\n\\fB{short}\\-\\-{dashed(option.long)}\\fR{value}\n{dashed(option.about)}\n'
+    # Those that aren't named in the words of the help.
+    choices = ', '.join(option.choices) if any(choice not in option.about for choice in option.choices) else ''
+    about = f'{option.about}: {choices}' if choices else option.about
+    return f'.TP\n\\fB{short}\\-\\-{dashed(option.long)}\\fR{value}\n{dashed(about)}\n'
 
 
 def man_command(command: Command) -> str:
@@ -115,8 +119,8 @@ def words(command: Command) -> str:
 def bash(whole: Command, rest: list[Command]) -> str:
     cases = ''.join(f'        {it.name}) options="{words(it)}" ;;\n' for it in rest)
     values = ''.join(
-        f'        --{name}) COMPREPLY=($(compgen -W "{" ".join(CHOICES[value])}" -- "$word")); return ;;\n'
-        for name, value in sorted({(o.long, o.value) for it in rest for o in it.options if o.value in CHOICES})
+        f'        --{name}) COMPREPLY=($(compgen -W "{" ".join(choices)}" -- "$word")); return ;;\n'
+        for name, choices in sorted({(o.long, o.choices) for it in rest for o in it.options if o.choices})
     )
     return (
         '# Completion of ftl for bash.\n'
@@ -144,7 +148,7 @@ def quoted(text: str) -> str:
 
 
 def zsh_option(option: Option) -> str:
-    action = f':{option.value}:({" ".join(CHOICES[option.value])})' if option.value in CHOICES else \
+    action = f':{option.value}:({" ".join(option.choices)})' if option.choices else \
         f':{option.value}:_files' if option.value in FILES else f':{option.value.replace("=", " ")}:' if option.value else ''
     return f"'*--{option.long}[{quoted(option.about)}]{action}'"
 
@@ -177,7 +181,7 @@ def fish(whole: Command, rest: list[Command]) -> str:
         return "'" + text.replace('\\', '\\\\').replace("'", "\\'") + "'"
 
     def line(command: Command, option: Option) -> str:
-        value = f' -x -a {told(" ".join(CHOICES[option.value]))}' if option.value in CHOICES else ' -r' if option.value else ''
+        value = f' -x -a {told(" ".join(option.choices))}' if option.choices else ' -r' if option.value else ''
         return f"complete -c ftl -n '__fish_seen_subcommand_from {command.name}' -l {option.long}{value} -d {told(option.about)}\n"
 
     return (

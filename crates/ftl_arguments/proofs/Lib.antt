@@ -3,3 +3,4 @@ pub mod Parsed
 mod Rows
 pub mod ArgumentsBehind
 pub mod Asked
+pub mod AllOf

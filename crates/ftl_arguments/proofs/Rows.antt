@@ -119,14 +119,14 @@ no_such_format : command_of (codes "lint" ∷ codes "--format" ∷ codes "xml" �
 unfolding clap_on_literals
 no_such_format = refl
 
-codes_to_ignore : command_of (codes "lint" ∷ codes "--ignore" ∷ codes "untranslated" ∷ codes "--counts" ∷ codes "a" ∷ codes "--ignore=no-value" ∷ [])
+codes_to_ignore : command_of (codes "lint" ∷ codes "--ignore" ∷ codes "untranslated" ∷ codes "a" ∷ codes "--ignore=no-value" ∷ [])
     ≡ Some (lint (record {
       references = [];
       functions = [];
       ignored = codes "untranslated" ∷ codes "no-value" ∷ [];
       locale = None;
       notes = false;
-      counts = true;
+      counts = false;
       strict = false;
       format = text;
       files = codes "a" ∷ [];
@@ -137,6 +137,32 @@ codes_to_ignore = refl
 no_such_code : command_of (codes "lint" ∷ codes "--ignore" ∷ codes "untranslated" ∷ codes "--ignore" ∷ codes "value" ∷ codes "a" ∷ []) ≡ None
 unfolding clap_on_literals
 no_such_code = refl
+
+counts_of_a_reference : command_of (codes "lint" ∷ codes "--counts" ∷ codes "--reference" ∷ codes "r" ∷ codes "a" ∷ [])
+    ≡ Some (lint (record { references = codes "r" ∷ []; functions = []; ignored = []; locale = None; notes = false; counts = true; strict = false; format = text; files = codes "a" ∷ [] }))
+unfolding clap_on_literals
+counts_of_a_reference = refl
+
+counts_of_nothing : command_of (codes "lint" ∷ codes "--counts" ∷ codes "a" ∷ []) ≡ None
+unfolding clap_on_literals
+counts_of_nothing = refl
+
+a_name_with_signs : command_of (codes "lint" ∷ codes "--function" ∷ codes "A_1-B" ∷ codes "a" ∷ [])
+    ≡ Some (lint (record { references = []; functions = codes "A_1-B" ∷ []; ignored = []; locale = None; notes = false; counts = false; strict = false; format = text; files = codes "a" ∷ [] }))
+unfolding clap_on_literals
+a_name_with_signs = refl
+
+small_letters : command_of (codes "lint" ∷ codes "--function" ∷ codes "DATETIMe" ∷ codes "a" ∷ []) ≡ None
+unfolding clap_on_literals
+small_letters = refl
+
+a_digit_first : command_of (codes "lint" ∷ codes "--function" ∷ codes "F" ∷ codes "--function" ∷ codes "1F" ∷ codes "a" ∷ []) ≡ None
+unfolding clap_on_literals
+a_digit_first = refl
+
+no_name : command_of (codes "lint" ∷ codes "--function=" ∷ codes "a" ∷ []) ≡ None
+unfolding clap_on_literals
+no_name = refl
 
 files_to_check : command_of (codes "tidy" ∷ codes "--check" ∷ codes "." ∷ []) ≡ Some (tidy_files (record { check = true; paths = codes "." ∷ [] }))
 unfolding clap_on_literals

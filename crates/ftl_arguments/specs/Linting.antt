@@ -1,8 +1,9 @@
 -- What `lint` is asked for.
-use Rattle.std.specs.Prelude.{Bool, true, false, if◌then◌else◌, List, [], ◌∷◌, Option, Some, None, option_map, option_and_then, codes}
+use Rattle.std.specs.Prelude.{Bool, true, false, not, ◌&&◌, ◌||◌, if◌then◌else◌, List, [], ◌∷◌, Option, Some, None, option_map, option_and_then, codes}
 use Rattle.std.specs.List.{list_all, list_any}
 use Rattle.std.specs.Str.{bytes_eq}
 use Rattle.clap.specs.Words.{Row, Text, first_of}
+use Rattle.fluent_grammar.specs.Words.{begins, is_callee_byte, is_capital}
 use Rattle.ftl_arguments.specs.Found.{is_given, values_in, locale_in}
 use Rattle.lint_findings.specs.Output.{Format, text, terminal, lines, json, github}
 
@@ -42,6 +43,26 @@ is_code name = list_any (λ code. bytes_eq code name) finding_codes
 -- the values of `--ignore`
 abbrev pub ignored_in : List Row → List Text
 ignored_in rows = values_in (codes "ignore") rows
+
+-- A name that messages can call a function by. It begins with a capital letter.
+abbrev pub is_function_name : Text → Bool
+is_function_name name = begins is_capital name && list_all is_callee_byte name
+
+-- the values of `--function`
+abbrev pub functions_in : List Row → List Text
+functions_in rows = values_in (codes "function") rows
+
+-- the values of `--reference`
+abbrev pub references_in : List Row → List Text
+references_in rows = values_in (codes "reference") rows
+
+abbrev pub is_any : List Text → Bool
+is_any [] = false
+is_any (path ∷ paths) = true
+
+-- counts are of what a reference has
+abbrev pub has_what_it_counts : List Row → Bool
+has_what_it_counts rows = not (is_given (codes "counts") rows) || is_any (references_in rows)
 
 abbrev pub format_named : Text → Option Format
 format_named name =
@@ -84,8 +105,8 @@ report_format_in rows = option_and_then (λ format. option_map (format_by format
 -- with what else was found
 abbrev pub lint_with : List Row → Format → Lint
 lint_with rows report_format = record {
-  references = values_in (codes "reference") rows;
-  functions = values_in (codes "function") rows;
+  references = references_in rows;
+  functions = functions_in rows;
   ignored = ignored_in rows;
   locale = locale_in rows;
   notes = is_given (codes "notes") rows;
@@ -95,7 +116,10 @@ lint_with rows report_format = record {
   files = values_in (codes "PATH") rows;
 }
 
--- With another format nothing is asked for, nor with a code to ignore that no finding has.
+-- the codes are those of findings, messages can call the functions, and there is what is counted
+abbrev pub is_sound : List Row → Bool
+is_sound rows = list_all is_code (ignored_in rows) && (list_all is_function_name (functions_in rows) && has_what_it_counts rows)
+
+-- With anything else nothing is asked for, nor with another format or choice of colours.
 abbrev pub lint_in : List Row → Option Lint
-lint_in rows =
-    if list_all is_code (ignored_in rows) then option_map (lint_with rows) (report_format_in rows) else None
+lint_in rows = if is_sound rows then option_map (lint_with rows) (report_format_in rows) else None

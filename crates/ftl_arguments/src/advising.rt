@@ -1,10 +1,11 @@
 //! What is wrong with command-line arguments, in words.
 
-use crate::linting::{colours_named, format_named, is_code};
+use crate::elsewhere::meant_by;
 use crate::program::program;
 use crate::reading::{WordsError, command};
+use crate::refusals::Refused;
+use clap::Error;
 use clap::error::ErrorKind;
-use clap::{ArgMatches, Error};
 use std::alloc::{AllocError, Global};
 
 /// The commands that have help of their own.
@@ -38,8 +39,8 @@ pub fn advice<'words>(
     if !are_bad(alloc, words) {
         return Ok(None);
     }
-    let reason = reason(alloc, words)?;
     let (space, command) = command_named(words);
+    let reason = reason(alloc, words, command)?;
     let line = format!(in alloc; "ftl: {reason} see ftl{space}{command} --help\n")?;
     Ok(Some(line))
 }
@@ -50,95 +51,47 @@ fn are_bad<'words>(alloc: Global, words: &'words [&'words str]) -> bool {
 }
 
 /// Why they aren't.
-fn reason<'words>(alloc: Global, words: &'words [&'words str]) -> Result<String, AllocError> {
+fn reason<'words>(
+    alloc: Global,
+    words: &'words [&'words str],
+    command: &str,
+) -> Result<String, AllocError> {
     match program(alloc)?.try_get_matches_from(words) {
-        Ok(matches) => reason_by(alloc, refused_value(&matches)),
-        Err(error) => reason_of(alloc, &error),
+        Ok(matches) => match Refused::of(&matches) {
+            Some(refused) => refused.reason(alloc),
+            None => String::from_str(alloc, "that isn't understood;"),
+        },
+        Err(error) => reason_of(alloc, &error, command),
     }
 }
 
 /// The reason that an error of `clap` gives.
-fn reason_of(alloc: Global, error: &Error) -> Result<String, AllocError> {
+fn reason_of(alloc: Global, error: &Error, command: &str) -> Result<String, AllocError> {
     match error.kind() {
         ErrorKind::MissingSubcommand => String::from_str(alloc, "no command is named;"),
-        _ => reason_in(alloc, error.to_string(alloc)?.as_str()),
+        _ => reason_in(alloc, error.to_string(alloc)?.as_str(), command),
     }
 }
 
-/// A value that `clap` lets pass, and the program doesn't.
-struct RefusedValue<'words> {
-    option: &'static str,
-    /// What the option takes.
-    choices: &'static str,
-    value: &'words str,
-}
-
-/// The reason that such a value is, if it is one.
-fn reason_by(alloc: Global, refused: Option<RefusedValue>) -> Result<String, AllocError> {
-    match refused {
-        Some(
-            RefusedValue {
-                option,
-                choices,
-                value,
-            },
-        ) => format!(in alloc; "{option} takes {choices}, and not '{value}';"),
-        None => String::from_str(alloc, "that isn't understood;"),
-    }
-}
-
-/// The first value of a command that the program doesn't let pass.
-fn refused_value<'words>(matches: &ArgMatches<'words>) -> Option<RefusedValue<'words>> {
-    match matches.subcommand()? {
-        ("lint", found) => refused_by_lint(found),
-        ("format", found) => refused_by_format(found),
-        _ => None,
-    }
-}
-
-/// That of `lint`.
-fn refused_by_lint<'words>(found: &ArgMatches<'words>) -> Option<RefusedValue<'words>> {
-    let format = found.get_str("format")?;
-    let colours = found.get_str("color")?;
-    let (option, choices, value) = if format_named(format).is_none() {
-        ("--format", "text, line, json or github", format)
-    } else if colours_named(colours).is_none() {
-        ("--color", "auto, always or never", colours)
-    } else {
-        let code = found.get_raw("ignore")?.iter().find(|code| !is_code(code))?;
-        ("--ignore", "the code of a finding", *code)
-    };
-    Some(RefusedValue {
-        option,
-        choices,
-        value,
-    })
-}
-
-/// That of `format`.
-fn refused_by_format<'words>(found: &ArgMatches<'words>) -> Option<RefusedValue<'words>> {
-    let argument = found
-        .get_raw("argument")?
-        .iter()
-        .find(|argument| !argument.contains('='))?;
-    Some(RefusedValue {
-        option: "--argument",
-        choices: "NAME=VALUE",
-        value: *argument,
-    })
-}
-
-/// The reason in the text of an error of `clap`: its first paragraph, and what is near.
-fn reason_in(alloc: Global, text: &str) -> Result<String, AllocError> {
+/// The reason in the text of an error of `clap`: its first paragraph, and what may be meant.
+fn reason_in(alloc: Global, text: &str, command: &str) -> Result<String, AllocError> {
     let text = text.strip_prefix("error: ").unwrap_or(text);
     let (first, rest) = text.split_once("\n\n").unwrap_or((text, ""));
     let mut reason = String::new(alloc);
     push_words(&mut reason, first)?;
-    match near(rest) {
-        Some(names) => write!(reason, "; did you mean {names}?")?,
-        None => reason.push(';')?,
+    if let Some(meant) = meant_by(command, unknown_word(first)) {
+        write!(reason, "; {meant}")?;
+    } else if let Some(names) = near(rest) {
+        write!(reason, "; did you mean {names}?")?;
+    } else {
+        reason.push(';')?;
     }
     Ok(reason)
+}
+
+/// The word that an error is on: the first one in quotes.
+fn unknown_word(paragraph: &str) -> &str {
+    paragraph.split('\'').nth(1).unwrap_or("")
 }
 
 /// Appends a paragraph as one line, in the words of the pages.

@@ -5,11 +5,13 @@
 
 mod advising;
 mod commands;
+mod elsewhere;
 mod errors;
 mod formatting;
 mod linting;
 mod program;
 mod reading;
+mod refusals;
 mod tidying;
 mod version;
 

@@ -1,7 +1,10 @@
 //! What `lint` is asked for.
-ghost use Rattle.std.specs.Prelude.{◌≡◌, IfErr, IfOk, Some, None, false, option_map, true};
+ghost use Rattle.std.specs.Prelude.{◌≡◌, ◌||◌, IfErr, IfOk, Some, None, codes, false, not, option_map, true};
 ghost use Rattle.std.specs.List.{list_all};
-ghost use Rattle.ftl_arguments.specs.Linting.{colours_in, colours_named, format_by, format_in, format_named, ignored_in, is_code, lint_in, report_format_in};
+ghost use Rattle.ftl_arguments.specs.Linting.{colours_in, colours_named, format_by, format_in, format_named, lint_in, report_format_in};
+ghost use Rattle.ftl_arguments.specs.Linting.{functions_in, has_what_it_counts, ignored_in, is_any, is_code, is_function_name, references_in};
+ghost use Rattle.ftl_arguments.specs.Found.{is_given};
+ghost use Rattle.fluent_grammar.specs.Words.{begins, is_callee_byte, is_capital};
 ghost use Rattle.ftl_arguments.specs.Meaning.{texts};
 ghost use Rattle.ftl_arguments.specs.CommandView.{found_rows, lint_view, IfRefused};
 ghost use Rattle.lint_report.specs.Formats.{format_view};
@@ -13,7 +16,7 @@ use lint_report::Format as ReportFormat;
 use std::alloc::Global;
 
 /// The codes that findings have.
-const CODES: [&str; 25] = [
+pub(crate) const CODES: [&str; 25] = [
     "syntax",
     "byte-order-mark",
     "duplicate-id",
@@ -44,7 +47,8 @@ const CODES: [&str; 25] = [
 /// What was found for `lint`.
 ///
 /// # Errors
-/// [`WordsError::Bad`]: there is no such format or choice of colours, or no finding has such a code. [`WordsError::Memory`]: memory ran out.
+/// [`WordsError::Bad`]: there is no such format or choice of colours; or no finding has such a code, no message can call
+/// such a function, or counts are asked for without a reference. [`WordsError::Memory`]: memory ran out.
 pub(crate) fn lint_in<'words>(
     alloc: Global,
     found: &ArgMatches<'words>,
@@ -56,10 +60,13 @@ pub(crate) fn lint_in<'words>(
     let Some(format) = report_format_in(found) else {
         return Err(WordsError::Bad);
     };
+    let ignored = ignored_in(alloc, found)?;
+    let functions = functions_in(alloc, found)?;
+    let references = references_in(alloc, found)?;
     Ok(Lint {
-        references: values_in(alloc, found, "reference")?,
-        functions: values_in(alloc, found, "function")?,
-        ignored: ignored_in(alloc, found)?,
+        references,
+        functions,
+        ignored,
         locale: locale_in(found),
         notes: is_given(found, "notes"),
         counts: is_given(found, "counts"),
@@ -86,6 +93,50 @@ fn ignored_in<'words>(
     }
 }
 
+/// The functions that the program adds, if messages can call them.
+fn functions_in<'words>(
+    alloc: Global,
+    found: &ArgMatches<'words>,
+) -> Result<Vec<&'words str>, WordsError>
+    ensures values { IfOk result (λ values. texts values.items ≡ functions_in (found_rows found.now)) }
+    ensures callable { IfOk result (λ _.
+        list_all is_function_name (functions_in (found_rows found.now)) ≡ true) }
+    ensures uncallable { IfRefused result
+        (list_all is_function_name (functions_in (found_rows found.now)) ≡ false) }
+{
+    let values = values_in(alloc, found, "function")?;
+    if are_function_names(&values) {
+        Ok(values)
+    } else {
+        Err(WordsError::Bad)
+    }
+}
+
+/// The files and folders that are translated from. If counts are asked for, there is one.
+fn references_in<'words>(
+    alloc: Global,
+    found: &ArgMatches<'words>,
+) -> Result<Vec<&'words str>, WordsError>
+    ensures values { IfOk result (λ values. texts values.items ≡ references_in (found_rows found.now)) }
+    ensures counted { IfOk result (λ _. has_what_it_counts (found_rows found.now) ≡ true) }
+    ensures uncounted { IfRefused result (has_what_it_counts (found_rows found.now) ≡ false) }
+{
+    let values = values_in(alloc, found, "reference")?;
+    if has_what_it_counts(found, &values) {
+        Ok(values)
+    } else {
+        Err(WordsError::Bad)
+    }
+}
+
+/// Whether there is a reference, if counts are asked for.
+fn has_what_it_counts(found: &ArgMatches<'_>, references: &[&str]) -> bool
+    ensures { result ≡ (not (is_given (codes "counts") (found_rows found.now))
+        || is_any (texts references.now)) }
+{
+    !is_given(found, "counts") || matches!(references, [_, ..])
+}
+
 /// Whether findings have each of these codes.
 fn are_codes(names: &[&str]) -> bool
     ensures { result ≡ list_all (λ name. is_code name.now) names.now }
@@ -98,6 +149,34 @@ pub(crate) fn is_code(name: &str) -> bool
     ensures { result ≡ is_code name.now }
 {
     CODES.contains(&name)
+}
+
+/// Whether messages can call a function by each of these names.
+fn are_function_names(names: &[&str]) -> bool
+    ensures { result ≡ list_all (λ name. is_function_name name.now) names.now }
+{
+    names.iter().all(|name| is_function_name(name))
+}
+
+/// Whether messages can call a function by this name.
+pub(crate) fn is_function_name(name: &str) -> bool
+    ensures { result ≡ is_function_name name.now }
+{
+    begins_with_capital(name) && has_callee_bytes(name)
+}
+
+/// Whether a name begins with a capital letter.
+fn begins_with_capital(name: &str) -> bool
+    ensures { result ≡ begins is_capital name.now }
+{
+    matches!(name.as_bytes().first(), Some(b'A'..=b'Z'))
+}
+
+/// Whether a name has no byte that those of functions don't have.
+fn has_callee_bytes(name: &str) -> bool
+    ensures { result ≡ list_all is_callee_byte name.now }
+{
+    name.as_bytes().iter().all(|byte| matches!(*byte, b'A'..=b'Z' | b'0'..=b'9' | b'-' | b'_'))
 }
 
 /// How findings are to be written, if there is such a format and such a choice of colours.

@@ -19,6 +19,16 @@ each after a tab: NAME=VALUE.
 
 Example: printf 'welcome\\tname=Jane\\n' | ftl run hello.ftl";
 
+/// What follows the options in the help of `lint`.
+const CODES_AND_EXAMPLE: &str = "Codes:
+  syntax, byte-order-mark, duplicate-id, unknown-message, unknown-term, unknown-attribute, no-value,
+  no-default, cyclic-reference, unknown-function, duplicate-attribute, duplicate-variant,
+  invalid-escape, unknown-option, missing-category, unused-term, missing-message, missing-value,
+  missing-attribute, obsolete-value, obsolete-attribute, unknown-variable, unused-variable,
+  obsolete-message, untranslated
+
+Example: ftl lint --reference locales/en locales/de";
+
 /// The program with all its commands.
 pub(crate) fn program<'a>(alloc: Global) -> Result<Command<'a>, AllocError>
     ensures { IfOk result (λ program. app_of program ≡ program_app) }
@@ -171,9 +181,10 @@ fn with_lint<'a>(alloc: Global, program: Command<'a>) -> Result<Command<'a>, All
 fn lint<'a>(alloc: Global) -> Result<Command<'a>, AllocError>
     ensures { IfOk result (IsShaped lint_shape) }
 {
-    reporting(alloc)?
-        .after_help("Example: ftl lint --reference locales/en locales/de")
-        .arg(paths(alloc, "Files, and folders with each `.ftl` file below them"))
+    reporting(alloc)?.after_help(CODES_AND_EXAMPLE).arg(paths(
+        alloc,
+        "Files, and folders with each `.ftl` file below them",
+    ))
 }
 
 /// The command `lint` without its paths.
@@ -212,7 +223,7 @@ fn asking<'a>(alloc: Global, name: &'a str, about: &'a str) -> Result<Command<'a
     ensures { IfOk result (IsShaped (shaped name.entry.now asking_rules)) }
 {
     let locale = option(alloc, "locale", "TAG").help(
-        "Choose variants by the plural rules of this locale, and write numbers as it does",
+        "Use the plural rules of this locale, and write numbers as it does",
     );
     let plain = flag(alloc, "plain-numbers").help("Write numbers plainly, whatever the locale");
     flagged(alloc, name, about)?.arg(locale)?.arg(plain)
@@ -223,7 +234,7 @@ fn flagged<'a>(alloc: Global, name: &'a str, about: &'a str) -> Result<Command<'
     ensures { IfOk result (IsShaped (shaped name.entry.now flagged_rules)) }
 {
     let isolating = flag(alloc, "no-isolating").help(
-        "Leave out the direction marks U+2068 and U+2069 around inserted values",
+        "Leave out the direction marks U+2068 and U+2069 around values",
     );
     let overriding = flag(alloc, "overriding").help(
         "Let the last entry of an id count, and not the first",
@@ -267,7 +278,7 @@ fn reference<'a>(alloc: Global) -> Arg<'a>
     ensures { IsLocal (each_rule (codes "reference")) result }
 {
     each(alloc, "reference", "PATH").help(
-        "Compare with this file of the source language, or those below this folder (repeatable)",
+        "Compare with this file or folder of the source language (repeatable)",
     )
 }
 
@@ -276,7 +287,7 @@ fn function<'a>(alloc: Global) -> Arg<'a>
     ensures { IsLocal (each_rule (codes "function")) result }
 {
     each(alloc, "function", "NAME").help(
-        "A function that your program provides, so that calls of it are known (repeatable)",
+        "A function that your program provides, as DATETIME (repeatable)",
     )
 }
 
@@ -285,7 +296,7 @@ fn ignored<'a>(alloc: Global) -> Arg<'a>
     ensures { IsLocal (each_rule (codes "ignore")) result }
 {
     each(alloc, "ignore", "CODE").help(
-        "Leave out findings with this code, which stands in brackets after each (repeatable)",
+        "Leave out findings with this code of those below (repeatable)",
     )
 }
 
@@ -294,7 +305,7 @@ fn counts<'a>(alloc: Global) -> Arg<'a>
     ensures { IsLocal (flag_rule (codes "counts")) result }
 {
     flag(alloc, "counts").help(
-        "With a reference, count the messages of each file, also where none is missing",
+        "With --reference, count the messages of each file, also if none is missing",
     )
 }
 
@@ -321,7 +332,7 @@ fn colours<'a>(alloc: Global) -> Arg<'a>
     ensures { IsLocal (default_rule (codes "color") (codes "auto")) result }
 {
     option_or(alloc, "color", "WHEN", "auto").help(
-        "Write text in colours: always, never, or auto: on a terminal, unless NO_COLOR is set",
+        "Write in colours: auto (on a terminal), always or never",
     )
 }
 

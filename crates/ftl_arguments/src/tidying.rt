@@ -14,7 +14,12 @@ use std::alloc::{AllocError, Global};
 
 /// What the paths of `tidy` are.
 const PATHS: &str =
-    "Files, and folders with each `.ftl` file below them; `-` alone: standard input, to standard output";
+    "Files, and folders with each `.ftl` file below them; `-` alone is standard input";
+
+/// What follows the options in the help of `tidy`.
+const EXAMPLE: &str = "The tidy text of standard input is written to standard output.
+
+Example: ftl tidy --check locales";
 
 /// The program with the command `tidy`, too.
 pub(crate) fn with_tidy<'a>(alloc: Global, program: Command<'a>) -> Result<Command<'a>, AllocError>
@@ -33,7 +38,7 @@ fn tidy<'a>(alloc: Global) -> Result<Command<'a>, AllocError>
     Command::new(alloc, "tidy")
         .about("Tidy files in place, and those below folders")
         .arg(check)?
-        .after_help("Example: ftl tidy --check locales")
+        .after_help(EXAMPLE)
         .arg(paths(alloc, PATHS))
 }
 

@@ -1,0 +1,134 @@
+//! What `clap` lets pass, and the program doesn't.
+
+use crate::linting::{CODES, colours_named, format_named, is_code, is_function_name};
+use clap::ArgMatches;
+use std::alloc::{AllocError, Global};
+use strsim::jaro;
+
+/// What the program refuses of a command.
+#[derive(Drop)]
+pub(crate) enum Refused<'words> {
+    /// The value of an option, which takes something else.
+    Value {
+        option: &'static str,
+        choices: &'static str,
+        value: &'words str,
+    },
+    /// A code that no finding has.
+    Code(&'words str),
+    /// Counts without a reference.
+    Counts,
+}
+
+impl<'words> Refused<'words> {
+    /// The first refusal of a command, if there is one.
+    pub(crate) fn of(matches: &ArgMatches<'words>) -> Option<Self> {
+        match matches.subcommand()? {
+            ("lint", found) => refused_by_lint(found),
+            ("format", found) => refused_by_format(found),
+            _ => None,
+        }
+    }
+
+    /// Why it is refused, in words that a pointer to the help may follow.
+    ///
+    /// # Errors
+    /// [`AllocError`] if memory runs out; nothing is kept.
+    pub(crate) fn reason(&self, alloc: Global) -> Result<String, AllocError> {
+        match self {
+            Refused::Value {
+                option,
+                choices,
+                value,
+            } => format!(in alloc; "{option} takes {choices}, and not '{value}';"),
+            Refused::Code(code) => reason_of_code(alloc, code),
+            Refused::Counts => String::from_str(alloc, "--counts needs --reference;"),
+        }
+    }
+}
+
+/// What `lint` refuses.
+fn refused_by_lint<'words>(found: &ArgMatches<'words>) -> Option<Refused<'words>> {
+    refused_way(found).or_else(|| refused_name(found))
+}
+
+/// A way to write findings that there isn't.
+fn refused_way<'words>(found: &ArgMatches<'words>) -> Option<Refused<'words>> {
+    let format = found.get_str("format")?;
+    if format_named(format).is_none() {
+        return Some(Refused::Value {
+            option: "--format",
+            choices: "text, line, json or github",
+            value: format,
+        });
+    }
+    let colours = found.get_str("color")?;
+    if colours_named(colours).is_none() {
+        return Some(Refused::Value {
+            option: "--color",
+            choices: "auto, always or never",
+            value: colours,
+        });
+    }
+    None
+}
+
+/// A code or the name of a function that there can't be, or counts of nothing.
+fn refused_name<'words>(found: &ArgMatches<'words>) -> Option<Refused<'words>> {
+    let codes = found.get_raw("ignore").unwrap_or(&[]);
+    if let Some(code) = codes.iter().find(|code| !is_code(code)) {
+        return Some(Refused::Code(*code));
+    }
+    let functions = found.get_raw("function").unwrap_or(&[]);
+    if let Some(name) = functions.iter().find(|name| !is_function_name(name)) {
+        return Some(Refused::Value {
+            option: "--function",
+            choices: "a name in capital letters, as DATETIME",
+            value: *name,
+        });
+    }
+    if found.get_str("counts") == Some("true") && found.get_raw("reference").is_none() {
+        return Some(Refused::Counts);
+    }
+    None
+}
+
+/// What `format` refuses.
+fn refused_by_format<'words>(found: &ArgMatches<'words>) -> Option<Refused<'words>> {
+    let argument = found
+        .get_raw("argument")?
+        .iter()
+        .find(|argument| !argument.contains('='))?;
+    Some(Refused::Value {
+        option: "--argument",
+        choices: "NAME=VALUE",
+        value: *argument,
+    })
+}
+
+/// Why there is no such code, and which one may be meant.
+fn reason_of_code(alloc: Global, code: &str) -> Result<String, AllocError> {
+    if code.contains(',') {
+        return format!(in alloc; "--ignore takes one code, and not '{code}'; repeat it for more;");
+    }
+    match near_code(alloc, code)? {
+        Some(near) => format!(in alloc;
+            "--ignore takes the code of a finding, and not '{code}'; did you mean '{near}'?"
+        ),
+        None => format!(in alloc; "--ignore takes the code of a finding, and not '{code}';"),
+    }
+}
+
+/// The code that is most like this one, if any is: as `clap` finds the names of options.
+fn near_code(alloc: Global, code: &str) -> Result<Option<&'static str>, AllocError> {
+    let mut near = None;
+    let mut likeness = 0.7;
+    for &known in &CODES {
+        let score = jaro(alloc, code, known)?;
+        if score > likeness {
+            likeness = score;
+            near = Some(known);
+        }
+    }
+    Ok(near)
+}
