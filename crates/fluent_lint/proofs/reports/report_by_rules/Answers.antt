@@ -1,5 +1,5 @@
-use Rattle.std.proofs.Common.{◌≡◌, ◌∙◌, ℕ, List, length, ap, map, subst, sym}
-use Rattle.std.proofs.lemmas.List.{length-map}
+use Rattle.std.proofs.Common.{◌≡◌, ◌∙◌, ℕ, List, length, ap, arith, map, subst, sym}
+use Rattle.std.proofs.lemmas.List.{length-map, with_items_is}
 use Rattle.std.specs.Prelude.{All, IfOk}
 use Rattle.lint_files.specs.RulesView.{rules_view}
 use Rattle.lint_finding.specs.View.{file_view, findings_view}
@@ -39,9 +39,12 @@ returns c =
     c.in_ok-found.ensures
     ∙ ap (λ (fs : List File). found_by rules (files_view fs) (files_view (files_of c.deref-2.result.now))) (ap files_of c.deref.ensures.value ∙ c.in_ok-references.ensures.files)
     ∙ ap (λ (fs : List File). found_by rules (files_view references) (files_view fs)) (ap files_of c.deref-2.ensures.value ∙ c.in_ok-files.ensures.files) in
+    let whole = c.in_ok-found.found in
+    let number_left : length c.keep_reported.new.found ≡ whole.len =
+    omega (arith, c.keep_reported.auto.found, c.deref_mut.ensures.len, whole.ok.0) in
     let left = kept_of ignored found in
     let left_there : findings_view c.deref-7.result.now ≡ left =
-    ap findings_view c.deref-7.ensures.value
+    ap findings_view (c.deref-7.ensures.value ∙ with_items_is whole c.keep_reported.new.found number_left)
     ∙ c.keep_reported.ensures
     ∙ ap (λ (fs : List FileFindings). kept_of ignored (findings_view fs)) c.deref_mut.ensures.value
     ∙ ap (kept_of ignored) found_there in
