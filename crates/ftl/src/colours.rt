@@ -41,17 +41,21 @@ fn is_set_to(rt: &HostRuntime, name: &str, wanted: &str) -> bool {
     }
 }
 
-/// The words of `lint`, with `always` in the place of `auto`, which is the choice if there is none.
+/// The words of `lint`, with `always` in the place of `auto`, which is the choice if there is none. After `--` words are
+/// files, and stay.
 fn always_in_colours<'words>(
     rt: &HostRuntime,
     words: &[&'words str],
 ) -> Result<Vec<&'words str>, AllocError> {
     let mut all = Vec::with_capacity(rt.alloc(), words.len())?;
+    let mut are_files = false;
     let mut is_said = false;
     let mut is_next = false;
     for word in words {
-        is_said = is_said || word.starts_with("--color");
+        are_files = are_files || *word == "--";
+        is_said = is_said || !are_files && word.starts_with("--color");
         all.push(match *word {
+            word if are_files => word,
             "--color=auto" => "--color=always",
             "auto" if is_next => "always",
             word => word,

@@ -1,5 +1,6 @@
 //! What is said after the line of a failure: why, and at which line of which file.
 
+use crate::slips::{meant_by_file, meant_by_message};
 use ftl_command::{Command, Format, Invocation, Lint, Tidy, TidyFiles, advice, command};
 use ftl_files::{FileEnd, Folder, FromFiles, tidy_source};
 use memchr::memchr;
@@ -26,6 +27,8 @@ pub fn explanation<'words, R: Files>(
     let mut folder = FromFiles::new(rt);
     match (status, command) {
         (1, Command::Tidy(tidy)) => of_tidying(&mut folder, alloc, tidy),
+        (1, Command::Format(format)) => meant_by_message(rt, &mut folder, alloc, &format),
+        (3, Command::Format(format)) => of_formatted(&mut folder, alloc, &format),
         (
             3 | 4,
             Command::Lint(
@@ -47,19 +50,16 @@ pub fn explanation<'words, R: Files>(
     }
 }
 
-/// The files that a command names, but for those that it reports on by itself.
+/// The files that a command names, but for those of a command that has more to say of them.
 fn files_named<'words>(
     alloc: Global,
     command: &Command<'words>,
 ) -> Result<Vec<&'words str>, AllocError> {
     match command {
-        Command::Run { files, .. }
-        | Command::Format(Format { files, .. })
-        | Command::Check { files } => Vec::from_slice(alloc, files),
+        Command::Run { files, .. } | Command::Check { files } => Vec::from_slice(alloc, files),
         Command::Tidy(tidy) => tidied_files(alloc, tidy),
-        Command::Lint(_) | Command::TidyFiles(_) | Command::TidyInput { .. } => {
-            Ok(Vec::new(alloc))
-        }
+        Command::Format(_) | Command::Lint(_) | Command::TidyFiles(_) | Command::TidyInput { .. } =>
+            Ok(Vec::new(alloc)),
     }
 }
 
@@ -87,6 +87,26 @@ fn of_files<F: Folder>(
         if found.is_some() {
             return Ok(found);
         }
+    }
+    Ok(None)
+}
+
+/// The same of the files of `format`, and what may be meant by the name of one that is missing.
+fn of_formatted<F: Folder>(
+    folder: &mut F,
+    alloc: Global,
+    format: &Format,
+) -> Result<Option<String>, AllocError> {
+    for file in &format.files {
+        let Some(mut lines) = of_file(folder, alloc, file)? else {
+            continue;
+        };
+        if folder.why() == Some("no such file") {
+            if let Some(line) = meant_by_file(alloc, format, file)? {
+                lines.push_str(line.as_str())?;
+            }
+        }
+        return Ok(Some(lines));
     }
     Ok(None)
 }
