@@ -2,7 +2,6 @@
 
 import doctest
 import os
-import re
 import subprocess
 import sys
 import tempfile
@@ -18,21 +17,12 @@ from kozhvadi.runtime import (
 )
 
 
-PAGE = Path(__file__).resolve().parents[1] / "README.md"
 L10N = Path(__file__).resolve().parents[3] / "examples" / "l10n"
-
-
-def sessions_of_page():
-    """The sessions of the page after the first, which test_bundle.py tries."""
-    return re.findall(r"^```python\n(.*?)^```$", PAGE.read_text(encoding="utf-8"), re.M | re.S)[1:]
 
 
 def load_tests(loader, tests, pattern):
     for module in (kozhvadi._languages, kozhvadi._localization, kozhvadi.runtime):
         tests.addTests(doctest.DocTestSuite(module))
-    for number, session in enumerate(sessions_of_page(), 2):
-        name = f"README.md, session {number}"
-        tests.addTest(doctest.DocTestCase(doctest.DocTestParser().get_doctest(session, {}, name, str(PAGE), 0)))
     return tests
 
 
