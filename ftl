@@ -150,7 +150,7 @@ take_proved() {
     fi
     log=$(mktemp)
     echo "ftl: $why, so its $count crates are proved first, once; the log is $log" >&2
-    echo 'ftl: --unproved as its first word takes a program without proofs, which is built in two to three minutes' >&2
+    echo 'ftl: --unproved as its first word takes a program without proofs, which is built in about four minutes' >&2
     [ ! -x "$program" ] || echo "ftl: with --no-build as its first word, ftl takes the program as it is" >&2
     build proved
 }
@@ -162,7 +162,7 @@ take_unproved() {
     if [ -n "$why" ]; then
         need "$why" 'rt python3'
         log=$(mktemp)
-        echo "ftl: $why, so it is built first, once, in two to three minutes" >&2
+        echo "ftl: $why, so it is built first, once, in about four minutes" >&2
         build unproved
     fi
     echo 'ftl: unproved: this program was built without its proofs' >&2

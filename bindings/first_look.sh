@@ -1,5 +1,5 @@
 #!/bin/sh
-# Builds the static library without any proof, for a first look at the bindings: two to three minutes in the place of an hour.
+# Builds the static library without any proof, for a first look at the bindings: about four minutes in the place of an hour.
 #
 #   first_look.sh [OUT]      OUT is the folder that gets libfluent_c.a; without it, crates/fluent_c/out/unproved
 #

@@ -14,7 +14,7 @@ proved=$top/crates/ftl/out/ftl
 program=$top/crates/ftl/out/unproved/ftl
 unproved='ftl: unproved: this program was built without its proofs'
 missing='and there is no'
-built='so it is built first, once, in two to three minutes'
+built='so it is built first, once, in about four minutes'
 
 # Runs a step, in a folder of its own.
 step() {
