@@ -22,3 +22,4 @@ pub mod Starts
 pub mod Nesting
 pub mod Weights
 pub mod Depth
+pub mod Placed

@@ -10,6 +10,7 @@ ghost use Rattle.fluent_parser.specs.Weights.{weight};
 
 use crate::fault::Halt;
 use crate::resource::{parts_of, runtime_parts_of};
+use crate::starts::Starts;
 use fluent_parsed::{Error, Result};
 use fluent_text::stack::StackBudget;
 use fluent_text::{Slice, Slices};
@@ -59,7 +60,8 @@ pub fn parse_unless_too_deep<'s, S: Slice<'s>>(
     ensures deep { OnErr result (NestsPast budget.bytes (S.text input)) }
     ensures weighs { OnErr result (budget.bytes < weight (S.text input)) }
 {
-    match parts_of(alloc, &Slices::new(), &input, budget) {
+    let mut starts = Starts::passed_over(alloc);
+    match parts_of(alloc, &Slices::new(), &input, budget, &mut starts) {
         Ok(parts) => Ok(parts.finish()),
         Err(Halt::Memory) => Ok(Err(Error::Memory)),
         Err(Halt::TooDeep) => Err(TooDeep),

@@ -16,6 +16,7 @@ mod named_arguments;
 mod parser;
 mod part;
 mod pattern;
+mod placed;
 mod plain;
 mod refusals;
 mod resource;
@@ -32,8 +33,8 @@ pub use depth::{TooDeep, parse_runtime_unless_too_deep, parse_unless_too_deep};
 pub use fluent_parsed::{Error, ErrorKind, ParserError, Result, laws};
 pub use fluent_text::Slice;
 pub use fluent_text::stack::StackBudget;
+pub use placed::{PlacedTree, parse_placed};
 pub use refusals::{Refusal, refusals_at};
-pub use starts::starts_of;
 use std::alloc::Global;
 
 /// The tree of a source, with its comments.

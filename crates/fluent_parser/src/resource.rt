@@ -1,16 +1,18 @@
 //! The parts of a whole source.
 #![tactic(auto)]
 
-ghost use Rattle.std.specs.Prelude.{◌≡◌, ◌-◌, ◌≤◌, [], None, false, IfOk, length, map};
+ghost use Rattle.std.specs.Prelude.{◌≡◌, ◌++◌, ◌-◌, ◌≤◌, [], None, false, true, IfOk, OnOk, length, map};
 ghost use Rattle.fluent_grammar.specs.Tiling.{tree, errors, runtime_tree, runtime_errors};
 ghost use Rattle.fluent_parsed.specs.Collected.{entries_with, errors_with};
 ghost use Rattle.fluent_parsed.specs.ErrorView.{error_told};
 ghost use Rattle.fluent_tokens.specs.Lookup.{past_comments};
 ghost use Rattle.fluent_parser.specs.Frame.{Advances};
 ghost use Rattle.fluent_parser.specs.Depth.{IfHalted, NestsPast, PastSomewhere};
+ghost use Rattle.fluent_parser.specs.Starts as parts;
 
 use crate::fault::Halt;
 use crate::parser::Parser;
+use crate::starts::Starts;
 use fluent_parsed::Collected;
 use fluent_text::Texts;
 use fluent_text::stack::StackBudget;
@@ -20,25 +22,28 @@ use std::alloc::Global;
 /// How many bytes a short entry has, about. Room to spare, which there is for longer ones, is never touched.
 const SHORT: usize = 64;
 
-/// The parts of a source, with their comments.
+/// The parts of a source, with their comments. Where they begin is put after the other starts.
 ///
 /// # Errors
-/// [`Halt`] if memory runs out, or a message or a term nests past the budget; nothing is kept.
+/// [`Halt`] if memory runs out, or a message or a term nests past the budget; some starts may be there.
 pub fn parts_of<S: Drop, T: Texts<S>>(
     alloc: Global,
     texts: &T,
     source: &S,
     budget: StackBudget,
+    starts: &mut Starts,
 ) -> Result<Collected<S>, Halt>
     ensures entries { IfOk result (λ all. entries_with S T.text all []
         ≡ tree (T.text source.now)) }
     ensures errors { IfOk result (λ all. errors_with S all []
         ≡ map error_told (errors (T.text source.now))) }
+    ensures starts { starts.old.is_keeping ≡ true → OnOk result (starts.new.all.items
+        ≡ starts.old.all.items ++ parts.starts (T.text source.now)) }
     ensures deep { IfHalted result (NestsPast budget.bytes (T.text source.now)) }
 {
     let rows = line_table(alloc, texts.as_str(source).as_bytes())?;
     let mut parser = Parser::new(alloc, texts, source, &rows, budget);
-    parser.get_parts()
+    parser.get_parts(starts)
 }
 
 /// The parts of a source, without comments.
@@ -68,16 +73,20 @@ impl<'p, S: Drop, T: Texts<S>> Parser<'p, S, T> {
     ghost use Rattle.fluent_grammar.specs.Tiling.{entries_of, errors_of};
     ghost use Rattle.fluent_parsed.specs.ErrorView.{error_told};
 
-    /// All parts that are left, with their comments.
+    /// All parts that are left, with their comments. Where they begin is put after the other starts.
     ///
     /// # Errors
-    /// [`Halt`] if memory runs out, or a part nests past the budget; the parts that were read are dropped.
-    pub fn get_parts(&mut self) -> Result<Collected<S>, Halt>
+    /// [`Halt`] if memory runs out, or a part nests past the budget; the parts that were read are dropped, and some
+    /// starts may be there.
+    pub fn get_parts(&mut self, starts: &mut Starts) -> Result<Collected<S>, Halt>
         requires closed { self.old.stack.taken ≡ 0 }
         ensures entries { IfOk result (λ all. entries_with S T.text all []
             ≡ entries_of None (pieces_ahead self.old)) }
         ensures errors { IfOk result (λ all. errors_with S all []
             ≡ map error_told (errors_of (pieces_ahead self.old))) }
+        ensures starts { starts.old.is_keeping ≡ true → OnOk result (starts.new.all.items
+            ≡ starts.old.all.items
+            ++ parts.starts_left (length self.old.text.now) self.old.rest.now) }
         ensures deep { IfHalted result (PastSomewhere self.old) }
     {
         let mut collected = Collected::with_capacity(self.alloc, self.bytes().len() / SHORT + 1)?;
@@ -86,6 +95,7 @@ impl<'p, S: Drop, T: Texts<S>> Parser<'p, S, T> {
             if self.bytes().is_empty() {
                 return Ok(collected);
             }
+            starts.push(self.place())?;
             self.get_part(&mut collected, apart)?;
         }
     }

@@ -1,4 +1,4 @@
-use Rattle.std.proofs.Common.{◌≡◌, ◌∙◌, ◌-◌, ◌<◌, ℕ, Bool, true, false, List, ◌∷◌, length, sym, ap, arith, rules}
+use Rattle.std.proofs.Common.{◌≡◌, ◌∙◌, ◌-◌, ◌<◌, ◌++◌, ℕ, Bool, true, false, List, ◌∷◌, length, sym, ap, arith, rules, append-nil}
 use Rattle.std.specs.Prelude.{◌==◌}
 use Rattle.fluent_grammar.specs.Reading.{entry_at}
 use Rattle.fluent_grammar.specs.Tiling.{Piece}
@@ -6,6 +6,8 @@ use Rattle.fluent_parsed.specs.Collected.{entries_with, errors_with}
 use Rattle.fluent_parser.specs.Left.{pieces_left}
 use Rattle.fluent_parser.specs.Parts.{piece_of}
 use Rattle.fluent_parsed.proofs.CollectedEntries.{test_some}
+use Rattle.fluent_parser.specs.Starts.{starts_left}
+use Rattle.fluent_parser.proofs.Beginnings.{no_start_left, start_left, one_more_start}
 use Rattle.fluent_parser.proofs.Left.{nothing_left, piece_left}
 use Rattle.fluent_tokens.proofs.Scanned.{test_of}
 use Rattle.fluent_parser.specs.Depth.{PastSomewhere}
@@ -26,6 +28,14 @@ returns-then-is_empty-clause-errors g c =
     ap (λ (ps : List Piece). errors_with g.row.S.Denot c.parts.collected ps) (sym (nothing_left (length c.args.self.now.text.now) c.parts.self.rest.now u c.skip_blank_block-apart.ensures.rest (test_of (length u) 0 z)))
     ∙ c.parts.invariant.errors
 
+pub returns-then-is_empty-clause-starts : goal.returns-then-is_empty-clause-starts
+returns-then-is_empty-clause-starts g c = λ keeping.
+    let u = c.skip_blank_block-apart.new.self.rest.now in
+    let z : (length u == 0) ≡ true = search rules in
+    sym (append-nil c.parts.starts.all.items)
+    ∙ ap (λ l. c.parts.starts.all.items ++ l) (sym (no_start_left (length c.args.self.now.text.now) c.parts.self.rest.now u c.skip_blank_block-apart.ensures.rest (test_of (length u) 0 z)))
+    ∙ c.parts.invariant.starts keeping
+
 pub parts-preserved : goal.parts-preserved
 parts-preserved g c =
     let total = length c.args.self.now.text.now in
@@ -43,6 +53,10 @@ parts-preserved g c =
     let more = pieces_left total rest in
     let put : entries_with g.row.S.Denot g.T.Texts.text c.get_part.new.collected more ≡ entries_with g.row.S.Denot g.T.Texts.text old (piece_of (total - length u) apart u (entry_at u) ∷ more) =
     c.in_ok-get_part.ensures.entries more ∙ ap (λ (n : ℕ). entries_with g.row.S.Denot g.T.Texts.text old (piece_of (n - length u) apart u (entry_at u) ∷ more)) here in
+    let place : c.place.result ≡ total - length u = c.place.ensures.value ∙ ap (λ n. n - length u) here in
+    let start : starts_left total s ≡ c.place.result ∷ starts_left total rest =
+    start_left total s u rest c.parts.invariant.within c.skip_blank_block-apart.ensures.rest (test_some (length u) z) c.in_ok-get_part.ensures.rest less
+    ∙ ap (λ n. n ∷ starts_left total rest) (sym place) in
     let told : errors_with g.row.S.Denot c.get_part.new.collected more ≡ errors_with g.row.S.Denot old (piece_of (total - length u) apart u (entry_at u) ∷ more) =
     c.in_ok-get_part.ensures.errors more ∙ ap (λ (n : ℕ). errors_with g.row.S.Denot old (piece_of (n - length u) apart u (entry_at u) ∷ more)) here in
     record {
@@ -52,6 +66,8 @@ parts-preserved g c =
       within = omega (arith, less, c.skip_blank_block-apart.ensures.advances.onward, c.parts.invariant.within);
       entries = put ∙ ap (λ (ps : List Piece). entries_with g.row.S.Denot g.T.Texts.text old ps) (sym step) ∙ c.parts.invariant.entries;
       errors = told ∙ ap (λ (ps : List Piece). errors_with g.row.S.Denot old ps) (sym step) ∙ c.parts.invariant.errors;
+      keeping = c.push.ensures.keeping ∙ c.parts.invariant.keeping;
+      starts = λ keeping. one_more_start c.parts.starts.all.items _ _ c.place.result (starts_left total s) (starts_left total rest) start (c.parts.invariant.starts keeping) (c.in_ok-push.ensures.kept (c.parts.invariant.keeping ∙ keeping));
     }
 
 pub returns-in_err-get_part-clause-deep : goal.returns-in_err-get_part-clause-deep
