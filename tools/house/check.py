@@ -10,8 +10,8 @@ names; each page that a comment names is there; no line of prose in a page is wi
 docs/style.md leaves out, and no comment of the code, its definitions and its proofs has "behind" for "after"; each call in a
 shell block of a page prints what follows it there; each public call that can fail says how, under `# Errors`; no clause is
 longer than 200 characters, and at most 33 are longer than 120; each file that names the version names the same one, and each
-that lists the codes of findings lists the same ones; the counts of crates and functions in the pages on proofs are those of the
-sources; the figures that a file of results has are those of the pages; and each law, function and clause that a row of
+that lists the codes of findings lists the same ones; crates.txt is read alike in
+Python and in shell; the counts of crates and functions in the pages on proofs are those of the sources; the figures that a file of results has are those of the pages; and each law, function and clause that a row of
 `proved.md` names is in the row's crates.
 
 Prints what isn't so, then how many of these checks passed and failed, and ends with 1 if one failed. The calls of shell
@@ -19,6 +19,7 @@ blocks need a built program, which is `crates/ftl/out/ftl` if no other is named:
 them alone, and `--sources` all other checks, which need no build. `./ftl --unproved` is the script's in any case.
 """
 import argparse
+import os
 import re
 import shlex
 import shutil
@@ -27,6 +28,9 @@ import sys
 import tempfile
 from pathlib import Path
 
+sys.path.insert(0, str(Path(__file__).resolve().parents[1]))
+
+from lib.crates import below, uses
 
 
 def arguments():
@@ -444,24 +448,24 @@ def long_clauses():
         yield f'{long} clauses are longer than {LONG_CLAUSE} characters'
 
 
-def uses():
-    """Each crate of crates.txt with those that it uses, directly or not."""
-    lines = [line.partition('#')[0].strip() for line in (ROOT / 'crates.txt').read_text().split('\n')]
-    named = {line.split()[0].rstrip(':'): line.partition(':')[2].split() for line in lines if line}
-
-    def below(crate):
-        direct = [name for name in named[crate] if name in named]
-        return {*direct}.union(*map(below, direct))
-
-    return {crate: below(crate) for crate in named}
+def other_readers():
+    """What the two readers of crates.txt, in Python and in shell, don't say alike."""
+    named = uses(ROOT)
+    run = subprocess.run(['sh', '-c', '. "$root/tools/lib/crates.sh" && crate_lines && echo / && crates_used ftl'],
+                         env={**os.environ, 'root': str(ROOT)}, capture_output=True, text=True)
+    lines, _, used = run.stdout.partition('/\n')
+    if lines != ''.join(f'{" ".join([name, *libraries])}\n' for name, libraries in named.items()):
+        yield 'tools/lib/crates.sh reads other lines of crates.txt than crates.py'
+    if {*used.split()} != {'ftl', *below('ftl', named)}:
+        yield 'tools/lib/crates.sh finds other crates below `ftl` than crates.py'
 
 
 def wrong_counts():
     """Counts in the pages that the sources don't have."""
-    used = uses()
+    named = uses(ROOT)
     pages = [ROOT / 'docs/inside' / name for name in ('proofs.md', 'proved.md')]
     for crate, count in re.findall(r'^\| `(\w+)` \| (\d+) \|$', pages[0].read_text(), re.M):
-        above = sum(crate in below for below in used.values())
+        above = sum(crate in below(other, named) for other in named)
         if above != int(count):
             yield f'{place_of(pages[0])}: {above} crates use {crate}, and not {count}'
     for counted, files, words in COUNTED:
@@ -520,7 +524,7 @@ def checks():
     """The checks that are asked for."""
     if not ARGUMENTS.calls:
         yield from (wrong_quotes, types_without_examples, wrong_links, wide_prose, wrong_words, wrong_comments,
-                    silent_calls, long_clauses, other_versions, other_codes, wrong_counts, wrong_figures, wrong_rows)
+                    silent_calls, long_clauses, other_versions, other_codes, other_readers, wrong_counts, wrong_figures, wrong_rows)
     if ARGUMENTS.sources:
         return
     if PROGRAM.exists():
