@@ -361,6 +361,7 @@ def wrong_outputs():
             (folder / 'ftl').write_text(SCRIPT.format(script=script, program=program))
             (folder / 'ftl').chmod(0o755)
             shutil.copytree(ROOT / 'examples', folder / 'examples')
+            (folder / 'tools').symlink_to(ROOT / 'tools')
             yield from wrong_calls(page, folder)
 
 
