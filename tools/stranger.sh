@@ -60,6 +60,7 @@ completes() {
         . kozhvadi/share/bash-completion/completions/ftl
         COMP_WORDS=(ftl li) COMP_CWORD=1; _ftl; [ "${COMPREPLY[*]}" = lint ] || exit 1
         COMP_WORDS=(ftl lint --format j) COMP_CWORD=3; _ftl; [ "${COMPREPLY[*]}" = json ] || exit 1
+        COMP_WORDS=(ftl lint --color al) COMP_CWORD=3; _ftl; [ "${COMPREPLY[*]}" = always ] || exit 1
         COMP_WORDS=(ftl lint --ignore cyc) COMP_CWORD=3; _ftl; [ "${COMPREPLY[*]}" = cyclic-reference ]'
 }
 
