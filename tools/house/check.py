@@ -3,16 +3,17 @@
 
     tools/house/check.py [--sources|--calls] [--program PROGRAM] [ROOT]
 
-Each block of code in a page is cut from an example, and each in the doc comment of a public crate from an example or another
-crate that the gate proves or tries, unless its fence is `no_run`: such a block was only tried once. Each public type that
-programs use has a block. Each link leads to a file and a heading that are there, and so does each path in `crates` that a page
-names; each page that a comment names is there; no line of prose in a page is wider than 120 columns; no page has words that
-docs/style.md leaves out, and no comment of the code, its definitions and its proofs has "behind" for "after"; each call in a
-shell block of a page prints what follows it there; each public call that can fail says how, under `# Errors`; no clause is
-longer than 200 characters, and at most 33 are longer than 120; each file that names the version names the same one, and each
-that lists the codes of findings lists the same ones; crates.txt is read alike in
-Python and in shell; the counts of crates and functions in the pages on proofs are those of the sources; the figures that a file of results has are those of the pages; and each law, function and clause that a row of
-`proved.md` names is in the row's crates.
+Each block of code in a page is cut from an example, and each in the doc comment of a public crate from an example or
+another crate that the gate proves or tries, unless its fence is `no_run`: such a block was only tried once. Each public
+type that programs use has a block. Each link leads to a file and a heading that are there, and so does each path in
+`crates` that a page names; each page that a comment names is there; no line of prose in a page is wider than 120 columns;
+no page has words that docs/style.md leaves out, and no comment of the code, its definitions and its proofs has "behind"
+for "after"; each call in a shell block of a page prints what follows it there; each public call that can fail says how,
+under `# Errors`; no clause is longer than 200 characters, and at most 33 are longer than 120; each file that names the
+version names the same one, and each that lists the codes of findings lists the same ones; each place that names the
+version of CLDR names that of tools/cldr.txt; crates.txt is read alike in Python and in shell; the counts of crates and
+functions in the pages on proofs are those of the sources; the figures that a file of results has are those of the pages;
+and each law, function and clause that a row of `proved.md` names is in the row's crates.
 
 Prints what isn't so, then how many of these checks passed and failed, and ends with 1 if one failed. The calls of shell
 blocks need a built program, which is `crates/ftl/out/ftl` if no other is named: without it they are skipped. `--calls` runs
@@ -30,6 +31,7 @@ from pathlib import Path
 
 sys.path.insert(0, str(Path(__file__).resolve().parents[1]))
 
+from lib import cldr
 from lib.crates import below, uses
 
 
@@ -137,6 +139,12 @@ VERSIONS_IF_THERE = {
     'bindings/python/pyproject.toml': r'^version = "([^"]+)"',
     'bindings/python/kozhvadi/__init__.py': r"^__version__ = ['\"]([^'\"]+)",
 }
+
+
+# What names the version of CLDR whose data is here, and the other versions that pages speak of. The changelog has older ones too.
+NAMING_CLDR = ['crates/*/src/*.rt', 'crates/*/specs/*.antt', 'crates/*/CALLING.md', 'tools/*/README.md', 'tools/*/cldr-*/*.txt',
+               'bindings/python/tests/*.py']
+OTHER_CLDR = {'37', '41', '42', '44'}
 
 
 def place_of(path, line=None):
@@ -449,6 +457,25 @@ def long_clauses():
         yield f'{long} clauses are longer than {LONG_CLAUSE} characters'
 
 
+def other_cldr():
+    """Where another version of CLDR is named than tools/cldr.txt names, and data that is not of it."""
+    version = cldr.version(ROOT)
+    paths = {*PAGES, *(path for files in NAMING_CLDR for path in ROOT.glob(files))} - {ROOT / 'CHANGELOG.md'}
+    for path in sorted(paths):
+        if '/cldr-' in str(path) and cldr.data(path.parts[-3], ROOT) != path.parent:
+            continue
+        for number, line in enumerate(path.read_text().split('\n'), 1):
+            for named in re.findall(r'\b(?:CLDR |cldr-)(\d+(?:\.\d+)*)\b', line):
+                if named not in {version, *OTHER_CLDR}:
+                    yield f'{place_of(path, number)}: CLDR {named}, but tools/cldr.txt has {version}'
+    for part in ('plurals', 'numbers', 'languages'):
+        if not cldr.data(part, ROOT).is_dir():
+            yield f'tools/{part}: no folder {cldr.data(part, ROOT).name}'
+    named = re.search(r'"version": "([^"]+)"', (cldr.data('numbers', ROOT) / 'numbers.json').read_text())
+    if not named or named[1] != version:
+        yield f'tools/numbers: numbers.json is not of version {version}'
+
+
 def other_readers():
     """What the two readers of crates.txt, in Python and in shell, don't say alike."""
     named = uses(ROOT)
@@ -525,7 +552,7 @@ def checks():
     """The checks that are asked for."""
     if not ARGUMENTS.calls:
         yield from (wrong_quotes, types_without_examples, wrong_links, wide_prose, wrong_words, wrong_comments,
-                    silent_calls, long_clauses, other_versions, other_codes, other_readers, wrong_counts, wrong_figures, wrong_rows)
+                    silent_calls, long_clauses, other_versions, other_codes, other_cldr, other_readers, wrong_counts, wrong_figures, wrong_rows)
     if ARGUMENTS.sources:
         return
     if PROGRAM.exists():
