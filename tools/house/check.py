@@ -11,9 +11,10 @@ no page has words that docs/style.md leaves out, and no comment of the code, its
 for "after"; each call in a shell block of a page prints what follows it there; each public call that can fail says how,
 under `# Errors`; no clause is longer than 200 characters, and at most 33 are longer than 120; each file that names the
 version names the same one, and each that lists the codes of findings lists the same ones; each place that names the
-version of CLDR names that of tools/cldr.txt; crates.txt is read alike in Python and in shell; the counts of crates and
-functions in the pages on proofs are those of the sources; the figures that a file of results has are those of the pages;
-and each law, function and clause that a row of `proved.md` names is in the row's crates.
+version of CLDR names that of tools/cldr.txt; crates.txt is read alike in Python and in shell; the library for C and the
+packages for Rust and Python have the numbers, structs and calls of its header; the counts of crates and functions in the
+pages on proofs are those of the sources; the figures that a file of results has are those of the pages; and each law,
+function and clause that a row of `proved.md` names is in the row's crates.
 
 Prints what isn't so, then how many of these checks passed and failed, and ends with 1 if one failed. The calls of shell
 blocks need a built program, which is `crates/ftl/out/ftl` if no other is named: without it they are skipped. `--calls` runs
@@ -31,7 +32,7 @@ from pathlib import Path
 
 sys.path.insert(0, str(Path(__file__).resolve().parents[1]))
 
-from lib import cldr
+from lib import c_interface, cldr
 from lib.crates import below, uses
 
 
@@ -488,6 +489,11 @@ def other_readers():
         yield 'tools/lib/crates.sh finds other crates below `ftl` than crates.py'
 
 
+def other_interfaces():
+    """What the library for C and the packages over it don't have as its header has it."""
+    yield from c_interface.differences(ROOT)
+
+
 def wrong_counts():
     """Counts in the pages that the sources don't have."""
     named = uses(ROOT)
@@ -552,7 +558,7 @@ def checks():
     """The checks that are asked for."""
     if not ARGUMENTS.calls:
         yield from (wrong_quotes, types_without_examples, wrong_links, wide_prose, wrong_words, wrong_comments,
-                    silent_calls, long_clauses, other_versions, other_codes, other_cldr, other_readers, wrong_counts, wrong_figures, wrong_rows)
+                    silent_calls, long_clauses, other_versions, other_codes, other_cldr, other_readers, other_interfaces, wrong_counts, wrong_figures, wrong_rows)
     if ARGUMENTS.sources:
         return
     if PROGRAM.exists():
