@@ -558,7 +558,8 @@ def checks():
     """The checks that are asked for."""
     if not ARGUMENTS.calls:
         yield from (wrong_quotes, types_without_examples, wrong_links, wide_prose, wrong_words, wrong_comments,
-                    silent_calls, long_clauses, other_versions, other_codes, other_cldr, other_readers, other_interfaces, wrong_counts, wrong_figures, wrong_rows)
+                    silent_calls, long_clauses, other_versions, other_codes, other_cldr, other_readers, other_interfaces,
+                    wrong_counts, wrong_figures, wrong_rows)
     if ARGUMENTS.sources:
         return
     if PROGRAM.exists():
