@@ -12,6 +12,7 @@ set -eu
 
 root=$(dirname -- "$(readlink -f -- "$0")")
 crate=$root/crates/ftl
+. "$root/tools/lib/crates.sh"
 
 # What proving takes: memory for each crate that is proved at a time, and disk, in GB.
 memory_needed=3
@@ -22,19 +23,9 @@ fail() {
     exit 126
 }
 
-# The crates of the program, a line each: `ftl` and what crates.txt says that it uses.
+# The crates of the program, a line each.
 crates() {
-    awk '
-        { sub(/#.*/, "") }
-        /:/ { split($0, half, ":"); split(half[1], word, " "); uses[word[1]] = half[2] }
-        END { list("ftl") }
-        function list(name, names, count, at) {
-            if (!(name in uses) || name in listed) return
-            listed[name]
-            print name
-            count = split(uses[name], names, " ")
-            for (at = 1; at <= count; at++) list(names[at])
-        }' "$root/crates.txt"
+    crates_used ftl
 }
 
 # why_build NAME FILE SINCE FOLDER..: why the program that the file has must be built: there is none, or a source in these

@@ -6,10 +6,11 @@
 set -eu
 root=$(cd "$(dirname "$0")/.." && pwd)
 . "$root/tools/kit.sh"
+. "$root/tools/lib/crates.sh"
 cd "$root/crates/fluent_c"
 mkdir -p out
 set -- --crate-name fluent_c --crate-type staticlib -o out/libfluent_c.a
-for name in std $(sed -n 's/^fluent_c staticlib: //p' "$root/crates.txt"); do
+for name in std $(crate_libraries fluent_c); do
     folder=$root/crates/$name/out/rlib
     if [ ! -d "$root/crates/$name" ]; then
         folder=$kit/rlibs

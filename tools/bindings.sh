@@ -7,18 +7,11 @@
 set -uo pipefail
 cd "$(dirname "$0")/.."
 
-passed=0 failed=0 skipped=0
+. tools/lib/steps.sh
 
 # Runs a command that needs these programs, or says which of them is missing.
 run_with() {
-    local program
-    for program in $1; do
-        if ! command -v "$program" >/dev/null; then
-            echo "== ${*:2}: skipped, there is no $program"
-            ((skipped += 1))
-            return
-        fi
-    done
+    is_possible "== ${*:2}" "$1" || return 0
     echo "== ${*:2}"
     if "${@:2}"; then
         ((passed += 1))
@@ -46,6 +39,4 @@ if ((failed + skipped == 0)); then
     run_with cc bench/bindings/refused.sh
 fi
 
-((skipped > 0)) && echo "$skipped skipped"
-echo "$passed passed, $failed failed"
-((failed == 0))
+counts

@@ -31,7 +31,8 @@ from concurrent.futures import ThreadPoolExecutor
 from dataclasses import dataclass
 from pathlib import Path
 
-from trying.edited import ROOT, edits_of, texts_with
+from lib.crates import lines as lines_of_crates
+from trying.edited import edits_of, texts_with
 from trying.rooms import Rooms
 from trying.verdicts import GOAL, REFUSED, judged
 
@@ -62,12 +63,6 @@ class Try:
 
 def is_asked_for(edit, names):
     return not names or edit.crate in names or edit.file in map(Path.absolute, map(Path, names))
-
-
-def lines_of_crates():
-    """The line of each crate in crates.txt."""
-    lines = [line for line in (ROOT / 'crates.txt').read_text().split('\n') if line and not line.startswith('#')]
-    return {line.split()[0].rstrip(':'): line for line in lines}
 
 
 def rounds(edits, is_together):

@@ -6,36 +6,25 @@ set -uo pipefail
 root=$(cd "$(dirname "$0")/.." && pwd)
 . "$root/tools/kit.sh" || exit
 
-passed=0 failed=0
-room=$(mktemp -d)
-trap 'rm -rf "$room"' EXIT
-top="$room/a checkout"
+. "$root/tools/lib/steps.sh"
+scratch=$(mktemp -d)
+trap 'rm -rf "$scratch"' EXIT
+room=$scratch/elsewhere log=$scratch/log # of the steps
+mkdir "$room"
+top="$scratch/a checkout"
 proved=$top/crates/ftl/out/ftl
 program=$top/crates/ftl/out/unproved/ftl
 unproved='ftl: unproved: this program was built without its proofs'
 missing='and there is no'
 built='so it is built first, once, in about four minutes'
 
-# Runs a step, in a folder of its own.
-step() {
-    mkdir -p "$room/elsewhere"
-    if (cd "$room/elsewhere" && "${@:2}") >"$room/log" 2>&1; then
-        echo "$1: passed"
-        ((passed += 1))
-    else
-        echo "$1: failed"
-        cat "$room/log"
-        ((failed += 1))
-    fi
-}
-
 # ends STATUS STDOUT STDERR WORD..: whether the script ends so on these words. The texts are without their last line end.
 # `script` is another path of the script, and `commands` the only folder of commands.
 ends() {
     local status=0
-    echo in | PATH=${commands:-$PATH} "${script:-$top/ftl}" "${@:4}" >"$room/stdout" 2>"$room/stderr" || status=$?
-    diff <(echo "$1") <(echo "$status") && diff <(echo "$2") <(echo "$(<"$room/stdout")") &&
-        diff <(echo "$3") <(echo "$(<"$room/stderr")")
+    echo in | PATH=${commands:-$PATH} "${script:-$top/ftl}" "${@:4}" >"$scratch/stdout" 2>"$scratch/stderr" || status=$?
+    diff <(echo "$1") <(echo "$status") && diff <(echo "$2") <(echo "$(<"$scratch/stdout")") &&
+        diff <(echo "$3") <(echo "$(<"$scratch/stderr")")
 }
 
 # What the program prints on these words.
@@ -45,8 +34,9 @@ printed() {
 
 # A repository with a program, one that is proved, and a build of another.
 make_repository() {
-    mkdir -p "$top/crates/ftl/src" "$top/crates/ftl/out" "$top/crates/below/specs" "$top/tools"
+    mkdir -p "$top/crates/ftl/src" "$top/crates/ftl/out" "$top/crates/below/specs" "$top/tools/lib"
     cp "$root/ftl" "$top"
+    cp "$root/tools/lib/crates.sh" "$top/tools/lib"
     printf 'ftl: below\nbelow:\n' >"$top/crates.txt"
     touch "$top/crates/ftl/src/main.rt" "$top/crates/below/specs/Lib.antt"
     find "$top" -exec touch -d '2 hours ago' {} +
@@ -64,11 +54,11 @@ PYTHON
 
 # A folder of the commands that the script uses, without the one that is named.
 commands_without() {
-    mkdir "$room/without $1"
+    mkdir "$scratch/without $1"
     for command in rt python3 bash sh awk cat date df dirname find grep head kill mktemp nproc readlink rm sed sleep wc; do
-        [[ $command == "$1" ]] || ln -s "$(type -P "$command")" "$room/without $1"
+        [[ $command == "$1" ]] || ln -s "$(type -P "$command")" "$scratch/without $1"
     done
-    echo "$room/without $1"
+    echo "$scratch/without $1"
 }
 
 without_rt() {
@@ -78,7 +68,7 @@ without_rt() {
 }
 
 gate_without_rt() {
-    commands="$room/without rt" script=$root/tools/test.sh
+    commands="$scratch/without rt" script=$root/tools/test.sh
     ends 126 '' "$script: there is no rt, the command of the toolchain, on the path: README.md, 'Set up'"
 }
 
@@ -143,5 +133,4 @@ step 'it builds the unproved program again if the code is younger' younger
 step 'two builds at once are both right' two_at_once
 step 'the unproved program is never taken for the proved one' no_build
 step 'it builds the program of this repository' of_this_repository
-echo "$passed passed, $failed failed"
-((failed == 0))
+counts

@@ -4,28 +4,14 @@
 set -uo pipefail
 root=$(cd "$(dirname "$0")/.." && pwd)
 
-passed=0 failed=0 skipped=0
+. "$root/tools/lib/steps.sh"
 room=$(mktemp -d)
+log=$room/log
 trap 'rm -rf "$room"' EXIT
 
 # Runs a step that needs these programs, or says which of them is missing.
-step() {
-    local program
-    for program in $2; do
-        if ! command -v "$program" >/dev/null; then
-            echo "$1: skipped, there is no $program"
-            ((skipped += 1))
-            return
-        fi
-    done
-    if (cd "$room" && "${@:3}") >"$room/log" 2>&1; then
-        echo "$1: passed"
-        ((passed += 1))
-    else
-        echo "$1: failed"
-        cat "$room/log"
-        ((failed += 1))
-    fi
+step_with() {
+    is_possible "$2" "$1" && step "${@:2}"
 }
 
 same_twice() {
@@ -74,6 +60,7 @@ completes() {
         . kozhvadi/share/bash-completion/completions/ftl
         COMP_WORDS=(ftl li) COMP_CWORD=1; _ftl; [ "${COMPREPLY[*]}" = lint ] || exit 1
         COMP_WORDS=(ftl lint --format j) COMP_CWORD=3; _ftl; [ "${COMPREPLY[*]}" = json ] || exit 1
+        COMP_WORDS=(ftl lint --color al) COMP_CWORD=3; _ftl; [ "${COMPREPLY[*]}" = always ] || exit 1
         COMP_WORDS=(ftl lint --ignore cyc) COMP_CWORD=3; _ftl; [ "${COMPREPLY[*]}" = cyclic-reference ]'
 }
 
@@ -163,20 +150,18 @@ RUST
 }
 
 version=$("$root/crates/ftl/out/ftl" --version | cut -d' ' -f2)
-step 'two releases are the same' 'cc ar python3 tar gzip' same_twice
-step 'the release unpacks, and its sums hold' tar unpacks
-step 'ftl answers' tar answers
-step 'the man page and the completions have each command and option' tar man_page_lists_commands
-step 'bash completes' bash completes
-step 'it installs and is removed' tar installs
-step 'a damaged release is not installed' tar damage_is_noticed
-step 'the links of its pages lead somewhere' python3 links_lead_somewhere
-step 'a C program links it by pkg-config, and runs' 'cc pkg-config' c_program
-step 'the shared library gives out the header alone' nm exports_the_header_alone
-step 'pip installs the wheel, and a program uses it' 'python3' python_program
-step 'its language server and its playground begin' 'python3' python_tools
-step 'cargo builds a program over the package' cargo rust_program
+step_with 'cc ar python3 tar gzip' 'two releases are the same' same_twice
+step_with tar 'the release unpacks, and its sums hold' unpacks
+step_with tar 'ftl answers' answers
+step_with tar 'the man page and the completions have each command and option' man_page_lists_commands
+step_with bash 'bash completes' completes
+step_with tar 'it installs and is removed' installs
+step_with tar 'a damaged release is not installed' damage_is_noticed
+step_with python3 'the links of its pages lead somewhere' links_lead_somewhere
+step_with 'cc pkg-config' 'a C program links it by pkg-config, and runs' c_program
+step_with nm 'the shared library gives out the header alone' exports_the_header_alone
+step_with python3 'pip installs the wheel, and a program uses it' python_program
+step_with python3 'its language server and its playground begin' python_tools
+step_with cargo 'cargo builds a program over the package' rust_program
 
-((skipped > 0)) && echo "$skipped skipped"
-echo "$passed passed, $failed failed"
-((failed == 0))
+counts

@@ -9,7 +9,9 @@ set -uo pipefail
 cd "$(dirname "$0")/.." || exit
 . tools/kit.sh || exit
 
-passed=0 failed=0 skipped=0 building=
+. tools/lib/steps.sh
+
+building=
 log=$(mktemp)
 trap 'rm -f "$log" "$log.library"; [[ -z $building ]] || kill "$building"' EXIT
 
@@ -30,19 +32,9 @@ count() {
     fi
 }
 
-# Runs a command that needs a program, or says that it is missing.
+# Runs a command that needs these programs, or says which of them is missing.
 count_with() {
-    if command -v "$1" >/dev/null; then
-        count "${@:2}"
-    else
-        skip "${*:2}" "there is no $1"
-    fi
-}
-
-# skip STAGE WHY
-skip() {
-    echo "== $1: skipped, $2"
-    ((skipped += 1))
+    is_possible "== ${*:2}" "$1" && count "${@:2}"
 }
 
 # Whether each file of the crates is in the toolchain's layout, as one check.
@@ -89,9 +81,9 @@ quick() {
     building=
     count unproved_library "$built"
     count tools/bindings.sh "$PWD/crates/fluent_c/out/unproved"
-    skip 'rt ci' 'since it proves'
-    skip tools/more_rows.sh 'since it takes four minutes more'
-    skip tools/stranger.sh 'since it makes a release'
+    skip '== rt ci' 'since it proves'
+    skip '== tools/more_rows.sh' 'since it takes four minutes more'
+    skip '== tools/stranger.sh' 'since it makes a release'
 }
 
 # Proves everything, and runs all tests.
@@ -112,7 +104,7 @@ gate() {
     else
         for stage in tools/script.sh 'the calls of pages' tools/rows.py tools/numbers/program.py tools/more_rows.sh tools/bindings.sh \
             tools/stranger.sh; do
-            skip "$stage" 'since rt ci failed'
+            skip "== $stage" 'since rt ci failed'
         done
     fi
 }
@@ -126,7 +118,5 @@ case $* in
     ;;
 esac
 
-((skipped > 0)) && echo "$skipped skipped"
 [[ $* == --quick ]] && echo 'nothing was proved: tools/test.sh proves everything'
-echo "$passed passed, $failed failed"
-((failed == 0))
+counts

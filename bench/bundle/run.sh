@@ -7,14 +7,13 @@
 #   run.sh VENDOR [SOURCE]
 #
 # VENDOR is a folder of vendored crates with fluent-bundle, unic-langid and what these stand on, and SOURCE a Fluent source without
-# damage. Our half is the program in ours/, which is proved and built for it. It needs rt and cargo, and no network.
+# damage. Our half is the program in ours/, which is proved and built for it. It needs rt, python3 and cargo, and no network.
 set -eu
 [ $# -ge 1 ] || { sed -n '2,11s/^# \{0,1\}//p' "$0" >&2; exit 2; }
 here=$(cd "$(dirname "$0")" && pwd)
 root=$(cd "$here/../.." && pwd)
 vendor=$(cd "$1" && pwd)
 . "$root/tools/kit.sh"
-. "$root/bench/scratch.sh"
 built=$(mktemp -d)
 trap 'rm -rf "$built"' EXIT
 [ $# -eq 1 ] || cp "$2" "$built/source.ftl"
@@ -22,7 +21,7 @@ cp -R "$here/Cargo.toml" "$here/src" "$built"
 cp "$here/../syntax/src/clock.rs" "$built/src"
 (cd "$built" && cargo build --quiet --release --offline --target-dir target \
     --config 'source.crates-io.replace-with="vendor"' --config "source.vendor.directory='$vendor'")
-scratch_crate "$built/scratch" 'bench_bundle: fluent_ast fluent_bundle anyhow' "$here/ours"
+python3 -B "$root/tools/lib/scratch.py" "$built/scratch" 'bench_bundle: fluent_ast fluent_bundle anyhow' "$here/ours"
 crate=$built/scratch/crates/bench_bundle
 
 # both MODE FILE..: what ours and the Rust crate's took, and the bytes of their texts, a line a file.

@@ -8,6 +8,6 @@ root=$(cd "$here/../.." && pwd)
 built=$(mktemp -d)
 trap 'rm -rf "$built"' EXIT
 # Languages without a script and a region of their own, the first 200.
-awk '$2 == "-" && $3 == "-" { print $1 }' "$root"/tools/languages/cldr-*/likely.txt | head -n 200 >"$built/languages"
+awk '$2 == "-" && $3 == "-" { print $1 }' "$root/tools/languages/cldr-$(cat "$root/tools/cldr.txt")/likely.txt" | head -n 200 >"$built/languages"
 cc -O2 -Wall -Wextra -I "$header" -o "$built/run" "$here/languages.c" -L "$library" -lfluent_c -L "$kit" -llibc_c
 "$built/run" "$built/languages"

@@ -3,22 +3,25 @@
 
     tools/house/check.py [--sources|--calls] [--program PROGRAM] [ROOT]
 
-Each block of code in a page is cut from an example, and each in the doc comment of a public crate from an example or another
-crate that the gate proves or tries, unless its fence is `no_run`: such a block was only tried once. Each public type that
-programs use has a block. Each link leads to a file and a heading that are there, and so does each path in `crates` that a page
-names; each page that a comment names is there; no line of prose in a page is wider than 120 columns; no page has words that
-docs/style.md leaves out, and no comment of the code, its definitions and its proofs has "behind" for "after"; each call in a
-shell block of a page prints what follows it there; each public call that can fail says how, under `# Errors`; no clause is
-longer than 200 characters, and at most 33 are longer than 120; each file that names the version names the same one, and each
-that lists the codes of findings lists the same ones; the counts of crates and functions in the pages on proofs are those of the
-sources; the figures that a file of results has are those of the pages; and each law, function and clause that a row of
-`proved.md` names is in the row's crates.
+Each block of code in a page is cut from an example, and each in the doc comment of a public crate from an example or
+another crate that the gate proves or tries, unless its fence is `no_run`: such a block was only tried once. Each public
+type that programs use has a block. Each link leads to a file and a heading that are there, and so does each path in
+`crates` that a page names; each page that a comment names is there; no line of prose in a page is wider than 120 columns;
+no page has words that docs/style.md leaves out, and no comment of the code, its definitions and its proofs has "behind"
+for "after"; each call in a shell block of a page prints what follows it there; each public call that can fail says how,
+under `# Errors`; no clause is longer than 200 characters, and at most 33 are longer than 120; each file that names the
+version names the same one, and each that lists the codes of findings lists the same ones; each place that names the
+version of CLDR names that of tools/cldr.txt; crates.txt is read alike in Python and in shell; the library for C and the
+packages for Rust and Python have the numbers, structs and calls of its header; the counts of crates and functions in the
+pages on proofs are those of the sources; the figures that a file of results has are those of the pages; and each law,
+function and clause that a row of `proved.md` names is in the row's crates.
 
 Prints what isn't so, then how many of these checks passed and failed, and ends with 1 if one failed. The calls of shell
 blocks need a built program, which is `crates/ftl/out/ftl` if no other is named: without it they are skipped. `--calls` runs
 them alone, and `--sources` all other checks, which need no build. `./ftl --unproved` is the script's in any case.
 """
 import argparse
+import os
 import re
 import shlex
 import shutil
@@ -27,6 +30,10 @@ import sys
 import tempfile
 from pathlib import Path
 
+sys.path.insert(0, str(Path(__file__).resolve().parents[1]))
+
+from lib import c_interface, cldr
+from lib.crates import below, uses
 
 
 def arguments():
@@ -133,6 +140,12 @@ VERSIONS_IF_THERE = {
     'bindings/python/pyproject.toml': r'^version = "([^"]+)"',
     'bindings/python/kozhvadi/__init__.py': r"^__version__ = ['\"]([^'\"]+)",
 }
+
+
+# What names the version of CLDR whose data is here, and the other versions that pages speak of. The changelog has older ones too.
+NAMING_CLDR = ['crates/*/src/*.rt', 'crates/*/specs/*.antt', 'crates/*/CALLING.md', 'tools/*/README.md', 'tools/*/cldr-*/*.txt',
+               'bindings/python/tests/*.py']
+OTHER_CLDR = {'37', '41', '42', '44'}
 
 
 def place_of(path, line=None):
@@ -357,6 +370,7 @@ def wrong_outputs():
             (folder / 'ftl').write_text(SCRIPT.format(script=script, program=program))
             (folder / 'ftl').chmod(0o755)
             shutil.copytree(ROOT / 'examples', folder / 'examples')
+            (folder / 'tools').symlink_to(ROOT / 'tools')
             yield from wrong_calls(page, folder)
 
 
@@ -444,24 +458,48 @@ def long_clauses():
         yield f'{long} clauses are longer than {LONG_CLAUSE} characters'
 
 
-def uses():
-    """Each crate of crates.txt with those that it uses, directly or not."""
-    lines = [line.partition('#')[0].strip() for line in (ROOT / 'crates.txt').read_text().split('\n')]
-    named = {line.split()[0].rstrip(':'): line.partition(':')[2].split() for line in lines if line}
+def other_cldr():
+    """Where another version of CLDR is named than tools/cldr.txt names, and data that is not of it."""
+    version = cldr.version(ROOT)
+    paths = {*PAGES, *(path for files in NAMING_CLDR for path in ROOT.glob(files))} - {ROOT / 'CHANGELOG.md'}
+    for path in sorted(paths):
+        if '/cldr-' in str(path) and cldr.data(path.parts[-3], ROOT) != path.parent:
+            continue
+        for number, line in enumerate(path.read_text().split('\n'), 1):
+            for named in re.findall(r'\b(?:CLDR |cldr-)(\d+(?:\.\d+)*)\b', line):
+                if named not in {version, *OTHER_CLDR}:
+                    yield f'{place_of(path, number)}: CLDR {named}, but tools/cldr.txt has {version}'
+    for part in ('plurals', 'numbers', 'languages'):
+        if not cldr.data(part, ROOT).is_dir():
+            yield f'tools/{part}: no folder {cldr.data(part, ROOT).name}'
+    named = re.search(r'"version": "([^"]+)"', (cldr.data('numbers', ROOT) / 'numbers.json').read_text())
+    if not named or named[1] != version:
+        yield f'tools/numbers: numbers.json is not of version {version}'
 
-    def below(crate):
-        direct = [name for name in named[crate] if name in named]
-        return {*direct}.union(*map(below, direct))
 
-    return {crate: below(crate) for crate in named}
+def other_readers():
+    """What the two readers of crates.txt, in Python and in shell, don't say alike."""
+    named = uses(ROOT)
+    run = subprocess.run(['sh', '-c', '. "$root/tools/lib/crates.sh" && crate_lines && echo / && crates_used ftl'],
+                         env={**os.environ, 'root': str(ROOT)}, capture_output=True, text=True)
+    lines, _, used = run.stdout.partition('/\n')
+    if lines != ''.join(f'{" ".join([name, *libraries])}\n' for name, libraries in named.items()):
+        yield 'tools/lib/crates.sh reads other lines of crates.txt than crates.py'
+    if {*used.split()} != {'ftl', *below('ftl', named)}:
+        yield 'tools/lib/crates.sh finds other crates below `ftl` than crates.py'
+
+
+def other_interfaces():
+    """What the library for C and the packages over it don't have as its header has it."""
+    yield from c_interface.differences(ROOT)
 
 
 def wrong_counts():
     """Counts in the pages that the sources don't have."""
-    used = uses()
+    named = uses(ROOT)
     pages = [ROOT / 'docs/inside' / name for name in ('proofs.md', 'proved.md')]
     for crate, count in re.findall(r'^\| `(\w+)` \| (\d+) \|$', pages[0].read_text(), re.M):
-        above = sum(crate in below for below in used.values())
+        above = sum(crate in below(other, named) for other in named)
         if above != int(count):
             yield f'{place_of(pages[0])}: {above} crates use {crate}, and not {count}'
     for counted, files, words in COUNTED:
@@ -520,7 +558,8 @@ def checks():
     """The checks that are asked for."""
     if not ARGUMENTS.calls:
         yield from (wrong_quotes, types_without_examples, wrong_links, wide_prose, wrong_words, wrong_comments,
-                    silent_calls, long_clauses, other_versions, other_codes, wrong_counts, wrong_figures, wrong_rows)
+                    silent_calls, long_clauses, other_versions, other_codes, other_cldr, other_readers, other_interfaces,
+                    wrong_counts, wrong_figures, wrong_rows)
     if ARGUMENTS.sources:
         return
     if PROGRAM.exists():

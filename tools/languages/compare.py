@@ -9,16 +9,17 @@ import sys
 from pathlib import Path
 
 HERE = Path(__file__).resolve().parent
-sys.path.insert(0, str(HERE.parents[1] / 'bindings/python'))
+sys.path[:0] = [str(HERE.parents[1] / 'bindings/python'), str(HERE.parent)]
 
 from cases import cases  # noqa: E402
 from kozhvadi import negotiate_languages  # noqa: E402
+from lib.cldr import data as data_of  # noqa: E402
 from model import Model  # noqa: E402
 
 
 def main():
     count, seed = ([int(word) for word in sys.argv[1:]] + [20000, 1][len(sys.argv) - 1:])[:2]
-    data = sorted(HERE.glob('cldr-*'))[-1]
+    data = data_of('languages')
     model, differ = Model(data), 0
     for strategy, requested, available, default in cases(data, random.Random(seed), count):
         told = negotiate_languages(requested, available, default, strategy)

@@ -11,10 +11,11 @@ from collections import Counter
 from pathlib import Path
 
 HERE = Path(__file__).resolve().parent
-sys.path.insert(0, str(HERE.parents[1] / 'bindings/python'))
+sys.path[:0] = [str(HERE.parents[1] / 'bindings/python'), str(HERE.parent)]
 
 from cases import cases  # noqa: E402
 from kozhvadi import negotiate_languages  # noqa: E402
+from lib.cldr import data as data_of  # noqa: E402
 from model import Model, parse  # noqa: E402
 
 
@@ -42,7 +43,7 @@ def kind_of(model, requested, ours, theirs):
 def main():
     program = sys.argv[1]
     count, seed = ([int(word) for word in sys.argv[2:]] + [20000, 1][len(sys.argv) - 2:])[:2]
-    data = sorted(HERE.glob('cldr-*'))[-1]
+    data = data_of('languages')
     model, kinds, examples = Model(data), Counter(), {}
     tried = [(known(requested), known(available)) for _, requested, available, _ in cases(data, random.Random(seed), count)]
     tried = [case for case in tried if all(case)]

@@ -1,5 +1,5 @@
 #!/usr/bin/env python3
-"""Holds the likely scripts and regions of the newest folder cldr-* against Intl's: with_intl.py [LANGUAGE..].
+"""Holds the likely scripts and regions of the folder cldr-VERSION against Intl's: with_intl.py [LANGUAGE..].
 
 Each language of the folder, or each one that is named, is tried with each script and with each region that Intl knows. It needs
 node, of the same CLDR. Prints how many tags differ; those of the region `ZZ`, unknown, which Intl leaves out, are counted by
@@ -10,9 +10,12 @@ import subprocess
 import sys
 from pathlib import Path
 
-from model import Model, parse
-
 HERE = Path(__file__).resolve().parent
+sys.path.insert(0, str(HERE.parent))
+
+from lib.cldr import data as data_of  # noqa: E402
+from model import Model, parse  # noqa: E402
+
 # Prints the version of CLDR, and then each tag with the maximized one.
 PROGRAM = '''
 const letters = [...'abcdefghijklmnopqrstuvwxyz'];
@@ -29,7 +32,7 @@ for (const language of %s)
 
 
 def main():
-    data = sorted(HERE.glob('cldr-*'))[-1]
+    data = data_of('languages')
     model = Model(data)
     languages = sys.argv[1:] or sorted({language for language, _, _ in model.likely})
     told = subprocess.run(['node', '-e', PROGRAM % json.dumps(languages)], capture_output=True, text=True, check=True)

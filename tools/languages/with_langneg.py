@@ -14,10 +14,11 @@ from collections import Counter
 from pathlib import Path
 
 HERE = Path(__file__).resolve().parent
-sys.path.insert(0, str(HERE.parents[1] / 'bindings/python'))
+sys.path[:0] = [str(HERE.parents[1] / 'bindings/python'), str(HERE.parent)]
 
 from cases import cases  # noqa: E402
 from kozhvadi import negotiate_languages  # noqa: E402
+from lib.cldr import data as data_of  # noqa: E402
 from model import Model, covers, fit, parse  # noqa: E402
 
 RULES = 'parser und data codes script groups serbian default'.split()
@@ -120,7 +121,7 @@ def smallest(mixed, case, theirs):
 def main():
     program = sys.argv[1]
     count, seed = ([int(word) for word in sys.argv[2:]] + [20000, 1][len(sys.argv) - 2:])[:2]
-    data = sorted(HERE.glob('cldr-*'))[-1]
+    data = data_of('languages')
     langneg, models, sets, examples, unlike = Langneg(program), {}, Counter(), {}, 0
 
     def mixed(rules):

@@ -14,9 +14,13 @@ import sys
 from pathlib import Path
 from typing import Iterator
 
+sys.path.insert(0, str(Path(__file__).resolve().parents[1]))
+
+from lib.cldr import data as data_of
+
 ROOT = Path(sys.argv[1] if len(sys.argv) > 1 else Path(__file__).parents[2])
 SPECS = ROOT / 'crates/fluent_numerals/specs'
-DATA = json.loads((ROOT / 'tools/numbers/cldr-48/numbers.json').read_text(encoding='utf-8'))
+DATA = json.loads((data_of('numbers', ROOT) / 'numbers.json').read_text(encoding='utf-8'))
 PIECES = {'Minus': 'minus', 'PercentSign': 'percent', 'Currency': 'currency', 'CurrencyBeforeDigits': 'currency before digits',
           'CurrencyAfterDigits': 'currency after digits'}
 TEXT = r'"([^"]*)"'

@@ -19,12 +19,15 @@ import tempfile
 from pathlib import Path
 from typing import Iterator
 
+HERE = Path(__file__).parent
+sys.path.insert(0, str(HERE.parent))
+
+from lib.cldr import data as data_of
 from locales import Locales
 from program import TOP, answers
 from rows import by_intl, codes_of, number, options
 from written import Request, source, told_of
 
-HERE = Path(__file__).parent
 NUMBERS = ["0", "1", "-1", "999", "-1000", "9999", "10000", "99999.9999", "-0.5", "1234567.891", "18446744073709551615"]
 STYLES = ["", "style=percent", "style=currency;currency=EUR;currencyDisplay=code"]
 NO_RULES = "unknown locale"
@@ -71,7 +74,7 @@ def is_known(difference: str) -> bool:
 
 
 def main(program: str = str(TOP / "crates/ftl/out/ftl"), count: str = "1000", *tags: str) -> None:
-    data = json.loads(max(HERE.glob("cldr-*")).joinpath("numbers.json").read_text(encoding="utf-8"))
+    data = json.loads(data_of("numbers").joinpath("numbers.json").read_text(encoding="utf-8"))
     passed, failed, known, left_out = 0, 0, 0, []
     for tag, requests in requests_by_tag(data, int(count)).items():
         if tags and tag not in tags:

@@ -14,9 +14,13 @@ import xml.etree.ElementTree as xml
 from pathlib import Path
 from typing import Iterator
 
+sys.path.insert(0, str(Path(__file__).resolve().parents[1]))
+
+from lib.cldr import data as data_of
+
 ROOT = Path(sys.argv[1] if len(sys.argv) > 1 else Path(__file__).parents[2])
 SPECS = ROOT / 'crates/fluent_plurals/specs'
-DATA = ROOT / 'tools/plurals/cldr-48'
+DATA = data_of('plurals', ROOT)
 KINDS = {'Cardinal': 'plurals.xml', 'Ordinal': 'ordinals.xml'}
 
 # Rules, as pairs of a category and a condition in CLDR's words.

@@ -11,9 +11,11 @@ import sys
 from pathlib import Path
 from typing import NamedTuple
 
-# What a value of an option or an argument may be completed to, by its name in the help. Codes have a section of it.
+# The values that are files, by their names in the help.
 FILES = {'FILE', 'PATH'}
-CHOICES = {'FORMAT': ('text', 'line', 'json', 'github')}
+# A choice, which may have a remark, and the choices of an option, which end its help with the usual one.
+CHOICE = r'[a-z]+(?: \([^)]*\))?'
+CHOICES = re.compile(rf'((?:{CHOICE}, )*{CHOICE} or {CHOICE}) \[default: ([a-z]+)\]$')
 
 
 class Option(NamedTuple):
@@ -42,13 +44,25 @@ def codes(text: str) -> tuple[str, ...]:
     return tuple(code.strip(' ,') for line in section(text, 'Codes') for code in line.split())
 
 
+def choices(about: str) -> tuple[str, ...]:
+    """The choices of an option by its help, such as `Write it as text or json [default: text]`."""
+    listed = CHOICES.search(about)
+    if not listed:
+        if '[default: ' in about:
+            raise SystemExit(f'help.py: no choices before the usual one: {about!r}')
+        return ()
+    found = tuple(re.split(r', | or ', re.sub(r' \([^)]*\)', '', listed[1])))
+    if listed[2] not in found:
+        raise SystemExit(f'help.py: the usual choice isn\'t one: {about!r}')
+    return found
+
+
 def option(line: str, text: str) -> Option:
     found = re.fullmatch(r' +(?:-(\w), |  +)?--([\w-]+)(?: <(\w+(?:=\w+)?)>)?(?: {2,}(.*))?', line)
     if not found:
         raise SystemExit(f'help.py: no option: {line!r}')
-    value = found[3] or ''
-    choices = codes(text) if value == 'CODE' else CHOICES.get(value, ())
-    return Option(found[1] or '', found[2], value, found[4] or '', choices)
+    value, about = found[3] or '', found[4] or ''
+    return Option(found[1] or '', found[2], value, about, codes(text) if value == 'CODE' else choices(about))
 
 
 def pair(line: str) -> tuple[str, str]:

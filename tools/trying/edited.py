@@ -3,7 +3,8 @@ import re
 from dataclasses import dataclass
 from pathlib import Path
 
-ROOT = Path(__file__).resolve().parents[2]
+from lib.crates import ROOT
+
 IMPL = re.compile(r'(?:unsafe )?impl(?:<.*?>)? (?:\w+::)*(\w+)')
 FUNCTION = re.compile(r'( *)(?:pub(?:\([^)]*\))? )?(?:const )?(?:unsafe )?(?:extern "C" )?fn (\w+)')
 

@@ -9,7 +9,7 @@ from collections.abc import Iterable, Mapping
 from . import _library as c
 from ._values import encoded
 
-_STRATEGIES = {"filtering": 0, "matching": 1, "lookup": 2}
+_STRATEGIES = {"filtering": c.FILTERING, "matching": c.MATCHING, "lookup": c.LOOKUP}
 
 # The scripts that modifiers of POSIX names stand for.
 _SCRIPTS = {"latin": "Latn", "cyrillic": "Cyrl", "devanagari": "Deva"}

@@ -27,6 +27,10 @@ INTEGER = 2
 UNSIGNED = 3
 NO_VALUE = 4
 
+FILTERING = 0
+MATCHING = 1
+LOOKUP = 2
+
 # The budget of the stack that fluent_bundle_new has.
 THREAD_STACK = 1_572_864
 

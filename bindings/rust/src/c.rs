@@ -15,6 +15,10 @@ pub const FLUENT_INTEGER: u32 = 2;
 pub const FLUENT_UNSIGNED: u32 = 3;
 pub const FLUENT_NO_VALUE: u32 = 4;
 
+pub const FLUENT_FILTERING: u32 = 0;
+pub const FLUENT_MATCHING: u32 = 1;
+pub const FLUENT_LOOKUP: u32 = 2;
+
 #[repr(C)]
 pub struct FluentSource {
     pub text: *const u8,
@@ -172,5 +176,41 @@ extern "C" {
     ) -> u32;
     pub fn fluent_bundle_errors(bundle: *mut FluentBundle, report: *mut FluentText) -> u32;
     pub fn fluent_bundle_free(bundle: *mut FluentBundle);
-    pub fn fluent_free_text(text: *mut FluentText);
+    pub fn fluent_free_text(made: *mut FluentText);
+}
+
+#[cfg(test)]
+mod tests {
+    use super::*;
+    use std::mem::{offset_of, size_of};
+
+    /// The lines of the test for C that assert the sizes of these structs, and where their fields are.
+    macro_rules! layout {
+        ($($name:ident { $($field:ident)* })*) => {
+            vec![$(
+                format!("SIZE({}, {});", stringify!($name), size_of::<$name>()),
+                $(format!("AT({}, {}, {});", stringify!($name), stringify!($field), offset_of!($name, $field)),)*
+            )*]
+        };
+    }
+
+    #[test]
+    fn sizes_and_places() {
+        let path = concat!(env!("CARGO_MANIFEST_DIR"), "/../c/tests/layout.c");
+        let text = std::fs::read_to_string(path).expect("the test for C is there");
+        let asserted: Vec<&str> =
+            text.lines().filter(|line| line.starts_with("SIZE(") || line.starts_with("AT(")).collect();
+        let ours = layout! {
+            FluentCounts { messages terms comments junk errors }
+            FluentText { held bytes len owner }
+            FluentSource { text len }
+            FluentPlace { line column }
+            FluentFile { name name_len text text_len }
+            FluentLintOptions { functions function_count locale locale_len notes strict }
+            FluentBundle { held sources read desk }
+            FluentBundleOptions { size locale locale_len stack isolating overriding plain_numbers }
+            FluentArgument { name name_len text text_len integer unsigned_integer kind }
+        };
+        assert_eq!(ours, asserted);
+    }
 }

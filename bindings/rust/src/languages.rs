@@ -6,11 +6,11 @@ use crate::c;
 #[derive(Clone, Copy, Debug, PartialEq, Eq)]
 pub enum NegotiationStrategy {
     /// All that suit any of the user's languages: a chain to fall back along.
-    Filtering,
+    Filtering = c::FLUENT_FILTERING as isize,
     /// The best one for each of the user's languages.
-    Matching,
+    Matching = c::FLUENT_MATCHING as isize,
     /// One: the best for the first of the user's languages that any suits.
-    Lookup,
+    Lookup = c::FLUENT_LOOKUP as isize,
 }
 
 /// The languages of a program that are used for those that a user asks for, the best first.
