@@ -17,15 +17,21 @@ use fluent_text::{Slice, Slices};
 use std::alloc::Global;
 
 /// The tree of a source without junk, and where its entries begin.
+///
+/// ```no_run
+/// let PlacedTree { tree, starts } = parse_placed(alloc, "a = 1\n", StackBudget::PROGRAM)?;
+/// println!(rt; "{} entry, at {}", tree.body.len(), starts[0])?; // 1 entry, at 0
+/// ```
 #[derive(Debug, PartialEq, Eq, Drop)]
 pub struct PlacedTree<S> {
     pub tree: Resource<S>,
-    /// The offsets in the source, in bytes, at which its entries begin, in their order. The comment of a message or a
-    /// term begins at one, and the message or the term at the next.
+    /// The offsets in the source, in bytes, at which its entries begin, in their order. The comment
+    /// of a message or a term begins at one, and the message or the term at the next.
     pub starts: Vec<usize>,
 }
 
-/// Reads a source once, as [`parse_within`](crate::parse_within) does, and keeps the places of its entries.
+/// Reads a source once, as [`parse_within`](crate::parse_within) does, and keeps the places of its
+/// entries.
 ///
 /// ```no_run
 /// let placed = parse_placed(alloc, "a = 1\n\n# b\nb = 2\n", StackBudget::PROGRAM)?;

@@ -1,13 +1,14 @@
 //! The parts of a whole source.
 #![tactic(auto)]
 
-ghost use Rattle.std.specs.Prelude.{◌≡◌, ◌++◌, ◌-◌, ◌≤◌, [], None, false, true, IfOk, OnOk, length, map};
+ghost use Rattle.std.specs.Prelude.{◌≡◌, ◌-◌, ◌≤◌, [], None, false, IfOk, OnOk, length, map};
 ghost use Rattle.fluent_grammar.specs.Tiling.{tree, errors, runtime_tree, runtime_errors};
 ghost use Rattle.fluent_parsed.specs.Collected.{entries_with, errors_with};
 ghost use Rattle.fluent_parsed.specs.ErrorView.{error_told};
 ghost use Rattle.fluent_tokens.specs.Lookup.{past_comments};
 ghost use Rattle.fluent_parser.specs.Frame.{Advances};
 ghost use Rattle.fluent_parser.specs.Depth.{IfHalted, NestsPast, PastSomewhere};
+ghost use Rattle.fluent_parser.specs.Placed.{Adds};
 ghost use Rattle.fluent_parser.specs.Starts as parts;
 
 use crate::fault::Halt;
@@ -25,7 +26,8 @@ const SHORT: usize = 64;
 /// The parts of a source, with their comments. Where they begin is put after the other starts.
 ///
 /// # Errors
-/// [`Halt`] if memory runs out, or a message or a term nests past the budget; some starts may be there.
+/// [`Halt`] if memory runs out, or a message or a term nests past the budget; some starts may be
+/// there.
 pub fn parts_of<S: Drop, T: Texts<S>>(
     alloc: Global,
     texts: &T,
@@ -37,8 +39,7 @@ pub fn parts_of<S: Drop, T: Texts<S>>(
         ≡ tree (T.text source.now)) }
     ensures errors { IfOk result (λ all. errors_with S all []
         ≡ map error_told (errors (T.text source.now))) }
-    ensures starts { starts.old.is_keeping ≡ true → OnOk result (starts.new.all.items
-        ≡ starts.old.all.items ++ parts.starts (T.text source.now)) }
+    ensures starts { OnOk result (Adds starts.old starts.new (parts.starts (T.text source.now))) }
     ensures deep { IfHalted result (NestsPast budget.bytes (T.text source.now)) }
 {
     let rows = line_table(alloc, texts.as_str(source).as_bytes())?;
@@ -69,24 +70,23 @@ pub fn runtime_parts_of<S: Drop, T: Texts<S>>(
 
 impl<'p, S: Drop, T: Texts<S>> Parser<'p, S, T> {
     ghost use Rattle.fluent_parsed.specs.Collected.{entries_with, errors_with};
-    ghost use Rattle.fluent_parser.specs.Left.{pieces_ahead, runtime_ahead};
+    ghost use Rattle.fluent_parser.specs.Left.{pieces_ahead, runtime_ahead, starts_ahead};
     ghost use Rattle.fluent_grammar.specs.Tiling.{entries_of, errors_of};
     ghost use Rattle.fluent_parsed.specs.ErrorView.{error_told};
 
-    /// All parts that are left, with their comments. Where they begin is put after the other starts.
+    /// All parts that are left, with their comments. Where they begin is put after the other
+    /// starts.
     ///
     /// # Errors
-    /// [`Halt`] if memory runs out, or a part nests past the budget; the parts that were read are dropped, and some
-    /// starts may be there.
+    /// [`Halt`] if memory runs out, or a part nests past the budget; the parts that were read are
+    /// dropped, and some starts may be there.
     pub fn get_parts(&mut self, starts: &mut Starts) -> Result<Collected<S>, Halt>
         requires closed { self.old.stack.taken ≡ 0 }
         ensures entries { IfOk result (λ all. entries_with S T.text all []
             ≡ entries_of None (pieces_ahead self.old)) }
         ensures errors { IfOk result (λ all. errors_with S all []
             ≡ map error_told (errors_of (pieces_ahead self.old))) }
-        ensures starts { starts.old.is_keeping ≡ true → OnOk result (starts.new.all.items
-            ≡ starts.old.all.items
-            ++ parts.starts_left (length self.old.text.now) self.old.rest.now) }
+        ensures starts { OnOk result (Adds starts.old starts.new (starts_ahead self.old)) }
         ensures deep { IfHalted result (PastSomewhere self.old) }
     {
         let mut collected = Collected::with_capacity(self.alloc, self.bytes().len() / SHORT + 1)?;

@@ -1,6 +1,6 @@
 //! Where the entries and the junk of a source begin.
 
-ghost use Rattle.std.specs.Prelude.{◌≡◌, ◌++◌, ◌∷◌, [], true, false, OnOk};
+ghost use Rattle.std.specs.Prelude.{◌≡◌, ◌∷◌, [], true, false, OnOk};
 
 use std::alloc::{AllocError, Global};
 
@@ -12,6 +12,8 @@ pub struct Starts {
 }
 
 impl Starts {
+    ghost use Rattle.fluent_parser.specs.Placed.{Adds};
+
     /// None yet, and each is kept.
     pub fn kept(alloc: Global) -> Self
         ensures all { result.all.items ≡ [] }
@@ -38,8 +40,7 @@ impl Starts {
     /// # Errors
     /// [`AllocError`] if memory runs out.
     pub fn push(&mut self, start: usize) -> Result<(), AllocError>
-        ensures kept { self.old.is_keeping ≡ true
-            → OnOk result (self.new.all.items ≡ self.old.all.items ++ start ∷ []) }
+        ensures kept { OnOk result (Adds self.old self.new (start ∷ [])) }
         ensures keeping { self.new.is_keeping ≡ self.old.is_keeping }
     {
         if self.is_keeping {

@@ -10,3 +10,4 @@ mod LineFeeds
 mod PlainTexts
 mod Marks
 mod TidyPlain
+mod FirstShapes

@@ -6,3 +6,4 @@ pub mod DeskLaws
 pub mod Replaced
 pub mod TidyText
 pub mod TidyLaws
+pub mod Reasons

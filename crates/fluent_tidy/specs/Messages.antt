@@ -26,5 +26,5 @@ import_message import.Shape = codes "not a tree"
 abbrev pub tidy_message : TidyError → List ℕ
 tidy_message tidy.Memory = codes "out of memory"
 tidy_message tidy.CarriageReturn = codes "a carriage return that ends no line"
-tidy_message tidy.Damaged = codes "damaged"
-tidy_message tidy.NotTidy = codes "no tidy text"
+tidy_message (tidy.Damaged errors) = codes "damaged"
+tidy_message (tidy.NotTidy offset) = codes "no tidy text"

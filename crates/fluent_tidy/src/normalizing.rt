@@ -2,6 +2,7 @@
 
 ghost use Rattle.std.specs.Prelude.{◌≡◌, ◌≢◌, ◌↔◌, [], IsTrue, IfOk, IfErr, IsErrOf, string_bytes};
 ghost use Rattle.fluent_grammar.specs.Tiling.{tree, list};
+ghost use Rattle.fluent_ast.specs.Borrowed.{entries_of};
 ghost use Rattle.fluent_grammar.specs.Words.{Text};
 ghost use Rattle.fluent_grammar.specs.Written.{written};
 ghost use Rattle.fluent_tidy_laws.specs.Cut.{cut};
@@ -14,6 +15,7 @@ ghost use Rattle.fluent_tidy.specs.declared.error.NormalizeError.TheVariants.{Ca
 use crate::cleaning::clean;
 use crate::error::NormalizeError;
 use crate::reading::{is_read_as, read_tree};
+use fluent_ast::Resource;
 use fluent_serializer::serialize;
 use std::alloc::{AllocError, Global};
 
@@ -50,27 +52,23 @@ fn normalize_clean(alloc: Global, text: &str) -> Result<String, NormalizeError>
     ensures not_normal { IfErr result (λ e. e ≡ NotNormal → IsCanonical (tree text.now) → ⊥) }
     ensures no_return { IfErr result (λ e. e ≢ CarriageReturn) }
 {
-    let new = rewrite(alloc, text)?;
-    if are_read_alike(alloc, text, new.as_str())? {
+    let tree = read_tree(alloc, text)?;
+    let new = serialize(alloc, &tree)?;
+    if is_read_back(alloc, tree, new.as_str())? {
         Ok(new)
     } else {
         Err(NormalizeError::NotNormal)
     }
 }
 
-/// The written text of the tree of a text.
-fn rewrite(alloc: Global, text: &str) -> Result<String, AllocError>
-    ensures { IfOk result (λ new. string_bytes new ≡ written (tree text.now)) }
+/// Whether a text is read whole, and as this tree. The tree is moved here, so that it is one type with the tree of the
+/// text: a tree that is borrowed keeps its lifetime.
+fn is_read_back<'t>(
+    alloc: Global,
+    tree: Resource<&'t str>,
+    text: &'t str,
+) -> Result<bool, AllocError>
+    ensures { IfOk result (λ is. IsTrue is ↔ IsReadAs text.now (entries_of tree.entry)) }
 {
-    let tree = read_tree(alloc, text)?;
-    serialize(alloc, &tree)
-}
-
-/// Whether a new text is read whole, and as the tree of a text. The two stand for one lifetime, so that their trees can
-/// be compared: the tree that was written has lived by then.
-fn are_read_alike<'s>(alloc: Global, text: &'s str, new: &'s str) -> Result<bool, AllocError>
-    ensures { IfOk result (λ is. IsTrue is ↔ IsReadAs new.now (tree text.now)) }
-{
-    let tree = read_tree(alloc, text)?;
-    is_read_as(alloc, new, &tree)
+    is_read_as(alloc, text, &tree)
 }

@@ -4,6 +4,7 @@ ghost use Rattle.std.specs.Prelude.{◌≡◌, Some};
 ghost use Rattle.fluent_tidy.specs.Messages.{tidy_message};
 ghost use Rattle.fluent_tidy.specs.declared.tidy_error.TidyError.TheVariants.{Memory};
 
+use fluent_parser::ParserError;
 use std::alloc::AllocError;
 use std::fmt;
 
@@ -12,20 +13,22 @@ use std::fmt;
 /// ```no_run
 /// match tidy(alloc, "a = { b \n") {
 ///     Ok(text) => print!(rt; "{text}")?,
-///     Err(TidyError::Damaged) => println!(rt; "mend its mistakes first")?,
+///     Err(TidyError::Damaged(errors)) => println!(rt; "mend its mistakes first: {}", errors.len())?,
 ///     Err(error) => bail!("{error}"),
 /// }
 /// ```
-#[derive(Clone, Copy, Debug, PartialEq, Eq)]
+#[derive(Debug, PartialEq, Eq, Drop)]
 pub enum TidyError {
     /// Memory ran out, and the same call may succeed later; or what is read nests deeper than the budget of the stack.
     Memory,
     /// The source holds a carriage return that isn't part of CR LF.
     CarriageReturn,
-    /// The source has junk.
-    Damaged,
-    /// The source has no tidy text: what is written of its tree isn't read back as that tree.
-    NotTidy,
+    /// The source has junk: its errors, with offsets in the source as it is read, without a byte order mark and with
+    /// LF line ends.
+    Damaged(Vec<ParserError>),
+    /// The source has no tidy text: what is written of its tree isn't read back as that tree. The offset, in the source
+    /// as it is read, is where the first entry begins that has no tidy text by itself. It is 0 if each has one.
+    NotTidy(usize),
 }
 
 impl fmt::Display for TidyError {
@@ -35,8 +38,8 @@ impl fmt::Display for TidyError {
         f.write_str(match self {
             TidyError::Memory => "out of memory",
             TidyError::CarriageReturn => "a carriage return that ends no line",
-            TidyError::Damaged => "damaged",
-            TidyError::NotTidy => "no tidy text",
+            TidyError::Damaged(_) => "damaged",
+            TidyError::NotTidy(_) => "no tidy text",
         })
     }
 }

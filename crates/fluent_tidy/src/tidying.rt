@@ -1,22 +1,33 @@
 //! The tidy text of a source.
 
-ghost use Rattle.std.specs.Prelude.{◌≡◌, ◌≢◌, ◌↔◌, [], IsTrue, IfOk, IfErr, IsErrOf, false, string_bytes};
+ghost use Rattle.std.specs.Prelude.{◌≡◌, ◌↔◌, [], IsTrue, IfOk, IfErr, string_bytes};
 ghost use Rattle.fluent_grammar.specs.Tiling as tiling;
 ghost use Rattle.fluent_grammar.specs.Tiling.{errors};
 ghost use Rattle.fluent_ast.specs.Borrowed.{entries_of};
-ghost use Rattle.fluent_tidy.specs.Sources.{holds_return};
-ghost use Rattle.fluent_tidy.specs.TidyText.{HasNoTidyText, IsTidyText, StaysTidy, laid_anew, plain};
-ghost use Rattle.fluent_tidy.specs.declared.tidy_error.TidyError.TheVariants.{CarriageReturn, Damaged, NotTidy};
+ghost use Rattle.fluent_parser.specs.Starts as parts;
+ghost use Rattle.fluent_tidy.specs.Reasons.{IsLaid, IsReason, Refuses, StaysAs};
+ghost use Rattle.fluent_tidy.specs.TidyText.{IsTidyText, StaysTidy, laid_anew};
 
 use crate::apart::apart_at;
 use crate::plain::{begins_with_mark, with_line_feeds, without_mark};
-use crate::reading::{is_read_as, read_tree};
 use crate::returns::has_return;
+use crate::shapes::shape_offset;
 use crate::tidy_error::TidyError;
 use fluent_ast::Resource;
-use fluent_parser::{Error, parse, starts_of};
+use fluent_ast::laws::equal_nodes;
+use fluent_parser::{Error, PlacedTree, parse_placed};
 use fluent_serializer::serialize_spaced;
+use fluent_text::stack::StackBudget;
 use std::alloc::{AllocError, Global};
+
+/// What a source without junk is laid out as.
+#[derive(Drop)]
+pub enum Laid {
+    /// As a text that stays tidy: its tidy text.
+    Tidy(String),
+    /// As a text that doesn't. These are the offsets at which the parts of the source begin.
+    Shaped(Vec<usize>),
+}
 
 /// The tidy text of a source, as a formatter writes code: each entry as the serializer writes it, in its order, and one
 /// blank line where the source has some between two, or a comment that stands by itself needs one. A byte order mark is
@@ -28,93 +39,150 @@ use std::alloc::{AllocError, Global};
 /// let tidy = tidy(alloc, "a  =  1\r\n\r\n\r\nb={ $x }")?; // a = 1, an empty line, b = { $x }
 /// ```
 ///
+/// It is [`tidy_within`] the budget of a program, [`StackBudget::PROGRAM`].
+///
 /// # Errors
 /// Nothing is kept. [`TidyError::Damaged`] if the source has junk. [`TidyError::CarriageReturn`] if it holds a carriage
 /// return that isn't part of CR LF. [`TidyError::NotTidy`] if the written text isn't read back as the tree; this takes
-/// one of the five shapes of `docs/reference/normal-text.md`. [`TidyError::Memory`] if memory runs out.
+/// one of the five shapes of `docs/reference/normal-text.md`. [`TidyError::Memory`] if memory runs out, or the source
+/// nests too deep.
 pub fn tidy(alloc: Global, source: &str) -> Result<String, TidyError>
     ensures text { IfOk result (λ text. IsTidyText source.now (string_bytes text)) }
-    ensures not_tidy { IsErrOf result NotTidy → HasNoTidyText source.now }
-    ensures damaged { IsErrOf result Damaged → errors (plain source.now) ≢ [] }
-    ensures carriage_return { IsErrOf result CarriageReturn → IsTrue (holds_return (plain source.now)) }
+    ensures reason { IfErr result (IsReason source.now) }
+{
+    tidy_within(alloc, source, StackBudget::PROGRAM)
+}
+
+/// As [`tidy`], within this budget of the machine's stack for each message and term.
+///
+/// # Errors
+/// Those of [`tidy`].
+pub fn tidy_within(alloc: Global, source: &str, budget: StackBudget) -> Result<String, TidyError>
+    ensures text { IfOk result (λ text. IsTidyText source.now (string_bytes text)) }
+    ensures reason { IfErr result (IsReason source.now) }
 {
     let body = without_mark(source);
     if !has_return(body) {
-        return tidy_plain(alloc, body);
+        return tidy_plain(alloc, body, budget);
     }
     let text = with_line_feeds(alloc, body)?;
     if has_return(text.as_str()) {
         return Err(TidyError::CarriageReturn);
     }
-    tidy_plain(alloc, text.as_str())
+    tidy_plain(alloc, text.as_str(), budget)
 }
 
-/// The same for a source that has no mark and no carriage return.
-fn tidy_plain(alloc: Global, source: &str) -> Result<String, TidyError>
+/// Tidies a source that has no mark and no carriage return.
+fn tidy_plain(alloc: Global, source: &str, budget: StackBudget) -> Result<String, TidyError>
     ensures whole { IfOk result (λ _. errors source.now ≡ []) }
     ensures text { IfOk result (λ text. string_bytes text ≡ laid_anew source.now) }
     ensures stays { IfOk result (λ text. StaysTidy source.now (string_bytes text)) }
-    ensures not_tidy { IsErrOf result NotTidy → StaysTidy source.now (laid_anew source.now) → ⊥ }
-    ensures damaged { IsErrOf result Damaged → errors source.now ≢ [] }
-    ensures no_return { IfErr result (λ e. e ≢ CarriageReturn) }
+    ensures reason { IfErr result (Refuses source.now) }
 {
-    let text = lay_anew(alloc, source)?;
-    if stays_tidy(alloc, source, text.as_str())? {
-        Ok(text)
-    } else {
-        Err(TidyError::NotTidy)
+    match lay_tidy(alloc, source, budget)? {
+        Laid::Tidy(text) => Ok(text),
+        Laid::Shaped(starts) => {
+            Err(TidyError::NotTidy(shape_offset(alloc, source, &starts, budget)?))
+        }
     }
 }
 
-/// The entries of a source laid out anew.
-fn lay_anew(alloc: Global, source: &str) -> Result<String, TidyError>
+/// Lays out a source that has no mark and no carriage return.
+///
+/// # Errors
+/// [`TidyError::Damaged`] if the source has junk. [`TidyError::Memory`] if memory runs out; nothing is kept.
+pub fn lay_tidy(alloc: Global, source: &str, budget: StackBudget) -> Result<Laid, TidyError>
     ensures whole { IfOk result (λ _. errors source.now ≡ []) }
-    ensures text { IfOk result (λ text. string_bytes text ≡ laid_anew source.now) }
-    ensures damaged { IsErrOf result Damaged → errors source.now ≢ [] }
-    ensures no_return { IfErr result (λ e. e ≢ CarriageReturn) }
-    ensures tidy { IfErr result (λ e. e ≢ NotTidy) }
+    ensures laid { IfOk result (IsLaid source.now) }
+    ensures reason { IfErr result (Refuses source.now) }
 {
-    match parse(alloc, source) {
-        Ok(tree) => Ok(lay_tree(alloc, source, &tree)?),
-        Err(Error::Broken(_, _)) => Err(TidyError::Damaged),
+    let PlacedTree { tree, starts } = read_whole(alloc, source, budget)?;
+    let text = lay_out(alloc, source, &tree, &starts)?;
+    if stays_tidy(alloc, tree, text.as_str(), budget)? {
+        Ok(Laid::Tidy(text))
+    } else {
+        Ok(Laid::Shaped(starts))
+    }
+}
+
+/// The tree of a source without junk, and where its entries begin.
+fn read_whole(
+    alloc: Global,
+    source: &str,
+    budget: StackBudget,
+) -> Result<PlacedTree<&str>, TidyError>
+    ensures whole { IfOk result (λ _. errors source.now ≡ []) }
+    ensures tree { IfOk result (λ placed. entries_of placed.tree ≡ tiling.tree source.now) }
+    ensures starts { IfOk result (λ placed. placed.starts.items ≡ parts.starts source.now) }
+    ensures reason { IfErr result (Refuses source.now) }
+{
+    match parse_placed(alloc, source, budget) {
+        Ok(placed) => Ok(placed),
+        Err(Error::Broken(_, errors)) => Err(TidyError::Damaged(errors)),
         Err(Error::Memory) => Err(TidyError::Memory),
     }
 }
 
 /// The tree of a source laid out anew, with the blank lines of the source.
-fn lay_tree(alloc: Global, source: &str, tree: &Resource<&str>) -> Result<String, AllocError>
-    requires { entries_of tree.now ≡ tiling.tree source.now }
+fn lay_out(
+    alloc: Global,
+    source: &str,
+    tree: &Resource<&str>,
+    starts: &[usize],
+) -> Result<String, AllocError>
+    requires tree { entries_of tree.now ≡ tiling.tree source.now }
+    requires starts { starts.now ≡ parts.starts source.now }
     ensures { IfOk result (λ text. string_bytes text ≡ laid_anew source.now) }
 {
-    let places = starts_of(alloc, source)?;
-    let apart = apart_at(alloc, source, &places, &tree.body)?;
-    drop(places);
+    let apart = apart_at(alloc, source, starts, &tree.body)?;
     serialize_spaced(alloc, tree, &apart)
 }
 
-/// Whether what a source was laid out as is read as the tree of the source, and is laid out as it is.
-fn stays_tidy<'s>(alloc: Global, source: &'s str, text: &'s str) -> Result<bool, AllocError>
-    ensures { IfOk result (λ is. IsTrue is ↔ StaysTidy source.now text.now) }
+/// Whether a text is read as the tree of a source, and is laid out as it is. The tree is moved here, so that it is one
+/// type with the tree of the text: a tree that is borrowed keeps its lifetime.
+fn stays_tidy<'t>(
+    alloc: Global,
+    tree: Resource<&'t str>,
+    text: &'t str,
+    budget: StackBudget,
+) -> Result<bool, AllocError>
+    ensures { IfOk result (λ is. IsTrue is ↔ StaysAs (entries_of tree.entry) text.now) }
 {
     if has_return(text) || begins_with_mark(text.as_bytes()) {
         return Ok(false);
     }
-    let tree = read_tree(alloc, source)?;
-    let is_same = is_read_as(alloc, text, &tree)?;
+    match parse_placed(alloc, text, budget) {
+        Ok(again) => is_laid_as(alloc, tree, text, &again),
+        Err(Error::Broken(_, _)) => Ok(false),
+        Err(Error::Memory) => Err(AllocError),
+    }
+}
+
+/// Whether this tree is that of a text, and the text is laid out as it is.
+fn is_laid_as<'t>(
+    alloc: Global,
+    tree: Resource<&'t str>,
+    text: &'t str,
+    again: &PlacedTree<&'t str>,
+) -> Result<bool, AllocError>
+    requires tree { entries_of again.now.tree ≡ tiling.tree text.now }
+    requires starts { again.now.starts.items ≡ parts.starts text.now }
+    ensures { IfOk result (λ is. IsTrue is
+        ↔ ((tiling.tree text.now ≡ entries_of tree.entry) × (laid_anew text.now ≡ text.now))) }
+{
+    let is_same = is_same_tree(&again.tree, &tree);
     drop(tree);
     if !is_same {
         return Ok(false);
     }
-    is_laid_as(alloc, text)
+    let laid = lay_out(alloc, text, &again.tree, &again.starts)?;
+    Ok(laid.as_str() == text)
 }
 
-/// Whether a text is laid out as it is.
-fn is_laid_as(alloc: Global, text: &str) -> Result<bool, AllocError>
-    requires { errors text.now ≡ [] }
-    ensures { IfOk result (λ is. IsTrue is ↔ (laid_anew text.now ≡ text.now)) }
+/// Whether two trees are the same.
+fn is_same_tree<'s>(tree: &Resource<&'s str>, other: &Resource<&'s str>) -> bool
+    ensures { IsTrue result ↔ (entries_of tree.now ≡ entries_of other.now) }
 {
-    match lay_anew(alloc, text) {
-        Ok(again) => Ok(again.as_str() == text),
-        Err(_) => Err(AllocError),
-    }
+    equal_nodes::<&'s str>();
+    *tree == *other
 }

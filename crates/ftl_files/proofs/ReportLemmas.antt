@@ -11,10 +11,11 @@ use Rattle.lint_report.specs.Formats.{report_output}
 use Rattle.lint_report.specs.View.{shown_width}
 use Rattle.lint_report.specs.declared.reports.Format.TheVariants as format
 use Rattle.fluent_serve.specs.Text.{Text}
+use Rattle.fluent_tidy.specs.Reasons.{IsReason}
 use Rattle.fluent_tidy.specs.TidyText.{plain}
 use Rattle.fluent_tidy.specs.declared.tidy_error.TidyError.{TidyError}
 use Rattle.fluent_tidy.specs.declared.tidy_error.TidyError.TheVariants.{Memory, CarriageReturn, Damaged, NotTidy}
-use Rattle.ftl_files.specs.Tidying.{IsReason, IsReport, IsSourceEnd, end_for}
+use Rattle.ftl_files.specs.Tidying.{IsReport, IsSourceEnd, end_for}
 
 all_shown : (s : Severity) → is_shown true s ≡ true
 all_shown error = refl
@@ -39,5 +40,7 @@ pub source_ends : (name source : Text) (reason : TidyError) (report : Text) → 
 source_ends name source Memory report right reported = reported
 source_ends name source CarriageReturn report right reported =
     record { reason = CarriageReturn; refuses = λ is. absurd cc; right = right; reported = reported }
-source_ends name source Damaged report right reported = record { reason = Damaged; refuses = λ is. absurd cc; right = right; reported = reported }
-source_ends name source NotTidy report right reported = record { reason = NotTidy; refuses = λ is. absurd cc; right = right; reported = reported }
+source_ends name source (Damaged found) report right reported =
+    record { reason = Damaged found; refuses = λ is. absurd cc; right = right; reported = reported }
+source_ends name source (NotTidy offset) report right reported =
+    record { reason = NotTidy offset; refuses = λ is. absurd cc; right = right; reported = reported }

@@ -1,13 +1,14 @@
 -- Tidying files, one after the other: what becomes of each, and what is reported.
-use Rattle.std.specs.Prelude.{◌≡◌, ◌≢◌, ◌⊎◌, ℕ, Bool, true, false, ◌||◌, List, [], ◌∷◌, ◌++◌, ⊤, Option, Some, None, IfSome, IsUtf8, IsTrue, take, length, unwrap_or, codes}
+use Rattle.std.specs.Prelude.{◌≡◌, ◌≢◌, ◌⊎◌, ℕ, Bool, true, false, ◌||◌, List, [], ◌∷◌, ◌++◌, ⊤, Option, Some, None, IfSome, IsUtf8, map, take, length, unwrap_or, codes}
 use Rattle.memchr.specs.Find.{IsFirstByte, is_byte}
 use Rattle.fluent_serve.specs.Text.{Text}
 use Rattle.fluent_serve.specs.Frames.{ended}
 use Rattle.fluent_serve.specs.Devices.{HasFailed}
 use Rattle.fluent_grammar.specs.Words.{carriage_return}
 use Rattle.fluent_grammar.specs.Tiling.{errors}
-use Rattle.fluent_tidy.specs.Sources.{holds_return}
-use Rattle.fluent_tidy.specs.TidyText.{IsTidyText, HasNoTidyText, plain}
+use Rattle.fluent_parsed.specs.ErrorView.{error_told, error_view}
+use Rattle.fluent_tidy.specs.Reasons.{IsReason}
+use Rattle.fluent_tidy.specs.TidyText.{IsTidyText, plain}
 use Rattle.fluent_tidy.specs.declared.tidy_error.TidyError.{TidyError}
 use Rattle.fluent_tidy.specs.declared.tidy_error.TidyError.TheVariants.{Memory, CarriageReturn, Damaged, NotTidy}
 use Rattle.lint_findings.specs.Finding.{Finding, error}
@@ -88,9 +89,8 @@ shape_finding offset entry = record {
   hint = Some (codes "write `.`, `[`, `*` or `{` at the start of a line of text as `{\"[\"}`, give each variant a name, and each comment a text");
 }
 
--- such an entry, wherever it is
-pub record IsShape (finding : Finding) : Type 0 where
-  pub offset : ℕ
+-- the entry that begins at an offset, whatever its id is
+pub record IsShapeAt (offset : ℕ) (finding : Finding) : Type 0 where
   pub entry : Option Text
   pub is : finding ≡ shape_finding offset entry
 
@@ -104,15 +104,15 @@ pub record IsReportOf (Kind : Finding → Type 0) (name source report : Text) : 
 abbrev pub IsReport : Text → Text → TidyError → Text → Type 0
 IsReport name source Memory report = (report ≡ failure_line name (codes "memory ran out") None) ⊎ IsDepthReport name source report
 IsReport name source CarriageReturn report = IsReportOf (IsReturn source) name source report
-IsReport name source Damaged report = report ≡ damage_report name source
-IsReport name source NotTidy report = IsReportOf IsShape name source report
+IsReport name source (Damaged found) report = report ≡ damage_report name source
+IsReport name source (NotTidy offset) report = IsReportOf (IsShapeAt offset) name source report
 
--- the reason is right; that memory ran out isn't seen
-abbrev pub IsReason : Text → TidyError → Type 0
-IsReason source Memory = ⊤
-IsReason source CarriageReturn = IsTrue (holds_return (plain source))
-IsReason source Damaged = errors (plain source) ≢ []
-IsReason source NotTidy = HasNoTidyText source
+-- if the reason is damage, it has the errors of the source
+abbrev pub HasItsErrors : Text → TidyError → Type 0
+HasItsErrors source Memory = ⊤
+HasItsErrors source CarriageReturn = ⊤
+HasItsErrors source (Damaged found) = map error_view found.items ≡ map error_told (errors source)
+HasItsErrors source (NotTidy offset) = ⊤
 
 -- a source is refused for a reason, which is right and is reported
 pub record IsRefused (name source report : Text) : Type 0 where
@@ -125,8 +125,8 @@ pub record IsRefused (name source report : Text) : Type 0 where
 abbrev pub end_for : TidyError → Text → FileEnd
 end_for Memory report = out_of_memory report
 end_for CarriageReturn report = refused report
-end_for Damaged report = refused report
-end_for NotTidy report = refused report
+end_for (Damaged found) report = refused report
+end_for (NotTidy offset) report = refused report
 
 -- ---- one file
 

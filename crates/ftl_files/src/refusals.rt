@@ -1,17 +1,18 @@
 //! The reports on sources that have no tidy text.
 ghost use Rattle.std.specs.Prelude.{◌≡◌, IfOk, map, option_map, string_bytes};
 ghost use Rattle.std.specs.Option.{option_map_or};
+ghost use Rattle.fluent_grammar.specs.Tiling as tiling;
+ghost use Rattle.fluent_parsed.specs.ErrorView.{error_told, error_view};
+ghost use Rattle.fluent_tidy.specs.Reasons.{IsReason};
 ghost use Rattle.fluent_tidy.specs.TidyText.{plain};
 ghost use Rattle.lint_finding.specs.View.{finding_view};
-ghost use Rattle.lint_findings.specs.SyntaxFindings.{syntax_findings};
-ghost use Rattle.lint_findings.specs.Tiles.{tiles};
 ghost use Rattle.ftl_files.specs.TidyView.{end_view};
-ghost use Rattle.ftl_files.specs.Tidying.{IsReason, IsReport, IsReturn, IsShape, IsSourceEnd, damage_report, end_for, finding_report, findings_report};
+ghost use Rattle.ftl_files.specs.Tidying.{HasItsErrors, IsReport, IsReturn, IsShapeAt, IsSourceEnd, damage_report, end_for, finding_report, findings_report};
 
 use crate::depth::depth_report;
 use crate::ends::FileEnd;
-use fluent_parser::{Error, parse, starts_of};
-use fluent_tidy::{TidyError, tidy, with_line_feeds, without_mark};
+use fluent_parser::ParserError;
+use fluent_tidy::{TidyError, with_line_feeds, without_mark};
 use lint_files::syntax_findings;
 use lint_finding::{File, FileFindings, Finding, Severity};
 use lint_report::{Format, report};
@@ -35,50 +36,41 @@ pub(crate) fn refused_source(
     requires right { IsReason source.now reason }
     ensures { IfOk result (λ end. IsSourceEnd name.now source.now (end_view end)) }
 {
-    let report = refusal_report(alloc, name, source, reason)?;
-    Ok(end_for(reason, report))
+    let plain = with_line_feeds(alloc, without_mark(source))?;
+    let report = refusal_report(alloc, name, plain.as_str(), &reason)?;
+    Ok(end_for(&reason, report))
 }
 
 /// What becomes of a source with this report.
-fn end_for(reason: TidyError, report: String) -> FileEnd
-    ensures { end_view result ≡ end_for reason (string_bytes report) }
+fn end_for(reason: &TidyError, report: String) -> FileEnd
+    ensures { end_view result ≡ end_for reason.now (string_bytes report) }
 {
     match reason {
         TidyError::Memory => FileEnd::OutOfMemory(report),
-        TidyError::CarriageReturn | TidyError::Damaged | TidyError::NotTidy => {
+        TidyError::CarriageReturn | TidyError::Damaged(_) | TidyError::NotTidy(_) => {
             FileEnd::Refused(report)
         }
     }
 }
 
-/// The report on the source of a file, which has no tidy text for this reason.
+/// The report on the source of a file, without a mark and with LF line ends, which has no tidy text for this reason.
 fn refusal_report(
     alloc: Global,
     name: &str,
     source: &str,
-    reason: TidyError,
+    reason: &TidyError,
 ) -> Result<String, AllocError>
+    requires { HasItsErrors source.now reason.now }
     ensures { IfOk result (λ report.
-        IsReport name.now (plain source.now) reason (string_bytes report)) }
-{
-    let plain = with_line_feeds(alloc, without_mark(source))?;
-    report_of_plain(alloc, name, plain.as_str(), reason)
-}
-
-/// The same of a source that has no mark, and LF line ends.
-fn report_of_plain(
-    alloc: Global,
-    name: &str,
-    source: &str,
-    reason: TidyError,
-) -> Result<String, AllocError>
-    ensures { IfOk result (λ report. IsReport name.now source.now reason (string_bytes report)) }
+        IsReport name.now source.now reason.now (string_bytes report)) }
 {
     match reason {
         TidyError::Memory => memory_report(alloc, name, source),
         TidyError::CarriageReturn => report_on(alloc, name, source, return_finding(alloc, source)?),
-        TidyError::Damaged => damage_report(alloc, name, source),
-        TidyError::NotTidy => report_on(alloc, name, source, shape_finding(alloc, source)?),
+        TidyError::Damaged(errors) => damage_report(alloc, name, source, errors),
+        TidyError::NotTidy(offset) => {
+            report_on(alloc, name, source, shape_finding(alloc, source, *offset)?)
+        }
     }
 }
 
@@ -127,25 +119,19 @@ fn report_all(
     )
 }
 
-/// The report on a source with junk: its first finding.
-fn damage_report(alloc: Global, name: &str, source: &str) -> Result<String, AllocError>
+/// The report on a source with junk, which has these errors: its first finding.
+fn damage_report(
+    alloc: Global,
+    name: &str,
+    source: &str,
+    errors: &[ParserError],
+) -> Result<String, AllocError>
+    requires { map error_view errors.now ≡ map error_told (tiling.errors source.now) }
     ensures { IfOk result (λ report. string_bytes report ≡ damage_report name.now source.now) }
 {
-    let mut findings = junk_findings(alloc, source)?;
+    let mut findings = syntax_findings(alloc, source, errors)?;
     findings.truncate(1);
     report_all(alloc, name, source, findings)
-}
-
-/// The findings of junk.
-fn junk_findings(alloc: Global, source: &str) -> Result<Vec<Finding>, AllocError>
-    ensures { IfOk result (λ findings. map finding_view findings.items
-        ≡ syntax_findings (tiles source.now)) }
-{
-    match parse(alloc, source) {
-        Ok(_) => syntax_findings(alloc, source, &[]),
-        Err(Error::Broken(_, errors)) => syntax_findings(alloc, source, &errors),
-        Err(Error::Memory) => Err(AllocError),
-    }
 }
 
 /// The first carriage return of a source.
@@ -162,11 +148,10 @@ fn return_finding(alloc: Global, source: &str) -> Result<Finding, AllocError>
     })
 }
 
-/// The first entry of a source that has no tidy text by itself.
-fn shape_finding(alloc: Global, source: &str) -> Result<Finding, AllocError>
-    ensures { IfOk result (λ finding. IsShape (finding_view finding)) }
+/// The entry of a source that begins at an offset, and has no tidy text by itself.
+fn shape_finding(alloc: Global, source: &str, offset: usize) -> Result<Finding, AllocError>
+    ensures { IfOk result (λ finding. IsShapeAt offset (finding_view finding)) }
 {
-    let offset = shape_offset(alloc, source)?;
     Ok(Finding {
         offset,
         code: "no-tidy-text",
@@ -175,25 +160,6 @@ fn shape_finding(alloc: Global, source: &str) -> Result<Finding, AllocError>
         text: String::from_str(alloc, "written anew, this would be read otherwise")?,
         hint: Some(String::from_str(alloc, SHAPES)?),
     })
-}
-
-/// Where that entry begins; if each has a tidy text by itself, where the source does.
-fn shape_offset(alloc: Global, source: &str) -> Result<usize, AllocError> {
-    let mut end = source.len();
-    let mut found = 0;
-    let starts = starts_of(alloc, source)?;
-    for &start in starts.iter().rev() {
-        if is_shape(alloc, source.get(start..end).unwrap_or("")) {
-            found = start;
-        }
-        end = start;
-    }
-    Ok(found)
-}
-
-/// Whether a part of a source has no tidy text.
-fn is_shape(alloc: Global, part: &str) -> bool {
-    matches!(tidy(alloc, part), Err(TidyError::NotTidy))
 }
 
 /// The id of the entry at an offset, if it has one.

@@ -1,4 +1,4 @@
-use Rattle.std.proofs.Common.{ap, [], ◌++◌, ℕ, None, List, map, subst, ◌≡◌, IfOk}
+use Rattle.std.proofs.Common.{ap, [], ℕ, None, List, map, subst, ◌≡◌, IfOk}
 use Rattle.std.specs.Prelude.{OnOk}
 use Rattle.fluent_grammar.specs.Tree as t
 use Rattle.fluent_grammar.specs.Tiling.{Piece, entries_of, errors_of}
@@ -7,6 +7,7 @@ use Rattle.fluent_parsed.specs.Collected.{entries_with, errors_with}
 use Rattle.fluent_parser.proofs.Beginnings.{whole_starts}
 use Rattle.fluent_parser.proofs.Left.{whole_left}
 use Rattle.fluent_parser.specs.Depth.{NestsPast, PastSomewhere}
+use Rattle.fluent_parser.specs.Placed.{Adds}
 use Rattle.fluent_parser.proofs.Deepening.{halted_same, nests}
 use Rattle.fluent_parser.proofs.resource.parts_of.Goals as goal
 
@@ -21,9 +22,9 @@ returns-clause-errors g c =
     subst (λ (es : List ErrorView). IfOk c.get_parts.result (λ all. errors_with g.row.S.Denot all [] ≡ es)) (ap (λ (ps : List Piece). map error_told (errors_of ps)) whole) c.get_parts.ensures.errors
 
 pub returns-clause-starts : goal.returns-clause-starts
-returns-clause-starts g c = λ keeping.
+returns-clause-starts g c =
     let whole = whole_starts (g.T.Texts.text c.args.source.now) c.new-parser.result.text.now c.new-parser.result.rest.now c.new-parser.ensures.text c.new-parser.ensures.rest in
-    subst (λ (l : List ℕ). OnOk c.get_parts.result (c.get_parts.new.starts.all.items ≡ c.args.starts.now.all.items ++ l)) whole (c.get_parts.ensures.starts keeping)
+    subst (λ (l : List ℕ). OnOk c.get_parts.result (Adds c.args.starts.now c.get_parts.new.starts l)) whole c.get_parts.ensures.starts
 
 pub returns-clause-deep : goal.returns-clause-deep
 returns-clause-deep g c =
