@@ -28,8 +28,8 @@ carried=$(node -p process.versions.cldr)
 echo "$1" >tools/cldr.txt
 if [[ $1 != "$old" ]]; then
     # What names the version, but for the data and what is generated from it.
-    git grep -lF "CLDR $old" -- '*.md' 'bindings/*.py' ':!CHANGELOG.md' | xargs -d '\n' sed -i "s/CLDR ${old//./\\.}\b/CLDR $1/g"
-    git grep -lF "cldr-$old" -- 'tools/*/README.md' | xargs -d '\n' sed -i "s/cldr-${old//./\\.}\b/cldr-$1/g"
+    { git grep -lF "CLDR $old" -- '*.md' 'bindings/*.py' ':!CHANGELOG.md' || :; } | xargs -rd '\n' sed -i "s/CLDR ${old//./\\.}\b/CLDR $1/g"
+    { git grep -lF "cldr-$old" -- 'tools/*/README.md' || :; } | xargs -rd '\n' sed -i "s/cldr-${old//./\\.}\b/cldr-$1/g"
 fi
 for part in plurals numbers languages; do
     echo "== $part"
