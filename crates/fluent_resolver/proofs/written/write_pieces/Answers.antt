@@ -10,18 +10,16 @@ use Rattle.fluent_meaning.specs.Refused.{WritesSome}
 use Rattle.fluent_meaning.specs.Steps.{is_shut}
 use Rattle.fluent_meaning.specs.Substitution as s
 use Rattle.fluent_meaning.specs.Told.{State, Writes, budget_of}
-use Rattle.fluent_progress.proofs.Telling.{on-err, within}
+use Rattle.fluent_progress.proofs.Telling.{within}
 use Rattle.fluent_ast.specs.Borrowed.{elements_of as pattern_of, expression_of}
-use Rattle.fluent_ast.specs.declared.Pattern.{Pattern}
-use Rattle.fluent_grammar.specs.Tree.{Elements}
 use Rattle.fluent_meaning.specs.Substitution.{rooted_path}
 use Rattle.fluent_progress.specs.Depth.{open_in}
 use Rattle.fluent_progress.specs.Nesting.{TakesElements, TakesExpression, in_elements}
-use Rattle.fluent_progress.specs.Views.{entered_in, path_of, place_view, resolved_in, state}
+use Rattle.fluent_progress.specs.Views.{entered_in, place_view, resolved_in, state}
 use Rattle.fluent_progress.specs.declared.progress.Progress.{Progress}
 use Rattle.fluent_resolver.proofs.Depth.{never-past, past-at, past-in, this-element}
-use Rattle.fluent_resolver.proofs.Places.{same-place}
-use Rattle.fluent_resolver.proofs.Pieces.{placeable-refused, text-refused}
+use Rattle.fluent_resolver.proofs.Places.{entered, same-place}
+use Rattle.fluent_resolver.proofs.Pieces.{placeable-refused, stops, text-refused}
 use Rattle.fluent_resolver.proofs.Elements.{whole-around}
 use Rattle.fluent_resolver.proofs.PatternWalks.{around-walked, element_of, rest-walked, shut-walked, walked}
 use Rattle.fluent_resolver.proofs.written.write_pieces.Goals as goal
@@ -31,30 +29,33 @@ pub loop-element-init : goal.loop-element-init
 loop-element-init g c =
     record { wrote = writes-nothing _ _ _ (within c.args.progress.now) (elements-none _ _ _ _); path = refl; stack = refl }
 
-pub returns-clause-wrote : goal.returns-clause-wrote
-returns-clause-wrote g c =
-    let env = resolved_in c.args.place.now in
-    let here = place_view c.args.place.now c.args.progress.now in
-    writes-as _ _ (walked env here (state c.args.progress.now).budget c.args.pattern.now c.deref-element-items.ensures.value c.loop-element.element-index c.loop-element-test.false) c.loop-element.invariant.wrote
-
-pub returns-then-progress-clause-wrote : goal.returns-then-progress-clause-wrote
-returns-then-progress-clause-wrote g c =
+pub returns : goal.returns
+returns g c =
     let env = resolved_in c.args.place.now in
     let here = place_view c.args.place.now c.args.progress.now in
     let invariant = c.loop-element.invariant in
-    writes-as _ _ (shut-walked env here (state c.args.progress.now).budget c.args.pattern.now c.deref-element-items.ensures.value c.loop-element.element-index
-    (sym (ap (λ (r : State). r.budget) invariant.wrote.state) ∙ ap (λ d. budget_of d c.loop-element.progress.placeables) c.if-progress.true)) invariant.wrote
+    let wrote = writes-as _ _ (walked env here (state c.args.progress.now).budget c.args.pattern.now c.deref-element-items.ensures.value c.loop-element.element-index c.loop-element-test.false) invariant.wrote in
+    record { wrote = wrote; refused = tt; path = invariant.path; stack = invariant.stack; deep = tt }
 
-pub returns-in_err-write_text-in-TextElement-clause-refused : goal.returns-in_err-write_text-in-TextElement-clause-refused
-returns-in_err-write_text-in-TextElement-clause-refused g c =
+pub returns-then-progress : goal.returns-then-progress
+returns-then-progress g c =
+    let env = resolved_in c.args.place.now in
+    let here = place_view c.args.place.now c.args.progress.now in
+    let invariant = c.loop-element.invariant in
+    let wrote = writes-as _ _ (shut-walked env here (state c.args.progress.now).budget c.args.pattern.now c.deref-element-items.ensures.value c.loop-element.element-index
+    (sym (ap (λ (r : State). r.budget) invariant.wrote.state) ∙ ap (λ d. budget_of d c.loop-element.progress.placeables) c.if-progress.true)) invariant.wrote in
+    record { wrote = wrote; refused = tt; path = invariant.path; stack = invariant.stack; deep = tt }
+
+pub returns-in_err-write_text-in-TextElement : goal.returns-in_err-write_text-in-TextElement
+returns-in_err-write_text-in-TextElement g c =
     let env = resolved_in c.args.place.now in
     let here = place_view c.args.place.now c.args.progress.now in
     let items = c.deref-element-items.result.now in
     let i = c.loop-element.element-index in
-    on-err _ (some-as _ _ (rest-walked env here (state c.args.progress.now).budget c.args.pattern.now c.deref-element-items.ensures.value i) (text-refused env (s.expression_written env) (pattern_of c.args.pattern.now) here (map element_of (take i items)) c.loop-element.invariant.wrote (map element_of (drop i items)) c.in_err-write_text-in-TextElement.ensures.refused))
+    stops c.from_residual.ensures.0 (some-as _ _ (rest-walked env here (state c.args.progress.now).budget c.args.pattern.now c.deref-element-items.ensures.value i) (text-refused env (s.expression_written env) (pattern_of c.args.pattern.now) here (map element_of (take i items)) c.loop-element.invariant.wrote (map element_of (drop i items)) c.in_err-write_text-in-TextElement.ensures.refused)) (never-past c.loop-element.invariant.stack)
 
-pub returns-in_err-write_piece-in-Placeable-clause-refused : goal.returns-in_err-write_piece-in-Placeable-clause-refused
-returns-in_err-write_piece-in-Placeable-clause-refused g c =
+pub returns-in_err-write_piece-in-Placeable : goal.returns-in_err-write_piece-in-Placeable
+returns-in_err-write_piece-in-Placeable g c =
     let env = resolved_in c.args.place.now in
     let here = place_view c.args.place.now c.args.progress.now in
     let whole = pattern_of c.args.pattern.now in
@@ -67,8 +68,14 @@ returns-in_err-write_piece-in-Placeable-clause-refused g c =
     let next = g.W.TextWrite.text c.write_piece.new.w in
     let u = state c.loop-element.progress in
     let v = state c.write_piece.new.progress in
-    let inner : WritesSome now next u v (s.placeable_with env write whole e here) = subst (λ p. WritesSome now next u v (s.placeable_with env write whole e p)) (same-place c.args.place.now c.loop-element.invariant.path) c.in_err-write_piece-in-Placeable.ensures.refused in
-    on-err _ (some-as _ _ (around-walked env here (state c.args.progress.now).budget c.args.pattern.now c.deref-element-items.ensures.value i c.element-item.result (placeable e) c.loop-element-test.true c.element-item.is is) (placeable-refused env write whole here (map element_of (take i items)) c.loop-element.invariant.wrote e (map element_of (drop (i + 1) items)) inner))
+    let invariant = c.loop-element.invariant in
+    let was = c.in_err-write_piece-in-Placeable.ensures in
+    let inside = rooted_path whole here.path in
+    let inner : WritesSome now next u v (s.placeable_with env write whole e here) = subst (λ p. WritesSome now next u v (s.placeable_with env write whole e p)) (same-place c.args.place.now invariant.path) was.refused in
+    stops c.from_residual-in_err-write_piece-in-Placeable.ensures.0
+    (some-as _ _ (around-walked env here (state c.args.progress.now).budget c.args.pattern.now c.deref-element-items.ensures.value i c.element-item.result (placeable e) c.loop-element-test.true c.element-item.is is) (placeable-refused env write whole here (map element_of (take i items)) invariant.wrote e (map element_of (drop (i + 1) items)) inner))
+    (past-in (λ m h. in_elements (subst (λ x. TakesElements env.find inside x m) (whole-around c.args.pattern.now c.deref-element-items.ensures.value i c.element-item.result (placeable e) c.loop-element-test.true c.element-item.is is) (this-element env.find inside (map element_of (take i items)) (map element_of (drop (i + 1) items)) e h)))
+    (past-at (λ p m. TakesExpression env.find (rooted_path whole p) e m) invariant.stack (ap (map entered) invariant.path) was.deep))
 
 pub loop-element-preserved : goal.loop-element-preserved
 loop-element-preserved g c =
@@ -115,24 +122,3 @@ loop-element-preserved g c =
             stack = ap (λ (p : Progress). open_in p.stack) w.progress-is ∙ w.in_ok-write_piece-in-Placeable.ensures.stack ∙ invariant.stack;
           })
     ]
-
-pub returns-in_err-write_text-in-TextElement-clause-deep : goal.returns-in_err-write_text-in-TextElement-clause-deep
-returns-in_err-write_text-in-TextElement-clause-deep g c =
-    on-err _ (never-past c.loop-element.invariant.stack)
-
-pub returns-in_err-write_piece-in-Placeable-clause-deep : goal.returns-in_err-write_piece-in-Placeable-clause-deep
-returns-in_err-write_piece-in-Placeable-clause-deep g c =
-    let find = (resolved_in c.args.place.now).find in
-    let path = path_of c.args.progress.now in
-    let of_path : Bor (Pattern (Bor (List ℕ))) → Elements = λ x. pattern_of x.now in
-    let whole = pattern_of c.args.pattern.now in
-    let view = element_view (Bor (List ℕ)) (λ s. s.now) in
-    let items = c.deref-element-items.result.now in
-    let i = c.loop-element.element-index in
-    let xs = map view (take i items) in
-    let ys = map view (drop (i + 1) items) in
-    let e = expression_of c.in-Placeable.expression in
-    let is : view c.element-item.result ≡ placeable e = ap view c.in-Placeable.is ∙ element_view-Placeable (Bor (List ℕ)) (λ s. s.now) c.in-Placeable.expression in
-    let joined : elements_of (xs ++ placeable e ∷ ys) ≡ whole = whole-around c.args.pattern.now c.deref-element-items.ensures.value i c.element-item.result (placeable e) c.loop-element-test.true c.element-item.is is in
-    let at : path_of c.loop-element.progress ≡ path = ap (map of_path) c.loop-element.invariant.path in
-    on-err _ (past-in (λ m h. in_elements (subst (λ x. TakesElements find (rooted_path whole path) x m) joined (this-element find (rooted_path whole path) xs ys e h))) (past-at (λ p m. TakesExpression find (rooted_path whole p) e m) c.loop-element.invariant.stack at c.in_err-write_piece-in-Placeable.ensures.deep))
