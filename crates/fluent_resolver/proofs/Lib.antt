@@ -12,3 +12,6 @@ pub mod Braces
 pub mod Asking
 pub mod Depth
 pub mod Pieces
+pub mod Endings
+pub mod ArgumentWalks
+pub mod PatternWalks

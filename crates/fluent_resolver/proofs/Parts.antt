@@ -8,7 +8,7 @@ use Rattle.fluent_grammar.specs.Tree as t
 use Rattle.fluent_grammar.specs.Tree.{Arguments, Elements, Expression, Inline, Inlines, MaybeArguments, Nameds, Variants}
 use Rattle.fluent_grammar.specs.Words.{Text}
 use Rattle.fluent_meaning.proofs.Refusals.{TakesNoLess, taken, tells-all, tells-fewer, tells-first, tells-like, tells-none, tells-then}
-use Rattle.fluent_meaning.proofs.Writing.{after-then, elements-append}
+use Rattle.fluent_meaning.proofs.Writing.{after-then, elements-append, writes-as}
 use Rattle.fluent_meaning.specs.Environment.{Environment}
 use Rattle.fluent_meaning.specs.Fallback.{braced, fallback}
 use Rattle.fluent_meaning.specs.Refused.{TellsSome}
@@ -22,6 +22,14 @@ use Rattle.std.proofs.Math.Nat.{mul-le-mul_right}
 -- the same step, said otherwise
 pub tells-as : {A : Type 0} {s t : State} {a b : Done A} → a ≡ b → TellsSome s t a → TellsSome s t b
 tells-as {s = s} {t = t} e h = subst (λ d. TellsSome s t d) e h
+
+-- the same step at a place that is the same
+module _ {P : Type 0} {p q : P} (same : p ≡ q) {s t : State} where
+  pub tells-at : {A : Type 0} (f : P → Budget → Done A) → TellsSome s t (f p s.budget) → TellsSome s t (f q s.budget)
+  tells-at f h = subst (λ x. TellsSome s t (f x s.budget)) same h
+
+  pub writes-at : {x y : Text} (f : P → Budget → Done Text) → Writes x y s t (f p) → Writes x y s t (f q)
+  writes-at {x = x} {y = y} f h = subst (λ z. Writes x y s t (f z)) same h
 
 -- what was written or found was told
 pub written-tells : {x y : Text} {s t : State} (f : Budget → Done Text) → Writes x y s t f → TellsSome s t (f s.budget)
@@ -149,6 +157,16 @@ module _ {S F : Type 0} (env : Environment S F) (enter : Writer env Elements) (i
 
   pub referred-first : is_on_path es place.path ≡ false → entering (enter es (deeper es place) b) ≡ s.referred env enter i es place b
   referred-first h = ap (λ c. cond c (s.fallen_back env i cyclic b) (entering (enter es (deeper es place) b))) (sym h)
+
+-- a pattern that a reference enters, at a place that is inside it
+module _ {S F : Type 0} (env : Environment S F) (enter : Writer env Elements) (i : Inline) (es : Elements) (place : Surroundings S) {r u v : State} (first : is_on_path es place.path ≡ false) (counted : u ≡ after r (entering (done true r.budget))) {at : Surroundings S} (inside : at ≡ deeper es place) where
+  pub referred-writes : {x y : Text} {w : State} → w ≡ v → Writes x y u v (enter es at) → Writes x y r w (s.referred env enter i es place)
+  referred-writes {x = x} {y = y} same h =
+      let written : Writes x y u v (enter es (deeper es place)) = writes-at inside (enter es) h in
+      writes-as _ _ (referred-first env enter i es place r.budget first) (entered-writes counted (enter es (deeper es place)) (record { text = written.text; state = same ∙ written.state }))
+
+  pub referred-tells : TellsSome u v (enter es at u.budget) → TellsSome r v (s.referred env enter i es place r.budget)
+  referred-tells h = tells-as (referred-first env enter i es place r.budget first) (entered-tells counted (enter es (deeper es place)) (tells-at inside (enter es) h))
 
 -- measures: from a pattern to its placeable, and from a placeable to its opened expression
 pub less-element : (k n w x y : ℕ) → k ≤ n → x < y → 4 * (k * w + x) + 4 < 4 * (n * w + y) + 1

@@ -1,5 +1,7 @@
 -- Pieces that are written to a program's own writer.
-use Rattle.std.proofs.Common.{◌≡◌, List, [], ◌∷◌, ◌++◌, refl, ap, sym, subst, ◌∙◌, append-nil}
+use Rattle.std.proofs.Common.{◌≡◌, ℕ, List, [], ◌∷◌, ◌++◌, refl, ap, sym, subst, ◌∙◌, append-nil}
+use Rattle.std.proofs.lemmas.Result.{IfOk-from_err}
+use Rattle.std.specs.Prelude.{IsErr, Result}
 use Rattle.fluent_ast.specs.View.{Element, placeable, elements_of}
 use Rattle.fluent_grammar.specs.Tree.{Elements, Expression}
 use Rattle.fluent_grammar.specs.Words.{Text}
@@ -11,6 +13,11 @@ use Rattle.fluent_meaning.specs.Steps.{Budget, Done}
 use Rattle.fluent_meaning.specs.Substitution as s
 use Rattle.fluent_meaning.specs.Substitution.{Surroundings, Writer}
 use Rattle.fluent_meaning.specs.Told.{State, Writes}
+use Rattle.fluent_progress.proofs.Telling.{on-err}
+use Rattle.fluent_progress.specs.Depth.{IfPast, open_in}
+use Rattle.fluent_progress.specs.Views.{state}
+use Rattle.fluent_progress.specs.declared.progress.Progress.{Progress}
+use Rattle.fluent_resolver.specs.Pieces.{ResolvesTo}
 
 -- a piece that was made was written
 pub piece-written : {x y empty piece : Text} {s t : State} (f : Budget → Done Text) → empty ≡ [] → Writes empty piece s t f → y ≡ x ++ piece → Writes x y s t f
@@ -23,6 +30,16 @@ piece-refused {x = x} {s = s} f p h = record { written = []; first = begins-none
 -- it could not be made
 pub piece-missing : {x : Text} {s t : State} (f : Budget → Done Text) → TellsSome s t (f s.budget) → WritesSome x x s t f
 piece-missing {x = x} {s = s} f h = record { written = []; first = begins-none (f s.budget).value; text = sym (append-nil x); tells = h }
+
+-- some of what was to be written was
+pub stops : {W T E : Type 0} {text : W → Text} {r : Result T E} {held now : W} {old new : Progress} {step : Progress → Budget → Done Text} {takes : Progress → ℕ → Type 0} → IsErr r → WritesSome (text held) (text now) (state old) (state new) (step old) → IfPast (open_in old.stack) (open_in new.stack) (takes old) → ResolvesTo text r held now old new step takes
+stops {r = r} err h d = record {
+  wrote = IfOk-from_err r _ err;
+  refused = on-err r h;
+  path = IfOk-from_err r _ err;
+  stack = IfOk-from_err r _ err;
+  deep = on-err r d;
+}
 
 module _ {S F : Type 0} (env : Environment S F) (write : Writer env Expression) (whole : Elements) (place : Surroundings S) (xs : List Element) {held now : Text} {r u : State} (p : Writes held now r u (λ b. s.elements_with env write whole (elements_of xs) place b)) where
   -- what was refused after other elements

@@ -1,4 +1,6 @@
 pub mod Steps
+pub mod Resolves
+pub mod Writes
 pub mod Finds
 pub mod Asked
 pub mod Called

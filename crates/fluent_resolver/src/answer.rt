@@ -48,7 +48,8 @@ pub fn answer<'b, 'r, 's, 'a, C: FluentType + Drop, F, E: Context<C, F>>(
     }
 }
 
-/// The same within this budget of the machine's stack, and values that nest too deep are told from want of memory.
+/// What a pattern gives within this budget of the machine's stack, as [`answer`] does. Values that nest too deep
+/// are told from want of memory.
 ///
 /// # Errors
 /// [`Memory`](Fault::Memory) if memory runs out, [`TooDeep`](Fault::TooDeep) only if the pattern takes more bytes at some

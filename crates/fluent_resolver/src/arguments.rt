@@ -1,12 +1,6 @@
 //! The arguments of calls, and what calls give.
 
-ghost use Rattle.std.specs.Prelude.{◌≡◌, OnOk};
-ghost use Rattle.fluent_progress.specs.Resolves.{TellsOnErr};
-ghost use Rattle.fluent_progress.specs.Views.{entered_in};
-ghost use Rattle.fluent_resolver.specs.Finds.{Calls, FindsNamed, FindsOwn, FindsValues};
-ghost use Rattle.fluent_resolver.specs.Steps.{call_step, named_step, own_step, positional_step};
-ghost use Rattle.fluent_progress.specs.Depth.{open_in, PastOnErr};
-ghost use Rattle.fluent_resolver.specs.Nested.{arguments_take, call_takes, named_take, own_take, positional_take};
+ghost use Rattle.fluent_resolver.specs.Finds.{Calls, CallsNested, FindsNamed, FindsOwn, FindsValues};
 
 use crate::value::value_of;
 use fluent_ast::{CallArguments, Identifier, InlineExpression, NamedArgument};
@@ -24,18 +18,15 @@ pub(crate) fn call_result<'b, 'r, 's, 'a, C: FluentType + Drop, F, E: Context<C,
     id: &'r Identifier<&'s str>,
     arguments: &'r CallArguments<&'s str>,
 ) -> Result<Option<FluentValue<'s, C>>, AllocError>
-    ensures found { Calls result place.now progress.old progress.new id.now arguments.now }
-    ensures refused { TellsOnErr result progress.old progress.new (call_step place.now id.now arguments.now) }
-    ensures path { OnOk result (entered_in progress.new ≡ entered_in progress.old) }
-    ensures stack { OnOk result (open_in progress.new.stack ≡ open_in progress.old.stack) }
-    ensures deep { PastOnErr result progress.old progress.new (arguments_take place.now arguments.now) }
+    ensures { Calls result place.now progress.old progress.new id.now arguments.now }
 {
     let positional = positional_values(place, progress, &arguments.positional)?;
     let named = named_values(place, progress, &arguments.named)?;
     place.call(id.name, &positional, &named)
 }
 
-/// The same as [`call_result`], of a call that is a value: what calls in calls take of the machine's stack is counted.
+/// What a call that is a value gives, as [`call_result`] does. What such calls in each other take of the machine's
+/// stack is counted.
 #[cycle(resolving)]
 pub(crate) fn nested_call<'b, 'r, 's, 'a, C: FluentType + Drop, F, E: Context<C, F>>(
     place: &Surroundings<'b, 'r, 's, 'a, C, F, E>,
@@ -43,11 +34,7 @@ pub(crate) fn nested_call<'b, 'r, 's, 'a, C: FluentType + Drop, F, E: Context<C,
     id: &'r Identifier<&'s str>,
     arguments: &'r CallArguments<&'s str>,
 ) -> Result<Option<FluentValue<'s, C>>, AllocError>
-    ensures found { Calls result place.now progress.old progress.new id.now arguments.now }
-    ensures refused { TellsOnErr result progress.old progress.new (call_step place.now id.now arguments.now) }
-    ensures path { OnOk result (entered_in progress.new ≡ entered_in progress.old) }
-    ensures stack { OnOk result (open_in progress.new.stack ≡ open_in progress.old.stack) }
-    ensures deep { PastOnErr result progress.old progress.new (call_takes place.now arguments.now) }
+    ensures { CallsNested result place.now progress.old progress.new id.now arguments.now }
 {
     progress.open_frames(resolving::CALL)?;
     let result = call_result(place, progress, id, arguments)?;
@@ -62,11 +49,7 @@ pub(crate) fn own_arguments<'b, 'r, 's, 'a, C: FluentType + Drop, F, E: Context<
     progress: &mut Progress<'r, 's>,
     arguments: &'r Option<CallArguments<&'s str>>,
 ) -> Result<FluentArgs<'s, C>, AllocError>
-    ensures found { FindsOwn result place.now progress.old progress.new arguments.now }
-    ensures refused { TellsOnErr result progress.old progress.new (own_step place.now arguments.now) }
-    ensures path { OnOk result (entered_in progress.new ≡ entered_in progress.old) }
-    ensures stack { OnOk result (open_in progress.new.stack ≡ open_in progress.old.stack) }
-    ensures deep { PastOnErr result progress.old progress.new (own_take place.now arguments.now) }
+    ensures { FindsOwn result place.now progress.old progress.new arguments.now }
 {
     match arguments {
         Some(arguments) => {
@@ -87,11 +70,7 @@ pub fn positional_values<'b, 'r, 's, 'a, C: FluentType + Drop, F, E: Context<C, 
     progress: &mut Progress<'r, 's>,
     arguments: &'r Vec<InlineExpression<&'s str>>,
 ) -> Result<Vec<FluentValue<'s, C>>, AllocError>
-    ensures found { FindsValues result place.now progress.old progress.new arguments.now }
-    ensures refused { TellsOnErr result progress.old progress.new (positional_step place.now arguments.now) }
-    ensures path { OnOk result (entered_in progress.new ≡ entered_in progress.old) }
-    ensures stack { OnOk result (open_in progress.new.stack ≡ open_in progress.old.stack) }
-    ensures deep { PastOnErr result progress.old progress.new (positional_take place.now arguments.now) }
+    ensures { FindsValues result place.now progress.old progress.new arguments.now }
 {
     let mut values = Vec::with_capacity(place.context.alloc(), arguments.len())?;
     for argument in arguments {
@@ -110,11 +89,7 @@ pub fn named_values<'b, 'r, 's, 'a, C: FluentType + Drop, F, E: Context<C, F>>(
     progress: &mut Progress<'r, 's>,
     arguments: &'r Vec<NamedArgument<&'s str>>,
 ) -> Result<FluentArgs<'s, C>, AllocError>
-    ensures found { FindsNamed result place.now progress.old progress.new arguments.now }
-    ensures refused { TellsOnErr result progress.old progress.new (named_step place.now arguments.now) }
-    ensures path { OnOk result (entered_in progress.new ≡ entered_in progress.old) }
-    ensures stack { OnOk result (open_in progress.new.stack ≡ open_in progress.old.stack) }
-    ensures deep { PastOnErr result progress.old progress.new (named_take place.now arguments.now) }
+    ensures { FindsNamed result place.now progress.old progress.new arguments.now }
 {
     let mut values = FluentArgs::new(place.context.alloc());
     for argument in arguments {

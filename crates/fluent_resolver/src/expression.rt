@@ -1,13 +1,10 @@
 //! Expressions that are written.
 
-ghost use Rattle.std.specs.Prelude.{◌≡◌, OnOk};
+ghost use Rattle.std.specs.Prelude.{◌≡◌};
 ghost use Rattle.fluent_ast.specs.Borrowed.{inline_of};
-ghost use Rattle.fluent_progress.specs.Resolves.{TellsOnErr, Writes};
-ghost use Rattle.fluent_progress.specs.Views.{entered_in};
 ghost use Rattle.fluent_resolver.specs.Finds.{Chooses};
-ghost use Rattle.fluent_resolver.specs.Steps.{call_of, choice_step, expression_step, inline_step, select, term_reference_of};
-ghost use Rattle.fluent_progress.specs.Depth.{open_in, PastOnErr};
-ghost use Rattle.fluent_resolver.specs.Nested.{expression_takes, inline_takes, select_takes, value_takes};
+ghost use Rattle.fluent_resolver.specs.Steps.{call_of, term_reference_of};
+ghost use Rattle.fluent_resolver.specs.Writes.{WritesExpression, WritesInline, WritesSelect};
 
 use crate::arguments::{call_result, own_arguments};
 use crate::pattern::{write_pattern, write_target};
@@ -34,11 +31,7 @@ pub fn write_expression<'b, 'r, 's, 'a, C: FluentType + Drop, F, E: Context<C, F
     progress: &mut Progress<'r, 's>,
     expression: &'r Expression<&'s str>,
 ) -> Result<(), AllocError>
-    ensures wrote { Writes result out.old out.new progress.old progress.new (expression_step place.now expression.now) }
-    ensures refused { TellsOnErr result progress.old progress.new (expression_step place.now expression.now) }
-    ensures path { OnOk result (entered_in progress.new ≡ entered_in progress.old) }
-    ensures stack { OnOk result (open_in progress.new.stack ≡ open_in progress.old.stack) }
-    ensures deep { PastOnErr result progress.old progress.new (expression_takes place.now expression.now) }
+    ensures { WritesExpression result out.old out.new place.now progress.old progress.new expression.now }
 {
     match expression {
         Expression::Select { selector, variants } => {
@@ -57,12 +50,7 @@ fn write_select<'b, 'r, 's, 'a, C: FluentType + Drop, F, E: Context<C, F>>(
     selector: &'r InlineExpression<&'s str>,
     variants: &'r Vec<Variant<&'s str>>,
 ) -> Result<(), AllocError>
-    ensures wrote { Writes result out.old out.new progress.old progress.new
-        (select place.now selector.now variants.now) }
-    ensures refused { TellsOnErr result progress.old progress.new (select place.now selector.now variants.now) }
-    ensures path { OnOk result (entered_in progress.new ≡ entered_in progress.old) }
-    ensures stack { OnOk result (open_in progress.new.stack ≡ open_in progress.old.stack) }
-    ensures deep { PastOnErr result progress.old progress.new (select_takes place.now selector.now variants.now) }
+    ensures { WritesSelect result out.old out.new place.now progress.old progress.new selector.now variants.now }
 {
     match choose(place, progress, selector, variants)? {
         Some(pattern) => {
@@ -81,11 +69,7 @@ fn choose<'b, 'r, 's, 'a, C: FluentType + Drop, F, E: Context<C, F>>(
     selector: &'r InlineExpression<&'s str>,
     variants: &'r Vec<Variant<&'s str>>,
 ) -> Result<Option<&'r Pattern<&'s str>>, AllocError>
-    ensures found { Chooses result place.now progress.old progress.new selector.now variants.now }
-    ensures refused { TellsOnErr result progress.old progress.new (choice_step place.now selector.now variants.now) }
-    ensures path { OnOk result (entered_in progress.new ≡ entered_in progress.old) }
-    ensures stack { OnOk result (open_in progress.new.stack ≡ open_in progress.old.stack) }
-    ensures deep { PastOnErr result progress.old progress.new (value_takes place.now selector.now) }
+    ensures { Chooses result place.now progress.old progress.new selector.now variants.now }
 {
     let value = value_of(place, progress, selector)?;
     Ok(chosen(place.context, &value, variants))
@@ -102,11 +86,7 @@ pub fn write_inline<'b, 'r, 's, 'a, C: FluentType + Drop, F, E: Context<C, F>>(
     progress: &mut Progress<'r, 's>,
     inline: &'r InlineExpression<&'s str>,
 ) -> Result<(), AllocError>
-    ensures wrote { Writes result out.old out.new progress.old progress.new (inline_step place.now inline.now) }
-    ensures refused { TellsOnErr result progress.old progress.new (inline_step place.now inline.now) }
-    ensures path { OnOk result (entered_in progress.new ≡ entered_in progress.old) }
-    ensures stack { OnOk result (open_in progress.new.stack ≡ open_in progress.old.stack) }
-    ensures deep { PastOnErr result progress.old progress.new (inline_takes place.now inline.now) }
+    ensures { WritesInline result out.old out.new place.now progress.old progress.new inline.now }
 {
     match inline {
         InlineExpression::StringLiteral { value } => write_literal(out, *value),
@@ -141,11 +121,7 @@ fn write_call<'b, 'r, 's, 'a, C: FluentType + Drop, F, E: Context<C, F>>(
     arguments: &'r CallArguments<&'s str>,
 ) -> Result<(), AllocError>
     requires { inline_of inline.now ≡ call_of id.now arguments.now }
-    ensures wrote { Writes result out.old out.new progress.old progress.new (inline_step place.now inline.now) }
-    ensures refused { TellsOnErr result progress.old progress.new (inline_step place.now inline.now) }
-    ensures path { OnOk result (entered_in progress.new ≡ entered_in progress.old) }
-    ensures stack { OnOk result (open_in progress.new.stack ≡ open_in progress.old.stack) }
-    ensures deep { PastOnErr result progress.old progress.new (inline_takes place.now inline.now) }
+    ensures { WritesInline result out.old out.new place.now progress.old progress.new inline.now }
 {
     match call_result(place, progress, id, arguments)? {
         Some(result) => write_result(out, place.context, id.name, &result),
@@ -169,11 +145,7 @@ fn write_term<'b, 'r, 's, 'a, C: FluentType + Drop, F, E: Context<C, F>>(
     arguments: &'r Option<CallArguments<&'s str>>,
 ) -> Result<(), AllocError>
     requires { inline_of inline.now ≡ term_reference_of id.now attribute.now arguments.now }
-    ensures wrote { Writes result out.old out.new progress.old progress.new (inline_step place.now inline.now) }
-    ensures refused { TellsOnErr result progress.old progress.new (inline_step place.now inline.now) }
-    ensures path { OnOk result (entered_in progress.new ≡ entered_in progress.old) }
-    ensures stack { OnOk result (open_in progress.new.stack ≡ open_in progress.old.stack) }
-    ensures deep { PastOnErr result progress.old progress.new (inline_takes place.now inline.now) }
+    ensures { WritesInline result out.old out.new place.now progress.old progress.new inline.now }
 {
     let own = own_arguments(place, progress, arguments)?;
     let target = place.term_target(id, attribute)?;

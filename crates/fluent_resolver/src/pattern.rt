@@ -1,11 +1,7 @@
 //! Patterns, their placeables, and references to them.
 
-ghost use Rattle.std.specs.Prelude.{◌≡◌, false, OnOk};
-ghost use Rattle.fluent_progress.specs.Resolves.{TellsOnErr, Writes};
-ghost use Rattle.fluent_progress.specs.Views.{entered_in};
-ghost use Rattle.fluent_resolver.specs.Steps.{inside, pattern_step, placeable, reference, outcome};
-ghost use Rattle.fluent_progress.specs.Depth.{open_in, PastOnErr};
-ghost use Rattle.fluent_resolver.specs.Nested.{outcome_takes, pattern_takes, placeable_takes, reference_takes};
+ghost use Rattle.std.specs.Prelude.{◌≡◌, false};
+ghost use Rattle.fluent_resolver.specs.Writes.{WritesInside, WritesPattern, WritesPlaceable, WritesReference, WritesTarget};
 
 use crate::expression::write_expression;
 use fluent_ast::{Expression, InlineExpression, Pattern, PatternElement};
@@ -28,11 +24,7 @@ pub fn write_pattern<'b, 'r, 's, 'a, C: FluentType + Drop, F, E: Context<C, F>>(
     progress: &mut Progress<'r, 's>,
     pattern: &'r Pattern<&'s str>,
 ) -> Result<(), AllocError>
-    ensures wrote { Writes result out.old out.new progress.old progress.new (pattern_step place.now pattern.now) }
-    ensures refused { TellsOnErr result progress.old progress.new (pattern_step place.now pattern.now) }
-    ensures path { OnOk result (entered_in progress.new ≡ entered_in progress.old) }
-    ensures stack { OnOk result (open_in progress.new.stack ≡ open_in progress.old.stack) }
-    ensures deep { PastOnErr result progress.old progress.new (pattern_takes place.now pattern.now) }
+    ensures { WritesPattern result out.old out.new place.now progress.old progress.new pattern.now }
 {
     for element in &pattern.elements {
         if progress.dirty {
@@ -61,12 +53,7 @@ pub fn write_placeable<'b, 'r, 's, 'a, C: FluentType + Drop, F, E: Context<C, F>
     expression: &'r Expression<&'s str>,
 ) -> Result<(), AllocError>
     requires { progress.now.dirty ≡ false }
-    ensures wrote { Writes result out.old out.new progress.old progress.new
-        (placeable place.now whole.now expression.now) }
-    ensures refused { TellsOnErr result progress.old progress.new (placeable place.now whole.now expression.now) }
-    ensures path { OnOk result (entered_in progress.new ≡ entered_in progress.old) }
-    ensures stack { OnOk result (open_in progress.new.stack ≡ open_in progress.old.stack) }
-    ensures deep { PastOnErr result progress.old progress.new (placeable_takes place.now whole.now expression.now) }
+    ensures { WritesPlaceable result out.old out.new place.now progress.old progress.new whole.now expression.now }
 {
     if !progress.open_placeable()? {
         return Ok(());
@@ -90,12 +77,7 @@ pub fn write_opened<'b, 'r, 's, 'a, C: FluentType + Drop, F, E: Context<C, F>>(
     whole: &'r Pattern<&'s str>,
     expression: &'r Expression<&'s str>,
 ) -> Result<(), AllocError>
-    ensures wrote { Writes result out.old out.new progress.old progress.new
-        (inside place.now whole.now expression.now) }
-    ensures refused { TellsOnErr result progress.old progress.new (inside place.now whole.now expression.now) }
-    ensures path { OnOk result (entered_in progress.new ≡ entered_in progress.old) }
-    ensures stack { OnOk result (open_in progress.new.stack ≡ open_in progress.old.stack) }
-    ensures deep { PastOnErr result progress.old progress.new (placeable_takes place.now whole.now expression.now) }
+    ensures { WritesInside result out.old out.new place.now progress.old progress.new whole.now expression.now }
 {
     let is_root = progress.enter_root(whole);
     write_expression(out, place, progress, expression)?;
@@ -112,12 +94,7 @@ pub(crate) fn write_target<'b, 'r, 's, 'a, C: FluentType + Drop, F, E: Context<C
     inline: &'r InlineExpression<&'s str>,
     target: Target<'r, 's>,
 ) -> Result<(), AllocError>
-    ensures wrote { Writes result out.old out.new progress.old progress.new
-        (outcome place.now inline.now target.entry) }
-    ensures refused { TellsOnErr result progress.old progress.new (outcome place.now inline.now target.entry) }
-    ensures path { OnOk result (entered_in progress.new ≡ entered_in progress.old) }
-    ensures stack { OnOk result (open_in progress.new.stack ≡ open_in progress.old.stack) }
-    ensures deep { PastOnErr result progress.old progress.new (outcome_takes place.now target.entry) }
+    ensures { WritesTarget result out.old out.new place.now progress.old progress.new inline.now target.entry }
 {
     match target {
         Target::There(pattern) => write_referred(out, place, progress, inline, pattern),
@@ -140,12 +117,7 @@ pub fn write_referred<'b, 'r, 's, 'a, C: FluentType + Drop, F, E: Context<C, F>>
     inline: &'r InlineExpression<&'s str>,
     pattern: &'r Pattern<&'s str>,
 ) -> Result<(), AllocError>
-    ensures wrote { Writes result out.old out.new progress.old progress.new
-        (reference place.now inline.now pattern.now) }
-    ensures refused { TellsOnErr result progress.old progress.new (reference place.now inline.now pattern.now) }
-    ensures path { OnOk result (entered_in progress.new ≡ entered_in progress.old) }
-    ensures stack { OnOk result (open_in progress.new.stack ≡ open_in progress.old.stack) }
-    ensures deep { PastOnErr result progress.old progress.new (reference_takes place.now pattern.now) }
+    ensures { WritesReference result out.old out.new place.now progress.old progress.new inline.now pattern.now }
 {
     if progress.is_entered(pattern) {
         return fall_back(out, progress, inline, ResolverError::Cyclic);

@@ -1,12 +1,6 @@
 //! The values of expressions, as selectors and arguments.
 
-ghost use Rattle.std.specs.Prelude.{◌≡◌, OnOk};
-ghost use Rattle.fluent_progress.specs.Resolves.{TellsOnErr};
-ghost use Rattle.fluent_progress.specs.Views.{entered_in};
 ghost use Rattle.fluent_resolver.specs.Finds.{FindsText, FindsValue};
-ghost use Rattle.fluent_resolver.specs.Steps.{inline_step, value_step};
-ghost use Rattle.fluent_progress.specs.Depth.{open_in, PastOnErr};
-ghost use Rattle.fluent_resolver.specs.Nested.{text_takes, value_takes};
 
 use crate::arguments::nested_call;
 use crate::expression::write_inline;
@@ -28,11 +22,7 @@ pub fn value_of<'b, 'r, 's, 'a, C: FluentType + Drop, F, E: Context<C, F>>(
     progress: &mut Progress<'r, 's>,
     inline: &'r InlineExpression<&'s str>,
 ) -> Result<FluentValue<'s, C>, AllocError>
-    ensures found { FindsValue result place.now progress.old progress.new inline.now }
-    ensures refused { TellsOnErr result progress.old progress.new (value_step place.now inline.now) }
-    ensures path { OnOk result (entered_in progress.new ≡ entered_in progress.old) }
-    ensures stack { OnOk result (open_in progress.new.stack ≡ open_in progress.old.stack) }
-    ensures deep { PastOnErr result progress.old progress.new (value_takes place.now inline.now) }
+    ensures { FindsValue result place.now progress.old progress.new inline.now }
 {
     match inline {
         InlineExpression::StringLiteral { value } => literal_value(place.context.alloc(), *value),
@@ -65,11 +55,7 @@ fn text_value<'b, 'r, 's, 'a, C: FluentType + Drop, F, E: Context<C, F>>(
     progress: &mut Progress<'r, 's>,
     inline: &'r InlineExpression<&'s str>,
 ) -> Result<FluentValue<'s, C>, AllocError>
-    ensures found { FindsText result place.now progress.old progress.new inline.now }
-    ensures refused { TellsOnErr result progress.old progress.new (inline_step place.now inline.now) }
-    ensures path { OnOk result (entered_in progress.new ≡ entered_in progress.old) }
-    ensures stack { OnOk result (open_in progress.new.stack ≡ open_in progress.old.stack) }
-    ensures deep { PastOnErr result progress.old progress.new (text_takes place.now inline.now) }
+    ensures { FindsText result place.now progress.old progress.new inline.now }
 {
     progress.open_frames(resolving::TEXT)?;
     let mut text = String::new(place.context.alloc());

@@ -1,11 +1,7 @@
 //! Patterns that are written to a program's own writer, piece by piece.
 
 ghost use Rattle.std.specs.Prelude.{◌≡◌, ◌++◌, OnErr, OnOk, false};
-ghost use Rattle.fluent_resolver.specs.Pieces.{StartsPiece, Writes, WritesPiece, WritesSome};
-ghost use Rattle.fluent_progress.specs.Views.{entered_in};
-ghost use Rattle.fluent_resolver.specs.Steps.{pattern_step};
-ghost use Rattle.fluent_progress.specs.Depth.{open_in, PastOnErr};
-ghost use Rattle.fluent_resolver.specs.Nested.{pattern_takes, placeable_takes};
+ghost use Rattle.fluent_resolver.specs.Pieces.{WritesPiece, WritesPieces};
 
 use crate::pattern::write_placeable;
 use fluent_ast::{Expression, Pattern, PatternElement};
@@ -28,10 +24,7 @@ where
     W: TextWrite,
     C: FluentType + Drop,
     E: Context<C, F>,
-    ensures wrote { Writes W.text result w.old w.new progress.old progress.new (pattern_step place.now pattern.now) }
-    ensures refused { WritesSome W.text result w.old w.new progress.old progress.new
-        (pattern_step place.now pattern.now) }
-    ensures deep { PastOnErr result progress.old progress.new (pattern_takes place.now pattern.now) }
+    ensures { WritesPieces W.text result w.old w.new place.now progress.old progress.new pattern.now }
 {
     for element in &pattern.elements {
         if progress.dirty {
@@ -74,11 +67,7 @@ where
     C: FluentType + Drop,
     E: Context<C, F>,
     requires { progress.now.dirty ≡ false }
-    ensures wrote { WritesPiece W.text result w.old w.new progress.old progress.new place.now whole.now expression.now }
-    ensures refused { StartsPiece W.text result w.old w.new progress.old progress.new place.now whole.now expression.now }
-    ensures path { OnOk result (entered_in progress.new ≡ entered_in progress.old) }
-    ensures stack { OnOk result (open_in progress.new.stack ≡ open_in progress.old.stack) }
-    ensures deep { PastOnErr result progress.old progress.new (placeable_takes place.now whole.now expression.now) }
+    ensures { WritesPiece W.text result w.old w.new place.now progress.old progress.new whole.now expression.now }
 {
     let mut piece = String::new(place.context.alloc());
     write_placeable(&mut piece, place, progress, whole, expression)?;

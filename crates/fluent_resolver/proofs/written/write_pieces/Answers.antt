@@ -1,30 +1,27 @@
 use Rattle.std.proofs.Common.{◌≡◌, ◌++◌, ◌+◌, ◌∷◌, [], Bor, List, ℕ, ap, drop, map, refl, subst, sym, take, ◌∙◌, false}
-use Rattle.std.proofs.lemmas.List.{take_all}
 use Rattle.fluent_ast.proofs.Views.{element_view-Placeable, element_view-TextElement}
 use Rattle.fluent_ast.specs.View.{element_view, elements_of, expression_view, pattern_view, placeable, text}
 use Rattle.fluent_meaning.proofs.Equations.{elements-none}
-use Rattle.fluent_meaning.proofs.Fixpoint.{pattern-is}
 use Rattle.fluent_meaning.proofs.Opening.{is_shut-dirty, placeable-element, text-element, up-to}
 use Rattle.fluent_meaning.proofs.Refusals.{some-as}
 use Rattle.fluent_meaning.proofs.States.{writes-nothing}
-use Rattle.fluent_meaning.proofs.Writing.{beside-shut, elements-append, writes-as}
+use Rattle.fluent_meaning.proofs.Writing.{writes-as}
 use Rattle.fluent_meaning.specs.Refused.{WritesSome}
-use Rattle.fluent_meaning.specs.Steps.{is_shut, shut}
+use Rattle.fluent_meaning.specs.Steps.{is_shut}
 use Rattle.fluent_meaning.specs.Substitution as s
 use Rattle.fluent_meaning.specs.Told.{State, Writes, budget_of}
-use Rattle.fluent_progress.proofs.Telling.{on-err, within}
+use Rattle.fluent_progress.proofs.Telling.{within}
 use Rattle.fluent_ast.specs.Borrowed.{elements_of as pattern_of, expression_of}
-use Rattle.fluent_ast.specs.declared.Pattern.{Pattern}
-use Rattle.fluent_grammar.specs.Tree.{Elements}
 use Rattle.fluent_meaning.specs.Substitution.{rooted_path}
 use Rattle.fluent_progress.specs.Depth.{open_in}
 use Rattle.fluent_progress.specs.Nesting.{TakesElements, TakesExpression, in_elements}
-use Rattle.fluent_progress.specs.Views.{entered_in, path_of, place_view, resolved_in, state}
+use Rattle.fluent_progress.specs.Views.{entered_in, place_view, resolved_in, state}
 use Rattle.fluent_progress.specs.declared.progress.Progress.{Progress}
 use Rattle.fluent_resolver.proofs.Depth.{never-past, past-at, past-in, this-element}
-use Rattle.fluent_resolver.proofs.Places.{same-place}
-use Rattle.fluent_resolver.proofs.Pieces.{placeable-refused, text-refused}
-use Rattle.fluent_resolver.proofs.Elements.{whole-around, whole-elements, whole-split}
+use Rattle.fluent_resolver.proofs.Places.{entered, same-place}
+use Rattle.fluent_resolver.proofs.Pieces.{placeable-refused, stops, text-refused}
+use Rattle.fluent_resolver.proofs.Elements.{whole-around}
+use Rattle.fluent_resolver.proofs.PatternWalks.{around-walked, element_of, rest-walked, shut-walked, walked}
 use Rattle.fluent_resolver.proofs.written.write_pieces.Goals as goal
 use Rattle.fluent_resolver.proofs.written.write_pieces.Goals.{in-Placeable+in_ok-write_piece-in-Placeable, in-TextElement+in_ok-write_text-in-TextElement}
 
@@ -32,71 +29,53 @@ pub loop-element-init : goal.loop-element-init
 loop-element-init g c =
     record { wrote = writes-nothing _ _ _ (within c.args.progress.now) (elements-none _ _ _ _); path = refl; stack = refl }
 
-pub returns-clause-wrote : goal.returns-clause-wrote
-returns-clause-wrote g c =
+pub returns : goal.returns
+returns g c =
     let env = resolved_in c.args.place.now in
     let here = place_view c.args.place.now c.args.progress.now in
-    let b = (state c.args.progress.now).budget in
-    let whole = pattern_view (Bor (List ℕ)) (λ s. s.now) c.args.pattern.now in
-    let view = element_view (Bor (List ℕ)) (λ s. s.now) in
-    let items = c.deref-element-items.result.now in
-    let is_whole : elements_of (map view items) ≡ whole = whole-elements c.args.pattern.now c.deref-element-items.ensures.value in
-    let all = take_all c.loop-element.element-index items c.loop-element-test.false in
-    writes-as _ _ (ap (λ x. s.elements_written env whole x here b) (ap (λ ys. elements_of (map view ys)) all ∙ is_whole) ∙ sym (pattern-is env whole here b)) c.loop-element.invariant.wrote
+    let invariant = c.loop-element.invariant in
+    let wrote = writes-as _ _ (walked env here (state c.args.progress.now).budget c.args.pattern.now c.deref-element-items.ensures.value c.loop-element.element-index c.loop-element-test.false) invariant.wrote in
+    record { wrote = wrote; refused = tt; path = invariant.path; stack = invariant.stack; deep = tt }
 
-pub returns-then-progress-clause-wrote : goal.returns-then-progress-clause-wrote
-returns-then-progress-clause-wrote g c =
+pub returns-then-progress : goal.returns-then-progress
+returns-then-progress g c =
     let env = resolved_in c.args.place.now in
     let here = place_view c.args.place.now c.args.progress.now in
-    let b = (state c.args.progress.now).budget in
-    let whole = pattern_view (Bor (List ℕ)) (λ s. s.now) c.args.pattern.now in
-    let view = element_view (Bor (List ℕ)) (λ s. s.now) in
+    let invariant = c.loop-element.invariant in
+    let wrote = writes-as _ _ (shut-walked env here (state c.args.progress.now).budget c.args.pattern.now c.deref-element-items.ensures.value c.loop-element.element-index
+    (sym (ap (λ (r : State). r.budget) invariant.wrote.state) ∙ ap (λ d. budget_of d c.loop-element.progress.placeables) c.if-progress.true)) invariant.wrote in
+    record { wrote = wrote; refused = tt; path = invariant.path; stack = invariant.stack; deep = tt }
+
+pub returns-in_err-write_text-in-TextElement : goal.returns-in_err-write_text-in-TextElement
+returns-in_err-write_text-in-TextElement g c =
+    let env = resolved_in c.args.place.now in
+    let here = place_view c.args.place.now c.args.progress.now in
     let items = c.deref-element-items.result.now in
     let i = c.loop-element.element-index in
-    let xs = map view (take i items) in
+    stops c.from_residual.ensures.0 (some-as _ _ (rest-walked env here (state c.args.progress.now).budget c.args.pattern.now c.deref-element-items.ensures.value i) (text-refused env (s.expression_written env) (pattern_of c.args.pattern.now) here (map element_of (take i items)) c.loop-element.invariant.wrote (map element_of (drop i items)) c.in_err-write_text-in-TextElement.ensures.refused)) (never-past c.loop-element.invariant.stack)
+
+pub returns-in_err-write_piece-in-Placeable : goal.returns-in_err-write_piece-in-Placeable
+returns-in_err-write_piece-in-Placeable g c =
+    let env = resolved_in c.args.place.now in
+    let here = place_view c.args.place.now c.args.progress.now in
+    let whole = pattern_of c.args.pattern.now in
+    let items = c.deref-element-items.result.now in
+    let i = c.loop-element.element-index in
     let write = s.expression_written env in
-    let ys = map view (drop i items) in
-    let joined : elements_of (xs ++ ys) ≡ whole = whole-split c.args.pattern.now c.deref-element-items.ensures.value i in
-    let is_closed : (s.elements_written env whole (elements_of xs) here b).budget ≡ shut = sym (ap (λ (r : State). r.budget) c.loop-element.invariant.wrote.state) ∙ ap (λ d. budget_of d c.loop-element.progress.placeables) c.if-progress.true in
-    writes-as _ _ (sym (beside-shut env write whole here (s.elements_written env whole (elements_of xs) here b) (elements_of ys) is_closed) ∙ sym (elements-append env write whole here xs ys b) ∙ ap (λ x. s.elements_written env whole x here b) joined ∙ sym (pattern-is env whole here b)) c.loop-element.invariant.wrote
-
-pub returns-in_err-write_text-in-TextElement-clause-refused : goal.returns-in_err-write_text-in-TextElement-clause-refused
-returns-in_err-write_text-in-TextElement-clause-refused g c =
-    let env = resolved_in c.args.place.now in
-    let here = place_view c.args.place.now c.args.progress.now in
-    let b = (state c.args.progress.now).budget in
-    let whole = pattern_view (Bor (List ℕ)) (λ s. s.now) c.args.pattern.now in
-    let view = element_view (Bor (List ℕ)) (λ s. s.now) in
-    let items = c.deref-element-items.result.now in
-    let i = c.loop-element.element-index in
-    let xs = map view (take i items) in
-    let ys = map view (drop i items) in
-    let joined : elements_of (xs ++ ys) ≡ whole = whole-split c.args.pattern.now c.deref-element-items.ensures.value i in
-    on-err _ (some-as _ _ (ap (λ x. s.elements_written env whole x here b) joined ∙ sym (pattern-is env whole here b)) (text-refused env (s.expression_written env) whole here xs c.loop-element.invariant.wrote ys c.in_err-write_text-in-TextElement.ensures.refused))
-
-pub returns-in_err-write_piece-in-Placeable-clause-refused : goal.returns-in_err-write_piece-in-Placeable-clause-refused
-returns-in_err-write_piece-in-Placeable-clause-refused g c =
-    let env = resolved_in c.args.place.now in
-    let seen = place_view c.args.place.now in
-    let here = seen c.args.progress.now in
-    let b = (state c.args.progress.now).budget in
-    let whole = pattern_view (Bor (List ℕ)) (λ s. s.now) c.args.pattern.now in
-    let view = element_view (Bor (List ℕ)) (λ s. s.now) in
-    let items = c.deref-element-items.result.now in
-    let i = c.loop-element.element-index in
-    let xs = map view (take i items) in
-    let write = s.expression_written env in
-    let e = expression_view (Bor (List ℕ)) (λ s. s.now) c.in-Placeable.expression in
-    let is : view c.element-item.result ≡ placeable e = ap view c.in-Placeable.is ∙ element_view-Placeable (Bor (List ℕ)) (λ s. s.now) c.in-Placeable.expression in
-    let ys = map view (drop (i + 1) items) in
-    let joined : elements_of (xs ++ placeable e ∷ ys) ≡ whole = whole-around c.args.pattern.now c.deref-element-items.ensures.value i c.element-item.result (placeable e) c.loop-element-test.true c.element-item.is is in
+    let e = expression_of c.in-Placeable.expression in
+    let is : element_of c.element-item.result ≡ placeable e = ap element_of c.in-Placeable.is ∙ element_view-Placeable (Bor (List ℕ)) (λ s. s.now) c.in-Placeable.expression in
     let now = g.W.TextWrite.text c.loop-element.w in
     let next = g.W.TextWrite.text c.write_piece.new.w in
     let u = state c.loop-element.progress in
     let v = state c.write_piece.new.progress in
-    let same_place : seen c.loop-element.progress ≡ here = same-place c.args.place.now c.loop-element.invariant.path in
-    let inner : WritesSome now next u v (s.placeable_with env write whole e here) = subst (λ p. WritesSome now next u v (s.placeable_with env write whole e p)) same_place c.in_err-write_piece-in-Placeable.ensures.refused in
-    on-err _ (some-as _ _ (ap (λ x. s.elements_written env whole x here b) joined ∙ sym (pattern-is env whole here b)) (placeable-refused env write whole here xs c.loop-element.invariant.wrote e ys inner))
+    let invariant = c.loop-element.invariant in
+    let was = c.in_err-write_piece-in-Placeable.ensures in
+    let inside = rooted_path whole here.path in
+    let inner : WritesSome now next u v (s.placeable_with env write whole e here) = subst (λ p. WritesSome now next u v (s.placeable_with env write whole e p)) (same-place c.args.place.now invariant.path) was.refused in
+    stops c.from_residual-in_err-write_piece-in-Placeable.ensures.0
+    (some-as _ _ (around-walked env here (state c.args.progress.now).budget c.args.pattern.now c.deref-element-items.ensures.value i c.element-item.result (placeable e) c.loop-element-test.true c.element-item.is is) (placeable-refused env write whole here (map element_of (take i items)) invariant.wrote e (map element_of (drop (i + 1) items)) inner))
+    (past-in (λ m h. in_elements (subst (λ x. TakesElements env.find inside x m) (whole-around c.args.pattern.now c.deref-element-items.ensures.value i c.element-item.result (placeable e) c.loop-element-test.true c.element-item.is is) (this-element env.find inside (map element_of (take i items)) (map element_of (drop (i + 1) items)) e h)))
+    (past-at (λ p m. TakesExpression env.find (rooted_path whole p) e m) invariant.stack (ap (map entered) invariant.path) was.deep))
 
 pub loop-element-preserved : goal.loop-element-preserved
 loop-element-preserved g c =
@@ -143,24 +122,3 @@ loop-element-preserved g c =
             stack = ap (λ (p : Progress). open_in p.stack) w.progress-is ∙ w.in_ok-write_piece-in-Placeable.ensures.stack ∙ invariant.stack;
           })
     ]
-
-pub returns-in_err-write_text-in-TextElement-clause-deep : goal.returns-in_err-write_text-in-TextElement-clause-deep
-returns-in_err-write_text-in-TextElement-clause-deep g c =
-    on-err _ (never-past c.loop-element.invariant.stack)
-
-pub returns-in_err-write_piece-in-Placeable-clause-deep : goal.returns-in_err-write_piece-in-Placeable-clause-deep
-returns-in_err-write_piece-in-Placeable-clause-deep g c =
-    let find = (resolved_in c.args.place.now).find in
-    let path = path_of c.args.progress.now in
-    let of_path : Bor (Pattern (Bor (List ℕ))) → Elements = λ x. pattern_of x.now in
-    let whole = pattern_of c.args.pattern.now in
-    let view = element_view (Bor (List ℕ)) (λ s. s.now) in
-    let items = c.deref-element-items.result.now in
-    let i = c.loop-element.element-index in
-    let xs = map view (take i items) in
-    let ys = map view (drop (i + 1) items) in
-    let e = expression_of c.in-Placeable.expression in
-    let is : view c.element-item.result ≡ placeable e = ap view c.in-Placeable.is ∙ element_view-Placeable (Bor (List ℕ)) (λ s. s.now) c.in-Placeable.expression in
-    let joined : elements_of (xs ++ placeable e ∷ ys) ≡ whole = whole-around c.args.pattern.now c.deref-element-items.ensures.value i c.element-item.result (placeable e) c.loop-element-test.true c.element-item.is is in
-    let at : path_of c.loop-element.progress ≡ path = ap (map of_path) c.loop-element.invariant.path in
-    on-err _ (past-in (λ m h. in_elements (subst (λ x. TakesElements find (rooted_path whole path) x m) joined (this-element find (rooted_path whole path) xs ys e h))) (past-at (λ p m. TakesExpression find (rooted_path whole p) e m) c.loop-element.invariant.stack at c.in_err-write_piece-in-Placeable.ensures.deep))
