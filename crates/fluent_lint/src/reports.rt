@@ -1,7 +1,8 @@
 //! Reports of findings.
 #![tactic(auto)]
 
-ghost use Rattle.std.specs.Prelude.{IfOk, OnOk, map};
+ghost use Rattle.std.specs.Prelude.{◌≡◌, IfOk, OnOk, map};
+ghost use Rattle.fluent_lint.specs.LintView.{report_on_files, report_view};
 ghost use Rattle.fluent_lint.specs.Reading.{IsRead};
 ghost use Rattle.fluent_lint.specs.Reports.{IsReportBy, IsReportOf, IsReportOn, ending};
 ghost use Rattle.lint_files.specs.RulesView.{rules_view};
@@ -72,7 +73,8 @@ pub fn report_findings<'s>(
     files: &[File<'s>],
     stack: StackBudget,
 ) -> Result<Report, AllocError>
-    ensures { IfOk result (IsReportOn options.now output.entry references.now files.now) }
+    ensures { IfOk result (λ made. report_view made
+        ≡ report_on_files options.now output.entry references.now files.now) }
 {
     let references = read_files(alloc, references, stack)?;
     let files = read_files(alloc, files, stack)?;

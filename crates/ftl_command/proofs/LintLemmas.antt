@@ -3,12 +3,12 @@ use Rattle.std.proofs.Common.{◌≡◌, Option, Some, subst}
 use Rattle.std.specs.Io.KnownBytes.{Appends}
 use Rattle.fluent_plurals.specs.declared.plurals.LanguagePlurals.{LanguagePlurals}
 use Rattle.fluent_serve.specs.Text.{Text}
-use Rattle.fluent_lint.specs.LintReport.{LintReport, lint_report}
+use Rattle.fluent_lint.specs.LintReport.{LintReport}
 use Rattle.ftl_arguments.specs.CommandView.{lint_view}
 use Rattle.ftl_arguments.specs.Linting.{Lint}
 use Rattle.ftl_arguments.specs.declared.commands.Lint as code
 use Rattle.ftl_files.specs.Files.{State}
-use Rattle.ftl_command.specs.Linted.{EndsLint, IsLintReport, Lints, LintsBy, OnLintReport, Unread, lint_unread}
+use Rattle.ftl_command.specs.Linted.{EndsLint, IsLintReport, Lints, LintsBy, OnLintReport, Unread, lint_unread, report_asked}
 use Rattle.ftl_command.specs.Plurals.{language_asked}
 use Rattle.ftl_command.specs.Program.{WritesFront}
 use Rattle.ftl_command.specs.declared.ended.Ended.{Ended}
@@ -27,7 +27,7 @@ module _ (l : Lint) (before after : State) where
         middle = read.middle;
         of_reference = read.of_reference;
         of_catalog = read.of_catalog;
-        outcome = each (lint_report l plurals read.references.files read.files.files) (lint_unread read.references read.files) read.outcome;
+        outcome = each (report_asked l plurals read.references.files read.files.files) (lint_unread read.references read.files) read.outcome;
       }) on
 
   module _ (made : LintReport) (unread : Unread) (held held_after : Option Text) (text : Text) (is : IsLintReport l before after made unread) (same : text ≡ made.text) where

@@ -1,13 +1,16 @@
 -- What becomes of a catalog that is linted.
-use Rattle.std.specs.Prelude.{◌≡◌, Bool, ◌++◌, Option, IsSomeAnd, Result, IfOk, IsErrOf, string_bytes}
+use Rattle.std.specs.Prelude.{◌≡◌, Bool, List, ◌++◌, Option, IsSomeAnd, Result, IfOk, IsErrOf, string_bytes}
 use Rattle.std.specs.Io.KnownBytes.{Appends}
 use Rattle.fluent_serve.specs.Text.{Text}
 use Rattle.fluent_plurals.specs.declared.plurals.LanguagePlurals.{LanguagePlurals}
 use Rattle.fluent_lint.specs.LintReport.{LintReport, lint_report}
+use Rattle.fluent_lint.specs.LintReport as report
 use Rattle.fluent_lint.specs.LintView.{report_view}
 use Rattle.fluent_lint.specs.declared.reports.Report.{Report}
 use Rattle.ftl_arguments.specs.CommandView.{lint_view}
 use Rattle.ftl_arguments.specs.Linting.{Lint}
+use Rattle.lint_findings.specs.Files.{File}
+use Rattle.lint_findings.specs.Findings.{Options}
 use Rattle.ftl_arguments.specs.declared.commands.Lint as code
 use Rattle.ftl_files.specs.Files.{State}
 use Rattle.ftl_files.specs.Reading.{AreRead, Read}
@@ -20,6 +23,18 @@ use Rattle.ftl_command.specs.declared.ended.Ended.{Ended}
 use Rattle.ftl_command.specs.declared.fault.Fault.{Fault}
 use Rattle.ftl_command.specs.declared.fault.Fault.TheVariants.{Output}
 use Rattle.ftl_command.specs.declared.linting.Linted.{Linted}
+
+-- what is known of the program that is asked about, with these plural rules
+abbrev pub options_asked : Lint → Option LanguagePlurals → Options
+options_asked l plurals = record { functions = l.functions; plurals = plurals }
+
+-- what is to be written of findings, and which of them fail
+abbrev pub output_asked : Lint → report.Output
+output_asked l = record { format = l.format; ignored = l.ignored; notes = l.notes; counts = l.counts; strict = l.strict }
+
+-- the report that is asked for, on these files of a reference and of a catalog
+abbrev pub report_asked : Lint → Option LanguagePlurals → List File → List File → LintReport
+report_asked l plurals references files = lint_report (options_asked l plurals) (output_asked l) references files
 
 -- The files of the reference are read, and then those of the catalog, and the outcome holds of what was read.
 pub record OnCatalogs (l : Lint) (before after : State) (Outcome : Read → Read → Type 0) : Type 0 where
@@ -47,7 +62,7 @@ lint_unread references files = record { errors = lint_errors references files; r
 abbrev pub OnLintReport : Lint → State → State → (LintReport → Unread → Type 0) → Type 0
 OnLintReport l before after Outcome =
     IsSomeAnd (language_asked l.locale) (λ plurals. OnCatalogs l before after (λ references files.
-    Outcome (lint_report l plurals references.files files.files) (lint_unread references files)))
+    Outcome (report_asked l plurals references.files files.files) (lint_unread references files)))
 
 -- these are that report and these lines
 abbrev pub IsLintReport : Lint → State → State → LintReport → Unread → Type 0
@@ -67,7 +82,7 @@ pub record LintEnds (l : Lint) (before after : State) (held held_after : Option 
 
 -- this is the report by these plural rules on what was read
 abbrev pub IsReportBy : code.Lint → Option LanguagePlurals → Read → Read → Report → Type 0
-IsReportBy l plurals references files made = report_view made ≡ lint_report (lint_view l) plurals references.files files.files
+IsReportBy l plurals references files made = report_view made ≡ report_asked (lint_view l) plurals references.files files.files
 
 -- the lines of what could not be read, and which errors they report
 abbrev pub unread_view : Linted → Unread

@@ -1,19 +1,21 @@
 //! The report on the catalog in files.
 ghost use Rattle.std.specs.Prelude.{◌≡◌, Some, IfOk, IfErr, OnOk, string_bytes};
+ghost use Rattle.fluent_lint.specs.LintView.{output_view};
 ghost use Rattle.ftl_arguments.specs.CommandView.{lint_view};
 ghost use Rattle.ftl_arguments.specs.Meaning as asked;
 ghost use Rattle.ftl_files.specs.TidyView.{read_view};
 ghost use Rattle.ftl_command.specs.InPlace.{LintEndsOn, LintsOn, LintsByOn};
-ghost use Rattle.ftl_command.specs.Linted.{EndsLinted, IsReportBy, IsReportOf, lint_errors};
+ghost use Rattle.ftl_command.specs.Linted.{EndsLinted, IsReportBy, IsReportOf, lint_errors, output_asked};
 ghost use Rattle.ftl_command.specs.Refusals.{IsEarlyFault, IsFaultOf, IsTextFault};
 
 use crate::ended::Ended;
 use crate::fault::Fault;
 use crate::output::write_to_stream;
 use crate::plurals::language_plurals;
-use fluent_lint::{Report, lint_sources};
+use fluent_lint::{Options, Output, Report, report_findings};
 use fluent_plurals::LanguagePlurals;
 use fluent_serve::stream::Sink;
+use fluent_text::stack::StackBudget;
 use ftl_arguments::Lint;
 use ftl_files::{Folder, ReadSources, Reported, read_sources};
 use std::alloc::{AllocError, Global};
@@ -120,9 +122,27 @@ fn report_of_files(
 ) -> Result<Report, AllocError>
     ensures { IfOk result (IsReportBy lint.now plurals (read_view references.now) (read_view files.now)) }
 {
+    let options = Options {
+        functions: &lint.functions,
+        plurals,
+    };
     let references = references.files(alloc)?;
     let files = files.files(alloc)?;
-    lint_sources(alloc, lint, plurals, &references, &files)
+    let stack = StackBudget::PROGRAM;
+    report_findings(alloc, &options, output_of(lint), &references, &files, stack)
+}
+
+/// What is to be written of findings, and which of them fail.
+fn output_of<'a>(lint: &'a Lint<'_>) -> Output<'a>
+    ensures { output_view result ≡ output_asked (lint_view lint.now) }
+{
+    Output {
+        format: lint.format,
+        ignored: &lint.ignored,
+        notes: lint.notes,
+        counts: lint.counts,
+        strict: lint.strict,
+    }
 }
 
 /// The lines of the files that could not be read.
