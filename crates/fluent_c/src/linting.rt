@@ -12,7 +12,7 @@ use crate::text::FluentText;
 use crate::{
     FLUENT_HAS_ERRORS, FLUENT_NO_MEMORY, FLUENT_NOT_UTF8, FLUENT_READ, FLUENT_UNKNOWN_LOCALE,
 };
-use fluent_lint::{Options, Output, Report, report_findings};
+use fluent_lint::{Options, Output, Report, report_files};
 use fluent_plurals::LanguagePlurals;
 use fluent_text::stack::StackBudget;
 use lint_report::Format;
@@ -111,7 +111,7 @@ fn report_by(
     let files = checked_files(alloc, files)?;
     let references = checked_files(alloc, references)?;
     let stack = StackBudget::THREAD;
-    Ok(report_findings(alloc, options, output, &references, &files, stack)?)
+    Ok(report_files(alloc, options, output, &references, &files, stack)?)
 }
 
 /// The report on files.

@@ -1,6 +1,6 @@
 //! All findings of the files of a catalog, and their report.
 //!
-//! [`report_findings`] is what `ftl lint` calls, and `fluent_lint` for C: it reads every file once, and takes time that is
+//! [`report_files`] is what `ftl lint` calls, and `fluent_lint` for C: it reads every file once, and takes time that is
 //! linear in the sources. But with a reference, a chain of n messages of which each refers to the next takes n² steps, as
 //! the definition lists for each message all that it leads to.
 //!
@@ -21,4 +21,4 @@ mod terms;
 mod tiles;
 mod totals;
 
-pub use reports::{Options, Output, Report, report_findings};
+pub use reports::{Options, Output, Report, report_files};

@@ -1,20 +1,15 @@
 -- What holds of the report on a catalog.
-use Rattle.std.proofs.Common.{◌≡◌, Option, Some, subst}
+use Rattle.std.proofs.Common.{◌≡◌, Option, subst}
 use Rattle.std.specs.Io.KnownBytes.{Appends}
-use Rattle.fluent_plurals.specs.declared.plurals.LanguagePlurals.{LanguagePlurals}
 use Rattle.fluent_serve.specs.Text.{Text}
 use Rattle.fluent_lint.specs.LintReport.{LintReport}
-use Rattle.ftl_arguments.specs.CommandView.{lint_view}
 use Rattle.ftl_arguments.specs.Linting.{Lint}
-use Rattle.ftl_arguments.specs.declared.commands.Lint as code
 use Rattle.ftl_files.specs.Files.{State}
-use Rattle.ftl_command.specs.Linted.{EndsLint, IsLintReport, Lints, LintsBy, OnLintReport, Unread, lint_unread, report_asked}
+use Rattle.ftl_command.specs.Linted.{EndsLint, IsLintReport, OnLintReport, Unread, lint_unread, report_asked}
 use Rattle.ftl_command.specs.Plurals.{language_asked}
 use Rattle.ftl_command.specs.Program.{WritesFront}
 use Rattle.ftl_command.specs.declared.ended.Ended.{Ended}
-use Rattle.ftl_command.specs.declared.linting.Linted.{Linted}
 use Rattle.ftl_command.proofs.FormatLemmas.{if_some}
-use Rattle.ftl_command.proofs.RunLemmas.{by_plurals}
 
 module _ (l : Lint) (before after : State) where
   -- what follows for each report follows for this one
@@ -45,16 +40,3 @@ module _ (l : Lint) (before after : State) where
     lint_cut front =
         on_lint_report {P = λ report rest. (made ≡ report) × (unread ≡ rest)} {Q = λ report rest. WritesFront held held_after report.text}
         (λ report rest equal. subst (λ (r : LintReport). WritesFront held held_after r.text) equal.0 (subst (WritesFront held held_after) same front)) is
-
--- the plural rules are those of the locale that is asked for
-pub lints_by : (l : code.Lint) (plurals : Option LanguagePlurals) (before after : State) (made : Linted) → language_asked (lint_view l).locale ≡ Some plurals →
-    LintsBy l plurals before after made → Lints l before after made
-lints_by l plurals before after made known by =
-    by_plurals (language_asked (lint_view l).locale) plurals _ known (record {
-      references = by.references;
-      files = by.files;
-      middle = by.middle;
-      of_reference = by.of_reference;
-      of_catalog = by.of_catalog;
-      outcome = (by.outcome.report, by.outcome.unread);
-    })

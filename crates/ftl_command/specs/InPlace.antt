@@ -14,13 +14,12 @@ use Rattle.ftl_files.specs.Files.{State}
 use Rattle.ftl_files.specs.States.{state_of}
 use Rattle.ftl_files.specs.declared.folder.Folder.{Ghosts as FolderGhosts}
 use Rattle.ftl_files.specs.Tidying.{AreTidied, AreTidiedFirst, Said}
-use Rattle.ftl_command.specs.Linted.{LintEnds, Lints, LintsBy}
+use Rattle.ftl_command.specs.Linted.{LintEnds, Lints}
 use Rattle.ftl_command.specs.Program.{WritesFront}
 use Rattle.ftl_command.specs.Reported.{EndsBy}
 use Rattle.ftl_command.specs.declared.ended.Ended.{Ended}
 use Rattle.ftl_command.specs.declared.fault.Fault.{Fault}
 use Rattle.ftl_command.specs.declared.linting.Linted.{Linted}
-use Rattle.fluent_plurals.specs.declared.plurals.LanguagePlurals.{LanguagePlurals}
 use Rattle.ftl_command.specs.declared.fault.Fault.TheVariants.{Output, Memory}
 
 -- the files are tidied, and the outcome holds of what is said of them
@@ -74,6 +73,3 @@ module _ {F W : Type 0} (folders : FolderGhosts F) (before after : F) (sink : Si
 module _ {F : Type 0} (folders : FolderGhosts F) (before after : F) where
   abbrev pub LintsOn : linted.Lint → Linted → Type 0
   LintsOn l made = Lints l (state_of folders before) (state_of folders after) made
-
-  abbrev pub LintsByOn : linted.Lint → Option LanguagePlurals → Linted → Type 0
-  LintsByOn l plurals made = LintsBy l plurals (state_of folders before) (state_of folders after) made

@@ -6,7 +6,6 @@ use Rattle.fluent_plurals.specs.declared.plurals.LanguagePlurals.{LanguagePlural
 use Rattle.fluent_lint.specs.LintReport.{LintReport, lint_report}
 use Rattle.fluent_lint.specs.LintReport as report
 use Rattle.fluent_lint.specs.LintView.{report_view}
-use Rattle.fluent_lint.specs.declared.reports.Report.{Report}
 use Rattle.ftl_arguments.specs.CommandView.{lint_view}
 use Rattle.ftl_arguments.specs.Linting.{Lint}
 use Rattle.lint_findings.specs.Files.{File}
@@ -80,23 +79,16 @@ pub record LintEnds (l : Lint) (before after : State) (held held_after : Option 
 
 -- ---- the code's values
 
--- this is the report by these plural rules on what was read
-abbrev pub IsReportBy : code.Lint → Option LanguagePlurals → Read → Read → Report → Type 0
-IsReportBy l plurals references files made = report_view made ≡ report_asked (lint_view l) plurals references.files files.files
-
 -- the lines of what could not be read, and which errors they report
 abbrev pub unread_view : Linted → Unread
 unread_view made = record { errors = string_bytes made.errors; reported = made.reported }
 
--- this is that report, and these are its lines
-pub record IsReportOf (l : code.Lint) (plurals : Option LanguagePlurals) (references files : Read) (made : Linted) : Type 0 where
-  pub report : IsReportBy l plurals references files made.report
-  pub unread : unread_view made ≡ lint_unread references files
+-- this is the report by these plural rules on what was read, and these are its lines
+abbrev pub IsReportOf : code.Lint → Option LanguagePlurals → Read → Read → Linted → Type 0
+IsReportOf l plurals references files made =
+    (report_view made.report ≡ report_asked (lint_view l) plurals references.files files.files) × (unread_view made ≡ lint_unread references files)
 
--- so it is of what was read of a folder, by what is known of it
-abbrev pub LintsBy : code.Lint → Option LanguagePlurals → State → State → Linted → Type 0
-LintsBy l plurals before after made = OnCatalogs (lint_view l) before after (λ references files. IsReportOf l plurals references files made)
-
+-- it is the one on the catalog in files, by what is known of their folder
 abbrev pub Lints : code.Lint → State → State → Linted → Type 0
 Lints l before after made = IsLintReport (lint_view l) before after (report_view made.report) (unread_view made)
 

@@ -1,18 +1,19 @@
 //! The report on the catalog in files.
 ghost use Rattle.std.specs.Prelude.{◌≡◌, Some, IfOk, IfErr, OnOk, string_bytes};
 ghost use Rattle.fluent_lint.specs.LintView.{output_view};
+ghost use Rattle.fluent_lint.specs.Reports.{options_view};
 ghost use Rattle.ftl_arguments.specs.CommandView.{lint_view};
 ghost use Rattle.ftl_arguments.specs.Meaning as asked;
 ghost use Rattle.ftl_files.specs.TidyView.{read_view};
-ghost use Rattle.ftl_command.specs.InPlace.{LintEndsOn, LintsOn, LintsByOn};
-ghost use Rattle.ftl_command.specs.Linted.{EndsLinted, IsReportBy, IsReportOf, lint_errors, output_asked};
+ghost use Rattle.ftl_command.specs.InPlace.{LintEndsOn, LintsOn};
+ghost use Rattle.ftl_command.specs.Linted.{EndsLinted, IsReportOf, lint_errors, options_asked, output_asked};
 ghost use Rattle.ftl_command.specs.Refusals.{IsEarlyFault, IsFaultOf, IsTextFault};
 
 use crate::ended::Ended;
 use crate::fault::Fault;
 use crate::output::write_to_stream;
 use crate::plurals::language_plurals;
-use fluent_lint::{Options, Output, Report, report_findings};
+use fluent_lint::{Options, Output, Report, report_files};
 use fluent_plurals::LanguagePlurals;
 use fluent_serve::stream::Sink;
 use fluent_text::stack::StackBudget;
@@ -39,7 +40,7 @@ pub fn lint_files<'words, F: Folder, O: Sink>(
         (Some (asked.lint (lint_view lint.now)))) }
     ensures stops { IfErr result (IsTextFault O.Sink writer.old writer.new) }
 {
-    let linted = report_on(folder, alloc, lint)?;
+    let linted = report_paths(folder, alloc, lint)?;
     write_to_stream(writer, linted.report.text.as_str())?;
     Ok(end_of(linted))
 }
@@ -65,8 +66,8 @@ fn end_of(linted: Linted) -> Ended
     Ended::of_files(reported, report.has_failed, errors)
 }
 
-/// The report on the catalog in files.
-fn report_on<'words, F: Folder>(
+/// The report on the files that the paths stand for: those of the reference are read before those of the catalog.
+fn report_paths<'words, F: Folder>(
     folder: &mut F,
     alloc: Global,
     lint: &Lint<'words>,
@@ -76,25 +77,13 @@ fn report_on<'words, F: Folder>(
         (asked.lint (lint_view lint.now))) }
 {
     let plurals = language_plurals(lint.locale)?;
-    Ok(report_by(folder, alloc, lint, plurals)?)
-}
-
-/// The same by plural rules. The files of the reference are read before those of the catalog.
-fn report_by<F: Folder>(
-    folder: &mut F,
-    alloc: Global,
-    lint: &Lint,
-    plurals: Option<LanguagePlurals>,
-) -> Result<Linted, AllocError>
-    ensures { IfOk result (LintsByOn F.Folder folder.old folder.new lint.now plurals) }
-{
     let references = read_sources(folder, alloc, &lint.references)?;
     let files = read_sources(folder, alloc, &lint.files)?;
-    report_of(alloc, lint, plurals, &references, &files)
+    Ok(report_sources(alloc, lint, plurals, &references, &files)?)
 }
 
-/// The report on what was read.
-fn report_of(
+/// The report on the sources that were read, by these plural rules.
+fn report_sources(
     alloc: Global,
     lint: &Lint,
     plurals: Option<LanguagePlurals>,
@@ -103,33 +92,34 @@ fn report_of(
 ) -> Result<Linted, AllocError>
     ensures { IfOk result (IsReportOf lint.now plurals (read_view references.now) (read_view files.now)) }
 {
-    let report = report_of_files(alloc, lint, plurals, references, files)?;
     let errors = joined_errors(alloc, references, files)?;
+    let reported = references.reported.or(files.reported);
+    let references = references.files(alloc)?;
+    let files = files.files(alloc)?;
+    let options = options_of(lint, plurals);
+    let report = report_files(
+        alloc,
+        &options,
+        output_of(lint),
+        &references,
+        &files,
+        StackBudget::PROGRAM,
+    )?;
     Ok(Linted {
         report,
         errors,
-        reported: references.reported.or(files.reported),
+        reported,
     })
 }
 
-/// The report on the files that were read.
-fn report_of_files(
-    alloc: Global,
-    lint: &Lint,
-    plurals: Option<LanguagePlurals>,
-    references: &ReadSources,
-    files: &ReadSources,
-) -> Result<Report, AllocError>
-    ensures { IfOk result (IsReportBy lint.now plurals (read_view references.now) (read_view files.now)) }
+/// What is known of the program and of the language, with these plural rules.
+fn options_of<'a>(lint: &'a Lint<'_>, plurals: Option<LanguagePlurals>) -> Options<'a>
+    ensures { options_view result ≡ options_asked (lint_view lint.now) plurals }
 {
-    let options = Options {
+    Options {
         functions: &lint.functions,
         plurals,
-    };
-    let references = references.files(alloc)?;
-    let files = files.files(alloc)?;
-    let stack = StackBudget::PROGRAM;
-    report_findings(alloc, &options, output_of(lint), &references, &files, stack)
+    }
 }
 
 /// What is to be written of findings, and which of them fail.

@@ -17,14 +17,14 @@ pub returns-in_err-write_to_stream-clause-ended : goal.returns-in_err-write_to_s
 returns-in_err-write_to_stream-clause-ended g c = record {
   linted = search rules;
   output = λ is.
-      lint_cut (lint_view c.args.lint.now) (state_of g.F.Folder c.args.folder.now) (state_of g.F.Folder c.report_on.new.folder) (report_view c.in_ok-linted.linted.report)
+      lint_cut (lint_view c.args.lint.now) (state_of g.F.Folder c.args.folder.now) (state_of g.F.Folder c.report_paths.new.folder) (report_view c.in_ok-linted.linted.report)
       (unread_view c.in_ok-linted.linted) _ _ _ c.in_ok-linted.ensures.linted c.as_str.ensures.value c.in_err-write_to_stream.ensures.front;
 }
 
 pub returns-clause-ended : goal.returns-clause-ended
 returns-clause-ended g c = record {
   linted =
-      linted_so (lint_view c.args.lint.now) (state_of g.F.Folder c.args.folder.now) (state_of g.F.Folder c.report_on.new.folder) (report_view c.in_ok-linted.linted.report)
+      linted_so (lint_view c.args.lint.now) (state_of g.F.Folder c.args.folder.now) (state_of g.F.Folder c.report_paths.new.folder) (report_view c.in_ok-linted.linted.report)
       (unread_view c.in_ok-linted.linted) _ _ _ c.in_ok-linted.ensures.linted c.as_str.ensures.value _ c.in_ok-write_to_stream.ensures.written c.end_of.ensures;
   output = λ is. absurd cc;
 }

@@ -3,7 +3,7 @@ use Rattle.lint_finding.specs.declared.records.File.{File}
 use Rattle.fluent_grammar.specs.Words.{Text}
 use Rattle.fluent_lint.specs.LintReport.{LintReport}
 use Rattle.fluent_lint.specs.Reports.{IsReportOn}
-use Rattle.fluent_lint.proofs.reports.report_findings.Goals as goal
+use Rattle.fluent_lint.proofs.reports.report_files.Goals as goal
 
 pub returns : goal.returns
 returns c =
