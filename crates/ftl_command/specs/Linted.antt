@@ -12,15 +12,17 @@ use Rattle.lint_findings.specs.Files.{File}
 use Rattle.lint_findings.specs.Findings.{Options}
 use Rattle.ftl_arguments.specs.declared.commands.Lint as code
 use Rattle.ftl_files.specs.Files.{State}
-use Rattle.ftl_files.specs.Reading.{AreRead, Read}
+use Rattle.ftl_files.specs.Reading.{AreRead, Read, ReadsBytes, nothing_read}
 use Rattle.ftl_files.specs.Reported.{both}
 use Rattle.ftl_files.specs.declared.reported.Reported.{Reported}
+use Rattle.fluent_serve.specs.Exchange.{Devices}
+use Rattle.ftl_command.specs.Input.{IsReadWhole, input_name}
 use Rattle.ftl_command.specs.Plurals.{language_asked}
 use Rattle.ftl_command.specs.Program.{WritesFront}
 use Rattle.ftl_command.specs.Reported.{EndsOf}
 use Rattle.ftl_command.specs.declared.ended.Ended.{Ended}
 use Rattle.ftl_command.specs.declared.fault.Fault.{Fault}
-use Rattle.ftl_command.specs.declared.fault.Fault.TheVariants.{Output}
+use Rattle.ftl_command.specs.declared.fault.Fault.TheVariants.{Input, Memory, Output}
 use Rattle.ftl_command.specs.declared.linting.Linted.{Linted}
 
 -- what is known of the program that is asked about, with these plural rules
@@ -44,6 +46,17 @@ pub record OnCatalogs (l : Lint) (before after : State) (Outcome : Read → Read
   pub of_catalog : AreRead l.files middle after files
   pub outcome : Outcome references files
 
+-- The files of the reference are read, and then all of the input, whose source is the catalog, and the outcome holds of
+-- what was read.
+pub record OnInputCatalog (l : Lint) (before after : State) (left left_after : Option Text) (Outcome : Read → Read → Type 0) : Type 0 where
+  pub references : Read
+  pub bytes : Text
+  pub files : Read
+  pub of_reference : AreRead l.references before after references
+  pub of_input : IsReadWhole left left_after bytes
+  pub of_bytes : ReadsBytes input_name bytes nothing_read files
+  pub outcome : Outcome references files
+
 -- the lines of the files that could not be read, and of the paths that stand for none
 abbrev pub lint_errors : Read → Read → Text
 lint_errors references files = references.errors ++ files.errors
@@ -63,6 +76,12 @@ OnLintReport l before after Outcome =
     IsSomeAnd (language_asked l.locale) (λ plurals. OnCatalogs l before after (λ references files.
     Outcome (report_asked l plurals references.files files.files) (lint_unread references files)))
 
+-- so it is of the report on the input
+abbrev pub OnInputReport : Lint → State → State → Option Text → Option Text → (LintReport → Unread → Type 0) → Type 0
+OnInputReport l before after left left_after Outcome =
+    IsSomeAnd (language_asked l.locale) (λ plurals. OnInputCatalog l before after left left_after (λ references files.
+    Outcome (report_asked l plurals references.files files.files) (lint_unread references files)))
+
 -- these are that report and these lines
 abbrev pub IsLintReport : Lint → State → State → LintReport → Unread → Type 0
 IsLintReport l before after made unread = OnLintReport l before after (λ report rest. (made ≡ report) × (unread ≡ rest))
@@ -76,6 +95,17 @@ pub record LintEnds (l : Lint) (before after : State) (held held_after : Option 
   pub linted : IfOk result (λ end. OnLintReport l before after (λ report unread. Appends held held_after report.text × EndsLint unread report.has_failed end))
   -- a front of the report is written
   pub output : IsErrOf result Output → OnLintReport l before after (λ report unread. WritesFront held held_after report.text)
+
+-- What became of linting the input, by how it ended.
+pub record LintInputEnds (l : Lint) (before after : State) (d : Devices) (result : Result Ended Fault) : Type 0 where
+  pub linted : IfOk result (λ end. OnInputReport l before after d.left_before d.left_after (λ report unread.
+      Appends d.held_before d.held_after report.text × EndsLint unread report.has_failed end))
+  -- nothing is written
+  pub memory : IsErrOf result Memory → d.held_after ≡ d.held_before
+  pub input : IsErrOf result Input → d.held_after ≡ d.held_before
+  -- a front of the report is written
+  pub output : IsErrOf result Output → OnInputReport l before after d.left_before d.left_after (λ report unread.
+      WritesFront d.held_before d.held_after report.text)
 
 -- ---- the code's values
 
@@ -91,6 +121,11 @@ IsReportOf l plurals references files made =
 -- it is the one on the catalog in files, by what is known of their folder
 abbrev pub Lints : code.Lint → State → State → Linted → Type 0
 Lints l before after made = IsLintReport (lint_view l) before after (report_view made.report) (unread_view made)
+
+-- and of the input
+abbrev pub LintsInput : code.Lint → State → State → Option Text → Option Text → Linted → Type 0
+LintsInput l before after left left_after made =
+    OnInputReport (lint_view l) before after left left_after (λ report rest. (report_view made.report ≡ report) × (unread_view made ≡ rest))
 
 -- the end is that of this report
 abbrev pub EndsLinted : Linted → Ended → Type 0

@@ -1,21 +1,22 @@
-//! The report on the catalog in files.
+//! The report on a catalog, in files or in standard input.
 ghost use Rattle.std.specs.Prelude.{◌≡◌, Some, IfOk, IfErr, OnOk, string_bytes};
 ghost use Rattle.fluent_lint.specs.LintView.{output_view};
 ghost use Rattle.fluent_lint.specs.Reports.{options_view};
 ghost use Rattle.ftl_arguments.specs.CommandView.{lint_view};
 ghost use Rattle.ftl_arguments.specs.Meaning as asked;
 ghost use Rattle.ftl_files.specs.TidyView.{read_view};
-ghost use Rattle.ftl_command.specs.InPlace.{LintEndsOn, LintsOn};
+ghost use Rattle.ftl_command.specs.InPlace.{LintEndsOn, LintInputEndsOn, LintsInputOn, LintsOn};
 ghost use Rattle.ftl_command.specs.Linted.{EndsLinted, IsReportOf, lint_errors, options_asked, output_asked};
-ghost use Rattle.ftl_command.specs.Refusals.{IsEarlyFault, IsFaultOf, IsTextFault};
+ghost use Rattle.ftl_command.specs.Refusals.{IsDeviceFault, IsEarlyFault, IsFaultOf, IsReadFault, IsTextFault};
 
 use crate::ended::Ended;
 use crate::fault::Fault;
+use crate::input::{NAME, read_input};
 use crate::output::write_to_stream;
 use crate::plurals::language_plurals;
 use fluent_lint::{Options, Output, Report, report_files};
 use fluent_plurals::LanguagePlurals;
-use fluent_serve::stream::Sink;
+use fluent_serve::stream::{Sink, Source};
 use fluent_text::stack::StackBudget;
 use ftl_arguments::Lint;
 use ftl_files::{Folder, ReadSources, Reported, read_sources};
@@ -41,6 +42,33 @@ pub fn lint_files<'words, F: Folder, O: Sink>(
     ensures stops { IfErr result (IsTextFault O.Sink writer.old writer.new) }
 {
     let linted = report_paths(folder, alloc, lint)?;
+    write_to_stream(writer, linted.report.text.as_str())?;
+    Ok(end_of(linted))
+}
+
+/// Writes what is found in standard input, which is the catalog. The files of the reference are read before it. If it isn't
+/// UTF-8 or nests too deep, that is reported in the end, and the report is on no file.
+///
+/// # Errors
+/// The first fault: an unknown locale is found before anything is read. After [`Fault::Output`] a front of the report was
+/// written, and after another fault nothing.
+pub fn lint_input<'words, F: Folder, I: Source, O: Sink>(
+    folder: &mut F,
+    alloc: Global,
+    lint: &Lint<'words>,
+    reader: &mut I,
+    writer: &mut O,
+) -> Result<Ended, Fault<'words>>
+    ensures ended { LintInputEndsOn F.Folder folder.old folder.new I.Source reader.old reader.new
+        O.Sink writer.old writer.new lint.now result }
+    ensures reads { OnOk result (I.failures reader.new ≡ I.failures reader.old) }
+    ensures writes { OnOk result (O.failures writer.new ≡ O.failures writer.old) }
+    ensures fault { IfErr result (IsFaultOf F.Folder folder.old folder.new
+        (Some (asked.lint_input (lint_view lint.now)))) }
+    ensures stops { IfErr result (IsDeviceFault I.Source reader.old reader.new
+        O.Sink writer.old writer.new) }
+{
+    let linted = report_input(folder, alloc, lint, reader)?;
     write_to_stream(writer, linted.report.text.as_str())?;
     Ok(end_of(linted))
 }
@@ -80,6 +108,27 @@ fn report_paths<'words, F: Folder>(
     let references = read_sources(folder, alloc, &lint.references)?;
     let files = read_sources(folder, alloc, &lint.files)?;
     Ok(report_sources(alloc, lint, plurals, &references, &files)?)
+}
+
+/// The report on standard input, which is read after the files of the reference.
+fn report_input<'words, F: Folder, I: Source>(
+    folder: &mut F,
+    alloc: Global,
+    lint: &Lint<'words>,
+    reader: &mut I,
+) -> Result<Linted, Fault<'words>>
+    ensures linted { IfOk result (LintsInputOn F.Folder folder.old folder.new
+        I.Source reader.old reader.new lint.now) }
+    ensures reads { OnOk result (I.failures reader.new ≡ I.failures reader.old) }
+    ensures fault { IfErr result (IsFaultOf F.Folder folder.old folder.new
+        (Some (asked.lint_input (lint_view lint.now)))) }
+    ensures stops { IfErr result (IsReadFault I.Source reader.old reader.new) }
+{
+    let plurals = language_plurals(lint.locale)?;
+    let references = read_sources(folder, alloc, &lint.references)?;
+    let bytes = read_input(alloc, reader)?;
+    let input = ReadSources::of_bytes(alloc, NAME, bytes)?;
+    Ok(report_sources(alloc, lint, plurals, &references, &input)?)
 }
 
 /// The report on the sources that were read, by these plural rules.
