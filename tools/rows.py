@@ -44,6 +44,7 @@ FREE = {
     "links": lambda it: type(it) is dict and all(is_name(key) and type(it[key]) is str for key in it),
     "modes": lambda it: type(it) is dict and all(is_name(key) and re.fullmatch("[0-7]{3}", it[key]) for key in it),
     "stdin": lambda it: type(it) in (str, type(None)),
+    "from": lambda it: type(it) is str and is_name(it),
     "full": lambda it: type(it) is bool,
     "gone": lambda it: type(it) is bool,
     "terminal": lambda it: type(it) is bool,
@@ -136,9 +137,17 @@ def runner(program, row, tools):
     return shutil.copy(program, tools / "ftl"), {"user": NOBODY, "group": NOBODY, "extra_groups": []}
 
 
+def input_of(row):
+    """The bytes of the row's input, or None if it can't be read."""
+    if "from" in row:
+        return (ROWS / "files" / row["from"]).read_bytes()
+    text = row.get("stdin", "")
+    return None if text is None else text.encode()
+
+
 def ended(program, row, folder, **user):
     """How the program ends that runs on the row in this folder: its status, its output and its errors."""
-    given = row.get("stdin", "")
+    given = input_of(row)
     # A folder can be opened, and not read.
     source = os.open(folder, os.O_RDONLY) if given is None else subprocess.PIPE
     target = os.open("/dev/full", os.O_WRONLY) if row.get("full") else unread() if row.get("gone") else subprocess.PIPE
@@ -147,7 +156,7 @@ def ended(program, row, folder, **user):
     devices = {"stdin": source, "stdout": target, "stderr": faults}
     with subprocess.Popen([program, *row["words"]], cwd=folder, env=row.get("environment", {}), **devices, **user) as run:
         try:
-            output, errors = run.communicate(given and given.encode(), timeout=SECONDS)
+            output, errors = run.communicate(given, timeout=SECONDS)
         except subprocess.TimeoutExpired:
             run.kill()
             output, errors = run.communicate()

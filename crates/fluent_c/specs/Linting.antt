@@ -1,10 +1,14 @@
 -- What is found in a catalog, for C.
 use Rattle.std.specs.Prelude.{◌≡◌, ◌≢◌, ◌⊎◌, ℕ, Bool, true, false, List, [], ◌∷◌, Option, None, Some, IsSomeAnd, IsUtf8, All, Contains, map, option_map}
 use Rattle.fluent_grammar.specs.Words.{Text}
-use Rattle.fluent_lint.specs.LintReport.{LintReport, lint_report}
+use Rattle.fluent_lint.specs.LintReport.{LintReport, Output, lint_report}
+use Rattle.fluent_lint.specs.LintView.{output_view}
+use Rattle.fluent_lint.specs.Reports.{options_view}
+use Rattle.fluent_lint.specs.declared.reports.Options as code
+use Rattle.fluent_lint.specs.declared.reports.Output as written
 use Rattle.fluent_plurals.specs.declared.plurals.LanguagePlurals.{LanguagePlurals}
-use Rattle.ftl_arguments.specs.Linting.{Lint}
 use Rattle.lint_findings.specs.Files.{File}
+use Rattle.lint_findings.specs.Findings.{Options}
 use Rattle.lint_findings.specs.Output.{json}
 use Rattle.fluent_c.specs.Answering.{AreUtf8, HoldsOther, plurals_named, texts_of}
 use Rattle.fluent_c.specs.Made.{Holds}
@@ -44,28 +48,24 @@ abbrev pub plurals_looked_for : Text → Option (Option LanguagePlurals)
 plurals_looked_for [] = Some None
 plurals_looked_for (byte ∷ tag) = option_map Some (plurals_named (byte ∷ tag))
 
--- What a command line would ask for. Its files and its locale are handed over by themselves.
-abbrev pub lint_asked : FluentLintOptions → Lint
-lint_asked options = record {
-  references = [];
-  functions = texts_of options.functions.now;
-  ignored = [];
-  locale = None;
-  notes = options.notes;
-  counts = false;
-  strict = options.strict;
-  format = json;
-  files = [];
-}
+-- what is known of the program that asks, with these plural rules
+abbrev pub options_asked : FluentLintOptions → Option LanguagePlurals → Options
+options_asked options plurals = record { functions = texts_of options.functions.now; plurals = plurals }
 
--- the report of that on these files, by plural rules
-abbrev pub report_by : Lint → Option LanguagePlurals → List FluentFile → List FluentFile → LintReport
-report_by lint plurals files references = lint_report lint plurals (files_given references) (files_given files)
+-- what is written: each finding as JSON; and which findings fail
+abbrev pub output_asked : FluentLintOptions → Output
+output_asked options = record { format = json; ignored = []; notes = options.notes; counts = false; strict = options.strict }
 
--- the same by those of the locale, if it has any
+-- the report on these files, by the plural rules of the locale, if it has any
 abbrev pub report_in : FluentLintOptions → List FluentFile → List FluentFile → Option LintReport
 report_in options files references =
-    option_map (λ plurals. report_by (lint_asked options) plurals files references) (plurals_looked_for options.locale.now)
+    option_map (λ plurals. lint_report (options_asked options plurals) (output_asked options) (files_given references) (files_given files))
+    (plurals_looked_for options.locale.now)
+
+-- the report on them that the code's options ask for
+abbrev pub report_by : code.Options → written.Output → List FluentFile → List FluentFile → LintReport
+report_by options output files references =
+    lint_report (options_view options) (output_view output) (files_given references) (files_given files)
 
 -- ---- what comes back
 

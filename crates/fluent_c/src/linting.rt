@@ -1,10 +1,8 @@
 //! What is found in a catalog.
 
 ghost use Rattle.std.specs.Prelude.{◌≡◌, ◌≢◌, false, IfErr, IfOk, IsTrue, None, Some};
-ghost use Rattle.fluent_lint.specs.LintView.{report_view};
-ghost use Rattle.ftl_arguments.specs.CommandView.{lint_view};
-ghost use Rattle.fluent_c.specs.Answering.{HoldsOther};
-ghost use Rattle.fluent_c.specs.Linting.{AreAllUtf8, HasOtherFile, HasReport, HoldOther, IsReport, IsReported, Lints, lint_asked, lint_status, plurals_looked_for, report_by, report_in};
+ghost use Rattle.fluent_lint.specs.LintView.{output_view, report_view};
+ghost use Rattle.fluent_c.specs.Linting.{AreAllUtf8, HasOtherFile, HasReport, HoldOther, IsReport, IsReported, Lints, lint_status, output_asked, plurals_looked_for, report_by, report_in};
 ghost use Rattle.fluent_c.specs.declared.answering.Refusal.TheVariants.{NotUtf8, UnknownLocale};
 
 use crate::answering::{FluentSource, Refusal, are_utf8, checked_texts};
@@ -14,10 +12,9 @@ use crate::text::FluentText;
 use crate::{
     FLUENT_HAS_ERRORS, FLUENT_NO_MEMORY, FLUENT_NOT_UTF8, FLUENT_READ, FLUENT_UNKNOWN_LOCALE,
 };
-use fluent_lint::{Report, lint_files};
+use fluent_lint::{Options, Output, Report, report_files};
 use fluent_plurals::LanguagePlurals;
 use fluent_text::stack::StackBudget;
-use ftl_arguments::Lint;
 use lint_report::Format;
 use std::alloc::Global;
 
@@ -80,44 +77,33 @@ fn plurals_looked_for(locale: &[u8]) -> Result<Option<LanguagePlurals>, Refusal>
     }
 }
 
-/// What a command line would ask for.
-///
-/// # Errors
-/// [`Refusal::NotUtf8`] if the name of a function isn't UTF-8, and [`Refusal::Memory`] if memory runs out; nothing is kept.
-fn asked<'o>(alloc: Global, options: &FluentLintOptions<'o>) -> Result<Lint<'o>, Refusal>
-    ensures asked { IfOk result (λ lint. lint_view lint ≡ lint_asked options.now) }
-    ensures not_utf8 { IfErr result (λ refusal. refusal ≡ NotUtf8
-        → HoldsOther options.now.functions.now) }
-    ensures no_locale { IfErr result (λ refusal. refusal ≢ UnknownLocale) }
+/// What is written: each finding as a line of JSON.
+fn output_of(options: &FluentLintOptions<'_>) -> Output<'static>
+    ensures { output_view result ≡ output_asked options.now }
 {
-    let functions = checked_texts(alloc, options.functions)?;
-    Ok(Lint {
-        references: Vec::new(alloc),
-        functions,
-        ignored: Vec::new(alloc),
-        locale: None,
+    Output {
+        format: Format::Json,
+        ignored: &[],
         notes: options.notes,
         counts: false,
         strict: options.strict,
-        format: Format::Json,
-        files: Vec::new(alloc),
-    })
+    }
 }
 
-/// The report that is asked for on files, by these plural rules.
+/// The report on files, by what is known of the program and of the language.
 ///
 /// # Errors
 /// [`Refusal::NotUtf8`] if a name or a text isn't UTF-8, and [`Refusal::Memory`] if memory runs out, or a file nests too
 /// deep; nothing is kept.
 fn report_by(
     alloc: Global,
-    lint: &Lint<'_>,
-    plurals: Option<LanguagePlurals>,
+    options: &Options<'_>,
+    output: Output<'_>,
     files: &[FluentFile<'_>],
     references: &[FluentFile<'_>],
 ) -> Result<Report, Refusal>
     ensures report { IfOk result (λ r. report_view r
-        ≡ report_by (lint_view lint.now) plurals files.now references.now) }
+        ≡ report_by options.now output.entry files.now references.now) }
     ensures not_utf8 { IfErr result (λ refusal. refusal ≡ NotUtf8
         → HoldOther files.now references.now) }
     ensures no_locale { IfErr result (λ refusal. refusal ≢ UnknownLocale) }
@@ -125,7 +111,7 @@ fn report_by(
     let files = checked_files(alloc, files)?;
     let references = checked_files(alloc, references)?;
     let stack = StackBudget::THREAD;
-    Ok(lint_files(alloc, lint, plurals, &references, &files, stack)?)
+    Ok(report_files(alloc, options, output, &references, &files, stack)?)
 }
 
 /// The report on files.
@@ -147,8 +133,12 @@ fn report_on(
         → plurals_looked_for options.now.locale.now ≡ None) }
 {
     let plurals = plurals_looked_for(options.locale)?;
-    let lint = asked(alloc, options)?;
-    report_by(alloc, &lint, plurals, files, references)
+    let functions = checked_texts(alloc, options.functions)?;
+    let known = Options {
+        functions: &functions,
+        plurals,
+    };
+    report_by(alloc, &known, output_of(options), files, references)
 }
 
 /// The report on files, in memory that the caller frees, and whether the catalog fails.

@@ -23,12 +23,7 @@ use Rattle.fluent_lint.specs.declared.tiles.FileTiles.{FileTiles}
 abbrev pub DeclaresFile : Declarations → Declarations → File → Type 0
 DeclaresFile old new file = (before : List Declaration) → AreFirst old before → AreFirst new (before ++ declared_in (file_view file))
 
--- these are the findings of a file after the declarations that are known
-abbrev pub IsFoundInFile : Rules → Declarations → File → Vec Finding Global → Type 0
-IsFoundInFile rules known file found = (before : List Declaration) → AreFirst known before →
-    map finding_view found.items ≡ findings_of_file rules before (file_view file)
-
--- and these are they in the order of their offsets
+-- these are the findings of a file after the declarations that are known, in the order of their offsets
 abbrev pub IsOrderedInFile : Rules → Declarations → File → Vec Finding Global → Type 0
 IsOrderedInFile rules known file found = (before : List Declaration) → AreFirst known before →
     findings_in (file_view file) (map finding_view found.items)
@@ -40,11 +35,6 @@ module _ (rules : Rules) where
   found_by_files before [] = []
   found_by_files before (file ∷ files) =
       ordered (findings_in file (findings_of_file rules before file)) ++ found_by_files (before ++ declared_in file) files
-
--- what is found in files is added
-abbrev pub AddsFiles : Rules → List FileTiles → Vec FileFindings Global → Vec FileFindings Global → Type 0
-AddsFiles rules files old new =
-    findings_view new.items ≡ findings_view old.items ++ found_by_files rules [] (files_view (files_of files))
 
 -- this is found in files
 abbrev pub AreFoundIn : Rules → List FileTiles → Vec FileFindings Global → Type 0

@@ -1,7 +1,6 @@
--- What `lint` writes, by what it is asked for and what the files hold.
-use Rattle.std.specs.Prelude.{ℕ, Bool, true, false, not, ◌&&◌, if◌then◌else◌, List, [], ◌∷◌, ◌++◌, length, filter, Option}
+-- What is written of a catalog, by what is asked for and what the files hold.
+use Rattle.std.specs.Prelude.{ℕ, Bool, true, false, not, ◌&&◌, if◌then◌else◌, List, [], ◌∷◌, ◌++◌, length, filter}
 use Rattle.fluent_grammar.specs.Words.{Text}
-use Rattle.fluent_plurals.specs.declared.plurals.LanguagePlurals.{LanguagePlurals}
 use Rattle.lint_findings.specs.Files.{File}
 use Rattle.lint_findings.specs.Findings.{Options, FileFinding, findings, findings_with_reference}
 use Rattle.lint_findings.specs.Output as out
@@ -11,7 +10,6 @@ use Rattle.lint_findings.specs.Summary.{Summary, entry_count, summaries}
 use Rattle.fluent_lint.specs.Lacking.{is_lacking}
 use Rattle.fluent_lint.specs.Totals.{taken_line, totals_line}
 use Rattle.lint_report.specs.View.{shown_width}
-use Rattle.ftl_arguments.specs.Linting.{Lint}
 use Rattle.fluent_lint.specs.Reported.{found, reported}
 
 -- What is found, before anything is left out. A catalog without a reference is looked at by itself,
@@ -40,20 +38,31 @@ shown_counts format all ss = if is_text format && not all then filter is_lacking
 abbrev pub totals : Format → Bool → ℕ → ℕ → List FileFinding → Text
 totals format notes files entries fs = if is_text format then totals_line notes files fs ++ taken_line entries fs else []
 
+-- what is written of findings, and which of them fail
+pub record Output : Type 0 where
+  pub format : Format
+  -- the codes of findings that are left out
+  pub ignored : List Text
+  -- notes are written, too
+  pub notes : Bool
+  -- each file has its counts, also if nothing is missing
+  pub counts : Bool
+  -- warnings fail
+  pub strict : Bool
+
 -- what is written, and whether the catalog fails
 pub record LintReport : Type 0 where
   pub text : Text
   pub has_failed : Bool
 
--- The report on files, with those of the reference before them, by these plural rules. The counts are of all that is
--- found, whether it is shown or not. In all else, findings that are ignored are as if they weren't found.
-abbrev pub lint_report : Lint → Option LanguagePlurals → List File → List File → LintReport
-lint_report l plurals references files =
-    let options : Options = record { functions = l.functions; plurals = plurals } in
-    let counts = shown_counts l.format l.counts (all_summaries references files (found options references files)) in
-    let shown = reported options l.ignored references files in
+-- The report on files, with those of the reference before them. The counts are of all that is found, whether it is
+-- shown or not. In all else, findings that are ignored are as if they weren't found.
+abbrev pub lint_report : Options → Output → List File → List File → LintReport
+lint_report options o references files =
+    let counts = shown_counts o.format o.counts (all_summaries references files (found options references files)) in
+    let shown = reported options o.ignored references files in
     record {
-      text = out.output l.format shown_width (report.shown l.notes shown) counts
-          ++ totals l.format l.notes (length files) (entry_count files) shown;
-      has_failed = report.has_failed l.strict shown;
+      text = out.output o.format shown_width (report.shown o.notes shown) counts
+          ++ totals o.format o.notes (length files) (entry_count files) shown;
+      has_failed = report.has_failed o.strict shown;
     }

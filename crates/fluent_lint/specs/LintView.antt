@@ -1,16 +1,20 @@
 -- What the code's reports stand for.
-use Rattle.std.specs.Prelude.{List, Option, string_bytes}
-use Rattle.fluent_plurals.specs.declared.plurals.LanguagePlurals.{LanguagePlurals}
+use Rattle.std.specs.Prelude.{List, string_bytes}
 use Rattle.lint_finding.specs.declared.records.File.{File}
+use Rattle.lint_report.specs.Formats.{format_view}
 use Rattle.fluent_lint.specs.FileTiles.{files_view}
+use Rattle.fluent_lint.specs.Reports.{ignored_by, options_view}
+use Rattle.fluent_lint.specs.declared.reports.Options.{Options}
+use Rattle.fluent_lint.specs.declared.reports.Output as code
 use Rattle.fluent_lint.specs.declared.reports.Report.{Report}
-use Rattle.ftl_arguments.specs.CommandView.{lint_view}
-use Rattle.ftl_arguments.specs.declared.commands.Lint.{Lint}
-use Rattle.fluent_lint.specs.LintReport.{LintReport, lint_report}
+use Rattle.fluent_lint.specs.LintReport.{LintReport, Output, lint_report}
+
+abbrev pub output_view : code.Output → Output
+output_view o = record { format = format_view o.format; ignored = ignored_by o; notes = o.notes; counts = o.counts; strict = o.strict }
 
 abbrev pub report_view : Report → LintReport
 report_view r = record { text = string_bytes r.text; has_failed = r.has_failed }
 
 -- the report that is asked for, on these files
-abbrev pub report_on_files : Lint → Option LanguagePlurals → List File → List File → LintReport
-report_on_files l plurals references files = lint_report (lint_view l) plurals (files_view references) (files_view files)
+abbrev pub report_on_files : Options → code.Output → List File → List File → LintReport
+report_on_files options output references files = lint_report (options_view options) (output_view output) (files_view references) (files_view files)

@@ -49,7 +49,11 @@ pub record IsReportOf (found : List FileFinding) (ss : List Summary) (files entr
 abbrev pub summaries_of : List FileFinding → List FileTiles → List FileTiles → List Summary
 summaries_of all references files = summaries (files_view (files_of references)) (files_view (files_of files)) all
 
--- the same, but for none without files of a reference
+-- these are they
+abbrev pub AreSummaries : List FileFindings → List FileTiles → List FileTiles → Vec code.Summary Global → Type 0
+AreSummaries found references files counts = map summary_view counts.items ≡ summaries_of (findings_view found) references files
+
+-- the same counts, but none without files of a reference
 abbrev pub counts_of : List FileFinding → List FileTiles → List FileTiles → List Summary
 counts_of all references files = all_summaries (files_view (files_of references)) (files_view (files_of files)) all
 

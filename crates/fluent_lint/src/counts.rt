@@ -4,7 +4,7 @@
 ghost use Rattle.std.specs.Prelude.{◌≡◌, All, IfOk, filter, map};
 ghost use Rattle.lint_finding.specs.View.{findings_view};
 ghost use Rattle.fluent_lint.specs.FileTiles.{AreTilesOf, files_of, files_view};
-ghost use Rattle.fluent_lint.specs.Reports.{AreShown, counts_by, counts_of, summaries_of};
+ghost use Rattle.fluent_lint.specs.Reports.{AreShown, AreSummaries, counts_by, counts_of};
 ghost use Rattle.fluent_lint.specs.Lacking.{is_lacking};
 ghost use Rattle.lint_findings.specs.Summary.{entry_count};
 ghost use Rattle.lint_report.specs.ReportView.{summary_view};
@@ -114,8 +114,7 @@ fn counts_of_files<'s>(
 ) -> Result<Vec<Summary<'s>>, AllocError>
     requires references { All AreTilesOf references.now }
     requires files { All AreTilesOf files.now }
-    ensures { IfOk result (λ cs. map summary_view cs.items
-        ≡ summaries_of (findings_view found.now) references.now files.now) }
+    ensures { IfOk result (AreSummaries found.now references.now files.now) }
 {
     let references = counted_files(alloc, references)?;
     let files = counted_files(alloc, files)?;

@@ -1,11 +1,10 @@
 //! The findings of a catalog.
 #![tactic(auto)]
 
-ghost use Rattle.std.specs.Prelude.{[], All, IfOk, OnOk};
+ghost use Rattle.std.specs.Prelude.{All, IfOk, OnOk};
 ghost use Rattle.lint_files.specs.RulesView.{rules_view};
-ghost use Rattle.lint_entries.specs.First.{AreFirst};
 ghost use Rattle.fluent_lint.specs.FileTiles.{AreTilesOf};
-ghost use Rattle.fluent_lint.specs.Found.{AddsFiles, AreAllFound, AreFoundIn, DeclaresFile, IsFoundInFile, IsOrderedInFile};
+ghost use Rattle.fluent_lint.specs.Found.{AreAllFound, AreFoundIn, DeclaresFile, IsOrderedInFile};
 
 use crate::missing::push_missing_messages;
 use crate::reported::order;
@@ -46,38 +45,21 @@ fn catalog_findings<'s>(
     requires tiles { All AreTilesOf files.now }
     ensures { IfOk result (AreFoundIn (rules_view rules.now) files.now) }
 {
+    let mut declarations = Declarations::new(alloc);
     let mut found = Vec::new(alloc);
-    let declarations = Declarations::new(alloc);
-    push_files(alloc, rules, files, declarations, &mut found)?;
-    Ok(found)
-}
-
-/// Adds the findings of files, after these declarations.
-fn push_files<'s>(
-    alloc: Global,
-    rules: &Rules<'_, '_, 's>,
-    files: &[FileTiles<'_, 's>],
-    before: Declarations<'s>,
-    found: &mut Vec<FileFindings<'s>>,
-) -> Result<(), AllocError>
-    requires tiles { All AreTilesOf files.now }
-    requires none { AreFirst before [] }
-    ensures { OnOk result (AddsFiles (rules_view rules.now) files.now found.old found.new) }
-{
-    let mut declarations = before;
     for file in files {
-        let findings = ordered_of_file(alloc, rules, file, &mut declarations)?;
+        let findings = findings_of_file(alloc, rules, file, &mut declarations)?;
         found.push(FileFindings {
             file: file.file,
             findings,
         })?;
     }
-    Ok(())
+    Ok(found)
 }
 
 /// The findings of a file in the order of their offsets, after the declarations of others. Its own declarations are added
 /// to those.
-fn ordered_of_file<'s>(
+fn findings_of_file<'s>(
     alloc: Global,
     rules: &Rules<'_, '_, 's>,
     file: &FileTiles<'_, 's>,
@@ -88,23 +70,8 @@ fn ordered_of_file<'s>(
     ensures findings { IfOk result
         (IsOrderedInFile (rules_view rules.now) declarations.old file.now.file) }
 {
-    let mut findings = findings_of_file(alloc, rules, file, declarations)?;
-    order(&mut findings)?;
-    Ok(findings)
-}
-
-/// The findings of a file, after the declarations of others. Its own declarations are added to those.
-fn findings_of_file<'s>(
-    alloc: Global,
-    rules: &Rules<'_, '_, 's>,
-    file: &FileTiles<'_, 's>,
-    declarations: &mut Declarations<'s>,
-) -> Result<Vec<Finding>, AllocError>
-    requires tiles { AreTilesOf file.now }
-    ensures declared { OnOk result (DeclaresFile declarations.old declarations.new file.now.file) }
-    ensures findings { IfOk result (IsFoundInFile (rules_view rules.now) declarations.old file.now.file) }
-{
     let syntax = syntax_findings(alloc, file.file.source, file.errors)?;
-    let findings = file_findings(alloc, rules, file.file, &file.tiles, syntax, declarations)?;
+    let mut findings = file_findings(alloc, rules, file.file, &file.tiles, syntax, declarations)?;
+    order(&mut findings)?;
     Ok(findings)
 }

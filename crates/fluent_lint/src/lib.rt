@@ -1,9 +1,8 @@
 //! All findings of the files of a catalog, and their report.
 //!
-//! [`report_findings`] is what `ftl lint` calls: it reads every file once, and takes time that is linear in the sources. But
-//! with a reference, a chain of n messages of which each refers to the next takes n² steps, as the definition lists for
-//! each message all that it leads to. [`lint_sources`] makes the report that a command line asks for, and [`lint_files`]
-//! the same within a budget of the machine's stack.
+//! [`report_files`] is what `ftl lint` calls, and `fluent_lint` for C: it reads every file once, and takes time that is
+//! linear in the sources. But with a reference, a chain of n messages of which each refers to the next takes n² steps, as
+//! the definition lists for each message all that it leads to.
 //!
 //! `Findings.antt` of `lint_findings` says which findings there are, `specs/LintReport.antt` which report; and
 //! `docs/reference/lint.md` has the rules in plain words.
@@ -14,7 +13,6 @@ mod findings;
 mod ids;
 mod known;
 pub mod laws;
-mod linting;
 mod missing;
 mod read;
 mod reported;
@@ -23,5 +21,4 @@ mod terms;
 mod tiles;
 mod totals;
 
-pub use linting::{lint_files, lint_sources};
-pub use reports::{Options, Output, Report, report_findings};
+pub use reports::{Options, Output, Report, report_files};

@@ -1,7 +1,8 @@
 //! Reports of findings.
 #![tactic(auto)]
 
-ghost use Rattle.std.specs.Prelude.{IfOk, OnOk, map};
+ghost use Rattle.std.specs.Prelude.{◌≡◌, IfOk, OnOk, map};
+ghost use Rattle.fluent_lint.specs.LintView.{report_on_files, report_view};
 ghost use Rattle.fluent_lint.specs.Reading.{IsRead};
 ghost use Rattle.fluent_lint.specs.Reports.{IsReportBy, IsReportOf, IsReportOn, ending};
 ghost use Rattle.lint_files.specs.RulesView.{rules_view};
@@ -64,7 +65,7 @@ pub struct Report {
 /// # Errors
 /// [`AllocError`] if memory runs out, or a file nests so deep that reading it would take more of the machine's stack
 /// than this budget; nothing is kept.
-pub fn report_findings<'s>(
+pub fn report_files<'s>(
     alloc: Global,
     options: &Options,
     output: Output<'_>,
@@ -72,16 +73,17 @@ pub fn report_findings<'s>(
     files: &[File<'s>],
     stack: StackBudget,
 ) -> Result<Report, AllocError>
-    ensures { IfOk result (IsReportOn options.now output.entry references.now files.now) }
+    ensures { IfOk result (λ made. report_view made
+        ≡ report_on_files options.now output.entry references.now files.now) }
 {
     let references = read_files(alloc, references, stack)?;
     let files = read_files(alloc, files, stack)?;
-    let report = report_of_read(alloc, options, output, &references, &files)?;
+    let report = report_read_files(alloc, options, output, &references, &files)?;
     Ok(report)
 }
 
 /// The report of files and of those of a reference, by what was read of them.
-fn report_of_read<'r, 's: 'r>(
+fn report_read_files<'r, 's: 'r>(
     alloc: Global,
     options: &Options,
     output: Output<'_>,
@@ -111,7 +113,7 @@ fn report_of_read<'r, 's: 'r>(
     report_by_rules(alloc, output, &rules, references, files)
 }
 
-/// The same, by the rules for findings.
+/// The report of files and of those of a reference, by the rules for findings.
 fn report_by_rules<'r, 's: 'r>(
     alloc: Global,
     output: Output<'_>,
@@ -130,11 +132,11 @@ fn report_by_rules<'r, 's: 'r>(
     let counts = shown_counts(alloc, output, &references, &files, &found)?;
     keep_reported(&mut found, output.ignored);
     let entries = entry_count(&files)?;
-    report_of(alloc, output, count, entries, &found, &counts)
+    report_findings(alloc, output, count, entries, &found, &counts)
 }
 
-/// The report of findings of this many files and entries, with these counts.
-fn report_of(
+/// The report of these findings of this many files and entries, with these counts.
+fn report_findings(
     alloc: Global,
     output: Output<'_>,
     files: usize,

@@ -39,6 +39,9 @@ pub fn explanation<'words, R: Files>(
                 },
             ),
         ) => of_listed(&mut folder, alloc, &references, &files),
+        (3 | 4, Command::LintInput(Lint { references, .. })) => {
+            of_listed(&mut folder, alloc, &references, &[])
+        }
         (3 | 4, Command::TidyFiles(TidyFiles { paths, .. })) => {
             of_listed(&mut folder, alloc, &[], &paths)
         }
@@ -58,8 +61,11 @@ fn files_named<'words>(
     match command {
         Command::Run { files, .. } | Command::Check { files } => Vec::from_slice(alloc, files),
         Command::Tidy(tidy) => tidied_files(alloc, tidy),
-        Command::Format(_) | Command::Lint(_) | Command::TidyFiles(_) | Command::TidyInput { .. } =>
-            Ok(Vec::new(alloc)),
+        Command::Format(_)
+        | Command::Lint(_)
+        | Command::LintInput(_)
+        | Command::TidyFiles(_)
+        | Command::TidyInput { .. } => Ok(Vec::new(alloc)),
     }
 }
 

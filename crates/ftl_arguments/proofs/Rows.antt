@@ -3,7 +3,7 @@ use Rattle.std.proofs.Common.{◌≡◌, [], ◌∷◌, true, false, Some, None,
 use Rattle.clap.specs.declared.error.kind.ErrorKind.TheVariants.{MissingRequiredArgument, UnknownArgument}
 use Rattle.clap.proofs.OnLiterals.{clap_on_literals}
 use Rattle.lint_findings.specs.Output.{json, terminal, text}
-use Rattle.ftl_arguments.specs.Meaning.{AskForHelpAlone, AskForVersionAlone, check, clean, command_of, faults_of, format, join, lint, run, tidy, tidy_files, tidy_input}
+use Rattle.ftl_arguments.specs.Meaning.{AskForHelpAlone, AskForVersionAlone, check, clean, command_of, faults_of, format, join, lint, lint_input, run, tidy, tidy_files, tidy_input}
 
 no_file : faults_of (codes "run" ∷ codes "--overriding" ∷ []) ≡ MissingRequiredArgument ∷ []
 unfolding clap_on_literals
@@ -85,6 +85,11 @@ a_lint : command_of (codes "lint" ∷ codes "a" ∷ [])
     ≡ Some (lint (record { references = []; functions = []; ignored = []; locale = None; notes = false; counts = false; strict = false; format = text; files = codes "a" ∷ [] }))
 unfolding clap_on_literals
 a_lint = refl
+
+a_lint_of_the_input : command_of (codes "lint" ∷ codes "--strict" ∷ codes "-" ∷ [])
+    ≡ Some (lint_input (record { references = []; functions = []; ignored = []; locale = None; notes = false; counts = false; strict = true; format = text; files = codes "-" ∷ [] }))
+unfolding clap_on_literals
+a_lint_of_the_input = refl
 
 a_lint_with_options : command_of (codes "lint" ∷ codes "--reference" ∷ codes "r1" ∷ codes "a" ∷ codes "--notes" ∷ codes "--function=F" ∷ codes "--reference=r2" ∷ codes "--strict" ∷ codes "--locale" ∷ codes "pl_PL.UTF-8" ∷ codes "--function" ∷ codes "G" ∷ codes "--format" ∷ codes "json" ∷ codes "b" ∷ [])
     ≡ Some (lint (record {

@@ -72,6 +72,7 @@ command_view (command.Run isolating overriding locale plain_numbers files) =
 command_view (command.Format f) = asked.format (format_view f)
 command_view (command.Check files) = asked.check (texts files.items)
 command_view (command.Lint l) = asked.lint (lint_view l)
+command_view (command.LintInput l) = asked.lint_input (lint_view l)
 command_view (command.TidyFiles t) = asked.tidy_files (tidy_files_view t)
 command_view (command.TidyInput check) = asked.tidy_input check
 command_view (command.Tidy t) = asked.tidy (tidy_view t)

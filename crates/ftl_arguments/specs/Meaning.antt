@@ -43,6 +43,8 @@ pub data Asked : Type 0 where
   format : Format → Asked
   check : List Text → Asked
   lint : Lint → Asked
+  -- report what is found in standard input, by the same options
+  lint_input : Lint → Asked
   tidy_files : TidyFiles → Asked
   -- tidy standard input to standard output, or only check it
   tidy_input : Bool → Asked
@@ -89,6 +91,10 @@ format_in rows = option_map (format_with rows) (request_in rows)
 abbrev pub tidy_in : TidyFiles → Asked
 tidy_in t = if is_input t.paths then tidy_input t.check else tidy_files t
 
+-- `lint`, of files or of standard input
+abbrev pub linting : Lint → Asked
+linting l = if is_input l.files then lint_input l else lint l
+
 -- a command on one file
 abbrev pub on_file : (Text → Tidy) → List Row → Option Asked
 on_file command rows = option_map (λ file. tidy (command file)) (file_in rows)
@@ -109,7 +115,7 @@ asked_by found =
     if bytes_eq found.0 (codes "run") then Some (run (run_in found.1))
     else if bytes_eq found.0 (codes "format") then option_map format (format_in found.1)
     else if bytes_eq found.0 (codes "check") then Some (check (files_in found.1))
-    else if bytes_eq found.0 (codes "lint") then option_map lint (lint_in found.1)
+    else if bytes_eq found.0 (codes "lint") then option_map linting (lint_in found.1)
     else if bytes_eq found.0 (codes "tidy") then Some (tidy_in (tidy_files_in found.1))
     else tidying_by found
 

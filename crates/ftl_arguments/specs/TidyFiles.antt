@@ -1,4 +1,4 @@
--- What `tidy` is asked for.
+-- What `tidy` is asked for, and which paths are standard input.
 use Rattle.std.specs.Prelude.{Bool, false, List, [], ◌∷◌, codes}
 use Rattle.std.specs.Str.{bytes_eq}
 use Rattle.clap.specs.Words.{Row, Text}

@@ -38,6 +38,8 @@ pub enum Command<'words> {
     },
     /// Report what is found in a catalog.
     Lint(Lint<'words>),
+    /// Report what is found in standard input.
+    LintInput(Lint<'words>),
     /// Tidy files in place.
     TidyFiles(TidyFiles<'words>),
     /// Tidy standard input to standard output.

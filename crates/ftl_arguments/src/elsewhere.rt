@@ -38,6 +38,7 @@ fn option_of_lint(word: &str) -> Option<&'static str> {
         "--disable" | "--exclude" | "--skip" => Some("did you mean '--ignore'?"),
         "--fix" => Some("did you mean 'ftl tidy'?"),
         "--source" | "--base" => Some("did you mean '--reference'?"),
+        "--stdin" => Some("'-' in the place of files is standard input;"),
         _ => None,
     }
 }

@@ -181,10 +181,9 @@ fn with_lint<'a>(alloc: Global, program: Command<'a>) -> Result<Command<'a>, All
 fn lint<'a>(alloc: Global) -> Result<Command<'a>, AllocError>
     ensures { IfOk result (IsShaped lint_shape) }
 {
-    reporting(alloc)?.after_help(CODES_AND_EXAMPLE).arg(paths(
-        alloc,
-        "Files, and folders with each `.ftl` file below them",
-    ))
+    reporting(alloc)?
+        .after_help(CODES_AND_EXAMPLE)
+        .arg(paths(alloc))
 }
 
 /// The command `lint` without its paths.

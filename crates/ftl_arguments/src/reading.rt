@@ -9,7 +9,7 @@ ghost use Rattle.ftl_arguments.specs.declared.reading.WordsError.TheVariants.{Me
 
 use crate::commands::{Command, Invocation, Tidy};
 use crate::formatting::format_in;
-use crate::linting::lint_in;
+use crate::linting::{lint_in, linting};
 use crate::program::program;
 use crate::tidying::tidy_in;
 use crate::version::version_line;
@@ -110,7 +110,7 @@ fn command_named<'words>(
         "check" => Ok(Command::Check {
             files: files_in(alloc, found)?,
         }),
-        "lint" => Ok(Command::Lint(lint_in(alloc, found)?)),
+        "lint" => Ok(linting(lint_in(alloc, found)?)),
         "tidy" => Ok(tidy_in(alloc, found)?),
         _ => tidying_named(alloc, name, found),
     }

@@ -12,7 +12,7 @@ use crate::reading::{is_given, values_in};
 use clap::{Arg, ArgMatches, Command};
 use std::alloc::{AllocError, Global};
 
-/// What the paths of `tidy` are.
+/// The paths of `lint` and of `tidy`, for their help.
 const PATHS: &str =
     "Files, and folders with each `.ftl` file below them; `-` alone is standard input";
 
@@ -39,17 +39,17 @@ fn tidy<'a>(alloc: Global) -> Result<Command<'a>, AllocError>
         .about("Tidy files in place, and those below folders")
         .arg(check)?
         .after_help(EXAMPLE)
-        .arg(paths(alloc, PATHS))
+        .arg(paths(alloc))
 }
 
-/// The files and folders that a command is on, and what help says of them.
-pub(crate) fn paths<'a>(alloc: Global, help: &'a str) -> Arg<'a>
+/// The files and folders that a command is on.
+pub(crate) fn paths<'a>(alloc: Global) -> Arg<'a>
     ensures { IsLocal paths_rule result }
 {
     Arg::new(alloc, "PATH")
         .required(true)
         .num_args(1..)
-        .help(help)
+        .help(PATHS)
 }
 
 /// What was found for `tidy`: files, or a hyphen alone for standard input.
@@ -71,7 +71,7 @@ pub(crate) fn tidy_in<'words>(
 }
 
 /// Whether standard input is meant, and no file.
-fn is_input(paths: &[&str]) -> bool
+pub(crate) fn is_input(paths: &[&str]) -> bool
     ensures { result ≡ is_input (texts paths.now) }
 {
     match paths {

@@ -14,7 +14,7 @@ use Rattle.ftl_arguments.specs.declared.commands.Invocation.TheVariants as of
 use Rattle.clap.specs.Words.{IsAmong, subcommand_of}
 use Rattle.clap.specs.declared.error.kind.ErrorKind.{ErrorKind}
 use Rattle.clap.specs.declared.error.kind.ErrorKind.TheVariants.{DisplayHelp, DisplayVersion}
-use Rattle.ftl_arguments.specs.Meaning.{AskForHelp, AskForText, AskForVersion, AskForVersionAlone, Asked, asked_of, command_of, faults_of, without_faults, run, format, check, lint, tidy_files, tidy_input, tidy}
+use Rattle.ftl_arguments.specs.Meaning.{AskForHelp, AskForText, AskForVersion, AskForVersionAlone, Asked, asked_of, command_of, faults_of, without_faults, run, format, check, lint, lint_input, tidy_files, tidy_input, tidy}
 use Rattle.ftl_command.specs.Ends.{seen, IsUntouched}
 use Rattle.ftl_command.specs.Faults.{SaysUnknown, status_of}
 use Rattle.ftl_command.proofs.RunLemmas.{other_by}
@@ -37,6 +37,7 @@ without_input (Some (run r)) f p = tt
 without_input (Some (format x)) f p = f p
 without_input (Some (check files)) f p = f p
 without_input (Some (lint l)) f p = f p
+without_input (Some (lint_input l)) f p = tt
 without_input (Some (tidy_files t)) f p = f p
 without_input (Some (tidy_input checked)) f p = tt
 without_input (Some (tidy t)) f p = f p
@@ -48,6 +49,7 @@ refused_run (Some (run r)) tag named unknown = ap plurals_asked named ∙ ap (op
 refused_run (Some (format f)) tag named unknown = ap plurals_asked named ∙ ap (option_map Language) unknown
 refused_run (Some (check files)) tag named unknown = absurd cc
 refused_run (Some (lint l)) tag named unknown = tt
+refused_run (Some (lint_input l)) tag named unknown = tt
 refused_run (Some (tidy_files t)) tag named unknown = tt
 refused_run (Some (tidy_input checked)) tag named unknown = absurd cc
 refused_run (Some (tidy t)) tag named unknown = absurd cc

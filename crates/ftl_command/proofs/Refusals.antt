@@ -6,7 +6,7 @@ use Rattle.fluent_serve.specs.Text.{Text}
 use Rattle.fluent_serve.specs.Devices.{HasFailed}
 use Rattle.fluent_serve.specs.declared.stream.Sink.{Ghosts as SinkGhosts}
 use Rattle.fluent_serve.specs.declared.stream.Source.{Ghosts as SourceGhosts}
-use Rattle.ftl_arguments.specs.Meaning.{Asked, Format, Tidy, run, format, check, lint, tidy_files, tidy_input, tidy}
+use Rattle.ftl_arguments.specs.Meaning.{Asked, Format, Tidy, run, format, check, lint, lint_input, tidy_files, tidy_input, tidy}
 use Rattle.ftl_arguments.specs.Linting.{Lint}
 use Rattle.ftl_arguments.specs.TidyFiles.{TidyFiles}
 use Rattle.fluent_serve.specs.Exchange.{GivesUp}
@@ -20,7 +20,7 @@ use Rattle.fluent_tidy.specs.declared.error.ImportError.{ImportError}
 use Rattle.fluent_tidy.specs.declared.error.ImportError.TheVariants as import
 use Rattle.ftl_command.specs.Faults.{IsBeforeInput, IsFaultOfFiles, IsOfLocale, SaysOfFiles, SaysUnknown, clean_fault, import_fault, normalize_fault, run_fault}
 use Rattle.ftl_command.specs.Program.{UnlessListed, files_named, locale_named}
-use Rattle.ftl_command.specs.Refusals.{DevicesEnd, HaveNoNormalText, HoldNoTree, HoldReturn, IsDeviceFault, IsEarlyFault, IsFaultOf, IsOfStreams, IsRight, IsRightOf, IsTextFault, RefusesNothing, SaysNoMessage, TextWorks}
+use Rattle.ftl_command.specs.Refusals.{DevicesEnd, HaveNoNormalText, HoldNoTree, HoldReturn, IsDeviceFault, IsEarlyFault, IsFaultOf, IsOfStreams, IsReadFault, IsRight, IsRightOf, IsTextFault, RefusesNothing, SaysNoMessage, TextWorks}
 use Rattle.ftl_command.specs.declared.fault.Fault.{Fault}
 use Rattle.ftl_command.specs.declared.fault.Fault.TheVariants.{CarriageReturn, NotNormal, NotTree, NotJson, NoMessage, CommandLine, UnknownLocale, FileUnreadable, FileNotUtf8, Input, Output, Memory}
 use Rattle.ftl_command.specs.declared.ended.Ended.{Ended}
@@ -46,6 +46,7 @@ module _ (contents : Text → Option Text) where
   right_by (Some (format f)) fault nothing = nothing_of_message f fault nothing
   right_by (Some (check files)) fault nothing = nothing
   right_by (Some (lint l)) fault nothing = nothing
+  right_by (Some (lint_input l)) fault nothing = nothing
   right_by (Some (tidy_files t)) fault nothing = nothing
   right_by (Some (tidy_input checked)) fault nothing = nothing
   right_by (Some (tidy t)) fault nothing = nothing_of_tidying t fault nothing
@@ -57,6 +58,7 @@ of_any (Some (run r)) p = p
 of_any (Some (format f)) p = p
 of_any (Some (check files)) p = p
 of_any (Some (lint l)) p = tt
+of_any (Some (lint_input l)) p = tt
 of_any (Some (tidy_files t)) p = tt
 of_any (Some (tidy_input checked)) p = p
 of_any (Some (tidy t)) p = p
@@ -347,3 +349,65 @@ module _ {F : Type 0} (folders : FolderGhosts F) (before after : F) (l : Lint) w
     fault = fault;
     stops = IfErr-weaker result _ _ (unread_device source sink reader writer writer') stops;
   }
+
+-- ---- standard input that is linted
+
+module _ {F : Type 0} (folders : FolderGhosts F) (before after : F) (l : Lint) where
+  lint_input_fault : (fault : Fault) → IsOfStreams fault → IsFaultOf folders before after (Some (lint_input l)) fault
+  lint_input_fault fault (inl is) = rw is (record { refused = λ bad. absurd cc; unknown = tt; unopened = λ of. absurd of; files = tt; right = tt })
+  lint_input_fault fault (inr (inl is)) = rw is (record { refused = λ bad. absurd cc; unknown = tt; unopened = λ of. absurd of; files = tt; right = tt })
+  lint_input_fault fault (inr (inr is)) = rw is (record { refused = λ bad. absurd cc; unknown = tt; unopened = λ of. absurd of; files = tt; right = tt })
+
+  pub lint_input_memory : IsFaultOf folders before after (Some (lint_input l)) Memory
+  lint_input_memory = lint_input_fault Memory (inl refl)
+
+  pub lint_input_read : (fault : Fault) → (fault ≡ Memory) ⊎ (fault ≡ Input) → IsFaultOf folders before after (Some (lint_input l)) fault
+  lint_input_read fault (inl is) = lint_input_fault fault (inl is)
+  lint_input_read fault (inr is) = lint_input_fault fault (inr (inl is))
+
+  pub lint_input_output : (fault : Fault) → fault ≡ Output → IsFaultOf folders before after (Some (lint_input l)) fault
+  lint_input_output fault is = lint_input_fault fault (inr (inr is))
+
+  -- the report was written
+  pub lint_input_devices : {R W : Type 0} (source : SourceGhosts R) (sink : SinkGhosts W) (reader reader' : R) (writer writer' : W) (result : Result Ended Fault) →
+      OnOk result (source.failures reader' ≡ source.failures reader) → OnOk result (sink.failures writer' ≡ sink.failures writer) →
+      IfErr result (IsFaultOf folders before after (Some (lint_input l))) → IfErr result (IsDeviceFault source reader reader' sink writer writer') →
+      DevicesEnd folders before after source reader reader' sink writer writer' (Some (lint_input l)) result
+  lint_input_devices source sink reader reader' writer writer' result reads writes fault stops = record {
+    opens = on_ok_always result tt;
+    reads = reads;
+    writes = writes;
+    fault = fault;
+    stops = stops;
+  }
+
+module _ {R : Type 0} (source : SourceGhosts R) (reader reader' : R) where
+  -- memory ran out
+  pub read_memory : IsReadFault source reader reader' Memory
+  read_memory = record { unread = λ early. absurd early; not_output = λ output. absurd cc; given_up = λ input. absurd cc }
+
+  -- or the input failed
+  pub of_read : (fault : Fault) → (fault ≡ Memory) ⊎ (fault ≡ Input) → (fault ≡ Input → GivesUp source reader reader' 4294967296) → IsReadFault source reader reader' fault
+  of_read fault (inl is) given_up = rw is (record { unread = λ early. absurd early; not_output = λ output. absurd cc; given_up = λ input. absurd cc })
+  of_read fault (inr is) given_up = rw is (record { unread = λ early. absurd early; not_output = λ output. absurd cc; given_up = λ input. given_up is })
+
+  module _ {W : Type 0} (sink : SinkGhosts W) where
+    -- nothing was written
+    pub read_device : (writer : W) (fault : Fault) → IsReadFault source reader reader' fault → IsDeviceFault source reader reader' sink writer writer fault
+    read_device writer fault f =
+        record { unread = f.unread; unwritten = λ early. refl; given_up = f.given_up; failed = λ is. absurd (f.not_output is) }
+
+    -- the report was not written whole
+    pub report_cut : (writer writer' : W) → HasFailed (sink.failures writer) (sink.failures writer') → (fault : Fault) → fault ≡ Output →
+        IsDeviceFault source reader reader' sink writer writer' fault
+    report_cut writer writer' failed fault is =
+        rw is (record { unread = λ early. absurd early; unwritten = λ early. absurd early; given_up = λ input. absurd cc; failed = λ output. failed })
+
+-- the locale was not found, and nothing is read
+pub lint_input_locale : {F : Type 0} (folders : FolderGhosts F) (folder : F) (l : Lint) (fault : Fault) → IsOfLocale fault → SaysUnknown (locale_named (Some (lint_input l))) fault →
+    IsFaultOf folders folder folder (Some (lint_input l)) fault
+lint_input_locale folders folder l fault of unknown = (of_locale folders folder (lint_input l) fault of unknown).says
+
+pub read_locale : {R : Type 0} (source : SourceGhosts R) (reader : R) (fault : Fault) → IsOfLocale fault → IsReadFault source reader reader fault
+read_locale source reader (UnknownLocale tag) of = record { unread = λ early. refl; not_output = λ output. absurd cc; given_up = λ input. absurd cc }
+read_locale source reader fault of = absurd of

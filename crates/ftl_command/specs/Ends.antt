@@ -76,7 +76,7 @@ pub record Ends (before after : State) (input output faults : Seen) (words : Lis
   pub reads : OnOk outcome (Works input)
   pub writes : OnOk outcome (Works output)
   -- files that are tidied in place hold their tidy texts, and no other changes; a catalog that is linted is that of the files
-  pub of_files : FilesEnd (command_of words) before after output.before output.after outcome
+  pub of_files : FilesEnd (command_of words) before after (exchanged input output) outcome
   pub no_input : WithoutInput (command_of words) (IsUntouched input)
   -- what a fault says is so, and before the words and all files are read nothing else is read or written
   pub refused : IsErrOf outcome CommandLine → command_of words ≡ None

@@ -4,23 +4,24 @@ use Rattle.std.specs.Io.KnownBytes.{Appends}
 use Rattle.fluent_serve.specs.Text.{Text}
 use denote.Ref.{Bor}
 use Rattle.ftl_arguments.specs.CommandView.{command_view, lint_view, tidy_files_view}
-use Rattle.ftl_arguments.specs.Meaning.{Asked, command_of, run, format, check, lint, texts, tidy_files, tidy_input, tidy}
+use Rattle.ftl_arguments.specs.Meaning.{Asked, command_of, run, format, check, lint, lint_input, texts, tidy_files, tidy_input, tidy}
 use Rattle.ftl_arguments.specs.declared.commands.Command.{Command}
 use Rattle.ftl_arguments.specs.declared.commands.Lint as linted
 use Rattle.ftl_arguments.specs.declared.commands.TidyFiles as code
 use Rattle.ftl_arguments.specs.TidyFiles.{TidyFiles}
+use Rattle.fluent_serve.specs.Exchange.{Devices, devices}
 use Rattle.fluent_serve.specs.declared.stream.Sink.{Ghosts as SinkGhosts}
+use Rattle.fluent_serve.specs.declared.stream.Source.{Ghosts as SourceGhosts}
 use Rattle.ftl_files.specs.Files.{State}
 use Rattle.ftl_files.specs.States.{state_of}
 use Rattle.ftl_files.specs.declared.folder.Folder.{Ghosts as FolderGhosts}
 use Rattle.ftl_files.specs.Tidying.{AreTidied, AreTidiedFirst, Said}
-use Rattle.ftl_command.specs.Linted.{LintEnds, Lints, LintsBy}
+use Rattle.ftl_command.specs.Linted.{LintEnds, LintInputEnds, Lints, LintsInput}
 use Rattle.ftl_command.specs.Program.{WritesFront}
 use Rattle.ftl_command.specs.Reported.{EndsBy}
 use Rattle.ftl_command.specs.declared.ended.Ended.{Ended}
 use Rattle.ftl_command.specs.declared.fault.Fault.{Fault}
 use Rattle.ftl_command.specs.declared.linting.Linted.{Linted}
-use Rattle.fluent_plurals.specs.declared.plurals.LanguagePlurals.{LanguagePlurals}
 use Rattle.ftl_command.specs.declared.fault.Fault.TheVariants.{Output, Memory}
 
 -- the files are tidied, and the outcome holds of what is said of them
@@ -39,15 +40,16 @@ pub record InPlaceEnds (t : TidyFiles) (before after : State) (held held_after :
 
 -- So it is of whatever the words ask for, and of a catalog that is linted; to tidy standard input no file is read or
 -- written. Of the files that other commands read, it says nothing.
-abbrev pub FilesEnd : Option Asked → State → State → Option Text → Option Text → Result Ended Fault → Type 0
-FilesEnd None before after held held_after result = ⊤
-FilesEnd (Some (run r)) before after held held_after result = ⊤
-FilesEnd (Some (format f)) before after held held_after result = ⊤
-FilesEnd (Some (check files)) before after held held_after result = ⊤
-FilesEnd (Some (lint l)) before after held held_after result = LintEnds l before after held held_after result
-FilesEnd (Some (tidy_files t)) before after held held_after result = InPlaceEnds t before after held held_after result
-FilesEnd (Some (tidy_input checked)) before after held held_after result = after ≡ before
-FilesEnd (Some (tidy t)) before after held held_after result = ⊤
+abbrev pub FilesEnd : Option Asked → State → State → Devices → Result Ended Fault → Type 0
+FilesEnd None before after d result = ⊤
+FilesEnd (Some (run r)) before after d result = ⊤
+FilesEnd (Some (format f)) before after d result = ⊤
+FilesEnd (Some (check files)) before after d result = ⊤
+FilesEnd (Some (lint l)) before after d result = LintEnds l before after d.held_before d.held_after result
+FilesEnd (Some (lint_input l)) before after d result = LintInputEnds l before after d result
+FilesEnd (Some (tidy_files t)) before after d result = InPlaceEnds t before after d.held_before d.held_after result
+FilesEnd (Some (tidy_input checked)) before after d result = after ≡ before
+FilesEnd (Some (tidy t)) before after d result = ⊤
 
 -- the same on a folder and a writer, by what is known of them
 module _ {F W : Type 0} (folders : FolderGhosts F) (before after : F) (sink : SinkGhosts W) (writer writer' : W) where
@@ -61,19 +63,28 @@ module _ {F W : Type 0} (folders : FolderGhosts F) (before after : F) (sink : Si
   LintEndsOn l result =
       LintEnds (lint_view l) (state_of folders before) (state_of folders after) (sink.contents writer) (sink.contents writer') result
 
+-- and on a reader
+module _ {F R W : Type 0} (folders : FolderGhosts F) (before after : F) (source : SourceGhosts R) (reader reader' : R) (sink : SinkGhosts W) (writer writer' : W) where
+  -- of the input that is linted
+  abbrev pub LintInputEndsOn : linted.Lint → Result Ended Fault → Type 0
+  LintInputEndsOn l result =
+      LintInputEnds (lint_view l) (state_of folders before) (state_of folders after) (devices source.remaining reader reader' sink.contents writer writer') result
+
   -- of what a command asks for, or of what words do
   abbrev pub FilesEndBy : Command → Result Ended Fault → Type 0
   FilesEndBy command result =
-      FilesEnd (Some (command_view command)) (state_of folders before) (state_of folders after) (sink.contents writer) (sink.contents writer') result
+      FilesEnd (Some (command_view command)) (state_of folders before) (state_of folders after) (devices source.remaining reader reader' sink.contents writer writer') result
 
   abbrev pub FilesEndFor : List (Bor Text) → Result Ended Fault → Type 0
   FilesEndFor words result =
-      FilesEnd (command_of (texts words)) (state_of folders before) (state_of folders after) (sink.contents writer) (sink.contents writer') result
+      FilesEnd (command_of (texts words)) (state_of folders before) (state_of folders after) (devices source.remaining reader reader' sink.contents writer writer') result
 
 -- of the report on a catalog, by what is known of a folder before and after
 module _ {F : Type 0} (folders : FolderGhosts F) (before after : F) where
   abbrev pub LintsOn : linted.Lint → Linted → Type 0
   LintsOn l made = Lints l (state_of folders before) (state_of folders after) made
 
-  abbrev pub LintsByOn : linted.Lint → Option LanguagePlurals → Linted → Type 0
-  LintsByOn l plurals made = LintsBy l plurals (state_of folders before) (state_of folders after) made
+-- and of the one on the input
+module _ {F R : Type 0} (folders : FolderGhosts F) (before after : F) (source : SourceGhosts R) (reader reader' : R) where
+  abbrev pub LintsInputOn : linted.Lint → Linted → Type 0
+  LintsInputOn l made = LintsInput l (state_of folders before) (state_of folders after) (source.remaining reader) (source.remaining reader') made

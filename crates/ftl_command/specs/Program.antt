@@ -29,7 +29,7 @@ use Rattle.ftl_command.specs.Shown.{error_line, reply_asked}
 use Rattle.ftl_command.specs.declared.message.Formatted.{Formatted}
 use Rattle.fluent_check.specs.Report.{report_text}
 use Rattle.ftl_arguments.specs.Version.{version_line}
-use Rattle.ftl_arguments.specs.Meaning.{Asked, Run, Format, Tidy, run, format, check, lint, tidy_files, tidy_input, tidy, clean, normalize, join, export, import}
+use Rattle.ftl_arguments.specs.Meaning.{Asked, Run, Format, Tidy, run, format, check, lint, lint_input, tidy_files, tidy_input, tidy, clean, normalize, join, export, import}
 use Rattle.ftl_command.specs.Files.{OnFile, OnTexts}
 use Rattle.ftl_command.specs.Faults.{end_status}
 use Rattle.ftl_files.specs.Tidying.{FileEnd}
@@ -274,6 +274,7 @@ IsDone contents d (Some (format f)) end = OnReply contents f (λ reply. Writes d
 IsDone contents d (Some (check files)) end = OnReport contents files (λ text. Writes d text × (end ≡ end_by text))
 -- of these `InPlace.FilesEnd` says what became
 IsDone contents d (Some (lint l)) end = ⊤
+IsDone contents d (Some (lint_input l)) end = ⊤
 IsDone contents d (Some (tidy_files t)) end = ⊤
 IsDone contents d (Some (tidy_input checked)) end = TidiesInput d checked end
 IsDone contents d (Some (tidy t)) end = (end ≡ Done) × Tidied contents t (Writes d)
@@ -285,6 +286,7 @@ IsDoneAlike contents d (Some (run r)) = OnRunAlike contents d r
 IsDoneAlike contents d (Some (format f)) = ⊤
 IsDoneAlike contents d (Some (check files)) = ⊤
 IsDoneAlike contents d (Some (lint l)) = ⊤
+IsDoneAlike contents d (Some (lint_input l)) = ⊤
 IsDoneAlike contents d (Some (tidy_files t)) = ⊤
 IsDoneAlike contents d (Some (tidy_input checked)) = ⊤
 IsDoneAlike contents d (Some (tidy t)) = ⊤
@@ -301,18 +303,20 @@ AfterMemory contents d (Some (run r)) = AnswersFirstBy (rules_asked r.plain_numb
 AfterMemory contents d (Some (format f)) = d.held_after ≡ d.held_before
 AfterMemory contents d (Some (check files)) = d.held_after ≡ d.held_before
 AfterMemory contents d (Some (lint l)) = d.held_after ≡ d.held_before
+AfterMemory contents d (Some (lint_input l)) = d.held_after ≡ d.held_before
 AfterMemory contents d (Some (tidy_files t)) = d.held_after ≡ d.held_before
 AfterMemory contents d (Some (tidy_input checked)) = d.held_after ≡ d.held_before
 AfterMemory contents d (Some (tidy t)) = d.held_after ≡ d.held_before
 
--- the input failed, or came to no end: all whole lines of a run are answered, and nothing is written if it is to be tidied; another
--- command reads no input
+-- the input failed, or came to no end: all whole lines of a run are answered, and nothing is written if it is to be tidied or linted;
+-- another command reads no input
 abbrev pub AfterInput : (Text → Option Text) → Devices → Type 0 → Option Asked → Type 0
 AfterInput contents d Failed None = ⊥
 AfterInput contents d Failed (Some (run r)) = OnRun contents r (λ line. AnswersWhole d line Failed 4294967296)
 AfterInput contents d Failed (Some (format f)) = ⊥
 AfterInput contents d Failed (Some (check files)) = ⊥
 AfterInput contents d Failed (Some (lint l)) = ⊥
+AfterInput contents d Failed (Some (lint_input l)) = d.held_after ≡ d.held_before
 AfterInput contents d Failed (Some (tidy_files t)) = ⊥
 AfterInput contents d Failed (Some (tidy_input checked)) = d.held_after ≡ d.held_before
 AfterInput contents d Failed (Some (tidy t)) = ⊥
@@ -324,6 +328,7 @@ AfterOutput contents d (Some (run r)) = OnRun contents r (AnswersFront d)
 AfterOutput contents d (Some (format f)) = OnReply contents f (λ reply. WritesFront d.held_before d.held_after (ended reply.text))
 AfterOutput contents d (Some (check files)) = OnReport contents files (WritesFront d.held_before d.held_after)
 AfterOutput contents d (Some (lint l)) = ⊤
+AfterOutput contents d (Some (lint_input l)) = ⊤
 AfterOutput contents d (Some (tidy_files t)) = ⊤
 AfterOutput contents d (Some (tidy_input checked)) = TidiesInputFirst d checked
 AfterOutput contents d (Some (tidy t)) = Tidied contents t (WritesFront d.held_before d.held_after)
@@ -349,6 +354,7 @@ WithoutInput (Some (run r)) Fact = ⊤
 WithoutInput (Some (format f)) Fact = Fact
 WithoutInput (Some (check files)) Fact = Fact
 WithoutInput (Some (lint l)) Fact = Fact
+WithoutInput (Some (lint_input l)) Fact = ⊤
 WithoutInput (Some (tidy_files t)) Fact = Fact
 WithoutInput (Some (tidy_input checked)) Fact = ⊤
 WithoutInput (Some (tidy t)) Fact = Fact
@@ -360,6 +366,7 @@ UnlessListed (Some (run r)) Fact = Fact
 UnlessListed (Some (format f)) Fact = Fact
 UnlessListed (Some (check files)) Fact = Fact
 UnlessListed (Some (lint l)) Fact = ⊤
+UnlessListed (Some (lint_input l)) Fact = ⊤
 UnlessListed (Some (tidy_files t)) Fact = ⊤
 UnlessListed (Some (tidy_input checked)) Fact = Fact
 UnlessListed (Some (tidy t)) Fact = Fact
@@ -379,6 +386,7 @@ files_named (Some (run r)) = r.files
 files_named (Some (format f)) = f.files
 files_named (Some (check files)) = files
 files_named (Some (lint l)) = []
+files_named (Some (lint_input l)) = []
 files_named (Some (tidy_files t)) = []
 files_named (Some (tidy_input checked)) = []
 files_named (Some (tidy t)) = files_of t
@@ -391,6 +399,7 @@ locale_named (Some (run r)) = r.locale
 locale_named (Some (format f)) = f.locale
 locale_named (Some (check files)) = None
 locale_named (Some (lint l)) = l.locale
+locale_named (Some (lint_input l)) = l.locale
 locale_named (Some (tidy_files t)) = None
 locale_named (Some (tidy_input checked)) = None
 locale_named (Some (tidy t)) = None
@@ -403,6 +412,7 @@ IsRefused (Some (run r)) = plurals_asked r.locale ≡ None
 IsRefused (Some (format f)) = plurals_asked f.locale ≡ None
 IsRefused (Some (check files)) = ⊥
 IsRefused (Some (lint l)) = ⊤
+IsRefused (Some (lint_input l)) = ⊤
 IsRefused (Some (tidy_files t)) = ⊤
 IsRefused (Some (tidy_input checked)) = ⊥
 IsRefused (Some (tidy t)) = ⊥

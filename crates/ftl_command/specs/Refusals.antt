@@ -11,7 +11,7 @@ use Rattle.fluent_tidy_laws.specs.Normal.{HasNoNormalText}
 use Rattle.fluent_json.specs.Json.{HasNoTree}
 use Rattle.fluent_tidy.specs.Sources.{holds_return}
 use Rattle.fluent_tidy.specs.Trees.{IsNotImported}
-use Rattle.ftl_arguments.specs.Meaning.{AskForHelpAlone, AskForText, AskForVersionAlone, Asked, Format, Tidy, command_of, run, format, check, lint, tidy_files, tidy_input, tidy, clean, normalize, join, export, import}
+use Rattle.ftl_arguments.specs.Meaning.{AskForHelpAlone, AskForText, AskForVersionAlone, Asked, Format, Tidy, command_of, run, format, check, lint, lint_input, tidy_files, tidy_input, tidy, clean, normalize, join, export, import}
 use Rattle.ftl_command.specs.Files.{OnFile, OnTexts}
 use Rattle.ftl_command.specs.Faults.{IsBeforeInput, IsOfLocale, SaysOfFiles, SaysUnknown}
 use Rattle.ftl_command.specs.Program.{OnFound, OnValue, ShowsVersionOn, UnlessListed, files_named, locale_named}
@@ -105,6 +105,7 @@ IsRight contents (Some (run r)) fault = RefusesNothing fault
 IsRight contents (Some (format f)) fault = SaysNoMessage contents f fault
 IsRight contents (Some (check files)) fault = RefusesNothing fault
 IsRight contents (Some (lint l)) fault = RefusesNothing fault
+IsRight contents (Some (lint_input l)) fault = RefusesNothing fault
 IsRight contents (Some (tidy_files t)) fault = RefusesNothing fault
 IsRight contents (Some (tidy_input checked)) fault = RefusesNothing fault
 IsRight contents (Some (tidy t)) fault = IsRightOf contents t fault
@@ -131,6 +132,12 @@ pub record IsTextFault {W : Type 0} (sink : SinkGhosts W) (writer writer' : W) (
   pub not_input : fault ≢ Input
   pub unwritten : fault ≢ Output → writer' ≡ writer
   pub failed : fault ≡ Output → HasFailed (sink.failures writer) (sink.failures writer')
+
+-- the fault of reading files and then the input, before anything is written
+pub record IsReadFault {R : Type 0} (source : SourceGhosts R) (reader reader' : R) (fault : Fault) : Type 0 where
+  pub unread : IsBeforeInput fault → reader' ≡ reader
+  pub not_output : fault ≢ Output
+  pub given_up : fault ≡ Input → GivesUp source reader reader' 4294967296
 
 -- the fault of any command
 pub record IsDeviceFault {R W : Type 0} (source : SourceGhosts R) (reader reader' : R) (sink : SinkGhosts W) (writer writer' : W) (fault : Fault) : Type 0 where

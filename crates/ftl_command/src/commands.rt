@@ -13,7 +13,7 @@ use crate::fault::Fault;
 use crate::formatting::write_formatted;
 use crate::in_place::tidy_in_place;
 use crate::input::tidy_input;
-use crate::linting::lint_files;
+use crate::linting::{lint_files, lint_input};
 use crate::output::write_asked;
 use crate::running::{RunOptions, run_files};
 use crate::telling::{tell_errors_on, tell_on};
@@ -85,8 +85,8 @@ pub fn program_on<F: Folder, I: Source, O: Sink, T: Sink>(
 }
 
 /// Does what the command-line arguments ask for. They are read first, then a run's locale is looked up, then the
-/// files are read in their order, and for a run then the request lines that `reader` gives, or for `tidy -` its source: see
-/// `docs/reference/protocol.md`. If the words ask for help or for the version, that is written.
+/// files are read in their order, and for a run then the request lines that `reader` gives, or for `tidy -` and `lint -`
+/// its source: see `docs/reference/protocol.md`. If the words ask for help or for the version, that is written.
 ///
 /// # Errors
 /// The first fault. What was written before it stays written.
@@ -106,7 +106,7 @@ pub fn run_command<'words, F: Folder, I: Source, O: Sink>(
         O.Sink writer.old writer.new (command_of (texts words.now)) result }
     // Files that are tidied in place hold their tidy texts, and no other file changes. What is linted are the files that the
     // paths stand for, but for those that can't be read, which are reported.
-    ensures files { FilesEndFor F.Folder folder.old folder.new
+    ensures files { FilesEndFor F.Folder folder.old folder.new I.Source reader.old reader.new
         O.Sink writer.old writer.new words.now result }
     ensures no_input { WithoutInput (command_of (texts words.now)) (reader.new ≡ reader.old) }
 {
@@ -134,7 +134,7 @@ fn do_command<'words, F: Folder, I: Source, O: Sink>(
         O.Sink writer.old writer.new (Some (command_view command.now)) result }
     ensures devices { DevicesEnd F.Folder folder.old folder.new I.Source reader.old reader.new
         O.Sink writer.old writer.new (Some (command_view command.now)) result }
-    ensures files { FilesEndBy F.Folder folder.old folder.new
+    ensures files { FilesEndBy F.Folder folder.old folder.new I.Source reader.old reader.new
         O.Sink writer.old writer.new command.now result }
     ensures no_input { WithoutInput (Some (command_view command.now)) (reader.new ≡ reader.old) }
 {
@@ -157,6 +157,7 @@ fn do_command<'words, F: Folder, I: Source, O: Sink>(
         Command::Format(format) => write_formatted(folder, alloc, format, writer),
         Command::Check { files } => check_files(folder, alloc, files, writer),
         Command::Lint(lint) => lint_files(folder, alloc, lint, writer),
+        Command::LintInput(lint) => lint_input(folder, alloc, lint, reader, writer),
         Command::TidyFiles(tidy) => tidy_in_place(folder, alloc, tidy, writer),
         Command::TidyInput { check } => tidy_input(alloc, *check, reader, writer),
         Command::Tidy(tidy) => write_tidied(folder, alloc, tidy, writer),

@@ -16,7 +16,7 @@ use simdutf8::basic::from_utf8;
 use std::alloc::Global;
 
 /// The name that findings in standard input have.
-const NAME: &str = "-";
+pub(crate) const NAME: &str = "-";
 
 /// The bytes that one call of `read` is asked for.
 const BLOCK: usize = 65_536;
@@ -49,7 +49,10 @@ pub fn tidy_input<'words, I: Source, O: Sink>(
 }
 
 /// All that is left of the input.
-fn read_input<'words, I: Source>(alloc: Global, reader: &mut I) -> Result<Vec<u8>, Fault<'words>>
+pub(crate) fn read_input<'words, I: Source>(
+    alloc: Global,
+    reader: &mut I,
+) -> Result<Vec<u8>, Fault<'words>>
     ensures read { IfOk result (λ bytes.
         IsReadWhole (I.remaining reader.old) (I.remaining reader.new) bytes.items) }
     ensures reads { OnOk result (I.failures reader.new ≡ I.failures reader.old) }

@@ -1,11 +1,12 @@
 -- Files that are read, one after the other.
-use Rattle.std.proofs.Common.{◌≡◌, ℕ, ◌+◌, ◌<◌, List, [], ◌∷◌, inl, inr, Bor, Option, IfSome, length, take, get_or}
+use Rattle.std.proofs.Common.{◌≡◌, ℕ, ◌+◌, ◌<◌, List, [], ◌∷◌, inl, inr, Bor, Option, None, IfSome, length, take, get_or, refl, subst}
+use Rattle.std.specs.Prelude.{IsUtf8}
 use Rattle.std.proofs.lemmas.List.{take_more, map-append}
 use Rattle.fluent_serve.specs.Text.{Text}
 use Rattle.fluent_serve.specs.Texts.{texts}
 use Rattle.ftl_files.specs.Files.{State}
-use Rattle.ftl_files.specs.Reading.{IsAddedRead, Read, ReadFailsSo, ReadsOne, ReadsThrough, failed, held, one_read, read_after, refused}
-use Rattle.ftl_files.specs.Tidying.{Failure, IsLeft}
+use Rattle.ftl_files.specs.Reading.{IsAddedRead, Read, ReadFailsSo, ReadsBytes, ReadsOne, ReadsThrough, failed, held, one_read, read_after, refused}
+use Rattle.ftl_files.specs.Tidying.{Failure, IsLeft, not_utf8}
 
 -- one file more is read
 pub read_next : (start here there : State) (names : List (Bor Text)) (i : ℕ) (d : Bor Text) (old new : Read) → i < length names →
@@ -26,3 +27,13 @@ source_read name old new source before after left known (inr refusal) =
 pub read_failed : (name : Text) (old new : Read) (f : Failure) (why : Option Text) (before after : State) → ReadFailsSo name f before after →
     new ≡ read_after old name (failed f why) → ReadsOne name old new before after
 read_failed name old new f why before after fails is = record { end = failed f why; so = fails; is = is }
+
+-- bytes were read that are a text
+pub bytes_read : (name bytes source : Text) (old new : Read) → IsUtf8 source → source ≡ bytes → IsAddedRead name source old new → ReadsBytes name bytes old new
+bytes_read name bytes source old new text same (inl is) = record { end = held source; right = (subst IsUtf8 same text, same); is = is }
+bytes_read name bytes source old new text same (inr refusal) =
+    record { end = refused source refusal.0; right = (subst IsUtf8 same text, (same, refusal.1.0)); is = refusal.1.1 }
+
+-- or that are none
+pub bytes_refused : (name bytes : Text) (old new : Read) → (IsUtf8 bytes → ⊥) → new ≡ read_after old name (failed not_utf8 None) → ReadsBytes name bytes old new
+bytes_refused name bytes old new other is = record { end = failed not_utf8 None; right = (other, (refl, refl)); is = is }

@@ -1,5 +1,5 @@
 -- Sources that are read, one after the other: which they are, and what is said of files that can't be read.
-use Rattle.std.specs.Prelude.{◌≡◌, ◌⊎◌, List, [], ◌∷◌, ◌++◌, ⊤, Option, IfSome}
+use Rattle.std.specs.Prelude.{◌≡◌, ◌⊎◌, List, [], ◌∷◌, ◌++◌, ⊤, Option, None, IfSome, IsUtf8}
 use Rattle.fluent_serve.specs.Text.{Text}
 use Rattle.lint_findings.specs.Files.{File}
 use Rattle.ftl_files.specs.Depth.{IsDepthReport}
@@ -87,3 +87,17 @@ pub record ReadsOne (name : Text) (old new : Read) (before after : State) : Type
 abbrev pub IsAddedRead : Text → Text → Read → Read → Type 0
 IsAddedRead name source old new =
     (new ≡ read_after old name (held source)) ⊎ ((report : Text) × (IsDepthReport name source report × (new ≡ read_after old name (refused source report))))
+
+-- ---- a source that is in no file
+
+-- What is read of bytes. If they are no text, that is only reported.
+abbrev pub IsBytesEnd : Text → Text → ReadEnd → Type 0
+IsBytesEnd name bytes (held source) = IsUtf8 bytes × (source ≡ bytes)
+IsBytesEnd name bytes (refused source report) = IsUtf8 bytes × ((source ≡ bytes) × IsDepthReport name source report)
+IsBytesEnd name bytes (failed f why) = (IsUtf8 bytes → ⊥) × ((f ≡ not_utf8) × (why ≡ None))
+
+-- a source of this name and of these bytes is read after others
+pub record ReadsBytes (name bytes : Text) (old new : Read) : Type 0 where
+  pub end : ReadEnd
+  pub right : IsBytesEnd name bytes end
+  pub is : new ≡ read_after old name end

@@ -6,6 +6,7 @@ ghost use Rattle.ftl_files.specs.Depth.{IsDeepAt, IsDeepOn, IsDepthReport, Nests
 
 use fluent_parser::{StackBudget, TooDeep, parse_unless_too_deep};
 use lint_finding::SourcePosition;
+use memchr::memchr2_iter;
 use std::alloc::{AllocError, Global};
 
 /// How many braces and parentheses never nest too deep: each takes 2,900 bytes of the machine's stack at most.
@@ -34,10 +35,7 @@ pub(crate) fn depth_report(
 
 /// Whether a source has too few braces and parentheses to nest too deep. If so, it isn't read for that.
 fn is_shallow(source: &str) -> bool {
-    source
-        .as_bytes()
-        .iter()
-        .filter(|byte| matches!(byte, b'{' | b'('))
+    memchr2_iter(b'{', b'(', source.as_bytes())
         .take(SHALLOW)
         .count()
         < SHALLOW

@@ -1,7 +1,7 @@
 //! Sources that are read, one after the other.
 ghost use Rattle.std.specs.Prelude.{◌≡◌, IfOk, OnOk, map, string_bytes};
 ghost use Rattle.lint_finding.specs.View.{file_view};
-ghost use Rattle.ftl_files.specs.Reading.{nothing_read, read_of_listed};
+ghost use Rattle.ftl_files.specs.Reading.{ReadsBytes, nothing_read, read_of_listed};
 ghost use Rattle.ftl_files.specs.TidyView.{AreReadOn, IsAddedTo, ReadsOneOn, ReadsThroughOn, after_read_failure, after_refusal, after_source, listed_view, read_view};
 
 use crate::depth::depth_report;
@@ -44,6 +44,18 @@ impl ReadSources {
             errors: String::new(alloc),
             reported: Reported::none(),
         }
+    }
+
+    /// What is read of a source that is in no file, by its bytes: if they aren't UTF-8, or nest too deep, a line says so.
+    ///
+    /// # Errors
+    /// [`AllocError`] if memory runs out; nothing is kept.
+    pub fn of_bytes(alloc: Global, name: &str, bytes: Vec<u8>) -> Result<ReadSources, AllocError>
+        ensures { IfOk result (λ read. ReadsBytes name.now bytes.items nothing_read (read_view read)) }
+    {
+        let mut read = ReadSources::new(alloc);
+        add_bytes(alloc, name, bytes, &mut read)?;
+        Ok(read)
     }
 
     /// The files that were read, for a report on them.
@@ -166,5 +178,20 @@ fn add_read(
     match depth_report(alloc, name, source.as_str())? {
         Some(report) => read.add_refusal(name, source.as_str(), report.as_str()),
         None => read.add_source(alloc, name, source),
+    }
+}
+
+/// Adds a source by its bytes, or the line that says that they aren't UTF-8.
+fn add_bytes(
+    alloc: Global,
+    name: &str,
+    bytes: Vec<u8>,
+    read: &mut ReadSources,
+) -> Result<(), AllocError>
+    ensures { OnOk result (ReadsBytes name.now bytes.items (read_view read.old) (read_view read.new)) }
+{
+    match String::from_utf8(bytes) {
+        Ok(source) => add_read(alloc, name, source, read),
+        Err(_) => read.add_failure(name, Failure::NotUtf8, None),
     }
 }

@@ -3,8 +3,10 @@ use Rattle.std.specs.Prelude.{◌≡◌, ◌-◌, Bool, List, [], ◌∷◌, ◌
 use Rattle.std.specs.Global.{Global}
 use Rattle.std.specs.Vec.Iter.{into_iter_items}
 use Rattle.lint_files.specs.PartFindings.{declared_by, declared_by_parts, entry_findings_at, findings_of_parts, offset_in}
+use Rattle.lint_files.specs.RulesView.{rules_view}
 use Rattle.lint_files.specs.declared.cursor.Cursor.{Cursor}
 use Rattle.lint_files.specs.declared.entry.PlacedEntry.{PlacedEntry}
+use Rattle.lint_files.specs.declared.rules.Rules as code
 use Rattle.lint_entries.specs.First.{AreFirst}
 use Rattle.lint_entries.specs.declared.declarations.Declarations.{Declarations}
 use Rattle.lint_entries.specs.AttributePlaces.{IsEntryAt, bare_entry}
@@ -43,9 +45,9 @@ abbrev pub DeclaresPlaced : Declarations → Declarations → PlacedEntry → Ty
 DeclaresPlaced old new placed = Declares old new placed.file (placed_part placed)
 
 -- The findings of an entry are added, after the declarations that are known.
-abbrev pub AddsPlaced : Rules → PlacedEntry → Declarations → Vec Finding Global → Vec Finding Global → Type 0
+abbrev pub AddsPlaced : code.Rules → PlacedEntry → Declarations → Vec Finding Global → Vec Finding Global → Type 0
 AddsPlaced rules placed known old new = (before : List Declaration) → AreFirst known before →
-    Adds old new (entry_findings_at rules (file_view placed.file) before placed.text.now (bare_entry placed.entry.now))
+    Adds old new (entry_findings_at (rules_view rules) (file_view placed.file) before placed.text.now (bare_entry placed.entry.now))
 
 abbrev pub own_findings : Rules → PlacedEntry → List f.Finding
 own_findings rules placed =
@@ -134,9 +136,9 @@ abbrev pub DeclaresTiles : Declarations → Declarations → File → List Tile 
 DeclaresTiles old new file tiles = (before : List Declaration) → AreFirst old before →
     AreFirst new (before ++ declared_by_parts (file_view file) (map tile_view tiles))
 
-abbrev pub AddsTiles : Rules → Cursor → List Tile → Declarations → Vec Finding Global → Vec Finding Global → Type 0
+abbrev pub AddsTiles : code.Rules → Cursor → List Tile → Declarations → Vec Finding Global → Vec Finding Global → Type 0
 AddsTiles rules start tiles known old new = (before : List Declaration) → AreFirst known before →
-    Adds old new (found_from rules start before (map tile_view tiles))
+    Adds old new (found_from (rules_view rules) start before (map tile_view tiles))
 
 -- these are the findings of a file with these tiles and syntax findings
 abbrev pub IsFoundAfter : Rules → Declarations → File → List Tile → Vec Finding Global → Vec Finding Global → Type 0

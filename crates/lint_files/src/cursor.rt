@@ -118,7 +118,7 @@ fn push_tiles<'s>(
     requires read { All IsReadPart (map tile_view tiles.now) }
     requires place { IsCursorIn start }
     ensures declared { OnOk result (DeclaresTiles declarations.old declarations.new start.entry.file tiles.now) }
-    ensures findings { OnOk result (AddsTiles (rules_view rules.now) start.entry tiles.now
+    ensures findings { OnOk result (AddsTiles rules.now start.entry tiles.now
         declarations.old findings.old findings.new) }
 {
     let mut cursor = start;

@@ -35,7 +35,7 @@ pub fn push_entry<'s>(
 ) -> Result<(), AllocError>
     requires placed { IsPlaced placed.now }
     ensures declared { OnOk result (DeclaresPlaced declarations.old declarations.new placed.now) }
-    ensures findings { OnOk result (AddsPlaced (rules_view rules.now) placed.now declarations.old
+    ensures findings { OnOk result (AddsPlaced rules.now placed.now declarations.old
         findings.old findings.new) }
 {
     let Some(id) = declared_id(placed.entry) else {

@@ -46,6 +46,9 @@ pub fn syntax_findings(
     ensures { IfOk result (λ found. map finding_view found.items
         ≡ syntax.syntax_findings (tiles source.now)) }
 {
+    if errors.is_empty() {
+        return Ok(Vec::new(alloc));
+    }
     let starts = junk_starts(alloc, errors)?;
     let refusals = refusals_at(alloc, source, &starts)?;
     findings_of(alloc, source, &refusals)

@@ -57,10 +57,10 @@ returns c =
     let number : length files ≡ length (files_view files) = sym (length-map files file_view) in
     let entries : c.in_ok-entries.entries ≡ entry_count (files_view files) =
     c.in_ok-entries.ensures ∙ ap (λ (fs : List File). entry_count (files_view fs)) (ap files_of c.deref-6.ensures.value ∙ c.in_ok-files.ensures.files) in
-    subst (λ (n : ℕ). IfOk c.report_of.result (IsReportOf left (counts_by output (all_summaries (files_view references) (files_view files) found)) (length (files_view files)) n output)) entries
-    (subst (λ (n : ℕ). IfOk c.report_of.result (IsReportOf left (counts_by output (all_summaries (files_view references) (files_view files) found)) n c.in_ok-entries.entries output)) number
-    (subst (λ (ss : List Summary). IfOk c.report_of.result (IsReportOf left ss (length files) c.in_ok-entries.entries output)) counts
-    (subst (λ (fs : List FileFinding). IfOk c.report_of.result (IsReportOf fs (map summary_view c.deref-8.result.now) (length files) c.in_ok-entries.entries output)) left_there c.report_of.ensures)))
+    subst (λ (n : ℕ). IfOk c.report_findings.result (IsReportOf left (counts_by output (all_summaries (files_view references) (files_view files) found)) (length (files_view files)) n output)) entries
+    (subst (λ (n : ℕ). IfOk c.report_findings.result (IsReportOf left (counts_by output (all_summaries (files_view references) (files_view files) found)) n c.in_ok-entries.entries output)) number
+    (subst (λ (ss : List Summary). IfOk c.report_findings.result (IsReportOf left ss (length files) c.in_ok-entries.entries output)) counts
+    (subst (λ (fs : List FileFinding). IfOk c.report_findings.result (IsReportOf fs (map summary_view c.deref-8.result.now) (length files) c.in_ok-entries.entries output)) left_there c.report_findings.ensures)))
 
 pub entry_count-requires : goal.entry_count-requires
 entry_count-requires c = subst (All AreTilesOf) (sym c.deref-6.ensures.value) c.in_ok-files.ensures.tiles

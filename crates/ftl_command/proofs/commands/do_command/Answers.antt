@@ -2,7 +2,7 @@ use Rattle.std.proofs.lemmas.Result.{IfErr-weaker}
 use Rattle.std.proofs.Common.{ap}
 use Rattle.fluent_serve.proofs.Outcomes.{on_ok_always}
 use Rattle.ftl_arguments.specs.CommandView.{command_view}
-use Rattle.ftl_command.proofs.Refusals.{in_place_devices, input_devices, lint_devices, text_devices}
+use Rattle.ftl_command.proofs.Refusals.{in_place_devices, input_devices, lint_devices, lint_input_devices, text_devices}
 use Rattle.ftl_command.proofs.RunLemmas.{done_by, if_ok_any, first_by, kept_by, never_by}
 use Rattle.ftl_command.specs.declared.fault.Fault.TheVariants.{Input, Memory}
 use Rattle.std.specs.Prelude.{Some}
@@ -77,6 +77,24 @@ returns-in-Lint-clause-devices g c =
 
 pub returns-in-Lint-clause-files : goal.returns-in-Lint-clause-files
 returns-in-Lint-clause-files g c = rw c.in-Lint.is c.lint_files.ensures.ended
+
+pub returns-in-LintInput-clause-ended : goal.returns-in-LintInput-clause-ended
+returns-in-LintInput-clause-ended g c =
+    rw c.in-LintInput.is (record {
+      done = if_ok_any c.lint_input.result;
+      tidied = on_ok_always c.lint_input.result tt;
+      memory = c.lint_input.ensures.ended.memory;
+      input = c.lint_input.ensures.ended.input;
+      output = λ output. tt;
+    })
+
+pub returns-in-LintInput-clause-devices : goal.returns-in-LintInput-clause-devices
+returns-in-LintInput-clause-devices g c =
+    rw c.in-LintInput.is (lint_input_devices g.F.Folder c.args.folder.now c.lint_input.new.folder _ g.I.Source g.O.Sink c.args.reader.now c.lint_input.new.reader c.args.writer.now c.lint_input.new.writer
+    c.lint_input.result c.lint_input.ensures.reads c.lint_input.ensures.writes c.lint_input.ensures.fault c.lint_input.ensures.stops)
+
+pub returns-in-LintInput-clause-files : goal.returns-in-LintInput-clause-files
+returns-in-LintInput-clause-files g c = rw c.in-LintInput.is c.lint_input.ensures.ended
 
 pub returns-in-Tidy-clause-ended : goal.returns-in-Tidy-clause-ended
 returns-in-Tidy-clause-ended g c =

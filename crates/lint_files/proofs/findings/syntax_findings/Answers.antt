@@ -1,9 +1,11 @@
-use Rattle.std.proofs.Common.{◌≡◌, ◌∙◌, ℕ, List, map, refl, ap, subst}
+use Rattle.std.proofs.Common.{◌≡◌, ◌∙◌, ℕ, List, [], map, refl, sym, ap, subst}
 use Rattle.std.specs.Prelude.{IfOk}
 use Rattle.std.specs.Str.{IsCharBoundary}
+use Rattle.std.proofs.lemmas.List.{nil_from_length}
 use Rattle.std.proofs.lemmas.List.Elements.{All-same}
 use Rattle.fluent_grammar.specs.Tiling.{errors}
-use Rattle.fluent_parsed.specs.ErrorView.{error_told}
+use Rattle.fluent_tokens.proofs.Scanned.{test_of}
+use Rattle.fluent_parsed.specs.ErrorView.{error_told, error_view}
 use Rattle.fluent_parser.specs.Refusals.{refusal_view, refusals_from}
 use Rattle.fluent_parser.specs.declared.refusals.Refusal.{Refusal}
 use Rattle.lint_finding.specs.View.{finding_view}
@@ -13,6 +15,15 @@ use Rattle.lint_findings.specs.Tiles.{tiles}
 use Rattle.lint_files.specs.SourceFindings.{starts_of, finding_of}
 use Rattle.lint_files.proofs.JunkTiles.{junk_is_found, starts_are_between}
 use Rattle.lint_files.proofs.findings.syntax_findings.Goals as goal
+
+pub returns-then-is_empty : goal.returns-then-is_empty
+returns-then-is_empty c =
+    let source = c.args.source.now in
+    let empty : c.args.errors.now ≡ [] = nil_from_length c.args.errors.now (test_of _ 0 (sym c.is_empty.ensures ∙ c.if-is_empty.true)) in
+    let none = ap (map error_view) (sym empty) ∙ c.requires in
+    ap (map finding_view) c.new.ensures.items
+    ∙ ap (λ l. map (finding_of source) (refusals_from source (starts_of l))) none
+    ∙ junk_is_found source
 
 pub refusals_at-requires : goal.refusals_at-requires
 refusals_at-requires c κs =

@@ -11,7 +11,7 @@ use Rattle.fluent_lint.specs.FileTiles.{files_view}
 use Rattle.fluent_lint.specs.KnownIds.{compare_by}
 use Rattle.fluent_lint.specs.Reports.{IsReportWith, options_view}
 use Rattle.fluent_lint.proofs.Found.{all_found, known_declared}
-use Rattle.fluent_lint.proofs.reports.report_of_read.Goals as goal
+use Rattle.fluent_lint.proofs.reports.report_read_files.Goals as goal
 
 pub new-requires : goal.new-requires
 new-requires c =

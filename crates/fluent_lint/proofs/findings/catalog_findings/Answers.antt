@@ -6,10 +6,10 @@ use Rattle.lint_files.specs.RulesView.{rules_view}
 use Rattle.lint_finding.specs.View.{file_view, findings_view}
 use Rattle.fluent_lint.specs.FileTiles.{files_of, files_view}
 use Rattle.fluent_lint.proofs.FilesFound.{one_found}
-use Rattle.fluent_lint.proofs.findings.push_files.Goals as goal
+use Rattle.fluent_lint.proofs.findings.catalog_findings.Goals as goal
 
 pub loop-file-init : goal.loop-file-init
-loop-file-init c = ([], c.requires.none, refl)
+loop-file-init c = ([], c.new-declarations.ensures, ap (λ l. findings_view l ++ found_by_files (rules_view c.args.rules.now) [] (files_view (files_of c.args.files.now))) c.new-found.ensures.items)
 
 pub loop-file-preserved : goal.loop-file-preserved
 loop-file-preserved c =

@@ -5,11 +5,11 @@ use Rattle.lint_finding.specs.View.{findings_view}
 use Rattle.lint_findings.specs.DuplicateIds.{Declaration}
 use Rattle.fluent_lint.specs.FileTiles.{files_of, files_view}
 use Rattle.fluent_lint.specs.Found.{found_by_files}
-use Rattle.fluent_lint.proofs.findings.push_files.Given as goal
+use Rattle.fluent_lint.proofs.findings.catalog_findings.Given as goal
 
 abbrev pub invariant-loop-file : goal.invariant-loop-file
 invariant-loop-file l =
     let rules = rules_view l.rules in
     (before : List Declaration) × AreFirst l.declarations before
     × (findings_view l.found.items ++ found_by_files rules before (files_view (files_of (drop l.file-index l.files)))
-    ≡ findings_view l.initial.found.items ++ found_by_files rules [] (files_view (files_of l.files)))
+    ≡ found_by_files rules [] (files_view (files_of l.files)))
