@@ -65,6 +65,10 @@ Refuses text (NotTidy offset) = (StaysTidy text (laid_anew text) → ⊥) × IsF
 abbrev pub StaysAs : List t.Entry → Text → Type 0
 StaysAs entries text = (tree text ≡ entries) × IsTidy text
 
+-- a text has these entries, and is laid out as it is
+abbrev pub IsLaidAs : List t.Entry → Text → Type 0
+IsLaidAs entries text = (tree text ≡ entries) × (laid_anew text ≡ text)
+
 -- what a source is laid out as: a text that stays tidy, or the starts of its parts if there is none
 abbrev pub IsLaid : Text → Laid → Type 0
 IsLaid source (Tidy text) = (string_bytes text ≡ laid_anew source) × StaysTidy source (string_bytes text)

@@ -61,8 +61,8 @@ fn normalize_clean(alloc: Global, text: &str) -> Result<String, NormalizeError>
     }
 }
 
-/// Whether a text is read whole, and as this tree. The tree is moved here, so that it is one type with the tree of the
-/// text: a tree that is borrowed keeps its lifetime.
+/// Whether a text is read whole, and as this tree. The tree is moved here, so that it is one type
+/// with the tree of the text: a tree that is lent keeps its lifetime.
 fn is_read_back<'t>(
     alloc: Global,
     tree: Resource<&'t str>,

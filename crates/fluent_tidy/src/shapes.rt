@@ -8,8 +8,8 @@ use crate::tidying::{Laid, lay_tidy};
 use fluent_text::stack::StackBudget;
 use std::alloc::{AllocError, Global};
 
-/// Where the first of the parts of a source begins, of those that begin at these offsets, that has no tidy text by
-/// itself; 0 if each has one.
+/// Where the first part of a source begins that has no tidy text by itself, if the parts begin at
+/// these offsets; 0 if each has one.
 ///
 /// # Errors
 /// [`AllocError`] if memory runs out; nothing is kept.

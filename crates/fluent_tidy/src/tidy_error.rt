@@ -13,7 +13,7 @@ use std::fmt;
 /// ```no_run
 /// match tidy(alloc, "a = { b \n") {
 ///     Ok(text) => print!(rt; "{text}")?,
-///     Err(TidyError::Damaged(errors)) => println!(rt; "mend its mistakes first: {}", errors.len())?,
+///     Err(TidyError::Damaged(errors)) => println!(rt; "mistakes: {}", errors.len())?,
 ///     Err(error) => bail!("{error}"),
 /// }
 /// ```
@@ -23,11 +23,12 @@ pub enum TidyError {
     Memory,
     /// The source holds a carriage return that isn't part of CR LF.
     CarriageReturn,
-    /// The source has junk: its errors, with offsets in the source as it is read, without a byte order mark and with
-    /// LF line ends.
+    /// The source has junk: its errors, with offsets in the source as it is read, without a byte
+    /// order mark and with LF line ends.
     Damaged(Vec<ParserError>),
-    /// The source has no tidy text: what is written of its tree isn't read back as that tree. The offset, in the source
-    /// as it is read, is where the first entry begins that has no tidy text by itself. It is 0 if each has one.
+    /// The source has no tidy text: what is written of its tree isn't read back as that tree. The
+    /// offset, in the source as it is read, is where the first entry begins that has no tidy text
+    /// by itself. It is 0 if each has one.
     NotTidy(usize),
 }
 

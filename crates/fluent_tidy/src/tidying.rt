@@ -5,7 +5,7 @@ ghost use Rattle.fluent_grammar.specs.Tiling as tiling;
 ghost use Rattle.fluent_grammar.specs.Tiling.{errors};
 ghost use Rattle.fluent_ast.specs.Borrowed.{entries_of};
 ghost use Rattle.fluent_parser.specs.Starts as parts;
-ghost use Rattle.fluent_tidy.specs.Reasons.{IsLaid, IsReason, Refuses, StaysAs};
+ghost use Rattle.fluent_tidy.specs.Reasons.{IsLaid, IsLaidAs, IsReason, Refuses, StaysAs};
 ghost use Rattle.fluent_tidy.specs.TidyText.{IsTidyText, StaysTidy, laid_anew};
 
 use crate::apart::apart_at;
@@ -42,10 +42,11 @@ pub enum Laid {
 /// It is [`tidy_within`] the budget of a program, [`StackBudget::PROGRAM`].
 ///
 /// # Errors
-/// Nothing is kept. [`TidyError::Damaged`] if the source has junk. [`TidyError::CarriageReturn`] if it holds a carriage
-/// return that isn't part of CR LF. [`TidyError::NotTidy`] if the written text isn't read back as the tree; this takes
-/// one of the five shapes of `docs/reference/normal-text.md`. [`TidyError::Memory`] if memory runs out, or the source
-/// nests too deep.
+/// Nothing is kept. [`TidyError::Damaged`] if the source has junk. [`TidyError::CarriageReturn`] if
+/// it holds a carriage return that isn't part of CR LF. [`TidyError::NotTidy`] if the written text
+/// isn't read back as the tree; this takes one of the five shapes of
+/// `docs/reference/normal-text.md`. [`TidyError::Memory`] if memory runs out, or the source nests
+/// too deep.
 pub fn tidy(alloc: Global, source: &str) -> Result<String, TidyError>
     ensures text { IfOk result (λ text. IsTidyText source.now (string_bytes text)) }
     ensures reason { IfErr result (IsReason source.now) }
@@ -90,7 +91,8 @@ fn tidy_plain(alloc: Global, source: &str, budget: StackBudget) -> Result<String
 /// Lays out a source that has no mark and no carriage return.
 ///
 /// # Errors
-/// [`TidyError::Damaged`] if the source has junk. [`TidyError::Memory`] if memory runs out; nothing is kept.
+/// [`TidyError::Damaged`] if the source has junk. [`TidyError::Memory`] if memory runs out; nothing
+/// is kept.
 pub fn lay_tidy(alloc: Global, source: &str, budget: StackBudget) -> Result<Laid, TidyError>
     ensures whole { IfOk result (λ _. errors source.now ≡ []) }
     ensures laid { IfOk result (IsLaid source.now) }
@@ -138,8 +140,8 @@ fn lay_out(
     serialize_spaced(alloc, tree, &apart)
 }
 
-/// Whether a text is read as the tree of a source, and is laid out as it is. The tree is moved here, so that it is one
-/// type with the tree of the text: a tree that is borrowed keeps its lifetime.
+/// Whether a text is read as the tree of a source, and is laid out as it is. The tree is moved
+/// here, so that it is one type with the tree of the text: a tree that is lent keeps its lifetime.
 fn stays_tidy<'t>(
     alloc: Global,
     tree: Resource<&'t str>,
@@ -167,8 +169,7 @@ fn is_laid_as<'t>(
 ) -> Result<bool, AllocError>
     requires tree { entries_of again.now.tree ≡ tiling.tree text.now }
     requires starts { again.now.starts.items ≡ parts.starts text.now }
-    ensures { IfOk result (λ is. IsTrue is
-        ↔ ((tiling.tree text.now ≡ entries_of tree.entry) × (laid_anew text.now ≡ text.now))) }
+    ensures { IfOk result (λ is. IsTrue is ↔ IsLaidAs (entries_of tree.entry) text.now) }
 {
     let is_same = is_same_tree(&again.tree, &tree);
     drop(tree);

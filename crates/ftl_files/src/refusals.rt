@@ -53,7 +53,8 @@ fn end_for(reason: &TidyError, report: String) -> FileEnd
     }
 }
 
-/// The report on the source of a file, without a mark and with LF line ends, which has no tidy text for this reason.
+/// The report on the source of a file, without a mark and with LF line ends, which has no tidy text
+/// for this reason.
 fn refusal_report(
     alloc: Global,
     name: &str,
